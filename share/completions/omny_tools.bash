@@ -20,7 +20,10 @@ _omny_tools() {
     # the options of the task, and the ending of its files: * is any name
     case $task in
     '') words='-V --version' ;;
-    encode) words='--columns --validators --only --separator --unit --refused' ending=csv ;;
+    encode)
+        words='--columns --from --validators --only --drop --count --token-hash --separator --unit --refused'
+        ending=csv
+        ;;
     corrections) words='--tokens' ending=csv ;;
     uploads) words='--good-part --tokens --look --within --from --until --table --list' ;;
     table)
@@ -43,7 +46,7 @@ _omny_tools() {
     uploads--table | table--table) ending=toml ;;
     esac
     case $before in
-    --from | --until | --within | --parts | --columns | --only | --separator | --unit) return ;;
+    --from | --until | --within | --parts | --columns | --only | --drop | --count | --separator | --unit) return ;;
     --good-part | --refused | --files-from) ending='*' ;;
     esac
     if [[ $word == -* && $before != -- ]]; then

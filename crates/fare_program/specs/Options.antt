@@ -66,6 +66,10 @@ traced_flag = flag_rule (codes "traced")
 abbrev pub tokens_option : Rule
 tokens_option = option_rule (codes "tokens")
 
+-- `--made-by FILE`
+abbrev pub made_by_option : Rule
+made_by_option = option_rule (codes "made-by")
+
 -- `FILE`, as often as wanted
 abbrev pub file_argument : Rule
 file_argument = positional_rule (codes "FILE") Append
@@ -74,10 +78,10 @@ file_argument = positional_rule (codes "FILE") Append
 abbrev pub app_of_options : App
 app_of_options =
     with_rule (with_rule (with_rule (with_rule (with_rule (with_rule (with_rule (with_rule
-    (with_rule (with_rule (with_rule (with_rule (with_rule (with_rule (with_rule
+    (with_rule (with_rule (with_rule (with_rule (with_rule (with_rule (with_rule (with_rule
     (named_app (codes "omny_cli")) table_option) settle_flag) live_flag) sorted_flag) list_flag)
     workers_option) shards_option) token_option) ledger_flag) explain_flag) json_flag)
-    traced_flag) tokens_option) list_option) null_flag
+    traced_flag) tokens_option) made_by_option) list_option) null_flag
 
 -- all words that the program takes
 unfoldable pub program : App

@@ -3,7 +3,7 @@ ghost use Rattle.std.specs.Prelude.{◌≡◌, ◌≤◌, ◌^◌, ◌<◌, ℕ,
 ghost use Rattle.clap.specs.Words.{FailsBy, app_of, fault_of, found_of, matches_of, rows_of};
 ghost use Rattle.clap.specs.Words.{with_rule};
 ghost use Rattle.fare_program.specs.Options.{explain_flag, file_argument, json_flag, ledger_flag};
-ghost use Rattle.fare_program.specs.Options.{form_of, traced_flag};
+ghost use Rattle.fare_program.specs.Options.{form_of, made_by_option, traced_flag};
 ghost use Rattle.fare_program.specs.Options.{request_by, is_given, number_of, program, tokens_option};
 ghost use Rattle.fare_program.specs.inside.Options.{request_of};
 ghost use Rattle.fare_program.specs.inside.Options.{HasNumber};
@@ -18,96 +18,100 @@ use program_manners::{
 };
 use std::alloc::{AllocError, Global};
 
-/// What the program is for, as the help says it first.
 const ABOUT: &str = "Charges the taps of upload files by a fare table, and reports what they cost.
 
-With --table the uploads are posted to accounts, by worker threads, and the report is printed, or
-with --token the statement of one token, or with --ledger the ledger. Without --table, or with
---list, the taps are only listed, each as live, stale or unknown.";
+With --table the uploads are posted to accounts, by worker threads, and the
+report is printed, or with --token the statement of one token, or with --ledger
+the ledger. Without --table, or with --list, the taps are only listed, each as
+live, stale or unknown.";
 
-/// What the help says last: what is printed, and the exit status.
-const NOTES: &str = "What is printed:
-  report     how each upload ended, then the sums of all taps, of each validator, of each token
-  statement  each tap of the token, what it was and cost, the token's sums, its last window
-             with --explain also why each tap costs this, the token's terms and all its windows,
-             with --json as JSON, with local times
-  ledger     CSV, a head line and a line for each tap of each token, with its window and the reason
-             of what it cost; with --token those of one token; with --traced also the class of
-             the token, the number of the tap's file, from 0, and its number there, from 1
-  listing    each tap: number of its file, its number there (both from 0), token, validator,
-             moment in milliseconds since 1970-01-01T00:00Z, and live (later than every known tap
-             of its token before it), stale (not so) or unknown (the table lacks its validator)
-With --settle all taps are posted in one order, so that what is printed depends on the taps alone.
-Without it the order of the files and the number of workers can change what a token pays. Of several
-files a note on the standard error says so, and how many taps came too late. With --live it is left
-out: such a run is meant.
-With --sorted beside it each file has its taps in that order already, as `omny_tools sort` makes it.
-The files are read in pieces and merged, so that little memory is taken. A file that is out of order
-or has a layout fault ends the run.
-With --tokens FROM..BELOW beside it only the taps of tokens from FROM on and below BELOW are
-charged: 32 hexadecimal digits each, and either may be left out. The text begins with where these
-taps lie in each file. `omny_tools merge` joins such parts. One thread makes a part.
-Amounts are cents. Of a file with a layout fault the batches before it count, and its line tells
-the fault: `upload 1 refused 2 at 64 L5` in a report, `1 refused 64 L5` in a listing.
-
-Examples:
+const NOTES: &str = "Examples:
   omny_cli --table table.toml --settle a.tap b.tap
-  omny_cli --table table.toml --settle --token 000000000000000000000000000000a1 a.tap b.tap
+  omny_cli --table table.toml --settle --token HEX --explain a.tap b.tap
+  omny_cli --table table.toml --settle --ledger a.tap b.tap > ledger.csv
+
+More examples:
   omny_cli --table table.toml --settle --sorted monday.tap tuesday.tap
   omny_cli --table table.toml --settle --ledger --traced a.tap b.tap
   omny_cli --table old.toml --table new.toml@2026-01-04 --settle a.tap b.tap
-  find week -name '*.tap' -print0 | omny_cli --table table.toml --settle --files-from - -0
+  omny_cli --table table.toml --settle --made-by bill.made a.tap > bill.txt
+  find week -name '*.tap' -print0 |
+    omny_cli --table table.toml --settle --files-from - -0
   omny_cli a.tap
+
+What is printed:
+  report     how each upload ended, then the sums of all taps, of each
+             validator, of each token
+  statement  each tap of the token, what it was and cost, the token's sums, its
+             last window; with --explain also why each tap costs this, the
+             token's terms and all its windows, with --json as JSON, with local
+             times
+  ledger     CSV, a header line and a line for each tap of each token, with its
+             window and the reason of what it cost; with --token those of one
+             token; with --traced also the class of the token, the number of
+             the tap's file, from 0, and its number there, from 1
+  listing    each tap: number of its file, its number there (both from 0),
+             token, validator, moment in milliseconds since
+             1970-01-01T00:00Z, and live (later than every known tap of its
+             token before it), stale (not so) or unknown (the table lacks its
+             validator)
+With --settle all taps are posted in one order, so that what is printed depends
+on the taps alone. Without it the order of the files and the number of workers
+can change what a token pays. Of several files a note on the standard error
+says so, and how many taps came too late. With --live it is left out: such a
+run is meant.
+With --sorted beside it each file has its taps in that order already, as
+`omny_tools sort` makes it. The files are read in pieces and merged, so that
+little memory is taken. A file that is out of order or has a layout fault ends
+the run.
+With --tokens FROM..BELOW beside it only the taps of tokens from FROM on and
+below BELOW are charged: 32 hexadecimal digits each, and either may be left
+out. The text begins with where these taps lie in each file. `omny_tools merge`
+joins such parts. One thread makes a part.
+With --made-by FILE the run makes FILE, which must not exist, after its text is
+written: the program's version and arguments, the size and SHA-256 of each file
+that was read, and of the text. `omny_audit --made-by FILE` checks them.
+Amounts are cents. Of a file with a layout fault the batches before it count,
+and its line names the fault: `upload 1 refused 2 at 64 L5` in a report,
+`1 refused 64 L5` in a listing. On a terminal a hint follows a fault.
 
 Exit status:
   0  all is done, and every upload was posted, or listed without a fault
-  1  an upload was not, as the text tells; or a file, the table, the run, memory or writing
-     failed, as a line `fault: ..` on the standard error tells. Nothing is printed then, unless a
-     write failed, or a sorted file did after all were checked: that may leave a beginning
+  1  an upload was not, as the text says; or a file, the table, the run, memory
+     or writing failed, as a line `fault: ..` on the standard error says.
+     Nothing is printed then, unless a write failed, or a sorted file did after
+     all were checked: that may leave a part of the text
   2  the command line is wrong";
 
-/// The help of `--table`.
-const TABLE_HELP: &str = "The fare table, then G@2026-01-04 [default: every validator is known]";
+const TABLE_HELP: &str = "Fare table; again as G@2026-01-04: from that day on";
 
-/// The help of `--list`.
 const LIST_HELP: &str = "List the taps, also where there is a fare table";
 
-/// The help of `--workers`.
-const WORKERS_HELP: &str = "How many threads post the uploads, 1 to 16";
+const WORKERS_HELP: &str = "Threads that post the uploads, 1 to 16";
 
-/// The help of `--shards`.
-const SHARDS_HELP: &str = "Over how many shards the accounts are spread, 1 to 64";
+const SHARDS_HELP: &str = "Shards of the accounts, 1 to 64";
 
-/// The help of `--token`.
-const TOKEN_HELP: &str = "Print the statement of this token, 32 hexadecimal digits, not the report";
+const TOKEN_HELP: &str = "Print the statement of this token";
 
-/// The help of `--settle`.
-const SETTLE_HELP: &str = "Post all taps in order of token, moment and validator; needs --table";
+const SETTLE_HELP: &str = "Charge all taps in order of token and moment";
 
-/// The help of `--live`.
-const LIVE_HELP: &str = "Charge taps as FILEs are drawn, whose order counts then, without a note";
+const LIVE_HELP: &str = "Charge taps as FILEs are drawn, without a note";
 
-/// The help of `--sorted`.
-const SORTED_HELP: &str = "Merge FILEs that `omny_tools sort` made, of any length; needs --settle";
+const SORTED_HELP: &str = "With --settle: merge FILEs of `omny_tools sort`";
 
-/// The help of `--ledger`.
-const LEDGER_HELP: &str = "Print the ledger, of all tokens or that of --token; needs --table";
+const LEDGER_HELP: &str = "Print the ledger, of all tokens or of --token";
 
-/// The help of `--explain`.
-const EXPLAIN_HELP: &str = "Print the statement of --token with reasons, the terms and all windows";
+const EXPLAIN_HELP: &str = "Explain each line of the statement";
 
-/// The help of `--json`.
-const JSON_HELP: &str = "Print the explained statement as JSON, with local times";
+const JSON_HELP: &str = "Print the explained statement as JSON";
 
-/// The help of `--traced`.
-const TRACED_HELP: &str = "Put class, upload and place behind each line of the settled --ledger";
+const TRACED_HELP: &str = "Add class, upload and place to the settled ledger";
 
-/// The help of `--tokens`.
-const TOKENS_HELP: &str = "Charge the tokens of RANGE alone, as FROM..BELOW; needs --sorted";
+const TOKENS_HELP: &str = "With --sorted: charge only tokens FROM..BELOW";
 
-/// The help of the files.
-const FILE_HELP: &str =
-    "Uploads of TAP1 and TAP2 batches, at most 67108864 bytes each [default: standard input]";
+const MADE_BY_HELP: &str = "Make FILE of what made the text: sizes and SHA-256";
+
+const FILE_HELP: &str = "Uploads, at most 64 MiB each [default: standard input, as -]";
 
 /// The command line, as clap reads it.
 fn command<'a>(alloc: Global) -> Result<Command<'a>, AllocError>
@@ -137,8 +141,8 @@ fn command<'a>(alloc: Global) -> Result<Command<'a>, AllocError>
 /// list of files and the files.
 fn with_texts<'a>(alloc: Global, command: Command<'a>) -> Result<Command<'a>, AllocError>
     ensures { IfOk result (λ more. app_of more ≡ with_rule (with_rule (with_rule (with_rule
-        (with_rule (with_rule (with_rule (with_rule (app_of command.entry) ledger_flag)
-        explain_flag) json_flag) traced_flag) tokens_option) list_option) null_flag)
+        (with_rule (with_rule (with_rule (with_rule (with_rule (app_of command.entry) ledger_flag)
+        explain_flag) json_flag) traced_flag) tokens_option) made_by_option) list_option) null_flag)
         file_argument) }
 {
     let ledger = flag_arg(alloc, "ledger", LEDGER_HELP);
@@ -146,13 +150,15 @@ fn with_texts<'a>(alloc: Global, command: Command<'a>) -> Result<Command<'a>, Al
     let json = flag_arg(alloc, "json", JSON_HELP);
     let traced = flag_arg(alloc, "traced", TRACED_HELP);
     let tokens = option_arg(alloc, "tokens", "RANGE", TOKENS_HELP);
+    let made_by = option_arg(alloc, "made-by", "FILE", MADE_BY_HELP);
     let file = positional_arg(alloc, "FILE", ArgAction::Append, FILE_HELP);
     let command = command
         .arg(ledger)?
         .arg(explain)?
         .arg(json)?
         .arg(traced)?
-        .arg(tokens)?;
+        .arg(tokens)?
+        .arg(made_by)?;
     add_list_args(alloc, command)?.arg(file)
 }
 

@@ -6,6 +6,7 @@
 mod bill;
 mod command_line;
 mod fault;
+mod file_words;
 pub mod laws;
 mod lines;
 mod listing;
@@ -29,6 +30,7 @@ mod traced;
 mod uploads;
 
 pub use file_sources::{Amount, Disk, Host, Source, prefetch_files};
+pub use file_words::FileWords;
 pub use listing::{ListCounts, Listing, Word};
 pub use named_list::list_words;
 pub use note::Note;

@@ -7,7 +7,7 @@ mod stop;
 mod streams;
 mod task;
 
-pub use run::run_task;
+pub use run::{report, run_task};
 pub use stop::Stop;
 pub use streams::Streams;
 pub use task::{For, Step, Task};

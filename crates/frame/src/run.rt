@@ -7,6 +7,7 @@ use crate::step::put;
 use crate::stop::Stop;
 use crate::task::{Step, Task};
 use std::alloc::Global;
+use std::fmt::Display;
 use world::World;
 
 fn pull<T: Task<W>, W: World>(alloc: Global, task: &mut T, world: &mut W) -> Result<u8, Stop>
@@ -35,13 +36,14 @@ fn pull<T: Task<W>, W: World>(alloc: Global, task: &mut T, world: &mut W) -> Res
     Err(Stop::NoMemory)
 }
 
-fn report<T: Task<W>, W: World>(task: &T, why: Stop, world: &mut W)
+/// Reports the line of what stopped a run, unless the reader of the output is gone.
+pub fn report<W: World, D: Display + Drop>(why: Stop, line: D, world: &mut W)
     ensures { IsReported why (W.run world.old) (W.run world.new) }
 {
     if why.is_quiet() {
         return;
     }
-    let _ = world.report_line(task.line(why));
+    let _ = world.report_line(line);
 }
 
 /// Runs the task and writes its answer. What stops it from outside is reported, with status 1.
@@ -53,7 +55,7 @@ pub fn run_task<T: Task<W>, W: World>(alloc: Global, task: &mut T, world: &mut W
     match pull(alloc, task, world) {
         Ok(status) => status,
         Err(why) => {
-            report(task, why, world);
+            report(why, task.line(why), world);
             1
         }
     }

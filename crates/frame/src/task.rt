@@ -36,7 +36,6 @@ pub trait Task<I: Inputs> {
     // Which answer and status are right of the files that were loaded.
     ghost right: { Self.Request → List Load → Answer → ℕ → Type 0 };
 
-    // The words that name files.
     ghost names: { Self.Request → List (List ℕ) };
 
     // The task can be here after these loads, when it has given this.

@@ -30,6 +30,10 @@ uploads_option = files_rule (codes "uploads")
 abbrev pub report_option : Rule
 report_option = option_rule (codes "report")
 
+-- `--made-by FILE`
+abbrev pub made_by_option : Rule
+made_by_option = option_rule (codes "made-by")
+
 -- `LEDGER`
 abbrev pub ledger_argument : Rule
 ledger_argument = positional_rule (codes "LEDGER") Set
@@ -37,9 +41,9 @@ ledger_argument = positional_rule (codes "LEDGER") Set
 -- all words that the program takes
 unfoldable pub audit_program : App
 audit_program =
-    with_rule (with_rule (with_rule (with_rule (with_rule (with_rule (with_rule (with_rule
+    with_rule (with_rule (with_rule (with_rule (with_rule (with_rule (with_rule (with_rule (with_rule
     (named_app (codes "omny_audit")) required_table_option) all_flag) live_flag) uploads_option)
-    report_option) list_option) null_flag) ledger_argument
+    report_option) made_by_option) list_option) null_flag) ledger_argument
 
 -- the words after the program's name are a command line of the program
 abbrev pub ParsesForAudit : List Text → Type 0

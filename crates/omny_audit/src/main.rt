@@ -8,6 +8,7 @@ mod check;
 mod fault;
 mod laws;
 mod ledger;
+mod made_by;
 mod options;
 mod program;
 mod report;
@@ -15,9 +16,12 @@ mod text;
 mod traced;
 
 use file_sources::Host;
-use options::{list_words, reads_input};
+use hints::{Named, Overheard, Said, Unwritten, hint_on_fault};
+use made_by::compare;
+use options::{Options, list_words, reads_input};
 use program::main_over;
-use program_manners::{Complaints, Escaping, take_list, unread_words, words_of};
+use program_manners::{Complaints, Escaping, Output, WriteEnd, take_list, unread_words, words_of};
+use std::io;
 use std::io::{IsTerminal, Write};
 use std::process::ExitCode;
 use world::{Stream, System};
@@ -41,23 +45,91 @@ fn note_input(rt: &HostRuntime, words: &[String]) {
     }
 }
 
+/// Writes what the comparison with the file of `--made-by` shows, if one is named. The status is 1
+/// if there is a difference or a fault, which was reported.
+fn compare_made_by<W: Write, E: Write>(
+    rt: &HostRuntime,
+    words: &[String],
+    out: &mut W,
+    err: &mut E,
+) -> u8 {
+    let Ok(options) = Options::read(rt.alloc(), words) else {
+        return 0;
+    };
+    let Some(name) = options.made_by else {
+        return 0;
+    };
+    let mut err = Complaints::new(err);
+    let comparison = match compare(rt, &options, name) {
+        Ok(comparison) => comparison,
+        Err(fault) => {
+            err.report_line(fault);
+            return 1;
+        }
+    };
+    let mut out = Output::new(out);
+    let _ = out.put(comparison.text.as_bytes());
+    let _ = out.finish();
+    if out.end() == Some(WriteEnd::Refused) {
+        err.report_line("fault: cannot write");
+    }
+    if comparison.is_same && out.end().is_none() {
+        0
+    } else {
+        1
+    }
+}
+
+/// Says on a terminal what to do about the fault that was reported.
+fn report_hint(rt: &HostRuntime, words: &[String], said: &Said, error: Option<io::Error>) {
+    let Ok(options) = Options::read(rt.alloc(), words) else {
+        return;
+    };
+    let named = Named {
+        charges: false,
+        table: Some(options.table.first),
+        error,
+    };
+    if rt.stderr().is_terminal()
+        && let Some(line) = said.line()
+        && let Some(hint) = hint_on_fault(rt, rt.alloc(), line, named)
+    {
+        Complaints::new(rt.stderr()).report_line(hint);
+    }
+}
+
+/// Runs the words, of which the list's names are arguments, and returns the status.
+fn run(rt: &HostRuntime, words: &[String], err: Escaping<io::Stderr>) -> u8 {
+    note_input(rt, words);
+    let mut out = Unwritten::new(rt.stdout());
+    let mut err = Overheard::new(err);
+    let mut status = main_over(
+        rt,
+        words,
+        &mut Host::new(rt),
+        &mut Stream::new(),
+        &mut System::new(rt, &mut out, &mut err),
+    );
+    if status < 2 && err.said().is_silent() && out.error().is_none() {
+        status = status.max(compare_made_by(rt, words, &mut out, &mut err));
+    }
+    let error = out.error();
+    let (escaping, said) = err.into_parts();
+    escaping.finish();
+    report_hint(rt, words, &said, error);
+    status
+}
+
 fn main(rt: HostRuntime) -> ExitCode {
     let mut complaints = Complaints::new(Escaping::new(rt.stderr()));
     let words = words_with_list(&rt, &mut complaints);
-    let mut err = complaints.into_writer();
+    let err = complaints.into_writer();
     let status = match words {
-        Ok(words) => {
-            note_input(&rt, &words);
-            main_over(
-                &rt,
-                &words,
-                &mut Host::new(&rt),
-                &mut Stream::new(),
-                &mut System::new(&rt, rt.stdout(), &mut err),
-            )
+        Ok(words) => run(&rt, &words, err),
+        Err(status) => {
+            err.finish();
+            status
         }
-        Err(status) => status,
     };
-    err.finish();
     ExitCode::from(status)
 }

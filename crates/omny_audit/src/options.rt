@@ -18,67 +18,103 @@ use std::alloc::{AllocError, Global};
 
 const ABOUT: &str = "Checks a ledger under a fare table, and against uploads.
 
-A ledger has a head line, and for each token, rising, a line for each of its taps: what it cost and
-why. It is legal where each line is the one that the fare rules give its tap after those before it.
-It is settled where its lines are in order of token, moment and validator. With --uploads its taps
-must be those of the uploads before their layout faults, each as often as there, in whatever order.
-With --report the report must be that of its sums, and of the uploads. With --all it goes on after
-the first wrong line. Of a traced ledger the classes are checked too, and with --uploads the places
-of the taps.";
+A ledger has a header line, and for each token, increasing, a line for each of
+its taps: what it cost and why. It is legal where each line is the one that the
+fare rules give its tap after those before it. It is settled where its lines
+are in order of token, moment and validator.
 
-const NOTES: &str = "What is printed:
-  legal N lines, settled     the text is, whole, a ledger; N does not count the head line
-  legal N lines, not settled: line L is earlier than the line before
-                             the same of a live run, whose charges depend on the order in which taps
-                             were drawn; L is the first such line
-  line N wants LINE          the first line that no ledger has there, and the one that its tap should
-                             have; line 1 is the head line
-  line N is no ledger line   the first line that no ledger has there: it is cut, too long, out of
-                             order, or has not the form of a ledger's line
-With --uploads a second line follows `legal N lines, ..`:
-  all taps of the uploads                    the ledger has these taps, and no others
-  missing tap TOKEN MOMENT VALIDATOR         the uploads have this tap more often than the ledger
-  surplus tap TOKEN MOMENT VALIDATOR         the ledger has this tap more often than the uploads
-With --all each wrong line is printed, held against the rules after the taps that the lines before it
-tell, and then, in place of `legal N lines, ..`:
-  wrong N of M lines, of K tokens; cents C, wanted D
-                             C is what the lines ask for, and D what the rules give their taps
-With --uploads each missing and each surplus tap follows.
-A traced ledger, known by its head line, is checked without its last three columns. Behind these lines
-comes, if it is legal or with --all:
-  all classes of the table                   each line has the class that the table names for its token
-  line N has another class than CLASS        the first line that has not
-and with --uploads, where uploads count from 0 and places from 1:
-  all places of the uploads                  each line has the tap at its place, and each tap a line
-  line N has another tap than upload U has at place P
-                                             the first line that has not
-  line N has upload U place P again          the first line whose place an earlier line has
-  no line has upload U place P               no line has a wrong place, and none has this tap
-With --report a line follows, if the ledger is legal and its columns are right:
-  report of the ledger                       each line is that of the sums of the ledger
-  wrong report line N: wants LINE            the first line that is not, and the one that should be
-  wrong report line N: no report has it      the first line that no report has there
-  wrong report line N: the uploads have A taps, the ledger B
-                                             without --uploads; N is the last line of the report's uploads
-Without --uploads `upload lines not compared` follows it: any with as many taps are taken.
-With --uploads the last lines name the damaged uploads, however the ledger is:
-  upload U refused TAPS at OFFSET FAULT      the layout fault after TAPS taps, and the offset of its batch
+With --uploads its taps must be those of the uploads before their layout
+faults, each as often as there, in any order. With --report the report must be
+that of its sums, and of the uploads. With --all it goes on after the first
+wrong line. Of a traced ledger the classes are checked too, and with --uploads
+the places of the taps. With --made-by the text and its files must be those of
+FILE, which `omny_cli --made-by FILE` made.";
 
-Examples:
+const NOTES: &str = "Examples:
   omny_audit --table table.toml ledger.csv
   omny_audit --table table.toml ledger.csv --uploads a.tap b.tap
-  find week -name '*.tap' -print0 | omny_audit --table table.toml ledger.csv --files-from - -0
+  omny_audit --table table.toml --report bill.txt -- ledger.csv
+
+More examples:
+  find week -name '*.tap' -print0 |
+    omny_audit --table table.toml ledger.csv --files-from - -0
   omny_audit --all --table table.toml ledger.csv
-  omny_audit --table table.toml --report bill.txt --uploads a.tap b.tap -- ledger.csv
   omny_audit --table old.toml --table new.toml@2026-01-04 ledger.csv
+  omny_audit --table table.toml --made-by bill.made ledger.csv --uploads a.tap
   omny_cli --table table.toml --settle --ledger a.tap b.tap |
     omny_audit --table table.toml --uploads a.tap b.tap
 
+What is printed:
+  legal N lines, settled
+    the text is, whole, a ledger; N does not count the header line
+  legal N lines, not settled: line L is earlier than the line before
+    the same of a live run, whose charges depend on the order in which taps
+    were drawn; L is the first such line
+  line N wants LINE
+    the first line that no ledger has there, and the one that its tap should
+    have; line 1 is the header line
+  line N is no ledger line
+    the first line that no ledger has there: it is cut, too long, out of order,
+    or lacks the form of a ledger's line
+With --uploads a second line follows `legal N lines, ..`:
+  all taps of the uploads
+    the ledger has these taps, and no others
+  missing tap TOKEN MOMENT VALIDATOR
+    the uploads have this tap more often than the ledger
+  surplus tap TOKEN MOMENT VALIDATOR
+    the ledger has this tap more often than the uploads
+With --all each wrong line is printed, compared with the rules after the taps
+of the lines before it, and then, in place of `legal N lines, ..`:
+  wrong N of M lines, of K tokens; cents C, wanted D
+    C is what the lines charge, and D what the rules give their taps
+With --uploads each missing and each surplus tap follows.
+A traced ledger, known by its header line, is checked without its last three
+columns. If it is legal or with --all, a line follows:
+  all classes of the table
+    each line has the class that the table names for its token
+  line N has another class than CLASS
+    the first line that does not
+and with --uploads, where uploads count from 0 and places from 1:
+  all places of the uploads
+    each line has the tap at its place, and each tap a line
+  line N has another tap than upload U has at place P
+    the first line that does not
+  line N has upload U place P again
+    the first line whose place an earlier line has
+  no line has upload U place P
+    no line has a wrong place, and none has this tap
+With --report a line follows, if the ledger is legal and its columns are right:
+  report of the ledger
+    each line is that of the sums of the ledger
+  wrong report line N: wants LINE
+    the first line that is not, and the one that should be
+  wrong report line N: no report has it
+    the first line that no report has there
+  wrong report line N: the uploads have A taps, the ledger B
+    without --uploads; N is the last line of the report's uploads
+Without --uploads `upload lines not compared` follows it: any with as many taps
+are taken. With --uploads the next lines name the damaged uploads, however the
+ledger is:
+  upload U refused TAPS at OFFSET FAULT
+    the layout fault after TAPS taps, and the offset of its batch
+With --made-by the files are read once more, and the last lines are
+  made by omny_cli VERSION
+    the ledger or the report is the text, and the tables and the uploads are
+    its files, by sizes and SHA-256; names and arguments are not compared
+  made by omny_cli VERSION, uploads not compared
+    the same without --uploads; `text not compared` of a ledger that comes from
+    the standard input
+  made another text, made of NAME, not made of NAME
+    neither the ledger nor the report is the text; a file of it is not given; a
+    file that is given is not one of it
+
 Exit status:
-  0  the ledger is legal and settled (or with --live legal), has right columns, if it is traced, and,
-     with --uploads, has their taps, none of them is damaged, and, with --report, the report is its own
-  1  it is not, or has not; or a file, the table, memory or writing failed, as a line `fault: ..` on
-     the standard error tells
+  0  the ledger is legal and settled (or with --live legal), has right columns,
+     if it is traced, and, with --uploads, has their taps, none of them is
+     damaged, and, with --report, the report is its own, and all is as FILE of
+     --made-by says
+  1  it is not, or does not; or a file, the table, memory or writing failed, as
+     a line `fault: ..` on the standard error says
   2  the command line is wrong";
 
 /// What the words request.
@@ -96,22 +132,23 @@ pub(crate) struct Options<'a> {
     pub(crate) report: Option<&'a str>,
     /// The file of the ledger; none represents standard input.
     pub(crate) ledger: Option<&'a str>,
+    /// The file that says what the ledger or the report was made by; none requests no such check.
+    pub(crate) made_by: Option<&'a str>,
 }
 
-const TABLE_HELP: &str =
-    "The fare table, a TOML file; again, as G@2026-01-04, for the fares from that day on";
+const TABLE_HELP: &str = "Fare table; again as G@2026-01-04: from that day on";
 
-const ALL_HELP: &str = "Print each wrong line, each missing and each surplus tap";
+const ALL_HELP: &str = "Print each wrong line and tap, not only the first";
 
-const LIVE_HELP: &str = "Take a ledger that is not settled, as a run without --settle writes it";
+const LIVE_HELP: &str = "Take a ledger of a run without --settle";
 
-const UPLOADS_HELP: &str =
-    "Uploads of at most 67108864 bytes, whose taps the ledger should have; the list ends at the \
-     next option, at --, or with the line";
+const UPLOADS_HELP: &str = "Compare their taps; the list ends at an option or --";
 
-const REPORT_HELP: &str = "The report of the ledger, of at most 67108864 bytes";
+const REPORT_HELP: &str = "Check this report of the ledger, too";
 
-const LEDGER_HELP: &str = "The ledger, a CSV file of any length [default: standard input, as -]";
+const MADE_BY_HELP: &str = "Compare with this file of `omny_cli --made-by`";
+
+const LEDGER_HELP: &str = "A ledger of any length [default: standard input, as -]";
 
 fn table_arg<'a>(alloc: Global) -> Arg<'a>
     ensures rule { rule_of result ≡ required_table_option }
@@ -128,13 +165,15 @@ fn command<'a>(alloc: Global) -> Result<Command<'a>, AllocError>
     let live = flag_arg(alloc, "live", LIVE_HELP);
     let uploads = files_arg(alloc, "uploads", UPLOADS_HELP);
     let report = option_arg(alloc, "report", "REPORT", REPORT_HELP);
+    let made_by = option_arg(alloc, "made-by", "FILE", MADE_BY_HELP);
     let ledger = positional_arg(alloc, "LEDGER", ArgAction::Set, LEDGER_HELP);
     let command = new_command(alloc, "omny_audit", ABOUT, NOTES)
         .arg(table)?
         .arg(all)?
         .arg(live)?
         .arg(uploads)?
-        .arg(report)?;
+        .arg(report)?
+        .arg(made_by)?;
     add_list_args(alloc, command)?.arg(ledger)
 }
 
@@ -193,6 +232,7 @@ impl<'a> Options<'a> {
             uploads: names_in(alloc, &matches, "uploads")?,
             report: matches.get_str("report"),
             ledger: ledger_in(matches.get_str("LEDGER")),
+            made_by: matches.get_str("made-by"),
         })
     }
 }

@@ -10,9 +10,8 @@ ghost use Rattle.omny_cli.specs.Charges.{ChargesNamed};
 
 use crate::beside::run_beside_line;
 use fare_program::{Complaints, Host, Output};
-use program_manners::Escaping;
 use run_progress::{Hushing, Ticker, Watched, WatchedDisk};
-use std::io::{Stderr, Stdout};
+use std::io::{Stdout, Write};
 use std::marker::Sync;
 use std::random::RandomSource;
 use std::sync::Wait;
@@ -23,14 +22,14 @@ use world::Recorded;
 /// Runs the whole program over the system's files, standard input and outputs, of which nothing was
 /// read or written yet. What was loaded and written is what the system calls tell. What was
 /// reported went to the standard error with its control characters escaped.
-pub fn run_system<R: Threads + Wait + Clock + RandomSource + Sync + AllocGlobal>(
+pub fn run_system<R: Threads + Wait + Clock + RandomSource + Sync + AllocGlobal, E: Write + Drop>(
     rt: &R,
     system: &HostRuntime,
     words: &[String],
     ticker: &Ticker,
     source: &mut Watched<'_, R, Host<'_, HostRuntime>>,
     out: &mut Output<Hushing<'_, R, Recorded<Stdout>>>,
-    err: &mut Complaints<Hushing<'_, R, Recorded<Escaping<Stderr>>>>,
+    err: &mut Complaints<Hushing<'_, R, Recorded<E>>>,
 ) -> u8
     requires unread { source.old.from.loads.trace ≡ no_calls }
     requires unwritten { out.old.writer.to.trace ≡ no_calls }

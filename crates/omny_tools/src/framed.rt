@@ -5,27 +5,33 @@ use crate::progress::Progress;
 use frame::Streams;
 use program_manners::{Opened, open_file};
 use std::fmt::Display;
+use std::fs::File;
 use std::io;
 use std::io::{BufReader, Write};
+use tool_program::Counted;
 use world::{
-    Fault, Inputs, LoadFault, Loaded, MakeFault, Staged, System, Trace, World, WriteFault,
+    Fault, Inputs, LoadFault, Loaded, MakeFault, NewFile, System, Trace, World, WriteFault,
 };
 
 const READ_BYTES: usize = 65_536;
 
 /// The system. What it reads in pieces are ledgers, whose lines are short. It shows how much is
-/// written, and takes that away before anything else is said.
+/// read and written, and takes that away before anything else is said.
 #[derive(Drop)]
 pub(crate) struct Framed<'r, W, E> {
     rt: &'r HostRuntime,
     system: System<'r, HostRuntime, W, E>,
+    counts: Progress<'r>,
     progress: Progress<'r>,
     done: u64,
 }
 
 impl<'r, W, E> Framed<'r, W, E> {
+    ghost use Rattle.std.specs.Prelude.{◌≡◌};
+
     pub(crate) fn new(
         rt: &'r HostRuntime,
+        counts: Progress<'r>,
         progress: Progress<'r>,
         out: W,
         err: E,
@@ -33,9 +39,17 @@ impl<'r, W, E> Framed<'r, W, E> {
         Framed {
             rt,
             system: System::new(rt, out, err),
+            counts,
             progress,
             done: 0,
         }
+    }
+
+    fn end_shown(&mut self)
+        ensures { self.new.system ≡ self.old.system }
+    {
+        self.counts.end();
+        self.progress.end();
     }
 }
 
@@ -82,8 +96,21 @@ impl<W, E> Streams for Framed<'_, W, E> {
     }
 }
 
+impl<W, E> Counted for Framed<'_, W, E> {
+    fn show_count(&mut self, done: usize, all: usize) {
+        self.counts.report(done, all, "uploads");
+    }
+
+    fn end_count(&mut self) {
+        self.counts.end();
+    }
+}
+
 impl<W: Write, E: Write> World for Framed<'_, W, E> {
+    type File = NewFile<File>;
+
     fn write(&mut self, piece: &[u8]) -> Result<(), WriteFault> {
+        self.counts.end();
         match self.system.write(piece) {
             Ok(()) => {
                 self.done = self.done.saturating_add(piece.len() as u64);
@@ -98,30 +125,38 @@ impl<W: Write, E: Write> World for Framed<'_, W, E> {
     }
 
     fn flush(&mut self) -> Result<(), WriteFault> {
-        self.progress.end();
+        self.end_shown();
         self.system.flush()
     }
 
     fn say(&mut self, text: &[u8]) {
-        self.progress.end();
+        self.end_shown();
         self.system.say(text);
     }
 
     fn report(&mut self, why: Fault<'_>) {
-        self.progress.end();
+        self.end_shown();
         self.system.report(why);
     }
 
     fn report_line<D: Display + Drop>(&mut self, line: D) -> Result<(), io::Error> {
-        self.progress.end();
+        self.end_shown();
         self.system.report_line(line)
     }
 
-    fn stage(&mut self, name: &str, started: &str, bytes: &[u8]) -> Result<Staged, MakeFault> {
-        self.system.stage(name, started, bytes)
+    fn begin(&mut self, name: &str, is_new: bool) -> Result<NewFile<File>, MakeFault> {
+        self.system.begin(name, is_new)
     }
 
-    fn publish(&mut self, file: Staged) -> Result<(), MakeFault> {
-        self.system.publish(file)
+    fn finish(&mut self, name: &str, file: NewFile<File>) -> Result<(), MakeFault> {
+        self.system.finish(name, file)
+    }
+
+    fn fail(&mut self, name: &str, file: NewFile<File>) -> MakeFault {
+        self.system.fail(name, file)
+    }
+
+    fn discard(&mut self, file: NewFile<File>) {
+        self.system.discard(file);
     }
 }

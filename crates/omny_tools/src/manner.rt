@@ -4,8 +4,8 @@
 use std::fs;
 use std::io::IsTerminal;
 use std::os::unix::fs::MetadataExt;
-use tap_rows::Separator;
 use tool_words::{SortingWords, Task, read};
+use world::folder_of;
 
 /// An upload is not written to a terminal.
 const TO_TERMINAL: &str =
@@ -13,14 +13,6 @@ const TO_TERMINAL: &str =
 
 /// The ends are not made in place of the taps, or of an upload that is read.
 const ENDS_IN_PLACE: &str = "error: --ends names OUT or an upload";
-
-pub(crate) fn folder_of(name: &str) -> &str {
-    match name.rsplit_once('/') {
-        None => ".",
-        Some((folder, _)) if folder.is_empty() => "/",
-        Some((folder, _)) => folder,
-    }
-}
 
 fn name_in_folder(name: &str) -> &str {
     match name.rsplit_once('/') {
@@ -70,14 +62,6 @@ pub(crate) enum Manner {
     Other,
 }
 
-fn byte_of(separator: Separator) -> u8 {
-    match separator {
-        Separator::Comma => b',',
-        Separator::Semicolon => b';',
-        Separator::Tab => b'\t',
-    }
-}
-
 pub(crate) fn manner_of(rt: &HostRuntime, words: &[String]) -> Manner {
     let Ok(task) = read(rt.alloc(), words) else {
         return Manner::Other;
@@ -87,7 +71,7 @@ pub(crate) fn manner_of(rt: &HostRuntime, words: &[String]) -> Manner {
             Manner::Refused(TO_TERMINAL)
         }
         Task::Sort(words) if has_ends_in_place(rt, words) => Manner::Refused(ENDS_IN_PLACE),
-        Task::EncodeRows(_, words) => Manner::Rows(byte_of(words.separator)),
+        Task::EncodeRows(_, words) => Manner::Rows(words.columns.separator.byte),
         _ => Manner::Other,
     }
 }

@@ -8,7 +8,7 @@ use crate::placed::FilesByName;
 use crate::progress::{Progress, Watching};
 use crate::texts::Texts;
 use jiff::Timestamp;
-use program_manners::Complaints;
+use program_manners::{Complaints, Output};
 use std::hash::RandomState;
 use std::io;
 use std::io::Write;
@@ -45,9 +45,6 @@ fn texts_of<'r>(rt: &'r HostRuntime, manner: Manner, shows: Shows) -> Texts<'r> 
     if let Manner::Rows(separator) = manner {
         return Texts::of_rows(rt, separator);
     }
-    if shows.counts {
-        return Texts::shown(rt);
-    }
     if shows.text {
         return Texts::of_others(rt);
     }
@@ -78,13 +75,22 @@ pub(crate) fn run<R: Threads + Sync, E: Write>(
         return 1;
     };
     let written = Recorded::new(Watching::new(io::writer(rt), progress));
-    let Ok(mut out) = collect(rt, written) else {
+    let Ok(written) = collect(rt, written) else {
+        say(err, &Fault::NoMemory);
+        return 1;
+    };
+    let Ok(framed_out) = collect(rt, io::writer(rt)) else {
         say(err, &Fault::NoMemory);
         return 1;
     };
     let mut source = texts_of(rt, manner, shows);
     let mut sink = FilesMade::new(rt);
-    let mut framed = Framed::new(rt, framed_progress, io::writer(rt), rt.stderr());
+    let counts = if shows.counts {
+        Progress::new(rt)
+    } else {
+        Progress::beside_text(rt)
+    };
+    let mut framed = Framed::new(rt, counts, framed_progress, framed_out, rt.stderr());
     main_over(
         threads,
         rt.alloc(),
@@ -94,7 +100,7 @@ pub(crate) fn run<R: Threads + Sync, E: Write>(
         &mut source,
         &FilesByName::new(rt),
         &mut sink,
-        &mut out,
+        &mut Output::new(written),
         err,
         &mut framed,
     )

@@ -32,18 +32,15 @@ fn read_whole<R: Read>(alloc: Global, from: &mut R) -> Result<Vec<u8>, LoadFault
 #[derive(Drop)]
 pub(crate) struct Texts<'r> {
     rt: &'r HostRuntime,
-    progress: Progress<'r>,
     has_short_lines: bool,
     /// What is between two fields of a CSV whose quotes are checked; none if they are not.
     separator: Option<u8>,
 }
 
 impl<'r> Texts<'r> {
-    /// Counts are shown unless the text that is made goes to a terminal.
     pub(crate) fn new(rt: &'r HostRuntime) -> Texts<'r> {
         Texts {
             rt,
-            progress: Progress::beside_text(rt),
             has_short_lines: false,
             separator: None,
         }
@@ -68,16 +65,6 @@ impl<'r> Texts<'r> {
             return Err(LoadFault::NoMemory);
         };
         Ok(Quotes::new(self.rt, opened(self.rt, name)?, word, self.separator))
-    }
-
-    /// Counts are always shown: the text is made after them, or none is.
-    pub(crate) fn shown(rt: &'r HostRuntime) -> Texts<'r> {
-        Texts {
-            rt,
-            progress: Progress::new(rt),
-            has_short_lines: false,
-            separator: None,
-        }
     }
 
     fn read(
@@ -119,14 +106,6 @@ impl<'r> Source for Texts<'r> {
 
     fn end_shown(&mut self, text: &mut BufReader<Watched<'r, Lines<Quotes<'r, Opened>>>>) {
         text.get_mut().end();
-    }
-
-    fn show_count(&mut self, done: usize, all: usize, things: &'static str) {
-        self.progress.report(done, all, things);
-    }
-
-    fn end_count(&mut self) {
-        self.progress.end();
     }
 
     fn load_any(&mut self, alloc: Global, name: Option<&str>) -> Result<Vec<u8>, LoadFault> {

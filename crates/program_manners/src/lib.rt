@@ -45,6 +45,6 @@ pub use terminal_line::{PACE_MS, QUIET_MS, TerminalLine};
 pub use version::VERSION;
 pub use words::{
     add_list_args, files_arg, flag_arg, flag_in, names_in, new_command, number_arg, option_arg,
-    positional_arg, repeated_arg,
+    positional_arg, repeated_arg, with_help,
 };
 pub use world::{LOAD_LIMIT_BYTES, LoadFault};

@@ -11,9 +11,9 @@ use clap::builder::ValueParser;
 use clap::{Arg, ArgAction, ArgMatches, Command};
 use std::alloc::{AllocError, Global};
 
-const LIST_HELP: &str = "Take the files that LIST names, a name a line; - is standard input";
+const LIST_HELP: &str = "Read the FILEs that LIST names, a name a line";
 
-const NULL_HELP: &str = "The names of LIST end with NUL, as `find -print0` writes them";
+const NULL_HELP: &str = "Names of LIST end with NUL, as by `find -print0`";
 
 /// An option with a value: `--NAME VALUE`.
 pub fn option_arg<'a>(alloc: Global, name: &'a str, value: &'a str, help: &'a str) -> Arg<'a>
@@ -87,14 +87,30 @@ pub fn positional_arg<'a>(alloc: Global, name: &'a str, action: ArgAction, help:
     Arg::new(alloc, name).action(action).help(help)
 }
 
+fn first_paragraph(text: &str) -> &str {
+    match text.split_once("\n\n") {
+        Some((first, _)) => first,
+        None => text,
+    }
+}
+
+/// The command with its help: these texts around its arguments, of which `-h` shows the first
+/// paragraph.
+pub fn with_help<'a>(command: Command<'a>, about: &'a str, notes: &'a str) -> Command<'a>
+    ensures { app_of result ≡ app_of command.entry }
+{
+    command
+        .about(first_paragraph(about))
+        .long_about(about)
+        .after_help(first_paragraph(notes))
+        .after_long_help(notes)
+}
+
 /// A command of this name that prints the version, and has no options yet.
 pub fn new_command<'a>(alloc: Global, name: &'a str, about: &'a str, notes: &'a str) -> Command<'a>
     ensures { app_of result ≡ named_app name.entry.now }
 {
-    Command::new(alloc, name)
-        .version(VERSION)
-        .about(about)
-        .after_help(notes)
+    with_help(Command::new(alloc, name).version(VERSION), about, notes)
 }
 
 fn list_arg<'a>(alloc: Global) -> Arg<'a>

@@ -12,6 +12,8 @@ pub struct Hushing<'a, R: Wait, W: Write + Drop> {
     ticker: &'a Ticker,
     to: W,
     is_over: bool,
+    /// Whether what is written is the text of the run, whose sum is noted.
+    is_text: bool,
 }
 
 impl<'a, R: Wait, W: Write + Drop> Hushing<'a, R, W> {
@@ -26,6 +28,34 @@ impl<'a, R: Wait, W: Write + Drop> Hushing<'a, R, W> {
             ticker,
             to,
             is_over: is_file,
+            is_text: false,
+        }
+    }
+
+    /// The writer of the run's text: its sum is noted, and why a write failed.
+    pub fn of_text(rt: &'a R, ticker: &'a Ticker, to: W, is_file: bool) -> Hushing<'a, R, W>
+        ensures { result.to ≡ to }
+    {
+        Hushing {
+            rt,
+            ticker,
+            to,
+            is_over: is_file,
+            is_text: true,
+        }
+    }
+
+    fn note_written(&self, bytes: &[u8]) {
+        if self.is_text
+            && let Some(sums) = &self.ticker.sums
+        {
+            sums.note_written(self.rt, bytes);
+        }
+    }
+
+    fn note_unwritten(&self, error: io::Error) {
+        if self.is_text {
+            self.ticker.findings.lock(self.rt).unwritten = Some(error);
         }
     }
 
@@ -38,6 +68,7 @@ impl<'a, R: Wait, W: Write + Drop> Hushing<'a, R, W> {
             ticker: _,
             to,
             is_over: _,
+            is_text: _,
         } = self;
         to
     }
@@ -51,12 +82,26 @@ impl<R: Wait, W: Write + Drop> Write for Hushing<'_, R, W> {
             self.ticker.end(self.rt);
             self.is_over = true;
         }
-        let count = self.to.write(bytes)?;
-        self.ticker.meters.written.add(count as u64);
-        Ok(count)
+        match self.to.write(bytes) {
+            Ok(count) => {
+                self.ticker.meters.written.add(count as u64);
+                self.note_written(bytes.get(..count).unwrap_or(&[]));
+                Ok(count)
+            }
+            Err(error) => {
+                self.note_unwritten(error);
+                Err(error)
+            }
+        }
     }
 
     fn flush(&mut self) -> io::Result<()> {
-        self.to.flush()
+        match self.to.flush() {
+            Ok(()) => Ok(()),
+            Err(error) => {
+                self.note_unwritten(error);
+                Err(error)
+            }
+        }
     }
 }

@@ -5,6 +5,7 @@ use crate::meter::Meters;
 use crate::pace::Pace;
 use crate::progress::{Sight, Steps};
 use program_manners::{PACE_MS, QUIET_MS, TerminalLine};
+use provenance::RunSums;
 use std::io;
 use std::sync::{Condvar, Mutex, Wait};
 use std::time::{Clock, Duration, Instant};
@@ -33,6 +34,8 @@ pub struct Ticker {
     pub(crate) steps: Mutex<Steps>,
     pub(crate) meters: Meters,
     pub(crate) findings: Mutex<Findings>,
+    /// The sums of what is read and written, if they are requested.
+    pub(crate) sums: Option<RunSums>,
     /// The line, which one thread at a time writes.
     line: Mutex<Line>,
     /// Rung when the line is taken away for good.
@@ -40,15 +43,18 @@ pub struct Ticker {
 }
 
 impl Ticker {
-    /// A run that begins. No line is shown yet, nor ever if `err` is not a terminal.
-    pub fn new(steps: Steps, err: io::Stderr, is_terminal: bool) -> Ticker {
+    /// A run that begins. No line is shown yet, nor ever if `err` is not a terminal. What is read
+    /// and written is noted in the sums, if there are any.
+    pub fn new(steps: Steps, err: io::Stderr, is_terminal: bool, sums: Option<RunSums>) -> Ticker {
         Ticker {
             steps: Mutex::new(steps),
             meters: Meters::new(),
             findings: Mutex::new(Findings {
                 live: None,
                 is_absent: false,
+                unwritten: None,
             }),
+            sums,
             line: Mutex::new(Line {
                 shown: TerminalLine::new(err),
                 is_over: !is_terminal,
@@ -110,6 +116,26 @@ impl Ticker {
     /// What the run has found so far.
     pub fn findings<R: Wait>(&self, rt: &R) -> Findings {
         *self.findings.lock(rt)
+    }
+
+    /// The sums of what the run has read and written, when it is over.
+    pub fn into_sums(self) -> Option<RunSums> {
+        let Ticker {
+            steps: _,
+            meters: _,
+            findings: _,
+            sums,
+            line: _,
+            ended: _,
+        } = self;
+        sums
+    }
+
+    /// A load gave these bytes of the file of this name.
+    pub(crate) fn note_load<R: Wait>(&self, rt: &R, name: &str, bytes: &[u8]) {
+        if let Some(sums) = &self.sums {
+            sums.note_load(rt, name, bytes);
+        }
     }
 
     /// Takes the line away for good.

@@ -4,7 +4,7 @@ use crate::meter::Meter;
 use crate::ticker::Ticker;
 use file_sources::{Amount, Disk, Source};
 use placed_files::{FileStamp, Placed, Unopened};
-use program_manners::{FileSource, LoadFault};
+use program_manners::{FileSource, LoadFault, STANDARD_INPUT};
 use std::alloc::{AllocError, Global};
 use std::io;
 use std::sync::Wait;
@@ -81,6 +81,9 @@ impl<'a, R: Wait, D: Disk> Disk for WatchedDisk<'a, R, D> {
         let meter = &self.ticker.meters.sorted;
         if let Ok(stamp) = from.stamp() {
             meter.extend(stamp.bytes);
+            if let Some(sums) = &self.ticker.sums {
+                sums.note_opened(self.rt, name, stamp);
+            }
         }
         self.ticker.steps.lock(self.rt).open();
         Ok(WatchedFile { meter, from })
@@ -117,6 +120,7 @@ impl<'a, R: Wait, D: Disk> Disk for WatchedDisk<'a, R, D> {
         self.ticker.steps.lock(self.rt).begin_prefetch();
         let bytes = self.from.read_into(name, room, calls)?;
         self.ticker.steps.lock(self.rt).end_settled();
+        self.ticker.note_load(self.rt, name, &bytes);
         Ok(bytes)
     }
 
@@ -148,6 +152,7 @@ impl<R: Wait, S: FileSource + Drop> FileSource for Watched<'_, R, S> {
         self.ticker.steps.lock(self.rt).begin_load();
         let bytes = self.from.load(name)?;
         self.ticker.steps.lock(self.rt).end_load();
+        self.ticker.note_load(self.rt, name, &bytes);
         Ok(bytes)
     }
 }
@@ -162,6 +167,7 @@ impl<R: Wait, S: Source + Drop> Source for Watched<'_, R, S> {
         self.ticker.steps.lock(self.rt).begin_input();
         let bytes = self.from.input()?;
         self.ticker.steps.lock(self.rt).end_input();
+        self.ticker.note_load(self.rt, STANDARD_INPUT, &bytes);
         Ok(bytes)
     }
 

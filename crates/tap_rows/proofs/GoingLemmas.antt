@@ -68,9 +68,9 @@ pub going_first : {R : Type 0} (remaining : R → Option (List ℕ)) (choice : C
     (out old_refused new_refused : Option (List ℕ)) (head : List (List ℕ))
     → ArePositions choice head positions
     → ((bytes : List ℕ) → text ≡ Some bytes
-    → HasConsumed remaining choice.separator bytes (head ∷ []) reader) → waiting ≡ []
+    → HasConsumed remaining choice.columns.now.separator bytes (head ∷ []) reader) → waiting ≡ []
     → IsSummary [] [] summary
-    → Appends old_refused new_refused (refusals_head choice.separator head)
+    → Appends old_refused new_refused (refusals_head choice.columns.now.separator head)
     → IsGoing remaining choice positions text 0 reader waiting summary out out old_refused
     new_refused
 going_first remaining choice positions text reader waiting summary out old_refused new_refused head
@@ -93,7 +93,7 @@ going_first remaining choice positions text reader waiting summary out old_refus
             all = refl;
           });
       refused = subst (λ bytes. Appends old_refused new_refused bytes)
-          (sym (append-nil (refusals_head choice.separator head))) appended;
+          (sym (append-nil (refusals_head choice.columns.now.separator head))) appended;
       summary_is = summary_is;
     }
 
@@ -108,8 +108,8 @@ pub going_more : {R : Type 0} (remaining : R → Option (List ℕ)) (choice : Ch
     here_refused
     → number ≡ count + 2
     → ((bytes : List ℕ) (rows : List (List (List ℕ)))
-    → HasConsumed remaining choice.separator bytes rows reader
-    → HasConsumed remaining choice.separator bytes (rows ++ row ∷ []) after)
+    → HasConsumed remaining choice.columns.now.separator bytes rows reader
+    → HasConsumed remaining choice.columns.now.separator bytes (rows ++ row ∷ []) after)
     → ((head : List (List ℕ)) → ArePositions choice head positions
     → IsParseOf choice head row reading)
     → AreEncodable (λ tap. tap.moment) more
@@ -117,7 +117,7 @@ pub going_more : {R : Type 0} (remaining : R → Option (List ℕ)) (choice : Ch
     → AreWritten old there more (taps ++ tap_of reading))
     → ((bytes : List ℕ) → Appends old_refused here_refused bytes
     → Appends old_refused there_refused
-    (bytes ++ flat_map (refusal_text choice.separator) (refusal_of number row reading)))
+    (bytes ++ flat_map (refusal_text choice.columns.now.separator) (refusal_of number row reading)))
     → ((rows : List (List (List ℕ))) (readings : List Reading) → number ≡ length rows + 2
     → length readings ≡ length rows → IsSummary rows readings summary
     → IsSummary (rows ++ row ∷ []) (readings ++ reading ∷ []) next)
@@ -131,8 +131,8 @@ going_more remaining choice positions text count number reader after waiting mor
     AllZip-long (IsParseOf choice going.head) going.rows going.readings going.each in
     let numbered : number ≡ length going.rows + 2 = omega (arith, position, going.number) in
     let refused = refusals_more going.rows going.readings row reading number long numbered in
-    let text_is = ap (refusals_text choice.separator going.head) refused
-    ∙ refusals_text_more choice.separator going.head (refusals going.rows going.readings)
+    let text_is = ap (refusals_text choice.columns.now.separator going.head) refused
+    ∙ refusals_text_more choice.columns.now.separator going.head (refusals going.rows going.readings)
     (refusal_of number row reading) in
     record {
       head = going.head;
@@ -148,7 +148,7 @@ going_more remaining choice positions text count number reader after waiting mor
       written = subst (λ taps. AreWritten old there more taps)
           (sym (taps_more going.readings reading)) (written (taps_in going.readings) going.written);
       refused = subst (λ bytes. Appends old_refused there_refused bytes) (sym text_is)
-          (appended (refusals_text choice.separator going.head (refusals going.rows going.readings))
+          (appended (refusals_text choice.columns.now.separator going.head (refusals going.rows going.readings))
           going.refused);
       summary_is = counted going.rows going.readings numbered long going.summary_is;
     }
@@ -162,8 +162,8 @@ pub going_end : {R : Type 0} (remaining : R → Option (List ℕ)) (choice : Cho
     → IsGoing remaining choice positions text count reader waiting summary old here old_refused
     new_refused
     → ((bytes : List ℕ) (rows : List (List (List ℕ)))
-    → HasConsumed remaining choice.separator bytes rows reader
-    → HasRecords choice.separator bytes rows)
+    → HasConsumed remaining choice.columns.now.separator bytes rows reader
+    → HasRecords choice.columns.now.separator bytes rows)
     → ((taps : List TapFields) → AreWritten old here waiting taps → AreWritten old there [] taps)
     → IfSome text (λ bytes. IsRowsEncoded choice bytes old there old_refused new_refused summary)
 going_end remaining choice positions None count reader waiting summary old here there old_refused
@@ -214,7 +214,7 @@ if_known (Some bytes) P holds = holds bytes refl
 
 -- a fault of the head is one of the text
 pub head_fault : (choice : Choice) (bytes : List ℕ) (head : List (List ℕ)) (f : AgencyFault)
-    → head ≡ first_record choice.separator bytes → IsHeadFault choice head f
+    → head ≡ first_record choice.columns.now.separator bytes → IsHeadFault choice head f
     → IsAgencyFault choice bytes f
 head_fault choice bytes head (fault.Column wanted) same is =
     subst (λ h. IsWanting choice h wanted) same is

@@ -1,6 +1,7 @@
 pub mod AgencyStartedLemmas
 mod AgencyLemmas
-mod AgencyMomentLemmas
+pub mod AgencyMomentLemmas
+mod NumberLemmas
 mod AgencyRowLemmas
 pub mod StartedLemmas
 mod DeviceLemmas

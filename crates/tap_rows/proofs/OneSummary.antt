@@ -100,7 +100,7 @@ no_rows_fault : (choice : Choice) (text : List ℕ) (a b c d : Option (List ℕ)
     → IsOfRows f → ¬ (IsAgencyFault choice text f)
 no_rows_fault choice text a b c d found (fault.Column wanted) is whole own wrong =
     let records = is.is_read.records in
-    let head = head_is choice.separator text is.head is.rows records.0 records.1 records.2 in
+    let head = head_is choice.columns.now.separator text is.head is.rows records.0 records.1 records.2 in
     is.is_read.columns wanted (subst (λ h. IsWanting choice h wanted) (sym head) wrong)
 no_rows_fault choice text a b c d found (fault.Row number reason) is whole own wrong =
     let (heads, rows, readings) = one_way choice text is.head wrong.head is.rows wrong.rows

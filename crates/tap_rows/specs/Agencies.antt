@@ -13,6 +13,7 @@ use Rattle.tap_rows.specs.AgencyRows.{IsColumn, IsParseOf}
 use Rattle.tap_rows.specs.AgencyTexts.{BeginsWith, HasRecords, first_record, record_text}
 use Rattle.tap_rows.specs.AgencyTexts.{separator_byte}
 use Rattle.tap_rows.specs.declared.agency.choice.Choice.{Choice}
+use Rattle.tap_rows.specs.declared.agency.choice.Condition.{Condition}
 use Rattle.tap_rows.specs.declared.agency.choice.Separator.{Separator}
 use Rattle.tap_rows.specs.declared.agency.fault.AgencyFault.{AgencyFault}
 use Rattle.tap_rows.specs.declared.agency.fault.AgencyFault.TheVariants as fault
@@ -28,19 +29,28 @@ use Rattle.tap_rows.specs.declared.agency.summary.Summary.{Summary}
 abbrev pub HasNoColumn : List (List ℕ) → List ℕ → Type 0
 HasNoColumn head name = (position : ℕ) → ¬ (IsColumn head name position)
 
+-- one of the conditions is of a column that the head lacks: the one at this position
+abbrev pub LacksColumnAt : List (List ℕ) → List Condition → ℕ → Type 0
+LacksColumnAt head conditions position = IsSomeAnd (slice_get conditions position)
+    (λ condition. HasNoColumn head condition.column.now)
+
 -- the head lacks this column of the choice
 abbrev pub IsWanting : Choice → List (List ℕ) → Wanted → Type 0
-IsWanting choice head wanted.Token = HasNoColumn head choice.token.now
-IsWanting choice head wanted.Validator = HasNoColumn head choice.validator.now
-IsWanting choice head wanted.Moment = HasNoColumn head choice.moment.now
+IsWanting choice head wanted.Token = HasNoColumn head choice.columns.now.token.now
+IsWanting choice head wanted.Validator = HasNoColumn head choice.columns.now.validator.now
+IsWanting choice head wanted.Moment = HasNoColumn head choice.columns.now.moment.now
 IsWanting choice head (wanted.Only position) =
-    IsSomeAnd (slice_get choice.only.now position) (λ condition. HasNoColumn head condition.column.now)
+    LacksColumnAt head choice.columns.now.only.items position
+IsWanting choice head (wanted.Without position) =
+    LacksColumnAt head choice.columns.now.without.items position
+IsWanting choice head wanted.Count =
+    IsSomeAnd choice.columns.now.count (λ name. HasNoColumn head name.now)
 
 -- the text has a head and these rows, the head lacks no column of the choice, and each row is read
--- as the reading at its place
+-- as the reading at its position
 pub record IsRead (choice : Choice) (text : List ℕ) (head : List (List ℕ))
     (rows : List (List (List ℕ))) (readings : List Reading) : Type 0 where
-  pub records : HasRecords choice.separator text (head ∷ rows)
+  pub records : HasRecords choice.columns.now.separator text (head ∷ rows)
   pub columns : (column : Wanted) → ¬ (IsWanting choice head column)
   pub each : AllZip (IsParseOf choice head) rows readings
 
@@ -97,6 +107,7 @@ reason_word why.Device = codes "device"
 reason_word why.LocalTime = codes "local time"
 reason_word why.Early = codes "before 2000"
 reason_word why.Moment = codes "moment"
+reason_word why.Riders = codes "riders"
 
 -- a refused row as it is written: its number, its reason, and its fields
 abbrev pub refusal_text : Separator → Refusal → List ℕ
@@ -142,7 +153,7 @@ pub record IsRowsEncoded (choice : Choice) (text : List ℕ)
   pub upload : IsFileOf file (taps_in readings)
   pub written : Appends old new file
   pub refused : Appends old_refused new_refused
-      (refusals_text choice.separator head (refusals rows readings))
+      (refusals_text choice.columns.now.separator head (refusals rows readings))
   pub summary_is : IsSummary rows readings summary
 
 -- what was written after the old bytes is a prefix of an upload with no fault, of the first of
@@ -162,7 +173,7 @@ pub record BeginsUpload (choice : Choice) (text : List ℕ) (old new : Option (L
   pub head : List (List ℕ)
   pub rows : List (List (List ℕ))
   pub readings : List Reading
-  pub records : BeginsWith choice.separator text (head ∷ rows)
+  pub records : BeginsWith choice.columns.now.separator text (head ∷ rows)
   pub each : AllZip (IsParseOf choice head) rows readings
   pub started : AreStarted (taps_in readings) old new
 
@@ -183,7 +194,7 @@ pub record IsFirstRefused (choice : Choice) (text : List ℕ) (number : ℕ) (re
 -- it
 abbrev pub IsAgencyFault : Choice → List ℕ → AgencyFault → Type 0
 IsAgencyFault choice text (fault.Column wanted) =
-    IsWanting choice (first_record choice.separator text) wanted
+    IsWanting choice (first_record choice.columns.now.separator text) wanted
 IsAgencyFault choice text (fault.Row number reason) = IsFirstRefused choice text number reason
 IsAgencyFault choice text fault.Changed = ⊥
 IsAgencyFault choice text fault.Unread = Unit {0}

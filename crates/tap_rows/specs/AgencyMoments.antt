@@ -1,85 +1,121 @@
--- The moment of a tap, as the field of an agency's row gives it: by a plain number, or by RFC 3339
--- with `Z` or an offset, also with a blank for the `T`.
-use Rattle.std.specs.Prelude.{◌≡◌, ◌⊎◌, ℕ, ◌-◌, ◌*◌, ◌<◌, ◌≤◌, pos, List, length, slice_index, Ok}
+-- The moment of a tap, as the field of an agency's row gives it: by a plain number, or by the date
+-- and the clock of RFC 3339 with an offset. What is less than a millisecond is dropped.
+use Rattle.std.specs.Prelude.{◌==◌, ◌&&◌, ◌||◌, ◌+◌, ◌*◌, ◌/◌, ◌^◌, ◌++◌, ℕ, ℤ, pos, Bool, not}
+use Rattle.std.specs.Prelude.{negsuc, Err, List, None, Ok, Option, Result, Some, codes, drop}
+use Rattle.std.specs.Prelude.{if◌then◌else◌, length, min, nat_le, nat_lt, option_map, slice_index}
+use Rattle.std.specs.Prelude.{take}
+use Rattle.std.specs.Str.{bytes_eq}
+use Rattle.jiff_core.specs.declared.error.Error.{Error}
 use Rattle.jiff_fmt.specs.Temporal.{parse_timestamp}
-use Rattle.tap_rows.specs.Moments.{IsDecimal}
+use Rattle.tap_rows.specs.Numbers.{decimal_in, digits_len, fraction_len, thousandths_in}
 use Rattle.tap_rows.specs.declared.agency.choice.Unit.{Unit}
 use Rattle.tap_rows.specs.declared.agency.choice.Unit.TheVariants as unit
+use Rattle.tap_rows.specs.declared.agency.reading.Reason.{Reason}
+use Rattle.tap_rows.specs.declared.agency.reading.Reason.TheVariants as why
 use Rattle.tap_views.specs.Layout.{moment_limit}
 
--- at the places at which `2024-03-08T17:00:00` has its dashes, its `T` and its colons, this text
--- has them too, or a blank for the `T`
-abbrev pub HasClock : List ℕ → Type 0
-HasClock text =
-    (19 ≤ length text) × (slice_index text 4 ≡ 45) × (slice_index text 7 ≡ 45)
-    × ((slice_index text 10 ≡ 84) ⊎ (slice_index text 10 ≡ 32)) × (slice_index text 13 ≡ 58)
-    × (slice_index text 16 ≡ 58)
+-- at the positions at which `2024-03-08T17:00:00` has its dashes, its `T` and its colons, this text
+-- has them too, or a `t` or a blank for the `T`
+abbrev pub has_clock : List ℕ → Bool
+has_clock text =
+    nat_le 19 (length text) && (slice_index text 4 == 45 && (slice_index text 7 == 45
+    && ((slice_index text 10 == 84 || (slice_index text 10 == 116 || slice_index text 10 == 32))
+    && (slice_index text 13 == 58 && slice_index text 16 == 58))))
 
--- the text ends with `Z`, after as many bytes as a date and a time have
-abbrev pub EndsWithZulu : List ℕ → Type 0
-EndsWithZulu text = (20 ≤ length text) × (slice_index text (length text - 1) ≡ 90)
+-- ---- a clock with an offset
+-- the text begins with a sign, and hours below 24 if digits follow it
+abbrev pub has_shift : List ℕ → Bool
+has_shift text = (slice_index text 0 == 43 || slice_index text 0 == 45)
+    && (nat_lt (slice_index text 1) 50
+    || (slice_index text 1 == 50 && nat_lt (slice_index text 2) 52))
 
--- the text ends with a sign, two bytes, a colon and two bytes, as `+01:00`
-abbrev pub EndsWithShift : List ℕ → Type 0
-EndsWithShift text =
-    (25 ≤ length text)
-    × ((slice_index text (length text - 6) ≡ 43) ⊎ (slice_index text (length text - 6) ≡ 45))
-    × (slice_index text (length text - 3) ≡ 58)
+-- the offset, as RFC 3339 writes it, for one that is `Z`, `z`, ` UTC`, `+01`, `+0100` or `+01:00`
+abbrev pub offset_in : List ℕ → Option (List ℕ)
+offset_in text =
+    if bytes_eq text (codes "Z") || (bytes_eq text (codes "z") || bytes_eq text (codes " UTC"))
+    then Some (codes "Z")
+    else (if length text == 3 && has_shift text then Some (text ++ codes ":00")
+    else (if length text == 5 && has_shift text
+    then Some (take 3 text ++ (codes ":" ++ drop 3 text))
+    else (if length text == 6 && (has_shift text && slice_index text 3 == 58) then Some text
+    else None)))
 
--- the text says how far its clock is from that of UTC
-abbrev pub HasOffset : List ℕ → Type 0
-HasOffset text = EndsWithZulu text ⊎ EndsWithShift text
+-- what follows the seconds of a clock: a fraction, if there is one, and an offset
+abbrev pub after_clock : List ℕ → List ℕ
+after_clock text = drop 19 text
 
--- the text is a time of a clock, and does not say how far this is from UTC: in autumn one such time
--- comes twice
-abbrev pub IsLocalTime : List ℕ → Type 0
-IsLocalTime text = HasClock text × ¬ (HasOffset text)
+-- what is written after the seconds and their fraction
+abbrev pub after_fraction : List ℕ → List ℕ
+after_fraction text = drop (fraction_len (after_clock text)) (after_clock text)
 
--- before a fraction is no comma, and an offset from UTC is below 24 hours
-abbrev pub KeepsToRfc : List ℕ → Type 0
-KeepsToRfc text =
-    (20 ≤ length text) × ¬ (slice_index text 19 ≡ 44)
-    × ((slice_index text (length text - 1) ≡ 90)
-    ⊎ ((slice_index text (length text - 5) < 50)
-    ⊎ ((slice_index text (length text - 5) ≡ 50) × (slice_index text (length text - 4) < 52))))
+-- a clock with at most three digits of a fraction, and an offset
+abbrev pub instant_text : List ℕ → List ℕ → List ℕ
+instant_text text offset =
+    take 19 text ++ (take (min (fraction_len (after_clock text)) 4) (after_clock text) ++ offset)
 
--- the text has a clock's marks and an offset, and gives an instant by the grammar of RFC 3339:
--- `number` milliseconds after 1970-01-01T00:00Z, and no fraction of one
-pub record IsInstant (text : List ℕ) (number : ℕ) : Type 0 where
-  pub clock : HasClock text
-  pub offset : HasOffset text
-  pub keeps : KeepsToRfc text
-  pub instant : parse_timestamp text ≡ Ok (pos (number * 1_000_000))
+-- the whole milliseconds of a number of nanoseconds that is not negative
+abbrev pub whole_ms : ℤ → Option ℕ
+whole_ms (pos nanos) =
+    if nat_lt (nanos / 1_000_000) (2 ^ 64) then Some (nanos / 1_000_000) else None
+whole_ms (negsuc nanos) = None
 
--- how many milliseconds one of what a plain number counts is
-abbrev pub unit_ms : Unit → ℕ
-unit_ms unit.Unsaid = 1
-unit_ms unit.Seconds = 1_000
-unit_ms unit.Milliseconds = 1
+-- those of an instant, from 1970-01-01T00:00Z on
+abbrev pub instant_ms : Result ℤ Error → Option ℕ
+instant_ms (Ok nanos) = whole_ms nanos
+instant_ms (Err error) = None
 
--- the text is a plain number, which counts `number` milliseconds
-pub record IsPlainTime (counted : Unit) (text : List ℕ) (number : ℕ) : Type 0 where
-  pub count : ℕ
-  pub writes : IsDecimal text count
-  pub are : number ≡ count * unit_ms counted
+-- the instant that a clock with an offset gives, in milliseconds since 1970-01-01T00:00Z
+abbrev pub instant_in : List ℕ → List ℕ → Option ℕ
+instant_in text offset = instant_ms (parse_timestamp (instant_text text offset))
 
--- the text gives a time in one of the two ways
-abbrev pub IsAgencyTime : Unit → List ℕ → ℕ → Type 0
-IsAgencyTime counted text number = IsPlainTime counted text number ⊎ IsInstant text number
+-- ---- a plain number
+-- how many milliseconds so many of what a plain number counts are, and so many thousandths of one
+abbrev pub scaled : Unit → ℕ → ℕ → ℕ
+scaled unit.Unsaid number thousandths = number
+scaled unit.Seconds number thousandths = number * 1_000 + thousandths
+scaled unit.Milliseconds number thousandths = number
+scaled unit.Microseconds number thousandths = number / 1_000
 
--- the earliest moment that is read: if nobody says what a plain number counts, 2000-01-01T00:00Z, so
--- that no seconds are taken for milliseconds
+-- the text is a fraction with a digit, or nothing
+abbrev pub is_fraction : List ℕ → Bool
+is_fraction text = fraction_len text == length text && not (length text == 1)
+
+-- the milliseconds that a plain number counts
+abbrev pub plain_ms : Unit → List ℕ → Option ℕ
+plain_ms counted text =
+    if is_fraction (drop (digits_len text) text)
+    then option_map
+    (λ number. scaled counted number (thousandths_in (drop (digits_len text) text)))
+    (decimal_in (take (digits_len text) text))
+    else None
+
+-- ---- the moment
+-- the earliest moment that is read: if nobody says what a plain number counts, 2000-01-01T00:00Z,
+-- so that no seconds are taken for milliseconds
 abbrev pub earliest_ms : Unit → ℕ
 earliest_ms unit.Unsaid = 946_684_800_000
 earliest_ms unit.Seconds = 0
 earliest_ms unit.Milliseconds = 0
+earliest_ms unit.Microseconds = 0
 
--- the text gives a time before the earliest moment that is read
-abbrev pub IsEarly : Unit → List ℕ → Type 0
-IsEarly counted text =
-    (number : ℕ) × IsAgencyTime counted text number × (number < earliest_ms counted)
+-- the time as a moment that a tap can have: not before the earliest, and below the limit
+abbrev pub moment_of : Unit → Option ℕ → Result ℕ Reason
+moment_of counted None = Err why.Moment
+moment_of counted (Some ms) = if nat_lt ms (earliest_ms counted) then Err why.Early
+    else (if nat_lt ms moment_limit then Ok ms else Err why.Moment)
 
--- the text gives a moment that a tap can have: not before the earliest, and below the limit
-abbrev pub IsAgencyMoment : Unit → List ℕ → ℕ → Type 0
-IsAgencyMoment counted text number =
-    IsAgencyTime counted text number × (earliest_ms counted ≤ number) × (number < moment_limit)
+-- the moment of a clock with this offset, if it is one
+abbrev pub offset_moment : Unit → List ℕ → Option (List ℕ) → Result ℕ Reason
+offset_moment counted text None = Err why.Moment
+offset_moment counted text (Some offset) = moment_of counted (instant_in text offset)
+
+-- the moment of a clock; with nothing after its seconds it is a local time, and in autumn one such
+-- time comes twice
+abbrev pub clock_moment : Unit → List ℕ → Result ℕ Reason
+clock_moment counted text = if length (after_fraction text) == 0 then Err why.LocalTime
+    else offset_moment counted text (offset_in (after_fraction text))
+
+-- the moment that a field gives, or why it gives none
+abbrev pub moment_in : Unit → List ℕ → Result ℕ Reason
+moment_in counted text = if has_clock text then clock_moment counted text
+    else moment_of counted (plain_ms counted text)

@@ -1,151 +1,142 @@
 -- A row of an agency's CSV: its columns by the names of the head, whether it is kept, and the tap
 -- that it is.
-use Rattle.std.specs.Prelude.{◌≡◌, ℕ, List, Option, None, Some, length, All}
+use Rattle.std.specs.Prelude.{◌≡◌, ◌==◌, ◌&&◌, ◌+◌, ◌^◌, ℕ, Bool, List, [], ◌∷◌, Option, None, Some}
+use Rattle.std.specs.Prelude.{Err, Ok, Result, if◌then◌else◌, length, map, nat_lt, not, option_map}
+use Rattle.std.specs.Prelude.{false, take, true, unwrap_or}
 use Rattle.std.specs.Borrow.{Bor}
+use Rattle.std.specs.List.{list_all, list_any}
+use Rattle.std.specs.Str.{bytes_eq}
 use Rattle.csv.specs.Records.{field_at}
+use Rattle.sha2.specs.Sha256.{sha256}
 use Rattle.uuid.specs.Text.{parsed}
 use Rattle.tap_views.specs.declared.encoder.TapFields.{TapFields}
-use Rattle.tap_rows.specs.AgencyMoments.{IsAgencyMoment, IsEarly, IsLocalTime}
+use Rattle.tap_rows.specs.AgencyMoments.{moment_in}
 use Rattle.tap_rows.specs.Devices.{devices_of, validator_of}
-use Rattle.tap_rows.specs.Rows.{IsNoValidator, IsValidator}
+use Rattle.tap_rows.specs.Numbers.{whole_number_in}
 use Rattle.tap_rows.specs.declared.agency.choice.Choice.{Choice}
 use Rattle.tap_rows.specs.declared.agency.choice.Condition.{Condition}
-use Rattle.tap_rows.specs.declared.agency.choice.Unit.{Unit}
 use Rattle.tap_rows.specs.declared.agency.reading.Reading.{Reading}
 use Rattle.tap_rows.specs.declared.agency.reading.Reading.TheVariants as read
 use Rattle.tap_rows.specs.declared.agency.reading.Reason.{Reason}
 use Rattle.tap_rows.specs.declared.agency.reading.Reason.TheVariants as why
 use Rattle.tap_rows.specs.declared.devices.table.DeviceTable.{DeviceTable}
 
+-- ---- the columns
 -- of the fields of the head this one, and no other, is the name
 pub record IsColumn (head : List (List ℕ)) (name : List ℕ) (position : ℕ) : Type 0 where
   pub named : field_at head position ≡ Some name
   pub once : (other : ℕ) → field_at head other ≡ Some name → other ≡ position
 
--- in the column of this name the row has this value
-pub record HasValue (head row : List (List ℕ)) (name value : List ℕ) : Type 0 where
-  pub position : ℕ
-  pub column : IsColumn head name position
-  pub field : field_at row position ≡ Some value
+-- the position of the first of the names that is this one; that after the last if none is
+abbrev pub position_in : List (List ℕ) → List ℕ → ℕ
+position_in [] name = 0
+position_in (first ∷ head) name = if bytes_eq first name then 0 else position_in head name + 1
 
--- the row meets the condition
-abbrev pub IsMet : List (List ℕ) → List (List ℕ) → Condition → Type 0
-IsMet head row condition = HasValue head row condition.column.now condition.value.now
+-- where the columns of a choice are: each test is of a column, and of a value that it may have
+pub record HeadLayout : Type 0 where
+  pub width : ℕ
+  pub token : ℕ
+  pub validator : ℕ
+  pub moment : ℕ
+  pub only : List (ℕ × List ℕ)
+  pub without : List (ℕ × List ℕ)
+  pub count : Option ℕ
 
--- the row meets each condition of the choice
-abbrev pub IsKept : Choice → List (List ℕ) → List (List ℕ) → Type 0
-IsKept choice head row = All (IsMet head row) choice.only.now
+abbrev pub test_in : List (List ℕ) → Condition → ℕ × List ℕ
+test_in head condition = (position_in head condition.column.now, condition.value.now)
 
--- the text is 32 hexadecimal digits, of either case, or a UUID, and they spell these 16 bytes
-abbrev pub IsTokenText : List ℕ → List ℕ → Type 0
-IsTokenText text token = parsed text ≡ Some token
+-- where they are in this head, which has each once
+abbrev pub layout_in : Choice → List (List ℕ) → HeadLayout
+layout_in choice head = record {
+  width = length head;
+  token = position_in head choice.columns.now.token.now;
+  validator = position_in head choice.columns.now.validator.now;
+  moment = position_in head choice.columns.now.moment.now;
+  only = map (test_in head) choice.columns.now.only.items;
+  without = map (test_in head) choice.columns.now.without.items;
+  count = option_map (λ name. position_in head name.now) choice.columns.now.count;
+}
 
--- in the column of this name the row has a value of this kind
-abbrev pub HasSome : List (List ℕ) → List (List ℕ) → List ℕ → (List ℕ → Type 0) → Type 0
-HasSome head row name IsOne = (value : List ℕ) × HasValue head row name value × IsOne value
+-- ---- whether a row is kept
+-- the field of a row in this column
+abbrev pub field : List (List ℕ) → ℕ → List ℕ
+field row position = unwrap_or (field_at row position) []
 
--- the text represents this validator: it writes the number or, if there are devices, is the name of
--- the device to which the table gives it
-abbrev pub RepresentsValidator : Option (Bor DeviceTable) → List ℕ → ℕ → Type 0
-RepresentsValidator None text number = IsValidator text number
-RepresentsValidator (Some devices) text number =
-    validator_of (devices_of devices.now) text ≡ Some number
+-- the row has the value of the test in its column
+abbrev pub passes : List (List ℕ) → ℕ × List ℕ → Bool
+passes row test = bytes_eq (field row test.0) test.1
 
--- the row's fields in the columns of the choice give this tap
-pub record IsTapOf (choice : Choice) (head row : List (List ℕ)) (tap : TapFields) : Type 0 where
-  pub token : HasSome head row choice.token.now (λ text. IsTokenText text tap.token)
-  pub validator : HasSome head row choice.validator.now
-      (λ text. RepresentsValidator choice.devices text tap.validator)
-  pub moment : HasSome head row choice.moment.now
-      (λ text. IsAgencyMoment choice.unit text tap.moment)
+-- the row passes one of the tests that are of this column
+abbrev pub passes_one : List (List ℕ) → List (ℕ × List ℕ) → ℕ → Bool
+passes_one row tests position = list_any (λ test. test.0 == position && passes row test) tests
 
--- the text is not a token
-abbrev pub IsNoToken : List ℕ → Type 0
-IsNoToken text = (token : List ℕ) → ¬ (IsTokenText text token)
+-- the row passes one of the tests of each column that has some, and none that leaves it out
+abbrev pub is_kept : HeadLayout → List (List ℕ) → Bool
+is_kept layout row =
+    list_all (λ test. passes_one row layout.only test.0) layout.only
+    && not (list_any (passes row) layout.without)
 
--- there are no devices, and the text writes no validator's number
-abbrev pub IsNoNumber : Option (Bor DeviceTable) → List ℕ → Type 0
-IsNoNumber None text = IsNoValidator text
-IsNoNumber (Some devices) text = ⊥
+-- ---- the tap of a row
+-- the token that a field gives: 32 hexadecimal digits, of either case, or a UUID; or, if hashes are
+-- wanted, the first 16 bytes of the SHA-256 of any text but none
+abbrev pub token_in : Bool → List ℕ → Option (List ℕ)
+token_in false text = parsed text
+token_in true text = if length text == 0 then None else Some (take 16 (sha256 text))
 
--- there are devices, and none has the text as its name
-abbrev pub IsNoDevice : Option (Bor DeviceTable) → List ℕ → Type 0
-IsNoDevice None text = ⊥
-IsNoDevice (Some devices) text = validator_of (devices_of devices.now) text ≡ None
+-- the validator with this number, if it is one
+abbrev pub validator_numbered : Option ℕ → Result ℕ Reason
+validator_numbered None = Err why.Validator
+validator_numbered (Some number) = if nat_lt number (2 ^ 32) then Ok number else Err why.Validator
 
--- the text is not a moment
-abbrev pub IsNoMoment : Unit → List ℕ → Type 0
-IsNoMoment counted text = (number : ℕ) → ¬ (IsAgencyMoment counted text number)
+-- the validator of a device that was looked up
+abbrev pub device_named : Option ℕ → Result ℕ Reason
+device_named None = Err why.Device
+device_named (Some number) = Ok number
 
--- why a text is not a moment: a local time, or a time that is too early, or neither
-abbrev pub IsMomentReason : Unit → List ℕ → Reason → Type 0
-IsMomentReason counted text why.Fields = ⊥
-IsMomentReason counted text why.Token = ⊥
-IsMomentReason counted text why.Validator = ⊥
-IsMomentReason counted text why.Device = ⊥
-IsMomentReason counted text why.LocalTime = IsLocalTime text
-IsMomentReason counted text why.Early = IsEarly counted text
-IsMomentReason counted text why.Moment = ¬ (IsLocalTime text) × ¬ (IsEarly counted text)
+-- the validator that a field gives: it writes the number or, if there are devices, is the name of
+-- one
+abbrev pub validator_in : Option (Bor DeviceTable) → List ℕ → Result ℕ Reason
+validator_in None text = validator_numbered (whole_number_in text)
+validator_in (Some devices) text = device_named (validator_of (devices_of devices.now) text)
 
--- the row's first field that is wrong is the token's
-abbrev pub HasNoToken : Choice → List (List ℕ) → List (List ℕ) → Type 0
-HasNoToken choice head row = HasSome head row choice.token.now IsNoToken
+-- the number of riders that a field gives is 1
+abbrev pub is_one : Option ℕ → Bool
+is_one None = false
+is_one (Some number) = number == 1
 
--- it is the validator's, which is wrong in this way
-pub record HasNoValidator (choice : Choice) (head row : List (List ℕ)) (IsWrong : List ℕ → Type 0)
-    : Type 0 where
-  pub bytes : List ℕ
-  pub token : HasSome head row choice.token.now (λ text. IsTokenText text bytes)
-  pub wrong : HasSome head row choice.validator.now IsWrong
+-- a column of numbers of riders, if there is one, has 1
+abbrev pub is_one_rider : Option ℕ → List (List ℕ) → Bool
+is_one_rider None row = true
+is_one_rider (Some position) row = is_one (whole_number_in (field row position))
 
--- it is the moment's, which is wrong in this way
-pub record HasNoMoment (choice : Choice) (head row : List (List ℕ)) (IsWrong : List ℕ → Type 0)
-    : Type 0 where
-  pub bytes : List ℕ
-  pub number : ℕ
-  pub token : HasSome head row choice.token.now (λ text. IsTokenText text bytes)
-  pub validator : HasSome head row choice.validator.now
-      (λ text. RepresentsValidator choice.devices text number)
-  pub wrong : HasSome head row choice.moment.now
-      (λ text. IsNoMoment choice.unit text × IsWrong text)
+-- the tap of what its fields give, or why it is none: the first field that is wrong
+abbrev pub tap_from : Option (List ℕ) → Result ℕ Reason → Result ℕ Reason → Reading
+tap_from None validator moment = read.Refused why.Token
+tap_from (Some token) (Err reason) moment = read.Refused reason
+tap_from (Some token) (Ok validator) (Err reason) = read.Refused reason
+tap_from (Some token) (Ok validator) (Ok moment) =
+    read.Tap (record { token = token; validator = validator; moment = moment })
 
--- why a row that is kept, and has as many fields as the head, is not a tap
-abbrev pub IsNoTap : Choice → List (List ℕ) → List (List ℕ) → Reason → Type 0
-IsNoTap choice head row why.Fields = ⊥
-IsNoTap choice head row why.Token = HasNoToken choice head row
-IsNoTap choice head row why.Validator = HasNoValidator choice head row (IsNoNumber choice.devices)
-IsNoTap choice head row why.Device = HasNoValidator choice head row (IsNoDevice choice.devices)
-IsNoTap choice head row why.LocalTime =
-    HasNoMoment choice head row (λ text. IsMomentReason choice.unit text why.LocalTime)
-IsNoTap choice head row why.Early =
-    HasNoMoment choice head row (λ text. IsMomentReason choice.unit text why.Early)
-IsNoTap choice head row why.Moment =
-    HasNoMoment choice head row (λ text. IsMomentReason choice.unit text why.Moment)
+-- what a row that is kept is read as
+abbrev pub kept_reading : Choice → HeadLayout → List (List ℕ) → Reading
+kept_reading choice layout row =
+    if is_one_rider layout.count row
+    then tap_from (token_in choice.columns.now.has_hashes (field row layout.token))
+    (validator_in choice.devices (field row layout.validator))
+    (moment_in choice.columns.now.unit (field row layout.moment))
+    else read.Refused why.Riders
 
--- the row has as many fields as the head
-abbrev pub IsAsLong : List (List ℕ) → List (List ℕ) → Type 0
-IsAsLong head row = length row ≡ length head
+-- what a row is read as, if the columns are here: a tap that is kept, a row that is not, or one
+-- that is not a tap
+abbrev pub reading_by : Choice → HeadLayout → List (List ℕ) → Reading
+reading_by choice layout row =
+    if length row == layout.width
+    then (if is_kept layout row then kept_reading choice layout row else read.LeftOut)
+    else read.Refused why.Fields
 
--- why a row is refused
-abbrev pub IsRefused : Choice → List (List ℕ) → List (List ℕ) → Reason → Type 0
-IsRefused choice head row why.Fields = ¬ (IsAsLong head row)
-IsRefused choice head row why.Token =
-    IsAsLong head row × IsKept choice head row × IsNoTap choice head row why.Token
-IsRefused choice head row why.Validator =
-    IsAsLong head row × IsKept choice head row × IsNoTap choice head row why.Validator
-IsRefused choice head row why.Device =
-    IsAsLong head row × IsKept choice head row × IsNoTap choice head row why.Device
-IsRefused choice head row why.LocalTime =
-    IsAsLong head row × IsKept choice head row × IsNoTap choice head row why.LocalTime
-IsRefused choice head row why.Early =
-    IsAsLong head row × IsKept choice head row × IsNoTap choice head row why.Early
-IsRefused choice head row why.Moment =
-    IsAsLong head row × IsKept choice head row × IsNoTap choice head row why.Moment
+-- what a row is read as under this head
+abbrev pub reading_of : Choice → List (List ℕ) → List (List ℕ) → Reading
+reading_of choice head row = reading_by choice (layout_in choice head) row
 
--- what a row is read as, under this head: a tap that is kept, a row that is not, or one that is not
--- a tap
 abbrev pub IsParseOf : Choice → List (List ℕ) → List (List ℕ) → Reading → Type 0
-IsParseOf choice head row (read.Tap tap) =
-    IsAsLong head row × IsKept choice head row × IsTapOf choice head row tap
-IsParseOf choice head row read.LeftOut = IsAsLong head row × ¬ (IsKept choice head row)
-IsParseOf choice head row (read.Refused reason) = IsRefused choice head row reason
+IsParseOf choice head row reading = reading ≡ reading_of choice head row

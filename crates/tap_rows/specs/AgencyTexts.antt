@@ -8,13 +8,14 @@ use Rattle.csv.specs.declared.parser.Config.{Config}
 use Rattle.csv.specs.declared.parser.State.{State}
 use Rattle.csv.specs.declared.parser.State.TheVariants.{StartRecord}
 use Rattle.tap_rows.specs.declared.agency.choice.Separator.{Separator}
-use Rattle.tap_rows.specs.declared.agency.choice.Separator.TheVariants.{Comma, Semicolon, Tab}
 
 -- the byte of a separator
 abbrev pub separator_byte : Separator → ℕ
-separator_byte Comma = 44
-separator_byte Semicolon = 59
-separator_byte Tab = 9
+separator_byte separator = separator.byte
+
+-- the separator of a table whose own it is
+abbrev pub comma : Separator
+comma = record { byte = 44 }
 
 -- how a text with this separator is read
 abbrev pub config_of : Separator → Config

@@ -4,10 +4,9 @@ use Rattle.std.specs.Prelude.{codes}
 use Rattle.std.specs.List.{AllZip, IsDistinct}
 use Rattle.std.specs.Map.{keys_of, lookup}
 use Rattle.std.specs.Str.{bytes_eq}
-use Rattle.tap_rows.specs.AgencyTexts.{BeginsWith, HasRecords, first_record}
+use Rattle.tap_rows.specs.AgencyTexts.{BeginsWith, HasRecords, comma, first_record}
 use Rattle.tap_rows.specs.Rows.{IsNoValidator, IsValidator}
 use Rattle.tap_rows.specs.declared.agency.choice.Separator.{Separator}
-use Rattle.tap_rows.specs.declared.agency.choice.Separator.TheVariants.{Comma}
 use Rattle.tap_rows.specs.declared.devices.fault.DevicesFault.{DevicesFault}
 use Rattle.tap_rows.specs.declared.devices.fault.DevicesFault.TheVariants as fault
 use Rattle.tap_rows.specs.declared.devices.fault.WrongDevice.{WrongDevice}
@@ -39,7 +38,7 @@ HasDeviceHead separator text = first_record separator text ≡ device_head
 abbrev pub IsItsSeparator : Separator → List ℕ → Separator → Type 0
 IsItsSeparator separator text its =
     (HasDeviceHead separator text × (its ≡ separator))
-    ⊎ (¬ (HasDeviceHead separator text) × (its ≡ Comma))
+    ⊎ (¬ (HasDeviceHead separator text) × (its ≡ comma))
 
 -- the row gives this device its validator: it has two fields, and the device's is not empty
 pub record IsDeviceRow (row : List (List ℕ)) (device : Device) : Type 0 where
@@ -88,7 +87,7 @@ pub record IsFirstWrong (separator : Separator) (text : List ℕ) (number : ℕ)
 -- what a fault says of the text; that a growth of memory failed says nothing of it
 abbrev pub IsDevicesFault : Separator → List ℕ → DevicesFault → Type 0
 IsDevicesFault separator text fault.Head =
-    ¬ (HasDeviceHead separator text) × ¬ (HasDeviceHead Comma text)
+    ¬ (HasDeviceHead separator text) × ¬ (HasDeviceHead comma text)
 IsDevicesFault separator text (fault.Row number why) =
     (its : Separator) × IsItsSeparator separator text its × IsFirstWrong its text number why
 IsDevicesFault separator text fault.NoMemory = Unit {0}

@@ -6,6 +6,7 @@ pub mod Decoded
 pub mod Devices
 pub mod Fields
 pub mod Moments
+pub mod Numbers
 pub mod Rows
 pub mod TapTables
 pub mod inside

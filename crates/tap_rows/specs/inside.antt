@@ -4,5 +4,4 @@ pub mod Goings
 pub mod Positions
 pub mod RecordReaders
 pub mod TapTables
-pub mod Validators
 pub mod WaitingTaps

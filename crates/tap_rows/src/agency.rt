@@ -4,6 +4,8 @@
 mod choice;
 mod fault;
 mod instant;
+mod note;
+mod numbers;
 mod positions;
 mod reading;
 mod records;
@@ -12,7 +14,7 @@ mod summary;
 mod waiting;
 mod writing;
 
-pub use choice::{Choice, Condition, Separator, Unit};
+pub use choice::{Choice, Columns, Condition, Separator, Unit};
 pub use fault::{AgencyFault, Wanted};
 pub(crate) use positions::has_at;
 pub(crate) use reading::field_in;

@@ -97,7 +97,6 @@ pub fn merge_over<S: Source, W: Write, E: Write>(
     ensures done { (kept : List Loaded) → S.loaded source.old ≡ Some kept → result ≡ 0
         → MergesParts (map (λ w. w.now) words.now) (S.loaded source.old) (S.loaded source.new)
         (W.contents out.old.writer) (W.contents out.new.writer) }
-    // And all that was written was flushed.
     ensures flushed { result ≡ 0 → out.new.is_flushed ≡ true }
     // With status 1 the line of a fault was reported, which is the right one.
     ensures faults { result ≡ 1 → (fault : AFault) × IsFaultReported fault

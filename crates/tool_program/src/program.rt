@@ -2,14 +2,13 @@
 ghost use Rattle.std.specs.Prelude.{◌≡◌, ◌⊎◌, ◌≤◌, ℕ, Bool, List, Option, Some, map};
 ghost use Rattle.std.specs.Prelude.{string_bytes};
 ghost use Rattle.program_manners.specs.LineWritten.{LineWritten};
-ghost use Rattle.program_manners.specs.declared.output.WriteEnd.{WriteEnd as AWriteEnd};
 ghost use Rattle.tool_program.specs.Program.{IsDone, IsFramed, IsAborted, IsPartlyDone};
 ghost use Rattle.tool_program.specs.Program.{usage_error_line, run_of};
 ghost use Rattle.tool_tasks.specs.Fault.{IsFaultReported};
 ghost use Rattle.tool_tasks.specs.declared.fault.Fault.TheVariants.{NoMemory};
-ghost use Rattle.tool_words.specs.Request.{request_by, shows, sort};
+ghost use Rattle.tool_words.specs.Request.{request_by, shows};
 ghost use Rattle.tool_words.specs.UsageErrors.{usage_error_text};
-ghost use Rattle.tool_words.specs.Tasks.{request_of, sorting_of};
+ghost use Rattle.tool_words.specs.Tasks.{request_of};
 ghost use Rattle.tool_words.specs.ToolLine.{AsksForText, Parses};
 
 use crate::answers::show;
@@ -23,11 +22,11 @@ use std::io::Write;
 use std::marker::Sync;
 use std::thread::Threads;
 use tool_tasks::{
-    Escaped, Fault, PlacedFiles, Sink, SortWords, Source, bounds_over, corrections_over,
-    decode_over, encode_over, encode_rows_over, look_over, merge_sorted_over, say, sort_over,
-    table_over, uploads_over, valid_prefix_over,
+    Counted, Escaped, Fault, PlacedFiles, Sink, Source, bounds_over, corrections_over, decode_over,
+    encode_over, encode_rows_over, look_over, merge_sorted_over, say, sort_over, table_over,
+    uploads_over, valid_prefix_over,
 };
-use tool_words::{SortingWords, Task, UsageError, read};
+use tool_words::{Task, UsageError, read};
 use world::World;
 
 /// Says what is wrong with the words, and gives the status.
@@ -57,45 +56,6 @@ fn report_wrong_date<E: Write>(alloc: Global, err: &mut Complaints<E>, wrong: &W
     2
 }
 
-/// Sorts uploads, or merges sorted ones.
-fn sort_task<R: Threads + Sync, S: Source, D: PlacedFiles, K: Sink, E: Write>(
-    threads: &R,
-    alloc: Global,
-    words: &SortingWords<'_>,
-    source: &mut S,
-    files: &D,
-    sink: &mut K,
-    err: &mut Complaints<E>,
-) -> u8
-    ensures done { (o o' : Option (List ℕ)) (end : Option AWriteEnd) (flushed : Bool)
-        → result ≡ 0 → IsDone (sort (sorting_of words.now)) (run_of (S.loaded source.old)
-        (S.loaded source.new) (S.refused source.new) (D.bytes_under files.now) (K.made sink.old)
-        (K.made sink.new) (K.unstarted sink.new) (K.failed sink.new) o o' end flushed
-        (E.contents err.old.writer) (E.contents err.new.writer) err.new.failed)
-        (err.new ≡ err.old) }
-    ensures partly { (o o' : Option (List ℕ)) (end : Option AWriteEnd) (flushed : Bool)
-        → result ≡ 3 → IsPartlyDone (sort (sorting_of words.now)) (run_of (S.loaded source.old)
-        (S.loaded source.new) (S.refused source.new) (D.bytes_under files.now) (K.made sink.old)
-        (K.made sink.new) (K.unstarted sink.new) (K.failed sink.new) o o' end flushed
-        (E.contents err.old.writer) (E.contents err.new.writer) err.new.failed) }
-    ensures aborted { (o o' : Option (List ℕ)) (end : Option AWriteEnd) (flushed : Bool)
-        → result ≡ 1 → IsAborted (sort (sorting_of words.now)) (run_of (S.loaded source.old)
-        (S.loaded source.new) (S.refused source.new) (D.bytes_under files.now) (K.made sink.old)
-        (K.made sink.new) (K.unstarted sink.new) (K.failed sink.new) o o' end flushed
-        (E.contents err.old.writer) (E.contents err.new.writer) err.new.failed)
-        (err.new ≡ err.old) }
-    ensures status { (result ≡ 0) ⊎ ((result ≡ 1) ⊎ (result ≡ 3)) }
-{
-    let request = SortWords {
-        out: words.out,
-        ends: words.ends,
-    };
-    if words.is_merge {
-        return merge_sorted_over(alloc, &request, &words.uploads, files, sink, err);
-    }
-    sort_over(threads, alloc, &request, &words.uploads, source, sink, err)
-}
-
 /// Does what is asked for, and gives the status.
 fn task_over<
     R: Threads + Sync,
@@ -104,7 +64,7 @@ fn task_over<
     K: Sink,
     W: Write,
     E: Write,
-    X: World + Streams,
+    X: World + Streams + Counted,
 >(
     threads: &R,
     alloc: Global,
@@ -119,8 +79,8 @@ fn task_over<
     world: &mut X,
 ) -> u8
     // What the frame runs ends as it says. Anything else does nothing in its world.
-    ensures framed { IsFramed X.bytes_under (request_of task.entry) (X.run world.old)
-        (X.run world.new) result }
+    ensures framed { IsFramed X.bytes_under (D.bytes_under files.now)
+        (request_of task.entry) (X.run world.old) (X.run world.new) result }
     ensures done { result ≡ 0 → IsDone (request_of task.entry) (run_of (S.loaded source.old)
         (S.loaded source.new) (S.refused source.new) (D.bytes_under files.now) (K.made sink.old)
         (K.made sink.new) (K.unstarted sink.new) (K.failed sink.new) (W.contents out.old.writer)
@@ -151,16 +111,15 @@ fn task_over<
         Task::EncodeRows(word, words) => {
             encode_rows_over(alloc, seed, &words, word, source, sink, out, err)
         }
-        Task::Decode(words) => decode_over(alloc, &words, source, out, err),
-        Task::Uploads(words, has_tokens) => {
-            uploads_over(alloc, &words, has_tokens, source, out, err)
-        }
-        Task::ValidPrefix(words) => valid_prefix_over(alloc, &words, source, sink, out, err),
-        Task::Look(words, names) => look_over(threads, alloc, &words, &names, source, out, err),
-        Task::Table(question) => table_over(alloc, &question, moment, source, out, err),
-        Task::Sort(words) => sort_task(threads, alloc, &words, source, files, sink, err),
+        Task::Decode(words) => decode_over(alloc, words, world),
+        Task::Uploads(words, has_tokens) => uploads_over(alloc, words, has_tokens, world),
+        Task::ValidPrefix(words) => valid_prefix_over(alloc, &words, world),
+        Task::Look(words, names) => look_over(threads, alloc, &words, &names, world),
+        Task::Table(question) => table_over(alloc, &question, moment, world),
+        Task::Sort(words) if words.is_merge => merge_sorted_over(alloc, &words, files, world),
+        Task::Sort(words) => sort_over(threads, alloc, &words, world),
         Task::Merge(parts) => merge_over(alloc, &parts, source, out, err),
-        Task::Bounds(words) => bounds_over(alloc, &words, files, out, err),
+        Task::Bounds(words) => bounds_over(alloc, &words, files, world),
         Task::Corrections(words) => corrections_over(alloc, &words, world),
         Task::UsageError(usage_error) => report_usage_error(err, usage_error),
         Task::Unshown(usage_error) => report_usage_error(err, usage_error),
@@ -169,9 +128,9 @@ fn task_over<
 }
 
 /// The whole program: reads the words, of which the first is the program's name, and does what they
-/// ask for. What uploads and texts have comes from the source, and files that are merged are read
-/// at any offset. Files are made in the sink, text goes to `out`, and mistakes, faults and warnings
-/// to `err`. `corrections` reads and writes in `world`. `seed` is random, so that no file can choose names of devices that are found slowly.
+/// ask for. `encode` and `merge` read from the source, make files in the sink and write to `out` and
+/// `err`, and all else reads, writes and makes files in `world`. Files that are merged are read at
+/// any offset. `seed` is random, so that no file can choose names of devices that are found slowly.
 /// `table` prints the changes of clocks after `moment`, unless the words name another one. Gives
 /// the status: 0 if all is well, 1 after a fault or if no row is a tap, 2 if the words are no
 /// command line, 3 if an upload has a layout fault or rows were refused, and yet all is written.
@@ -182,7 +141,7 @@ pub fn main_over<
     K: Sink,
     W: Write,
     E: Write,
-    X: World + Streams,
+    X: World + Streams + Counted,
 >(
     threads: &R,
     alloc: Global,
@@ -196,11 +155,11 @@ pub fn main_over<
     err: &mut Complaints<E>,
     world: &mut X,
 ) -> u8
-    // `corrections` is run by the frame in its world, and ends as it says. Only being out of memory,
-    // while the words are read, may come before it. Anything else does nothing in that world.
+    // What is run over the world ends as it says. Only being out of memory, while the words are read,
+    // may come before it. Anything else does nothing in the world.
     ensures framed { Parses (map string_bytes words.now)
-        → IsFramed X.bytes_under (request_by (map string_bytes words.now)) (X.run world.old)
-        (X.run world.new) result
+        → IsFramed X.bytes_under (D.bytes_under files.now) (request_by (map string_bytes words.now))
+        (X.run world.old) (X.run world.new) result
         ⊎ ((result ≡ 1) × (X.run world.new ≡ X.run world.old)) }
     ensures unframed { ¬ Parses (map string_bytes words.now) → X.run world.new ≡ X.run world.old }
 

@@ -128,7 +128,7 @@ makes_nothing (Some before) = sym (append-nil before)
 refused_into : (choice : Choice) (text : List ℕ) (old new a b : Option (List ℕ))
     (summary : Summary) → (encoded : IsRowsEncoded choice text old new a b summary)
     → IsRowsEncoded choice text old new (Some [])
-    (Some (refusals_text choice.separator encoded.head (refusals encoded.rows encoded.readings)))
+    (Some (refusals_text choice.columns.now.separator encoded.head (refusals encoded.rows encoded.readings)))
     summary
 refused_into choice text old new a b summary encoded = record {
   head = encoded.head;
@@ -164,7 +164,7 @@ pub refused_made : (choice : Choice) (text : List ℕ) (old new empty written : 
     × Makes made made' (record { name = name; bytes = bytes } ∷ [])
 refused_made choice text old new empty written summary made started made' name encoded is_empty same
     one =
-    let bytes = refusals_text choice.separator encoded.head
+    let bytes = refusals_text choice.columns.now.separator encoded.head
     (refusals encoded.rows encoded.readings) in (
       bytes,
       refused_into choice text old new empty written summary encoded,
@@ -302,7 +302,7 @@ no_devices words loaded is = record {
 -- it was loaded
 pub some_devices : (words : RowsWords) (word : Bor (List ℕ)) (loaded loaded' : Option (List Loaded))
     (devices : List Device) → words.devices ≡ Some word
-    → HasLoadedDevices word.now words.separator loaded loaded' devices
+    → HasLoadedDevices word.now words.columns.separator loaded loaded' devices
     → HasDevices words loaded loaded' (Some devices)
 some_devices words word loaded loaded' devices is has = record {
   texts = has.text ∷ [];

@@ -1,10 +1,13 @@
-pub mod DecodedTables
+mod Informing
+pub mod KnownBytes
+mod Loading
 pub mod Decoding
 pub mod Encoded
 pub mod EncodedRows
 pub mod Faults
 pub mod FilesMade
-pub mod ValidPrefixes
+pub mod Making
 pub mod MergedUploads
 pub mod Opened
 pub mod Sorting
+pub mod ValidPrefixes

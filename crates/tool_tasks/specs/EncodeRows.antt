@@ -1,7 +1,7 @@
 -- What `encode` of an agency's own CSV does: of the word of its file, and of the words that say how
 -- it is read.
 use Rattle.std.specs.Prelude.{◌≡◌, ◌⊎◌, ⊤, ◌+◌, ℕ, List, [], ◌∷◌, ◌++◌, Bool, Option, None, Some}
-use Rattle.std.specs.Prelude.{◌==◌, if◌then◌else◌, codes, decimal, option_map, slice_get}
+use Rattle.std.specs.Prelude.{◌==◌, IfSome, if◌then◌else◌, codes, decimal, option_map, slice_get}
 use Rattle.std.specs.Borrow.{Bor}
 use Rattle.std.specs.Io.KnownBytes.{Keeps}
 use Rattle.program_manners.specs.LineWritten.{LineWritten}
@@ -13,6 +13,7 @@ use Rattle.tap_rows.specs.Agencies.{IsFirstRefused, IsRowsEncoded, IsUploadStart
 use Rattle.tap_rows.specs.AgencyTexts.{first_record}
 use Rattle.tap_rows.specs.Devices.{AreDevices, Device, IsDevicesFault, devices_of}
 use Rattle.tap_rows.specs.declared.agency.choice.Choice.{Choice}
+use Rattle.tap_rows.specs.declared.agency.choice.Columns.{Columns}
 use Rattle.tap_rows.specs.declared.agency.choice.Condition.{Condition}
 use Rattle.tap_rows.specs.declared.agency.choice.Separator.{Separator}
 use Rattle.tap_rows.specs.declared.agency.fault.Wanted.{Wanted}
@@ -49,13 +50,8 @@ words_in (Some word) = word ∷ []
 -- the choice is that of the words, of rows that have the names of these devices if there are such
 pub record IsChoice (words : RowsWords) (devices : Option (List Device)) (choice : Choice)
     : Type 0 where
-  pub separator : choice.separator ≡ words.separator
-  pub token : choice.token.now ≡ words.token.now
-  pub validator : choice.validator.now ≡ words.validator.now
-  pub moment : choice.moment.now ≡ words.moment.now
-  pub unit : choice.unit ≡ words.unit
+  pub columns : choice.columns.now ≡ words.columns
   pub table : option_map (λ table. devices_of table.now) choice.devices ≡ devices
-  pub only : choice.only.now ≡ words.only.items
 
 -- beside rows with this separator, the texts are that of the device table, if there is one
 abbrev pub AreDeviceTexts : Separator → List (List ℕ) → Option (List Device) → Type 0
@@ -68,7 +64,7 @@ pub record HasDevices (words : RowsWords) (loaded loaded' : Option (List Loaded)
     (devices : Option (List Device)) : Type 0 where
   pub texts : List (List ℕ)
   pub opened : HasOpened (words_in (word_in words.devices)) loaded loaded' texts
-  pub are : AreDeviceTexts words.separator texts devices
+  pub are : AreDeviceTexts words.columns.separator texts devices
 
 -- The text was read under the name of the word: once if the refused rows have a file, and else
 -- twice, so that what was read again may be another one.
@@ -153,19 +149,26 @@ EncodesWith outcome words word loaded loaded' made made' out out' said said' fai
     × IsSummaryReported summary said said' failed × (rows_outcome summary ≡ outcome)
 
 -- ---- a fault
+-- the name is that of the column of the condition at this position
+abbrev pub IsConditionName : List Condition → ℕ → List ℕ → Type 0
+IsConditionName conditions position name =
+    IfSome (slice_get conditions position) (λ condition. name ≡ condition.column.now)
+
 -- the name is that of the column that is wanted
-abbrev pub IsColumnName : RowsWords → Wanted → List ℕ → Type 0
-IsColumnName words wanted.Token name = name ≡ words.token.now
-IsColumnName words wanted.Validator name = name ≡ words.validator.now
-IsColumnName words wanted.Moment name = name ≡ words.moment.now
-IsColumnName words (wanted.Only position) name =
-    (condition : Condition) → slice_get words.only.items position ≡ Some condition
-    → name ≡ condition.column.now
+abbrev pub IsColumnName : Columns → Wanted → List ℕ → Type 0
+IsColumnName columns wanted.Token name = name ≡ columns.token.now
+IsColumnName columns wanted.Validator name = name ≡ columns.validator.now
+IsColumnName columns wanted.Moment name = name ≡ columns.moment.now
+IsColumnName columns (wanted.Only position) name =
+    IsConditionName columns.only.items position name
+IsColumnName columns (wanted.Without position) name =
+    IsConditionName columns.without.items position name
+IsColumnName columns wanted.Count name = IfSome columns.count (λ count. name ≡ count.now)
 
 -- the head of the text lacks a column of this name, which the words ask for
 abbrev pub LacksColumn : RowsWords → Choice → List ℕ → List ℕ → Type 0
-LacksColumn words choice text name = (column : Wanted) × IsColumnName words column name
-    × IsWanting choice (first_record choice.separator text) column
+LacksColumn words choice text name = (column : Wanted) × IsColumnName words.columns column name
+    × IsWanting choice (first_record choice.columns.now.separator text) column
 
 -- The fault is the right one of a text that was read under this word: of its head, or of its first
 -- row that is refused, nothing was written. A row is refused, and the text is said to have changed,
@@ -274,6 +277,6 @@ abbrev pub AbortsRows : RowsWords → List ℕ → Option (List Loaded) → Opti
     → Option (List ℕ) → Type 0
 AbortsRows words word loaded loaded' unread made made' unstarted failed end fault out out' =
     (made' ≡ made)
-    × ((FailsDevices (word_in words.devices) words.separator loaded loaded' unread fault
+    × ((FailsDevices (word_in words.devices) words.columns.separator loaded loaded' unread fault
     × Keeps out out')
     ⊎ AbortsAfterDevices words word loaded loaded' unread unstarted failed end fault out out')

@@ -1,6 +1,6 @@
 -- Why a subcommand is given up, and the line that says so, without its line feed.
-use Rattle.std.specs.Prelude.{◌≡◌, ⊤, ℕ, Bool, true, false, List, [], ◌++◌, Option, None, Some}
-use Rattle.std.specs.Prelude.{MatchBool, codes, decimal, if◌then◌else◌}
+use Rattle.std.specs.Prelude.{◌≡◌, ⊤, ℕ, Bool, true, false, List, ◌++◌, Option, None, Some}
+use Rattle.std.specs.Prelude.{MatchBool, codes, decimal}
 use Rattle.report_texts.specs.declared.wrong.Wrong.{Wrong}
 use Rattle.report_texts.specs.declared.wrong.Wrong.TheVariants as wrong
 use Rattle.program_manners.specs.LineWritten.{LineWritten}
@@ -71,15 +71,16 @@ abbrev pub is_quiet : Fault → Bool
 is_quiet Closed = true
 is_quiet _ = false
 
--- the line of the fault as it is reported, with its line feed
-abbrev pub fault_line : Fault → List ℕ
-fault_line fault = if is_quiet fault then [] else fault_text fault ++ codes "\n"
-
 -- The line of the fault was reported, unless a write of it failed. If who reads the text has closed
 -- it, nothing was reported.
 abbrev pub IsFaultReported : Fault → Option (List ℕ) → Option (List ℕ) → Bool → Type 0
 IsFaultReported fault said said' failed = MatchBool (is_quiet fault) (said' ≡ said)
     (LineWritten said said' failed (fault_text fault))
+
+-- the same, with this note after the text of the fault
+abbrev pub IsFaultNoted : Fault → List ℕ → Option (List ℕ) → Option (List ℕ) → Bool → Type 0
+IsFaultNoted fault note said said' failed = MatchBool (is_quiet fault) (said' ≡ said)
+    (LineWritten said said' failed (fault_text fault ++ note))
 
 -- The source refused the file of one of these words, which the fault names, for its reason; or
 -- an allocation failed.

@@ -4,6 +4,7 @@ pub mod Encode
 pub mod EncodeRows
 pub mod Fault
 pub mod ValidPrefix
+pub mod Informs
 pub mod Layout
 pub mod MergeSorted
 pub mod Names

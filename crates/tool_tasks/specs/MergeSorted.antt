@@ -1,6 +1,8 @@
--- What `sort --merge` does: of the words of its files, and of what is known of the uploads' bytes.
-use Rattle.std.specs.Prelude.{◌≡◌, ◌⊎◌, ⊤, ℕ, List, Option, Some, flat_map, length, map}
-use Rattle.program_manners.specs.Refusals.{IsOneOf}
+-- What `sort --merge` does, by what is known of the uploads' bytes.
+use Rattle.std.specs.Prelude.{◌≡◌, ◌⊎◌, ⊤, ℕ, List, [], ◌++◌, Option, Some, codes}
+use Rattle.std.specs.Prelude.{flat_map, length, map}
+use Rattle.frame.specs.Ends.{Answer}
+use Rattle.report_texts.specs.Report.{upload_lines}
 use Rattle.tap_views.specs.declared.upload_end.UploadEnd.{UploadEnd}
 use Rattle.tap_views.specs.declared.upload_end.UploadEnd.TheVariants.{Posted}
 use Rattle.sorted_taps.specs.Checked.{IsFirstUnsorted}
@@ -9,12 +11,14 @@ use Rattle.sorted_taps.specs.Written.{IsInBatchesOf512}
 use Rattle.sorted_taps.specs.declared.fault.SortedFault.TheVariants as sorted
 use Rattle.tap_parts.specs.Canonical.{IsCanonical}
 use Rattle.tap_views.specs.declared.encoder.TapFields.{TapFields}
-use Rattle.tool_tasks.specs.Sink.{Made, Makes}
-use Rattle.tool_tasks.specs.Sort.{IsUnmade, ends_files, ends_name, files_of}
+use Rattle.program_manners.specs.Refusals.{IsOneOf}
+use Rattle.tool_tasks.specs.Fault.{fault_text}
+use Rattle.tool_tasks.specs.Sort.{files_of}
 use Rattle.tool_tasks.specs.declared.fault.Fault.{Fault}
 use Rattle.tool_tasks.specs.declared.fault.Fault.TheVariants.{Layout, NoMemory, OutOfOrder}
 use Rattle.tool_tasks.specs.declared.fault.Fault.TheVariants.{SomeChanged, TooManyOpen, Unread}
-use Rattle.tool_tasks.specs.declared.sort.SortWords.{SortWords}
+use Rattle.tool_words.specs.Request.{SortRequest}
+use Rattle.world.specs.Run.{Load, Named}
 
 -- Each upload is sorted, and ended with all its taps. The file has exactly these, in canonical
 -- order and in batches of 512, the last of fewer if need be. None is empty.
@@ -27,14 +31,16 @@ pub record IsMergeOf (uploads : List (List ℕ)) (ends : List UploadEnd) (file :
   pub canonical : IsCanonical (flat_map (λ list. list) lists) merged
   pub in_batches : IsInBatchesOf512 file merged
 
--- The file of the uploads' ends was made, if it has a name, and then that of their taps. If the
--- uploads' bytes are known, these are the right files, whole.
-pub record Merges (words : SortWords) (known : List (Option (List ℕ)))
-    (made made' : Option (List Made)) : Type 0 where
+-- The file of the lines of the uploads' ends is made, if it has a name, and then that of their taps.
+-- If the uploads' bytes are known, these are the right files.
+pub record Merges (request : SortRequest) (known : List (Option (List ℕ))) (answer : Answer)
+    (files : List Named) (status : ℕ) : Type 0 where
   pub ends : List UploadEnd
-  pub some : (file : List ℕ) × Makes made made' (files_of words ends file)
-  pub whole : (uploads : List (List ℕ)) → known ≡ map Some uploads → (file : List ℕ)
-      × IsMergeOf uploads ends file × Makes made made' (files_of words ends file)
+  pub file : List ℕ
+  pub whole : (uploads : List (List ℕ)) → known ≡ map Some uploads → IsMergeOf uploads ends file
+  pub made : files ≡ files_of request (upload_lines 0 ends) file
+  pub answered : answer ≡ record { text = []; note = [] }
+  pub success : status ≡ 0
 
 -- The fault is the right one of files under these words, of which this is known: the first that is
 -- not sorted, or one that could not be opened or read. Any may have changed after it was checked,
@@ -50,13 +56,17 @@ IsRightFileFault words known SomeChanged = ⊤
 IsRightFileFault words known NoMemory = ⊤
 IsRightFileFault words known fault = ⊥
 
--- The merge was given up, and no file was made, or that of the ends alone: an upload is refused, or
--- one of the two files could not be made.
-abbrev pub AbortsMergeSorted : SortWords → List (List ℕ) → List (Option (List ℕ))
-    → Option (List Made) → Option (List Made) → Option (List ℕ) → Fault → Type 0
-AbortsMergeSorted words uploads known made made' failed fault =
-    ((IsRightFileFault uploads known fault ⊎ (IsUnmade words.out.now failed fault
-    ⊎ ((name : List ℕ) × (ends_name words ≡ Some name) × IsUnmade name failed fault)))
-    × (made' ≡ made))
-    ⊎ ((ends : List UploadEnd) × Makes made made' (ends_files (ends_name words) ends)
-    × IsUnmade words.out.now failed fault)
+-- No file is made, and the fault of an upload is noted.
+pub record RefusesMerge (request : SortRequest) (known : List (Option (List ℕ))) (answer : Answer)
+    (files : List Named) (status : ℕ) : Type 0 where
+  pub fault : Fault
+  pub right : IsRightFileFault request.uploads known fault
+  pub unmade : files ≡ []
+  pub answered : answer ≡ record { text = []; note = fault_text fault ++ codes "\n" }
+  pub failed : status ≡ 1
+
+-- THE rule of `sort --merge`
+abbrev pub MergesOrRefuses : SortRequest → List (Option (List ℕ)) → List Load → Answer → List Named
+    → ℕ → Type 0
+MergesOrRefuses request known loads answer files status = (loads ≡ [])
+    × (Merges request known answer files status ⊎ RefusesMerge request known answer files status)

@@ -39,7 +39,8 @@ reason_text reason.Validator = codes "the validator is no number from 0 to 42949
 reason_text reason.Device = codes "the device is none of --validators"
 reason_text reason.LocalTime = codes "the moment is a local time: it has neither Z nor an offset"
 reason_text reason.Early = codes "the moment is before 2000: say --unit s or --unit ms"
-reason_text reason.Moment = codes "the moment is no time before 2100 in whole milliseconds"
+reason_text reason.Moment = codes "the moment is no time before 2100"
+reason_text reason.Riders = codes "the row is not of one rider"
 
 -- what is wrong with an agency's CSV
 abbrev pub rows_text : WrongRows → List ℕ

@@ -2,7 +2,11 @@
 pub mod Corrected
 pub mod Corrections
 pub mod Decode
+pub mod Decoded
 pub mod EncodeRows
 pub mod Fault
-pub mod ValidPrefix
+pub mod Informs
+pub mod Loads
+pub mod Sink
 pub mod Sort
+pub mod ValidPrefix

@@ -1,53 +1,72 @@
 //! `bounds`: the tokens at which to divide a run over sorted uploads into parts.
 ghost use Rattle.std.specs.Prelude.{◌≤◌};
+ghost use Rattle.tool_tasks.specs.Informs.{EndsInforming};
 
-use crate::fault::{Fault, finish, say};
+use crate::counted::Counted;
+use crate::fault::Fault;
+use crate::informs::{Informed, Informs, WordFile, inform, push_line};
 use crate::placed::{PlacedFiles, open_placed};
-use crate::uploads::write_text;
 use fare_texts::Digits;
-use program_manners::{Complaints, Output};
+use frame::For;
 use sorted_taps::{SortedFault, bounds_of_parts};
 use std::alloc::Global;
-use std::io::Write;
 use tool_words::BoundsWords;
+use world::World;
 
-fn print<'a, D: PlacedFiles, W: Write>(
-    alloc: Global,
-    words: &BoundsWords<'a>,
-    disk: &D,
-    out: &mut Output<W>,
-) -> Result<(), Fault<'a>> {
-    let files = open_placed(alloc, disk, &words.uploads)?;
-    let bounds = match bounds_of_parts(alloc, &files, words.parts - 1) {
-        Ok(bounds) => bounds,
-        Err(SortedFault::NoMemory) => return Err(Fault::NoMemory),
-        Err(_) => return Err(Fault::SomeUnread),
-    };
-    let mut text = String::new(alloc);
-    for bound in &bounds {
-        let digits = Digits(*bound);
-        write!(text, "{digits}\n")?;
+#[derive(Drop)]
+struct Bounds<'w, 'a, D> {
+    words: &'w BoundsWords<'a>,
+    disk: &'w D,
+    is_given: bool,
+}
+
+impl<'a, D: PlacedFiles> Informs<'a> for Bounds<'_, 'a, D> {
+    fn wants_file(&self) -> bool {
+        false
     }
-    write_text(&text, out)?;
-    finish(out)
+
+    fn take(
+        &mut self,
+        _alloc: Global,
+        _file: WordFile<'a>,
+        _piece: &mut Vec<u8>,
+    ) -> Result<Informed, Fault<'a>> {
+        Ok(Informed::End { succeeded: false })
+    }
+
+    fn go_on(&mut self, alloc: Global, piece: &mut Vec<u8>) -> Result<Informed, Fault<'a>> {
+        if self.is_given {
+            return Ok(Informed::End { succeeded: true });
+        }
+        let files = open_placed(alloc, self.disk, &self.words.uploads)?;
+        let bounds = match bounds_of_parts(alloc, &files, self.words.parts - 1) {
+            Ok(bounds) => bounds,
+            Err(SortedFault::NoMemory) => return Err(Fault::NoMemory),
+            Err(_) => return Err(Fault::SomeUnread),
+        };
+        for bound in &bounds {
+            push_line(alloc, Digits(*bound), piece)?;
+        }
+        self.is_given = true;
+        Ok(Informed::More(For::Text))
+    }
 }
 
 /// Writes the tokens, one a line, for about as many taps in each part. The uploads are in canonical
 /// order, and are read at any offset. The status is 0 if the tokens are written, 1 after a fault.
-pub fn bounds_over<D: PlacedFiles, W: Write, E: Write>(
+pub fn bounds_over<D: PlacedFiles, W: World + Counted>(
     alloc: Global,
     words: &BoundsWords<'_>,
     disk: &D,
-    out: &mut Output<W>,
-    err: &mut Complaints<E>,
+    world: &mut W,
 ) -> u8
-    ensures { result ≤ 1 }
+    ensures status { result ≤ 1 }
+    ensures ends { EndsInforming (W.run world.old) (W.run world.new) result }
 {
-    match print(alloc, words, disk, out) {
-        Ok(()) => 0,
-        Err(fault) => {
-            say(err, &fault);
-            1
-        }
-    }
+    let bounds = Bounds {
+        words,
+        disk,
+        is_given: false,
+    };
+    inform(alloc, Ok(Vec::new(alloc)), 0, bounds, world)
 }

@@ -198,7 +198,7 @@ impl<'a, I: Streams> Task<I> for CorrectionsTask<'a, I::Text> {
         (corrections_of task.words) task.stage a };
 
     fn line(&self, why: Stop) -> Fault<'a> {
-        fault_of(why, self.words.old, self.words.new)
+        fault_of(why, &[self.words.old, self.words.new])
     }
 
     fn next(&mut self, alloc: Global, files: &mut I, piece: &mut Vec<u8>) -> Result<Step, Stop> {

@@ -8,11 +8,11 @@ ghost use Rattle.program_manners.specs.declared.output.WriteEnd.{WriteEnd as AnE
 ghost use Rattle.tap_rows.specs.Agencies.{IsRowsEncoded};
 ghost use Rattle.tap_rows.specs.Devices.{devices_of};
 ghost use Rattle.tap_rows.specs.declared.agency.summary.Summary.{Summary as ASummary};
-ghost use Rattle.tool_tasks.specs.EncodeRows.{EncodesRows, EncodesWith, AbortsRows};
-ghost use Rattle.tool_tasks.specs.EncodeRows.{HasDevices, IsChoice, IsColumnName};
+ghost use Rattle.tool_tasks.specs.EncodeRows.{AbortsRows, EncodesRows, EncodesWith};
+ghost use Rattle.tool_tasks.specs.EncodeRows.{HasDevices, IsChoice, IsColumnName, IsConditionName};
 ghost use Rattle.tool_tasks.specs.EncodeRows.{IsSummaryLine, FailsDevices, rows_outcome};
 ghost use Rattle.tool_tasks.specs.EncodeRows.{FailsRows, word_in};
-ghost use Rattle.tool_tasks.specs.Fault.{IsFaultReported, IsRefusal};
+ghost use Rattle.tool_tasks.specs.Fault.{IsFaultNoted, IsRefusal};
 ghost use Rattle.tool_tasks.specs.Names.{file_named};
 ghost use Rattle.tool_tasks.specs.declared.fault.Fault.{Fault as AFault};
 ghost use Rattle.tool_tasks.specs.inside.EncodeRows.{EncodesOnce, EndsRows, HasEncoded};
@@ -22,7 +22,7 @@ ghost use Rattle.tool_tasks.specs.inside.EncodeRows.{IsNewFault, IsRowsEnd, IsRo
 ghost use Rattle.tool_tasks.specs.inside.EncodeRows.{IsUnfinished};
 ghost use Rattle.tool_tasks.specs.inside.EncodeRows.{FailsOnce};
 
-use crate::fault::{Fault, finish, say};
+use crate::fault::{Fault, finish, say_noted};
 use crate::names::file_of;
 use crate::sink::{MakeFault, NewFault, Sink};
 use crate::source::{Shown, Source, load_text, load_upload, open_text, open_text_shown};
@@ -33,8 +33,8 @@ use std::alloc::{AllocError, Global};
 use std::hash::RandomState;
 use std::io::{Read, Write};
 use tap_rows::{
-    AgencyFault, Choice, DeviceTable, DevicesFault, Separator, Summary, Wanted, encode_rows,
-    encode_some_rows, read_devices,
+    AgencyFault, Choice, Columns, Condition, DeviceTable, DevicesFault, Separator, Summary, Wanted,
+    encode_rows, encode_some_rows, read_devices,
 };
 use tool_words::RowsWords;
 
@@ -43,35 +43,32 @@ fn choice<'c>(words: &'c RowsWords<'_>, devices: Option<&'c DeviceTable>) -> Cho
     ensures { IsChoice words.entry.now (option_map (λ d. devices_of d.now) devices.entry) result }
 {
     Choice {
-        separator: words.separator,
-        token: words.token.as_bytes(),
-        validator: words.validator.as_bytes(),
+        columns: &words.columns,
         devices,
-        moment: words.moment.as_bytes(),
-        unit: words.unit,
-        only: &words.only,
     }
 }
 
-/// The name of the column of the condition at this place.
-fn only_column<'a>(words: &RowsWords<'a>, position: usize) -> &'a str
-    ensures { IsColumnName words.now (Wanted.Only position) result.now }
+/// The name of the column of the condition at this position.
+fn condition_name<'a>(conditions: &[Condition<'a>], position: usize) -> &'a str
+    ensures { IsConditionName conditions.now position result.now }
 {
-    match words.only.get(position) {
+    match conditions.get(position) {
         Some(condition) => condition.column,
         None => "",
     }
 }
 
 /// The name of a column.
-fn name_of<'a>(words: &RowsWords<'a>, wanted: Wanted) -> &'a str
-    ensures { IsColumnName words.now wanted result.now }
+fn name_of<'a>(columns: &Columns<'a>, wanted: Wanted) -> &'a str
+    ensures { IsColumnName columns.now wanted result.now }
 {
     match wanted {
-        Wanted::Token => words.token,
-        Wanted::Validator => words.validator,
-        Wanted::Moment => words.moment,
-        Wanted::Only(position) => only_column(words, position),
+        Wanted::Token => columns.token,
+        Wanted::Validator => columns.validator,
+        Wanted::Moment => columns.moment,
+        Wanted::Only(position) => condition_name(&columns.only, position),
+        Wanted::Without(position) => condition_name(&columns.without, position),
+        Wanted::Count => columns.count.unwrap_or(""),
     }
 }
 
@@ -117,11 +114,11 @@ fn devices_in<'a, S: Source>(
 ) -> Result<Option<DeviceTable>, Fault<'a>>
     ensures table { IfOk result (λ table. HasDevices words.now (S.loaded source.old)
         (S.loaded source.new) (option_map devices_of table)) }
-    ensures stops { IfErr result (FailsDevices (word_in words.now.devices) words.now.separator
-        (S.loaded source.old) (S.loaded source.new) (S.refused source.new)) }
+    ensures stops { IfErr result (FailsDevices (word_in words.now.devices)
+        words.now.columns.separator (S.loaded source.old) (S.loaded source.new) (S.refused source.new)) }
 {
     match words.devices {
-        Some(word) => match load_devices(alloc, seed, words.separator, word, source) {
+        Some(word) => match load_devices(alloc, seed, words.columns.separator, word, source) {
             Ok(devices) => Ok(Some(devices)),
             Err(fault) => Err(fault),
         },
@@ -202,7 +199,10 @@ fn fault_of<'a>(
     ensures { IsRowsFault words.now word.entry.now end refused_end fault result }
 {
     match fault {
-        AgencyFault::Column(wanted) => Fault::Rows(word, WrongRows::Column(name_of(words, wanted))),
+        AgencyFault::Column(wanted) => Fault::Rows(
+            word,
+            WrongRows::Column(name_of(&words.columns, wanted)),
+        ),
         AgencyFault::Row { number, reason } => Fault::Rows(word, WrongRows::Row(number, reason)),
         AgencyFault::Unread => Fault::Unread(word),
         AgencyFault::Changed => Fault::SomeChanged,
@@ -254,6 +254,7 @@ fn encode_twice<'a, R: Read + Drop, T: Read + Drop, W: Write>(
     text: R,
     again: T,
     out: &mut Output<W>,
+    note: &mut String,
 ) -> Result<RowsEnd, Fault<'a>>
     ensures done { IfOk result (λ end. (bytes : List ℕ) → T.remaining again ≡ Some bytes
         → (summary : ASummary) × IsRowsEnd summary end
@@ -265,7 +266,7 @@ fn encode_twice<'a, R: Read + Drop, T: Read + Drop, W: Write>(
         (W.contents out.old.writer) (W.contents out.new.writer)) }
     ensures flushed { OnOk result (out.new.is_flushed ≡ true) }
 {
-    let encoded = encode_rows(alloc, choice, text, again, out);
+    let encoded = encode_rows(alloc, choice, text, again, out, note);
     end_rows(alloc, words, word, encoded, None, out)
 }
 
@@ -279,6 +280,7 @@ fn encode_once<'a, R: Read + Drop, W: Write, X: Write>(
     text: R,
     out: &mut Output<W>,
     refused: &mut Output<X>,
+    note: &mut String,
 ) -> Result<RowsEnd, Fault<'a>>
     ensures done { IfOk result (λ end. (bytes : List ℕ) → R.remaining text ≡ Some bytes
         → (summary : ASummary) × IsRowsEnd summary end
@@ -289,7 +291,7 @@ fn encode_once<'a, R: Read + Drop, W: Write, X: Write>(
         (refused.new.end ≢ None) fault (W.contents out.old.writer) (W.contents out.new.writer)) }
     ensures flushed { OnOk result (out.new.is_flushed ≡ true) }
 {
-    let encoded = encode_some_rows(alloc, choice, text, out, refused);
+    let encoded = encode_some_rows(alloc, choice, text, out, refused, note);
     end_rows(alloc, words, word, encoded, refused.end(), out)
 }
 
@@ -302,6 +304,7 @@ fn encode_file<'a, S: Source, W: Write>(
     bytes: u64,
     source: &mut S,
     out: &mut Output<W>,
+    note: &mut String,
 ) -> Result<RowsEnd, Fault<'a>>
     ensures done { IfOk result (λ end. HasEncodedAll word.entry.now choice.now
         (S.loaded source.old) (S.loaded source.new) (W.contents out.old.writer)
@@ -321,7 +324,7 @@ fn encode_file<'a, S: Source, W: Write>(
     };
     let mut text = open_text_shown(source, word, checked)?;
     let mut again = open_text_shown(source, word, encoded)?;
-    let done = encode_twice(alloc, choice, words, word, &mut text, &mut again, out);
+    let done = encode_twice(alloc, choice, words, word, &mut text, &mut again, out, note);
     source.end_shown(&mut text);
     source.end_shown(&mut again);
     done
@@ -335,6 +338,7 @@ fn encode_loaded<'a, S: Source, W: Write>(
     word: &'a str,
     source: &mut S,
     out: &mut Output<W>,
+    note: &mut String,
 ) -> Result<RowsEnd, Fault<'a>>
     ensures done { IfOk result (λ end. HasEncodedAll word.entry.now choice.now
         (S.loaded source.old) (S.loaded source.new) (W.contents out.old.writer)
@@ -347,7 +351,7 @@ fn encode_loaded<'a, S: Source, W: Write>(
     let text = load_text(alloc, source, word)?;
     let checked = text.as_slice();
     let encoded = text.as_slice();
-    encode_twice(alloc, choice, words, word, checked, encoded, out)
+    encode_twice(alloc, choice, words, word, checked, encoded, out, note)
 }
 
 /// Encodes the rows of the file that the word names, of which none is refused. Gives how it
@@ -359,6 +363,7 @@ fn encode_all<'a, S: Source, W: Write>(
     word: &'a str,
     source: &mut S,
     out: &mut Output<W>,
+    note: &mut String,
 ) -> Result<RowsEnd, Fault<'a>>
     ensures done { IfOk result (λ end. HasEncodedAll word.entry.now choice.now
         (S.loaded source.old) (S.loaded source.new) (W.contents out.old.writer)
@@ -369,8 +374,8 @@ fn encode_all<'a, S: Source, W: Write>(
     ensures flushed { OnOk result (out.new.is_flushed ≡ true) }
 {
     match source.plain_bytes(file_of(word)) {
-        Some(bytes) => encode_file(alloc, choice, words, word, bytes, source, out),
-        None => encode_loaded(alloc, choice, words, word, source, out),
+        Some(bytes) => encode_file(alloc, choice, words, word, bytes, source, out, note),
+        None => encode_loaded(alloc, choice, words, word, source, out, note),
     }
 }
 
@@ -403,6 +408,7 @@ fn encode_some<'a, S: Source, W: Write, X: Write>(
     source: &mut S,
     out: &mut Output<W>,
     refused: &mut Output<X>,
+    note: &mut String,
 ) -> Result<RowsEnd, Fault<'a>>
     ensures done { IfOk result (λ end. (kept : List Loaded) → S.loaded source.old ≡ Some kept
         → EncodesOnce word.entry.now choice.now (S.loaded source.old) (S.loaded source.new)
@@ -416,7 +422,7 @@ fn encode_some<'a, S: Source, W: Write, X: Write>(
     ensures flushed { OnOk result (out.new.is_flushed ≡ true) }
 {
     let mut text = open_once(source, word)?;
-    let done = encode_once(alloc, choice, words, word, &mut text, out, refused);
+    let done = encode_once(alloc, choice, words, word, &mut text, out, refused, note);
     source.end_shown(&mut text);
     done
 }
@@ -453,6 +459,7 @@ fn encode_and_refuse<'a, S: Source, K: Sink, W: Write>(
     source: &mut S,
     sink: &mut K,
     out: &mut Output<W>,
+    note: &mut String,
 ) -> Result<RowsEnd, Fault<'a>>
     ensures done { IfOk result (λ end. HasEncoded (Some refused.entry.now) word.entry.now
         choice.now (S.loaded source.old) (S.loaded source.new) (K.made sink.old)
@@ -469,7 +476,7 @@ fn encode_and_refuse<'a, S: Source, K: Sink, W: Write>(
         Ok(file) => file,
         Err(fault) => return Err(fault_of_new(refused, fault)),
     };
-    match encode_some(alloc, choice, words, word, source, out, &mut file) {
+    match encode_some(alloc, choice, words, word, source, out, &mut file, note) {
         Ok(end) => match sink.finish(refused, file) {
             Ok(()) => Ok(end),
             Err(fault) => Err(fault_of_unfinished(fault)),
@@ -491,6 +498,7 @@ fn encode_text<'a, S: Source, K: Sink, W: Write>(
     source: &mut S,
     sink: &mut K,
     out: &mut Output<W>,
+    note: &mut String,
 ) -> Result<RowsEnd, Fault<'a>>
     ensures done { IfOk result (λ end. HasEncoded (word_in words.now.refused) word.entry.now
         choice.now (S.loaded source.old) (S.loaded source.new) (K.made sink.old)
@@ -505,9 +513,9 @@ fn encode_text<'a, S: Source, K: Sink, W: Write>(
 {
     match words.refused {
         Some(refused) => {
-            encode_and_refuse(alloc, choice, words, word, refused, source, sink, out)
+            encode_and_refuse(alloc, choice, words, word, refused, source, sink, out, note)
         }
-        None => encode_all(alloc, choice, words, word, source, out),
+        None => encode_all(alloc, choice, words, word, source, out, note),
     }
 }
 
@@ -521,6 +529,7 @@ fn encode<'a, S: Source, K: Sink, W: Write>(
     source: &mut S,
     sink: &mut K,
     out: &mut Output<W>,
+    note: &mut String,
 ) -> Result<RowsEnd, Fault<'a>>
     ensures done { IfOk result (λ end. (kept : List Loaded) → S.loaded source.old ≡ Some kept
         → (summary : ASummary) × IsRowsEnd summary end
@@ -536,7 +545,15 @@ fn encode<'a, S: Source, K: Sink, W: Write>(
 {
     let devices = devices_in(alloc, seed, words, source)?;
     let choice = choice(words, devices.as_ref());
-    encode_text(alloc, &choice, words, word, source, sink, out)
+    encode_text(alloc, &choice, words, word, source, sink, out, note)
+}
+
+/// The note, if the fault is of the rows.
+fn note_on<'a>(fault: &Fault<'_>, note: &'a str) -> &'a str {
+    match fault {
+        Fault::Rows(..) => note,
+        _ => "",
+    }
 }
 
 /// Encodes the rows of the agency's CSV that the word names, `-` being standard input, as the words
@@ -572,12 +589,12 @@ pub fn encode_rows_over<S: Source, K: Sink, W: Write, E: Write>(
     // And all that was written was flushed.
     ensures flushed { result ≢ 1 → out.new.is_flushed ≡ true }
     // With status 1 no row is a tap, and all was written so. Or the line of a fault was reported,
-    // which is the right one, and no file was made.
+    // which is the right one, with a note after it, and no file was made.
     ensures faults { result ≡ 1 → ((kept : List Loaded) → S.loaded source.old ≡ Some kept
         → EncodesWith RowsOutcome.NoTap words.now word.entry.now (S.loaded source.old)
         (S.loaded source.new) (K.made sink.old) (K.made sink.new) (W.contents out.old.writer)
         (W.contents out.new.writer) (E.contents err.old.writer) (E.contents err.new.writer)
-        err.new.failed) ⊎ ((fault : AFault) × IsFaultReported fault
+        err.new.failed) ⊎ ((fault : AFault) × (note : List ℕ) × IsFaultNoted fault note
         (E.contents err.old.writer) (E.contents err.new.writer) err.new.failed
         × ((kept : List Loaded) → S.loaded source.old ≡ Some kept
         → AbortsRows words.now word.entry.now (S.loaded source.old) (S.loaded source.new)
@@ -586,7 +603,8 @@ pub fn encode_rows_over<S: Source, K: Sink, W: Write, E: Write>(
         (W.contents out.new.writer))) }
     ensures status { (result ≡ 0) ⊎ ((result ≡ 1) ⊎ (result ≡ 3)) }
 {
-    match encode(alloc, seed, words, word, source, sink, out) {
+    let mut note = String::new(alloc);
+    match encode(alloc, seed, words, word, source, sink, out, &mut note) {
         Ok(end) => {
             err.report_line(end.line.as_str());
             match end.outcome {
@@ -596,7 +614,7 @@ pub fn encode_rows_over<S: Source, K: Sink, W: Write, E: Write>(
             }
         }
         Err(fault) => {
-            say(err, &fault);
+            say_noted(err, &fault, note_on(&fault, &note));
             1
         }
     }

@@ -1,11 +1,11 @@
 //! Why a subcommand is given up, and the line that says so.
 ghost use Rattle.std.specs.Prelude.{◌≡◌, ◌≢◌, ◌⊎◌, ℕ, Err, IfErr, IfOk, List, None, Ok, OnErr};
-ghost use Rattle.std.specs.Prelude.{OnOk, Option, Some, false, true};
+ghost use Rattle.std.specs.Prelude.{◌++◌, OnOk, Option, Some, false, true};
 ghost use Rattle.std.specs.Io.KnownBytes.{Keeps};
 ghost use Rattle.program_manners.specs.Refusals.{IsOneOf, Refuses};
 ghost use Rattle.world.specs.declared.faults.LoadFault.{LoadFault as ALoadFault};
-ghost use Rattle.tool_tasks.specs.Fault.{IsFaultReported, IsRefusal, failed_as, fault_text};
-ghost use Rattle.tool_tasks.specs.Fault.{is_quiet, wrong_text};
+ghost use Rattle.tool_tasks.specs.Fault.{IsFaultNoted, IsFaultReported, IsRefusal, failed_as};
+ghost use Rattle.tool_tasks.specs.Fault.{fault_text, is_quiet, wrong_text};
 ghost use Rattle.tool_tasks.specs.Names.{file_named};
 
 use crate::layout::{Cause, Remedy};
@@ -204,6 +204,29 @@ pub fn say<E: Write>(err: &mut Complaints<E>, fault: &Fault<'_>)
     }
 }
 
+/// The line of a fault with a note after it.
+#[derive(Clone, Copy)]
+struct Noted<'a>(&'a Fault<'a>, &'a str);
+
+impl fmt::Display for Noted<'_> {
+    ghost output = { λ noted. Some (fault_text noted.0.now ++ noted.1.now) };
+
+    fn fmt<W: fmt::Write>(&self, f: &mut fmt::Formatter<W>) -> fmt::Result {
+        write!(f, "{}{}", self.0, self.1)
+    }
+}
+
+/// Writes the line of a fault, with the note after it, unless the reader of the text is gone.
+pub(crate) fn say_noted<E: Write>(err: &mut Complaints<E>, fault: &Fault<'_>, note: &str)
+    ensures { IsFaultNoted fault.now note.now (E.contents err.old.writer)
+        (E.contents err.new.writer) err.new.failed }
+{
+    if fault.is_quiet() {
+        return;
+    }
+    err.report_line(Noted(fault, note));
+}
+
 /// Lets all that was written go out.
 pub fn finish<'a, W: Write>(out: &mut Output<W>) -> Result<(), Fault<'a>>
     ensures kept { Keeps (W.contents out.old.writer) (W.contents out.new.writer) }
@@ -216,22 +239,5 @@ pub fn finish<'a, W: Write>(out: &mut Output<W>) -> Result<(), Fault<'a>>
     match out.finish() {
         Ok(()) => Ok(()),
         Err(end) => Err(Fault::of_write(Some(end))),
-    }
-}
-
-/// Lets all that was written go out. Gives what was given before, or why it did not go out.
-pub(crate) fn finish_after<'a, W: Write>(
-    before: Result<bool, Fault<'a>>,
-    out: &mut Output<W>,
-) -> Result<bool, Fault<'a>>
-    ensures kept { Keeps (W.contents out.old.writer) (W.contents out.new.writer) }
-    ensures same { IfOk result (λ success. before.entry ≡ Ok success) }
-    ensures flushed { OnOk result (out.new.is_flushed ≡ true) }
-    ensures fault { IfErr result (λ fault. (fault ≡ failed_as out.new.end)
-        ⊎ ((before.entry ≡ Err fault) × (out.new.end ≡ out.old.end))) }
-{
-    match finish(out) {
-        Ok(()) => before,
-        Err(unwritten) => Err(unwritten),
     }
 }

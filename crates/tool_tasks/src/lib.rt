@@ -6,6 +6,8 @@
 //! |---|---|
 //! | `names` | words that name files, as they are opened and shown |
 //! | `source` | where texts come from |
+//! | `loads`, `counted` | files that a task loads, and what is shown of them |
+//! | `informs` | what only informs, as a task |
 //! | `sink` | where files are made |
 //! | `fault` | why a subcommand is given up, and the line that says so |
 //! | `stops` | fault lines of what stops a task from outside |
@@ -15,7 +17,7 @@
 //! | `decode` | `decode` |
 //! | `placed` | files that are read at any offset |
 //! | `sort` | `sort` of uploads that are loaded |
-//! | `merge_sorted` | `sort --merge` |
+//! | `merge_sorted`, `known` | `sort --merge`, and the file that it makes |
 //! | `bounds` | `bounds` |
 //! | `uploads` | `uploads`: what each upload has |
 //! | `upload_tokens` | `uploads --tokens` |
@@ -28,11 +30,15 @@
 
 mod bounds;
 mod corrections;
+mod counted;
 mod decode;
 mod encode;
 mod encode_rows;
 mod fault;
+mod informs;
+mod known;
 mod layout;
+mod loads;
 mod look;
 mod merge_sorted;
 mod names;
@@ -50,6 +56,7 @@ mod wrong_tables;
 
 pub use bounds::bounds_over;
 pub use corrections::corrections_over;
+pub use counted::Counted;
 pub use decode::decode_over;
 pub use encode::encode_over;
 pub use encode_rows::encode_rows_over;
@@ -60,7 +67,7 @@ pub use merge_sorted::merge_sorted_over;
 pub use names::{Escaped, Name, word_at};
 pub use placed::PlacedFiles;
 pub use sink::{MakeFault, NewFault, Sink};
-pub use sort::{SortWords, sort_over};
+pub use sort::sort_over;
 pub use source::{Shown, Source, open_all};
 pub use table::table_over;
 pub use uploads::uploads_over;

@@ -1,21 +1,22 @@
 //! `uploads --look`: what uploads have, and what is found in them.
 ghost use Rattle.std.specs.Prelude.{◌≤◌};
+ghost use Rattle.tool_tasks.specs.Informs.{EndsInforming};
 
-use crate::decode::report_layout;
-use crate::fault::{Fault, finish_after, say};
+use crate::counted::Counted;
+use crate::fault::Fault;
+use crate::informs::{Informed, Informs, WordFile, inform, push_line};
 use crate::look::counts::counts_of;
-use crate::look::rows::write_table;
-use crate::source::{Source, load_upload};
-use crate::uploads::{upload_text, write_text};
+use crate::look::rows::push_table;
+use crate::uploads::upload_text;
 use fare_table::{FareTable, ReadFareTable, TableFault};
-use program_manners::{Complaints, Output};
-use std::alloc::Global;
-use std::io::Write;
+use frame::For;
+use std::alloc::{AllocError, Global};
 use std::marker::Sync;
 use std::thread::Threads;
 use tap_views::{MOMENT_LIMIT_MS, MomentSpan, NoMemory, TapFields, facts_of};
 use tool_words::LookWords;
 use upload_checks::{InactiveDays, find_inactive_days, look};
+use world::World;
 
 mod counts;
 mod found_texts;
@@ -24,52 +25,12 @@ mod rows;
 /// How many threads order taps.
 const WORKERS: u32 = 4;
 
-fn read_table<'a, S: Source>(
-    alloc: Global,
-    words: &LookWords<'a>,
-    source: &mut S,
-) -> Result<Option<FareTable>, Fault<'a>> {
-    let Some(word) = words.table else {
-        return Ok(None);
-    };
-    let text = load_upload(alloc, source, word)?;
-    match FareTable::read(alloc, &text) {
-        Ok(table) => Ok(Some(table)),
+fn read_table<'a>(alloc: Global, word: &'a str, text: &[u8]) -> Result<FareTable, Fault<'a>> {
+    match FareTable::read(alloc, text) {
+        Ok(table) => Ok(table),
         Err(TableFault::NoMemory) => Err(Fault::NoMemory),
         Err(fault) => Err(Fault::FareTable(word, fault)),
     }
-}
-
-#[derive(Drop)]
-struct Taken {
-    uploads: Vec<Vec<u8>>,
-    succeeded: bool,
-}
-
-/// Writes the lines of each upload, or reports its layout fault if what is found is listed.
-fn take_each<'a, S: Source, W: Write, E: Write>(
-    alloc: Global,
-    has_list: bool,
-    names: &[&'a str],
-    source: &mut S,
-    out: &mut Output<W>,
-    err: &mut Complaints<E>,
-) -> Result<Taken, Fault<'a>> {
-    let mut uploads = Vec::new(alloc);
-    let mut succeeded = true;
-    for (number, name) in names.iter().enumerate() {
-        source.show_count(number, names.len(), "uploads");
-        let upload = load_upload(alloc, source, name)?;
-        let facts = facts_of(&upload);
-        if has_list {
-            report_layout(name, facts.fault, source, err);
-        } else {
-            write_text(&upload_text(alloc, number, name, &facts)?, out)?;
-        }
-        succeeded &= facts.fault.is_none();
-        uploads.push(upload)?;
-    }
-    Ok(Taken { uploads, succeeded })
 }
 
 /// Validators that are inactive on a day: each day of the span, if both its ends are given.
@@ -91,68 +52,131 @@ fn inactive_of(
     Ok(Some(silent))
 }
 
-/// Returns whether no upload has a layout fault.
-fn look_at<'a, R: Threads + Sync, S: Source, W: Write, E: Write>(
-    threads: &R,
+/// The table is first, if there is one.
+fn files_of<'a>(
     alloc: Global,
     words: &LookWords<'a>,
-    table: &Option<FareTable>,
     names: &[&'a str],
-    source: &mut S,
-    out: &mut Output<W>,
-    err: &mut Complaints<E>,
-) -> Result<bool, Fault<'a>> {
-    let taken = take_each(alloc, words.has_list, names, source, out, err);
-    source.end_count();
-    let Taken { uploads, succeeded } = taken?;
-    let span = MomentSpan {
-        first: words.first.unwrap_or(0),
-        last: words.last.unwrap_or(u64::MAX),
-    };
-    let found = look(threads, alloc, &uploads, words.within, span, WORKERS)?;
-    let silent = inactive_of(alloc, words, table, found.lists.as_slice())?;
-    if words.has_list {
-        write_table(alloc, names, &found, &silent, out)?;
-    } else {
-        let text = counts_of(alloc, words, &uploads, &found, &silent)?;
-        write_text(&text, out)?;
+) -> Result<Vec<&'a str>, AllocError> {
+    let mut files = Vec::new(alloc);
+    if let Some(table) = words.table {
+        files.push(table)?;
     }
-    Ok(succeeded)
+    for name in names {
+        files.push(*name)?;
+    }
+    Ok(files)
 }
 
-fn look_all<'a, R: Threads + Sync, S: Source, W: Write, E: Write>(
-    threads: &R,
-    alloc: Global,
-    words: &LookWords<'a>,
-    names: &[&'a str],
-    source: &mut S,
-    out: &mut Output<W>,
-    err: &mut Complaints<E>,
-) -> Result<bool, Fault<'a>> {
-    let table = read_table(alloc, words, source)?;
-    let looked = look_at(threads, alloc, words, &table, names, source, out, err);
-    finish_after(looked, out)
+/// All taps are in memory.
+#[derive(Drop)]
+struct Look<'w, 'a, R> {
+    threads: &'w R,
+    words: &'w LookWords<'a>,
+    names: &'w [&'a str],
+    table: Option<FareTable>,
+    uploads: Vec<Vec<u8>>,
+    /// Whether no upload has a layout fault.
+    succeeded: bool,
+    is_given: bool,
+}
+
+impl<'a, R: Threads + Sync> Look<'_, 'a, R> {
+    /// The lines of the upload, or its layout fault if what is found is listed.
+    fn push_upload(
+        &mut self,
+        alloc: Global,
+        word: &'a str,
+        upload: Vec<u8>,
+        piece: &mut Vec<u8>,
+    ) -> Result<Informed, Fault<'a>> {
+        let facts = facts_of(&upload);
+        self.succeeded &= facts.fault.is_none();
+        let number = self.uploads.len();
+        self.uploads.push(upload)?;
+        if !self.words.has_list {
+            let text = upload_text(alloc, number, word, &facts)?;
+            piece.extend_from_slice(text.as_bytes())?;
+            return Ok(Informed::More(For::Text));
+        }
+        if let Some((offset, fault)) = facts.fault {
+            push_line(alloc, Fault::Layout(word, offset, fault), piece)?;
+        }
+        Ok(Informed::More(For::Note))
+    }
+}
+
+impl<'a, R: Threads + Sync> Informs<'a> for Look<'_, 'a, R> {
+    fn wants_file(&self) -> bool {
+        true
+    }
+
+    fn take(
+        &mut self,
+        alloc: Global,
+        file: WordFile<'a>,
+        piece: &mut Vec<u8>,
+    ) -> Result<Informed, Fault<'a>> {
+        let WordFile {
+            number,
+            word,
+            bytes,
+        } = file;
+        if number == 0 && self.words.table.is_some() {
+            self.table = Some(read_table(alloc, word, &bytes)?);
+            return Ok(Informed::More(For::Text));
+        }
+        self.push_upload(alloc, word, bytes, piece)
+    }
+
+    fn go_on(&mut self, alloc: Global, piece: &mut Vec<u8>) -> Result<Informed, Fault<'a>> {
+        if self.is_given {
+            return Ok(Informed::End {
+                succeeded: self.succeeded,
+            });
+        }
+        let words = self.words;
+        let span = MomentSpan {
+            first: words.first.unwrap_or(0),
+            last: words.last.unwrap_or(u64::MAX),
+        };
+        let uploads = self.uploads.as_slice();
+        let found = look(self.threads, alloc, uploads, words.within, span, WORKERS)?;
+        let silent = inactive_of(alloc, words, &self.table, found.lists.as_slice())?;
+        if words.has_list {
+            push_table(alloc, self.names, &found, &silent, piece)?;
+        } else {
+            let text = counts_of(alloc, words, uploads, &found, &silent)?;
+            piece.extend_from_slice(text.as_bytes())?;
+        }
+        self.is_given = true;
+        Ok(Informed::More(For::Text))
+    }
 }
 
 /// Writes what the uploads have, and how much is found in them; or if requested, the list of all
-/// that is found, with the layout faults on `err`. All taps are in memory. The status is 0 if all
-/// is written and no upload has a layout fault, else 1.
-pub fn look_over<R: Threads + Sync, S: Source, W: Write, E: Write>(
+/// that is found, with the layout faults as notes. The status is 0 if all is written and no upload
+/// has a layout fault, else 1.
+pub fn look_over<R: Threads + Sync, W: World + Counted>(
     threads: &R,
     alloc: Global,
     words: &LookWords<'_>,
     names: &[&str],
-    source: &mut S,
-    out: &mut Output<W>,
-    err: &mut Complaints<E>,
+    world: &mut W,
 ) -> u8
-    ensures { result ≤ 1 }
+    ensures status { result ≤ 1 }
+    ensures ends { EndsInforming (W.run world.old) (W.run world.new) result }
 {
-    match look_all(threads, alloc, words, names, source, out, err) {
-        Ok(success) => if success { 0 } else { 1 },
-        Err(fault) => {
-            say(err, &fault);
-            1
-        }
-    }
+    let files = files_of(alloc, words, names);
+    let others = if words.table.is_some() { 1 } else { 0 };
+    let task = Look {
+        threads,
+        words,
+        names,
+        table: None,
+        uploads: Vec::new(alloc),
+        succeeded: true,
+        is_given: false,
+    };
+    inform(alloc, files, others, task, world)
 }

@@ -1,11 +1,6 @@
 //! Where files are made.
-ghost use Rattle.std.specs.Prelude.{◌≡◌, ◌≢◌, IfErr, None, OnOk, Some};
-ghost use Rattle.tool_tasks.specs.Sink.{IsNotMade, MakesOne};
-ghost use Rattle.tool_tasks.specs.declared.sink.MakeFault.TheVariants.{Unmade};
 
-use fare_texts::write_bytes;
-use program_manners::{Output, WriteEnd};
-use sorted_taps::WriteFault;
+use program_manners::Output;
 use std::alloc::{AllocError, Global};
 use std::io::Write;
 
@@ -16,17 +11,6 @@ pub enum MakeFault {
     Unmade,
     /// An allocation failed.
     NoMemory,
-}
-
-impl MakeFault {
-    pub(crate) fn of_write(fault: WriteFault, end: Option<WriteEnd>) -> MakeFault
-        ensures { result ≡ MakeFault.Unmade → end ≢ None }
-    {
-        match (fault, end) {
-            (WriteFault::Write, Some(_)) => MakeFault::Unmade,
-            (WriteFault::Write, None) | (WriteFault::NoMemory, _) => MakeFault::NoMemory,
-        }
-    }
 }
 
 impl From<AllocError> for MakeFault {
@@ -105,27 +89,4 @@ pub trait Sink {
     fn fail(&mut self, name: &str, file: Output<Self::File>)
         ensures made { made self.new ≡ made self.old }
         ensures failed { FailsFile name.now file.end (failed self.old) (failed self.new) };
-}
-
-pub(crate) fn make_file<K: Sink>(
-    alloc: Global,
-    name: &str,
-    bytes: &[u8],
-    sink: &mut K,
-) -> Result<(), MakeFault>
-    ensures made { OnOk result
-        (MakesOne (K.made sink.old) (K.made sink.new) name.now (Some bytes.now)) }
-    ensures kept { IfErr result (λ _. K.made sink.new ≡ K.made sink.old) }
-    ensures failed { IfErr result
-        (λ fault. fault ≡ Unmade → IsNotMade (K.failed sink.new) name.now) }
-{
-    let mut file = sink.begin(alloc, name)?;
-    match write_bytes(bytes, &mut file) {
-        Ok(()) => sink.finish(name, file),
-        Err(_) => {
-            let why = MakeFault::of_write(WriteFault::Write, file.end());
-            sink.fail(name, file);
-            Err(why)
-        }
-    }
 }

@@ -1,53 +1,34 @@
 //! `sort` of uploads that are loaded.
 ghost use Rattle.std.specs.Prelude.{◌≡◌, ◌⊎◌, ◌++◌, ◌∷◌, [], ℕ, List, IfErr, IfOk};
-ghost use Rattle.std.specs.Prelude.{OnOk, Option, Some, false, map, option_map, string_bytes, true};
+ghost use Rattle.std.specs.Prelude.{OnOk, Some};
+ghost use Rattle.std.specs.Prelude.{if◌then◌else◌, map, option_map, string_bytes};
+ghost use Rattle.frame.specs.Making.{EndsMaking, IsDoneMaking, IsHaltedMaking, did_making};
 ghost use Rattle.report_texts.specs.Report.{upload_lines};
-ghost use Rattle.tap_views.specs.UploadEnds.{ArePlainEnds, are_posted, is_posted};
-ghost use Rattle.tap_views.specs.declared.upload_end.UploadEnd.{UploadEnd as AnEnd};
-ghost use Rattle.program_manners.specs.Loads.{Loaded};
-ghost use Rattle.sorted_uploads.specs.SortedUploads.{IsSortedFileOf};
-ghost use Rattle.tool_tasks.specs.Decode.{AreReported};
-ghost use Rattle.tool_tasks.specs.Fault.{IsFaultReported, IsRefusal};
-ghost use Rattle.tool_tasks.specs.Sink.{Makes};
-ghost use Rattle.tool_tasks.specs.Sort.{AbortsSort, IsUnmade, Sorts, ends_files};
-ghost use Rattle.tool_tasks.specs.Sort.{ends_name, files_of, refused_lines};
-ghost use Rattle.tool_tasks.specs.Source.{HasOpened};
-ghost use Rattle.tool_tasks.specs.declared.fault.Fault.{Fault as AFault};
-ghost use Rattle.tool_tasks.specs.inside.Sort.{HasBytes, IsMakeFault, IsUnwritten, line_at};
+ghost use Rattle.tap_views.specs.UploadEnds.{are_posted, is_posted};
+ghost use Rattle.world.specs.Run.{with_flushed, with_made};
+ghost use Rattle.tool_tasks.specs.Sort.{Sorts, ends_files, files_of, names_of, refused_lines};
+ghost use Rattle.tool_tasks.specs.inside.Sort.{HaltsLoading, HaltsMade, HaltsMaking, LoadsAll};
+ghost use Rattle.tool_tasks.specs.inside.Sort.{SortsTexts, line_at, with_files};
+ghost use Rattle.tool_words.specs.Tasks.{sorting_of};
 
-use crate::fault::{Fault, say};
+use crate::counted::Counted;
+use crate::fault::Fault;
+use crate::loads::load_word;
 use crate::names::word_at;
-use crate::sink::{MakeFault, Sink, make_file};
-use crate::source::{Source, load_upload};
-use program_manners::{Complaints, Output};
+use crate::stops::{fault_at, number_in};
+use fare_texts::write_bytes;
+use frame::{Stop, report};
 use report_texts::write_upload;
 use sorted_uploads::sort_uploads;
 use std::alloc::{AllocError, Global};
-use std::io::Write;
 use std::marker::Sync;
 use std::thread::Threads;
 use tap_views::UploadEnd;
+use tool_words::SortingWords;
+use world::World;
 
 /// How many threads put taps into order.
 const WORKERS: u32 = 4;
-
-/// What `sort` is to do, beside the uploads.
-#[derive(Clone, Copy, Debug)]
-pub struct SortWords<'a> {
-    /// The file that is made.
-    pub out: &'a str,
-    /// The file of a line for each upload, if it is made.
-    pub ends: Option<&'a str>,
-}
-
-pub(crate) fn fault_of_make<'a>(word: &'a str, fault: MakeFault) -> Fault<'a>
-    ensures { IsMakeFault word.entry.now fault result }
-{
-    match fault {
-        MakeFault::Unmade => Fault::Unmade(word),
-        MakeFault::NoMemory => Fault::NoMemory,
-    }
-}
 
 fn push(files: &mut Vec<Vec<u8>>, upload: Vec<u8>) -> Result<(), AllocError>
     ensures { OnOk result (files.new.items ≡ files.old.items ++ upload ∷ []) }
@@ -56,67 +37,28 @@ fn push(files: &mut Vec<Vec<u8>>, upload: Vec<u8>) -> Result<(), AllocError>
     Ok(())
 }
 
-fn load_uploads<'a, S: Source>(
+fn load_uploads<W: Counted>(
     alloc: Global,
-    uploads: &[&'a str],
-    source: &mut S,
-) -> Result<Vec<Vec<u8>>, Fault<'a>>
-    ensures loaded { IfOk result (λ files. (kept : List Loaded) → S.loaded source.old ≡ Some kept
-        → HasOpened (map (λ w. w.now) uploads.now) (S.loaded source.old) (S.loaded source.new)
-        (map (λ f. f.items) files.items)) }
-    ensures refusal { IfErr result (λ fault. IsRefusal (S.refused source.new)
-        (map (λ w. w.now) uploads.now) fault) }
+    words: &SortingWords<'_>,
+    world: &mut W,
+) -> Result<Vec<Vec<u8>>, Stop>
+    ensures loaded { IfOk result (λ files. LoadsAll (sorting_of words.now).uploads
+        (W.run world.old) (W.run world.new) (map (λ f. f.items) files.items)) }
+    ensures halted { IfErr result (λ why. HaltsLoading (names_of (sorting_of words.now)) why
+        (W.run world.old) (W.run world.new)) }
 {
     let mut files = Vec::new(alloc);
-    for (number, word) in uploads.iter().enumerate() {
-        source.show_count(number, uploads.len(), "uploads");
-        let upload = load_upload(alloc, source, word)?;
-        push(&mut files, upload)?;
+    for number in 0..words.uploads.len() {
+        world.show_count(number, words.uploads.len());
+        let upload = match load_word(world, words.uploads[number]) {
+            Ok(upload) => upload,
+            Err(why) => return Err(Stop::Unread(number + 2, why)),
+        };
+        if let Err(AllocError) = push(&mut files, upload) {
+            return Err(Stop::NoMemory);
+        }
     }
     Ok(files)
-}
-
-fn write_sorted<'a, R: Threads + Sync, W: Write>(
-    threads: &R,
-    alloc: Global,
-    out: &'a str,
-    uploads: Vec<Vec<u8>>,
-    file: &mut Output<W>,
-) -> Result<Vec<UploadEnd>, Fault<'a>>
-    ensures ended { IfOk result (λ ends.
-        ArePlainEnds (map (λ upload. upload.items) uploads.items) ends.items) }
-    ensures sorted { IfOk result (λ ends.
-        IsSortedFileOf (map (λ upload. upload.items) uploads.items)
-        (W.contents file.old.writer) (W.contents file.new.writer)) }
-    ensures fault { IfErr result (IsUnwritten out.entry.now file.new.end) }
-{
-    match sort_uploads(threads, alloc, uploads, WORKERS, file) {
-        Ok(ends) => Ok(ends),
-        Err(fault) => Err(fault_of_make(out, MakeFault::of_write(fault, file.end()))),
-    }
-}
-
-fn write_all<'a, R: Threads + Sync, S: Source, W: Write>(
-    threads: &R,
-    alloc: Global,
-    out: &'a str,
-    uploads: &[&'a str],
-    source: &mut S,
-    file: &mut Output<W>,
-) -> Result<Vec<UploadEnd>, Fault<'a>>
-    ensures sorted { IfOk result (λ ends. (kept : List Loaded) → S.loaded source.old ≡ Some kept
-        → (bytes : List (List ℕ))
-        × HasOpened (map (λ w. w.now) uploads.now) (S.loaded source.old) (S.loaded source.new)
-        bytes × ArePlainEnds bytes ends.items
-        × IsSortedFileOf bytes (W.contents file.old.writer) (W.contents file.new.writer)) }
-    ensures fault { IfErr result (λ fault. IsRefusal (S.refused source.new)
-        (map (λ w. w.now) uploads.now) fault ⊎ IsUnwritten out.entry.now file.new.end fault) }
-{
-    let loaded = load_uploads(alloc, uploads, source)?;
-    match write_sorted(threads, alloc, out, loaded, file) {
-        Ok(ends) => Ok(ends),
-        Err(fault) => Err(fault),
-    }
 }
 
 fn push_lines(text: &mut String, ends: &[UploadEnd]) -> Result<(), AllocError>
@@ -129,7 +71,7 @@ fn push_lines(text: &mut String, ends: &[UploadEnd]) -> Result<(), AllocError>
     Ok(())
 }
 
-fn lines_of(alloc: Global, ends: &[UploadEnd]) -> Result<String, AllocError>
+pub(crate) fn lines_of(alloc: Global, ends: &[UploadEnd]) -> Result<String, AllocError>
     ensures { IfOk result (λ text. string_bytes text ≡ upload_lines 0 ends.now) }
 {
     let mut text = String::new(alloc);
@@ -137,119 +79,29 @@ fn lines_of(alloc: Global, ends: &[UploadEnd]) -> Result<String, AllocError>
     Ok(text)
 }
 
-fn make_ends<'a, K: Sink>(
-    alloc: Global,
-    name: Option<&'a str>,
-    ends: &[UploadEnd],
-    sink: &mut K,
-) -> Result<(), Fault<'a>>
-    ensures made { OnOk result (Makes (K.made sink.old) (K.made sink.new)
-        (ends_files (option_map (λ n. n.now) name.entry) ends.now)) }
-    ensures kept { IfErr result (λ _. K.made sink.new ≡ K.made sink.old) }
-    ensures fault { IfErr result (λ fault. (word : List ℕ)
-        × (option_map (λ n. n.now) name.entry ≡ Some word)
-        × IsUnmade word (K.failed sink.new) fault) }
-{
-    let Some(name) = name else {
-        return Ok(());
-    };
-    let text = match lines_of(alloc, ends) {
-        Ok(text) => text,
-        Err(_) => return Err(Fault::NoMemory),
-    };
-    match make_file(alloc, name, text.as_bytes(), sink) {
-        Ok(()) => Ok(()),
-        Err(fault) => Err(fault_of_make(name, fault)),
-    }
-}
-
-pub(crate) fn make_both<'a, K: Sink>(
-    alloc: Global,
-    words: &SortWords<'a>,
-    ends: &[UploadEnd],
-    file: Output<K::File>,
-    sink: &mut K,
-) -> Result<(), Fault<'a>>
-    ensures some { OnOk result ((bytes : List ℕ)
-        × Makes (K.made sink.old) (K.made sink.new) (files_of words.now ends.now bytes)) }
-    ensures made { OnOk result ((bytes : List ℕ)
-        → HasBytes (K.made sink.old) (K.File.contents file.writer) bytes
-        → Makes (K.made sink.old) (K.made sink.new) (files_of words.now ends.now bytes)) }
-    ensures fault { IfErr result (λ fault.
-        ((K.made sink.new ≡ K.made sink.old) × ((name : List ℕ)
-        × (ends_name words.now ≡ Some name) × IsUnmade name (K.failed sink.new) fault))
-        ⊎ (Makes (K.made sink.old) (K.made sink.new) (ends_files (ends_name words.now) ends.now)
-        × IsUnmade words.now.out.now (K.failed sink.new) fault)) }
-{
-    match make_ends(alloc, words.ends, ends, sink) {
-        Ok(()) => match sink.finish(words.out, file) {
-            Ok(()) => Ok(()),
-            Err(fault) => Err(fault_of_make(words.out, fault)),
-        },
-        Err(fault) => {
-            sink.remove(file);
-            Err(fault)
-        }
-    }
-}
-
-fn sort<'a, R: Threads + Sync, S: Source, K: Sink>(
-    threads: &R,
-    alloc: Global,
-    words: &SortWords<'a>,
-    uploads: &[&'a str],
-    source: &mut S,
-    sink: &mut K,
-) -> Result<Vec<UploadEnd>, Fault<'a>>
-    ensures done { IfOk result (λ ends. (kept : List Loaded) → S.loaded source.old ≡ Some kept
-        → Sorts words.now (map (λ w. w.now) uploads.now) (S.loaded source.old)
-        (S.loaded source.new) (K.made sink.old) (K.made sink.new) ends.items) }
-    ensures fault { IfErr result (λ fault. (kept : List Loaded) → S.loaded source.old ≡ Some kept
-        → AbortsSort words.now (map (λ w. w.now) uploads.now) (S.loaded source.old)
-        (S.loaded source.new) (S.refused source.new) (K.made sink.old) (K.made sink.new)
-        (K.failed sink.new) fault) }
-{
-    let mut file = match sink.begin(alloc, words.out) {
-        Ok(file) => file,
-        Err(fault) => return Err(fault_of_make(words.out, fault)),
-    };
-    let written = write_all(threads, alloc, words.out, uploads, source, &mut file);
-    source.end_count();
-    match written {
-        Ok(ends) => match make_both(alloc, words, &ends, file, sink) {
-            Ok(()) => Ok(ends),
-            Err(fault) => Err(fault),
-        },
-        Err(fault) => {
-            sink.fail(words.out, file);
-            Err(fault)
-        }
-    }
-}
-
-fn report_refused<E: Write>(word: Option<&str>, end: &UploadEnd, err: &mut Complaints<E>)
-    ensures reported { AreReported (E.contents err.old.writer) (E.contents err.new.writer)
-        err.new.failed (line_at (option_map (λ w. w.now) word.entry) end.now) }
-    ensures quiet { is_posted end.now ≡ true → err.new ≡ err.old }
-    ensures kept { err.new.failed ≡ false → err.old.failed ≡ false }
+fn push_refused(text: &mut String, word: Option<&str>, end: &UploadEnd) -> Result<(), AllocError>
+    ensures { OnOk result (string_bytes text.new ≡ string_bytes text.old
+        ++ line_at (option_map (λ w. w.now) word.entry) end.now) }
 {
     let UploadEnd::Refused { offset, fault, .. } = end else {
-        return;
+        return Ok(());
     };
     let Some(word) = word else {
-        return;
+        return Ok(());
     };
-    say(err, &Fault::Layout(word, *offset, *fault));
+    let fault = Fault::Layout(word, *offset, *fault);
+    write!(text, "{fault}\n")
 }
 
-fn report_each<E: Write>(uploads: &[&str], ends: &[UploadEnd], err: &mut Complaints<E>)
-    ensures quiet { are_posted ends.now ≡ true → err.new ≡ err.old }
-    ensures reported { AreReported (E.contents err.old.writer) (E.contents err.new.writer)
-        err.new.failed (refused_lines (map (λ w. w.now) uploads.now) ends.now) }
+fn note_of(alloc: Global, uploads: &[&str], ends: &[UploadEnd]) -> Result<String, AllocError>
+    ensures { IfOk result (λ note. string_bytes note
+        ≡ refused_lines (map (λ w. w.now) uploads.now) ends.now) }
 {
+    let mut note = String::new(alloc);
     for (number, end) in ends.iter().enumerate() {
-        report_refused(word_at(uploads, number), end, err);
+        push_refused(&mut note, word_at(uploads, number), end)?;
     }
+    Ok(note)
 }
 
 fn is_posted(end: UploadEnd) -> bool
@@ -264,50 +116,177 @@ fn are_posted(ends: &[UploadEnd]) -> bool
     ends.iter().all(|end| is_posted(*end))
 }
 
-/// Makes the file of the valid taps of the uploads that the words name, `-` being standard input,
-/// in canonical order, and before it that of the upload ends, if it has a name. The status is 0, or
-/// 3 if an upload has a layout fault, or 1 after a fault. Reports each fault on `err`.
-pub fn sort_over<R: Threads + Sync, S: Source, K: Sink, E: Write>(
+/// Makes a file of these bytes, whose word has this number.
+fn make<W: World>(name: &str, number: usize, bytes: &[u8], world: &mut W) -> Result<(), Stop>
+    ensures made { OnOk result (W.run world.new ≡ with_made (W.run world.old)
+        (record { name = name.now; bytes = bytes.now })) }
+    ensures unmade { IfErr result (λ why. HaltsMade name.now number why (W.run world.old)
+        (W.run world.new)) }
+{
+    let mut file = match world.begin(name, false) {
+        Ok(file) => file,
+        Err(why) => return Err(Stop::Unmade(number, why)),
+    };
+    match write_bytes(bytes, &mut file) {
+        Ok(()) => match world.finish(name, file) {
+            Ok(()) => Ok(()),
+            Err(why) => Err(Stop::Unmade(number, why)),
+        },
+        Err(_) => Err(Stop::Unmade(number, world.fail(name, file))),
+    }
+}
+
+fn make_ends<W: World>(words: &SortingWords<'_>, lines: &str, world: &mut W) -> Result<(), Stop>
+    ensures made { OnOk result (W.run world.new ≡ with_files (W.run world.old)
+        (ends_files (sorting_of words.now).ends lines.now)) }
+    ensures unmade { IfErr result (λ why. (name : List ℕ)
+        × ((sorting_of words.now).ends ≡ Some name)
+        × HaltsMade name 1 why (W.run world.old) (W.run world.new)) }
+{
+    match words.ends {
+        Some(name) => make(name, 1, lines.as_bytes(), world),
+        None => Ok(()),
+    }
+}
+
+/// What is made and said of uploads whose taps were written.
+#[derive(Drop)]
+pub(crate) struct Written {
+    /// A line for each upload.
+    pub(crate) lines: String,
+    pub(crate) note: String,
+    pub(crate) status: u8,
+}
+
+/// Makes the file of the lines, if it has a name, and then that of the taps. Notes the note.
+pub(crate) fn make_both<W: World>(
+    words: &SortingWords<'_>,
+    written: &Written,
+    file: W::File,
+    world: &mut W,
+) -> Result<u8, Stop>
+    ensures done { (bytes : List ℕ) → W.File.contents file ≡ Some bytes → IfOk result (λ status.
+        (status ≡ written.now.status) × (W.run world.new ≡ with_flushed (did_making
+        (W.run world.old) [] (record { text = []; note = string_bytes written.now.note })
+        (files_of (sorting_of words.now) (string_bytes written.now.lines) bytes)))) }
+    ensures halted { (bytes : List ℕ) → W.File.contents file ≡ Some bytes → IfErr result (λ why.
+        HaltsMaking (names_of (sorting_of words.now))
+        (files_of (sorting_of words.now) (string_bytes written.now.lines) bytes)
+        (string_bytes written.now.note) why (W.run world.old) (W.run world.new)) }
+{
+    if let Err(why) = make_ends(words, written.lines.as_str(), world) {
+        world.discard(file);
+        return Err(why);
+    }
+    if let Err(why) = world.finish(words.out, file) {
+        return Err(Stop::Unmade(0, why));
+    }
+    world.say(written.note.as_bytes());
+    match world.flush() {
+        Ok(()) => Ok(written.status),
+        Err(why) => Err(Stop::Unwritten(why)),
+    }
+}
+
+fn written_of(alloc: Global, uploads: &[&str], ends: &[UploadEnd]) -> Result<Written, AllocError>
+    ensures lines { IfOk result (λ written.
+        string_bytes written.lines ≡ upload_lines 0 ends.now) }
+    ensures note { IfOk result (λ written. string_bytes written.note
+        ≡ refused_lines (map (λ w. w.now) uploads.now) ends.now) }
+    ensures status { IfOk result (λ written.
+        written.status ≡ (if are_posted ends.now then 0 else 3)) }
+{
+    Ok(Written {
+        lines: lines_of(alloc, ends)?,
+        note: note_of(alloc, uploads, ends)?,
+        status: if are_posted(ends) { 0 } else { 3 },
+    })
+}
+
+/// The uploads are loaded, and the file is begun.
+fn write_sorted<R: Threads + Sync, W: World>(
     threads: &R,
     alloc: Global,
-    words: &SortWords<'_>,
-    uploads: &[&str],
-    source: &mut S,
-    sink: &mut K,
-    err: &mut Complaints<E>,
-) -> u8
-    // With status 0, if the source keeps what it loaded, the files were made, and no upload has a
-    // fault.
-    ensures done { (kept : List Loaded) → S.loaded source.old ≡ Some kept → result ≡ 0
-        → (ends : List AnEnd) × (are_posted ends ≡ true)
-        × Sorts words.now (map (λ w. w.now) uploads.now) (S.loaded source.old)
-        (S.loaded source.new) (K.made sink.old) (K.made sink.new) ends }
-    // With status 3 they were made, an upload has a layout fault, and the lines of these were
-    // reported.
-    ensures refused { (kept : List Loaded) → S.loaded source.old ≡ Some kept → result ≡ 3
-        → (ends : List AnEnd) × (are_posted ends ≡ false)
-        × Sorts words.now (map (λ w. w.now) uploads.now) (S.loaded source.old)
-        (S.loaded source.new) (K.made sink.old) (K.made sink.new) ends
-        × AreReported (E.contents err.old.writer) (E.contents err.new.writer) err.new.failed
-        (refused_lines (map (λ w. w.now) uploads.now) ends) }
-    // With status 1 the right line of a fault was reported.
-    ensures faults { result ≡ 1 → (fault : AFault) × IsFaultReported fault
-        (E.contents err.old.writer) (E.contents err.new.writer) err.new.failed
-        × ((kept : List Loaded) → S.loaded source.old ≡ Some kept
-        → AbortsSort words.now (map (λ w. w.now) uploads.now) (S.loaded source.old)
-        (S.loaded source.new) (S.refused source.new) (K.made sink.old) (K.made sink.new)
-        (K.failed sink.new) fault) }
-    // Nothing is said beside whole uploads.
-    ensures quiet { result ≡ 0 → err.new ≡ err.old }
-    ensures status { (result ≡ 0) ⊎ ((result ≡ 1) ⊎ (result ≡ 3)) }
+    words: &SortingWords<'_>,
+    uploads: Vec<Vec<u8>>,
+    file: W::File,
+    world: &mut W,
+) -> Result<u8, Stop>
+    requires { W.File.contents file ≡ Some [] }
+    ensures done { IfOk result (IsDoneMaking (SortsTexts (sorting_of words.now)
+        (map (λ upload. upload.items) uploads.items)) (W.run world.old) (W.run world.new)) }
+    ensures halted { IfErr result (IsHaltedMaking (SortsTexts (sorting_of words.now)
+        (map (λ upload. upload.items) uploads.items)) (names_of (sorting_of words.now))
+        (W.run world.old) (W.run world.new)) }
 {
-    match sort(threads, alloc, words, uploads, source, sink) {
-        Ok(ends) => {
-            report_each(uploads, &ends, err);
-            if are_posted(&ends) { 0 } else { 3 }
+    let mut file = file;
+    let ends = match sort_uploads(threads, alloc, uploads, WORKERS, &mut file) {
+        Ok(ends) => ends,
+        Err(_) => return Err(Stop::Unmade(0, world.fail(words.out, file))),
+    };
+    match written_of(alloc, &words.uploads, &ends) {
+        Ok(written) => make_both(words, &written, file, world),
+        Err(AllocError) => {
+            world.discard(file);
+            Err(Stop::NoMemory)
         }
-        Err(fault) => {
-            say(err, &fault);
+    }
+}
+
+fn sort<R: Threads + Sync, W: World + Counted>(
+    threads: &R,
+    alloc: Global,
+    words: &SortingWords<'_>,
+    world: &mut W,
+) -> Result<u8, Stop>
+    ensures done { IfOk result (IsDoneMaking (Sorts (sorting_of words.now)) (W.run world.old)
+        (W.run world.new)) }
+    ensures halted { IfErr result (IsHaltedMaking (Sorts (sorting_of words.now))
+        (names_of (sorting_of words.now)) (W.run world.old) (W.run world.new)) }
+{
+    let file = match world.begin(words.out, false) {
+        Ok(file) => file,
+        Err(why) => return Err(Stop::Unmade(0, why)),
+    };
+    let loaded = load_uploads(alloc, words, world);
+    world.end_count();
+    match loaded {
+        Ok(uploads) => write_sorted(threads, alloc, words, uploads, file, world),
+        Err(why) => {
+            world.discard(file);
+            Err(why)
+        }
+    }
+}
+
+/// The fault of what stopped it.
+pub(crate) fn fault_of<'a>(why: Stop, words: &SortingWords<'a>) -> Fault<'a> {
+    let word = match number_in(why) {
+        0 => Some(words.out),
+        1 => words.ends,
+        number => word_at(&words.uploads, number - 2),
+    };
+    fault_at(why, word)
+}
+
+/// Makes the file of the valid taps of the uploads that the words name, `-` being standard input,
+/// in canonical order, and before it that of the upload ends, if it has a name. The status is 0, or
+/// 3 if an upload has a layout fault, or 1 after a fault. Each fault is reported.
+#[tactic(auto, using(crate::proofs::Making::sort_status))]
+pub fn sort_over<R: Threads + Sync, W: World + Counted>(
+    threads: &R,
+    alloc: Global,
+    words: &SortingWords<'_>,
+    world: &mut W,
+) -> u8
+    ensures status { (result ≡ 0) ⊎ ((result ≡ 1) ⊎ (result ≡ 3)) }
+    ensures ends { EndsMaking (Sorts (sorting_of words.now)) (names_of (sorting_of words.now))
+        (W.run world.old) (W.run world.new) result }
+{
+    match sort(threads, alloc, words, world) {
+        Ok(status) => status,
+        Err(why) => {
+            report(why, fault_of(why, words), world);
             1
         }
     }

@@ -58,16 +58,6 @@ pub trait Source {
         ensures loaded { loaded self.new ≡ loaded self.old }
         ensures refused { refused self.new ≡ refused self.old };
 
-    /// Shows to whoever watches the run how many of all these things, as `uploads`, are done.
-    fn show_count(&mut self, done: usize, all: usize, things: &'static str)
-        ensures loaded { loaded self.new ≡ loaded self.old }
-        ensures refused { refused self.new ≡ refused self.old };
-
-    /// Takes away what is shown of a count.
-    fn end_count(&mut self)
-        ensures loaded { loaded self.new ≡ loaded self.old }
-        ensures refused { refused self.new ≡ refused self.old };
-
     /// All bytes of the file of this name, or of standard input, however many. No clause says what
     /// a fault leaves loaded.
     fn load_any(&mut self, alloc: Global, name: Option<&str>) -> Result<Vec<u8>, LoadFault>

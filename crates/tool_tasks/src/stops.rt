@@ -1,22 +1,31 @@
 //! Fault lines of what stops a task from outside.
 
 use crate::fault::Fault;
+use crate::names::word_at;
 use frame::Stop;
-use world::{LoadFault, MakeFault, WriteFault};
+use world::{MakeFault, WriteFault};
 
-/// The fault of what stopped a task over two files: the words name them.
-pub(crate) fn fault_of<'a>(why: Stop, first: &'a str, second: &'a str) -> Fault<'a> {
+/// The number of the file that stopped a task; 0 if none did.
+pub(crate) fn number_in(why: Stop) -> usize {
     match why {
-        Stop::Unread(0, LoadFault::Unread) => Fault::Unread(first),
-        Stop::Unread(_, LoadFault::Unread) => Fault::Unread(second),
-        Stop::Unread(0, LoadFault::TooLong) => Fault::TooLong(first),
-        Stop::Unread(_, LoadFault::TooLong) => Fault::TooLong(second),
-        Stop::Unwritten(WriteFault::Closed) => Fault::Closed,
-        Stop::Unwritten(WriteFault::Refused) => Fault::Write,
-        Stop::Unmade(0, MakeFault::Unmade) => Fault::Unmade(first),
-        Stop::Unmade(_, MakeFault::Unmade) => Fault::Unmade(second),
-        Stop::Unread(_, LoadFault::NoMemory)
-        | Stop::Unmade(_, MakeFault::NoMemory)
-        | Stop::NoMemory => Fault::NoMemory,
+        Stop::Unread(number, _) | Stop::Unmade(number, _) => number,
+        Stop::Unwritten(_) | Stop::NoMemory => 0,
     }
+}
+
+/// The fault of what stopped a task; of a file, this is its word.
+pub(crate) fn fault_at<'a>(why: Stop, word: Option<&'a str>) -> Fault<'a> {
+    match (why, word) {
+        (Stop::Unread(_, why), Some(word)) => Fault::of_load(word, why),
+        (Stop::Unmade(_, MakeFault::Exists), Some(word)) => Fault::Exists(word),
+        (Stop::Unmade(_, MakeFault::Unmade), Some(word)) => Fault::Unmade(word),
+        (Stop::Unwritten(WriteFault::Closed), _) => Fault::Closed,
+        (Stop::Unwritten(WriteFault::Refused), _) => Fault::Write,
+        (Stop::Unread(..), _) | (Stop::Unmade(..), _) | (Stop::NoMemory, _) => Fault::NoMemory,
+    }
+}
+
+/// The fault of what stopped a task over files that these words name.
+pub(crate) fn fault_of<'a>(why: Stop, words: &[&'a str]) -> Fault<'a> {
+    fault_at(why, word_at(words, number_in(why)))
 }

@@ -1,13 +1,9 @@
 //! `uploads --tokens`: how many tokens each upload has, and how many of these another one has, too.
 ghost use Rattle.std.specs.Prelude.{◌≡◌, IfErr};
 ghost use Rattle.tool_tasks.specs.declared.fault.Fault.TheVariants.{NoMemory as AMemoryFault};
-ghost use Rattle.tool_tasks.specs.inside.Decode.{IsOfWriting};
 
 use crate::fault::Fault;
-use crate::uploads::write_text;
-use program_manners::Output;
 use std::alloc::{AllocError, Global};
-use std::io::Write;
 use upload_checks::{CommonCounts, CommonTokens};
 
 pub(crate) fn no_tokens(alloc: Global, is_counted: bool) -> Option<CommonTokens> {
@@ -38,18 +34,4 @@ pub(crate) fn tokens_text(alloc: Global, counts: &[CommonCounts]) -> Result<Stri
         write!(text, "tokens {number} all {all} shared {shared}\n")?;
     }
     Ok(text)
-}
-
-pub(crate) fn write_tokens<'a, W: Write>(
-    alloc: Global,
-    tokens: &Option<CommonTokens>,
-    out: &mut Output<W>,
-) -> Result<(), Fault<'a>>
-    ensures { IfErr result (IsOfWriting out.new.end) }
-{
-    let Some(tokens) = tokens else {
-        return Ok(());
-    };
-    let text = tokens_text(alloc, tokens.counts())?;
-    write_text(&text, out)
 }

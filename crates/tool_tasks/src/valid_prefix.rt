@@ -1,134 +1,196 @@
 //! `uploads --good-part`: lines of an upload, and a file of its batches before its layout fault.
-ghost use Rattle.std.specs.Prelude.{◌≡◌, ◌≤◌, ◌⊎◌, IfErr, IfOk, OnOk, Some, false, true};
-ghost use Rattle.tool_tasks.specs.Fault.{IsFaultReported};
-ghost use Rattle.tool_tasks.specs.ValidPrefix.{AbortsValidPrefix, IsUnmadeNew, KeepsValidPrefix};
-ghost use Rattle.tool_tasks.specs.Sink.{MakesOne};
-ghost use Rattle.tool_tasks.specs.declared.fault.Fault.{Fault as AFault};
-ghost use Rattle.tool_tasks.specs.inside.Decode.{IsOfWriting};
-ghost use Rattle.tool_tasks.specs.inside.ValidPrefix.{unwritten_as};
+ghost use Rattle.std.specs.Prelude.{◌≡◌, ◌≤◌, ◌∷◌, [], ℕ, List, IfErr, IfOk, OnOk};
+ghost use Rattle.std.specs.Prelude.{if◌then◌else◌, is_none};
+ghost use Rattle.frame.specs.Making.{EndsMaking, IsDoneMaking, IsHaltedMaking};
+ghost use Rattle.world.specs.Run.{Run, with_flushed, with_load, with_made, with_written};
+ghost use Rattle.tool_words.specs.Tasks.{valid_prefix_of};
+ghost use Rattle.tool_tasks.specs.Names.{file_named};
+ghost use Rattle.tool_tasks.specs.ValidPrefix.{HasValidPrefix};
+ghost use Rattle.tool_tasks.specs.inside.ValidPrefix.{HaltsMaking, IsUnmadeAt};
 
-use crate::encode_rows::{fault_of_new, fault_of_unfinished};
-use crate::fault::{Fault, finish_after, say};
-use crate::sink::Sink;
-use crate::source::{Source, load_upload};
-use crate::upload_tokens::{add_tokens, no_tokens, write_tokens};
-use crate::uploads::{upload_text, write_text};
+use crate::fault::Fault;
+use crate::loads::load_word;
+use crate::stops::fault_of;
+use crate::upload_tokens::{add_tokens, no_tokens, tokens_text};
+use crate::uploads::upload_text;
 use fare_texts::write_bytes;
-use program_manners::{Complaints, Output, WriteEnd};
+use frame::{Stop, report};
 use std::alloc::Global;
-use std::io::Write;
 use tap_views::{Facts, facts_of, valid_prefix};
 use tool_words::ValidPrefixWords;
+use world::{MakeFault, World};
 
-fn write_lines<'a, W: Write>(
-    alloc: Global,
-    words: &ValidPrefixWords<'a>,
-    upload: &[u8],
-    facts: &Facts,
-    out: &mut Output<W>,
-) -> Result<(), Fault<'a>>
-    ensures { IfErr result (IsOfWriting out.new.end) }
-{
-    let mut tokens = no_tokens(alloc, words.has_tokens);
-    write_text(&upload_text(alloc, 0, words.upload, facts)?, out)?;
-    add_tokens(&mut tokens, upload)?;
-    write_tokens(alloc, &tokens, out)
+/// What stopped it, and the line that says so.
+#[derive(Drop)]
+struct Halt<'a> {
+    why: Stop,
+    line: Fault<'a>,
 }
 
-/// Why a file lacks what was written to it, as its writer remembers it.
-fn unwritten<'a>(end: Option<WriteEnd>) -> Fault<'a>
-    ensures { result ≡ unwritten_as end }
-{
-    match end {
-        Some(_) => Fault::Write,
-        None => Fault::NoMemory,
-    }
-}
-
-fn make<'a, K: Sink>(
-    alloc: Global,
-    name: &'a str,
-    bytes: &[u8],
-    sink: &mut K,
-) -> Result<(), Fault<'a>>
-    ensures made { OnOk result
-        (MakesOne (K.made sink.old) (K.made sink.new) name.entry.now (Some bytes.now)) }
-    ensures kept { IfErr result (λ _. K.made sink.new ≡ K.made sink.old) }
-    ensures fault { IfErr result
-        (IsUnmadeNew name.entry.now (K.failed sink.new) (K.unstarted sink.new)) }
-{
-    let mut file = match sink.begin_new(alloc, name) {
-        Ok(file) => file,
-        Err(fault) => return Err(fault_of_new(name, fault)),
-    };
-    match write_bytes(bytes, &mut file) {
-        Ok(()) => match sink.finish(name, file) {
-            Ok(()) => Ok(()),
-            Err(fault) => Err(fault_of_unfinished(fault)),
-        },
-        Err(_) => {
-            let why = unwritten(file.end());
-            sink.fail(name, file);
-            Err(why)
+impl<'a> Halt<'a> {
+    fn of(why: Stop, words: &ValidPrefixWords<'a>) -> Halt<'a>
+        ensures { result.why ≡ why }
+    {
+        Halt {
+            why,
+            line: fault_of(why, &[words.upload, words.out]),
         }
     }
 }
 
-/// Returns whether the upload has no layout fault.
-fn list_and_make<'a, S: Source, K: Sink, W: Write>(
+fn lines_of<'a>(
     alloc: Global,
     words: &ValidPrefixWords<'a>,
-    source: &mut S,
-    sink: &mut K,
-    out: &mut Output<W>,
-) -> Result<bool, Fault<'a>>
-    ensures done { IfOk result (KeepsValidPrefix words.now (S.loaded source.old)
-        (S.loaded source.new) (K.made sink.old) (K.made sink.new)) }
-    ensures kept { IfErr result (λ _. K.made sink.new ≡ K.made sink.old) }
-    ensures stops { IfErr result (λ fault. AbortsValidPrefix words.now (S.loaded source.old)
-        (S.loaded source.new) (S.refused source.new) (K.made sink.old) (K.made sink.new)
-        (K.failed sink.new) (K.unstarted sink.new) out.new.end fault) }
-{
-    let upload = load_upload(alloc, source, words.upload)?;
-    let facts = facts_of(&upload);
-    write_lines(alloc, words, &upload, &facts, out)?;
-    make(alloc, words.out, valid_prefix(&upload), sink)?;
-    Ok(facts.fault.is_none())
+    upload: &[u8],
+    facts: &Facts,
+) -> Result<String, Fault<'a>> {
+    let mut tokens = no_tokens(alloc, words.has_tokens);
+    let mut text = upload_text(alloc, 0, words.upload, facts)?;
+    add_tokens(&mut tokens, upload)?;
+    if let Some(tokens) = &tokens {
+        text.push_str(&tokens_text(alloc, tokens.counts())?)?;
+    }
+    Ok(text)
 }
 
-/// Writes to `out` what the upload has, `-` being standard input: its lines, and if requested, how
-/// many different tokens it has. Then makes the file of its batches before its first layout fault.
-/// A fault is reported on `err`. The status is 0 if all is done and there is no layout fault, else
-/// 1.
-pub fn valid_prefix_over<S: Source, K: Sink, W: Write, E: Write>(
-    alloc: Global,
-    words: &ValidPrefixWords<'_>,
-    source: &mut S,
-    sink: &mut K,
-    out: &mut Output<W>,
-    err: &mut Complaints<E>,
-) -> u8
-    // With status 0 the file was made, and the upload has no layout fault.
-    ensures done { result ≡ 0 → KeepsValidPrefix words.now (S.loaded source.old)
-        (S.loaded source.new) (K.made sink.old) (K.made sink.new) true
-        × (out.new.is_flushed ≡ true) × (err.new ≡ err.old) }
-    // With status 1 the same was done for an upload with a layout fault; or the right fault was
-    // reported.
-    ensures faults { result ≡ 1 → (KeepsValidPrefix words.now (S.loaded source.old)
-        (S.loaded source.new) (K.made sink.old) (K.made sink.new) false
-        × (out.new.is_flushed ≡ true) × (err.new ≡ err.old)) ⊎ ((fault : AFault)
-        × IsFaultReported fault (E.contents err.old.writer) (E.contents err.new.writer)
-        err.new.failed
-        × AbortsValidPrefix words.now (S.loaded source.old) (S.loaded source.new)
-        (S.refused source.new) (K.made sink.old) (K.made sink.new) (K.failed sink.new)
-        (K.unstarted sink.new) out.new.end fault) }
-    ensures status { result ≤ 1 }
+fn status_of(facts: &Facts) -> u8
+    ensures status { result ≡ (if is_none facts.now.fault then 0 else 1) }
+    ensures bound { result ≤ 1 }
 {
-    let made = list_and_make(alloc, words, source, sink, out);
-    match finish_after(made, out) {
-        Ok(success) => if success { 0 } else { 1 },
-        Err(fault) => {
-            say(err, &fault);
+    match facts.fault {
+        Some(_) => 1,
+        None => 0,
+    }
+}
+
+/// The line of a new file that was begun and not made is that of a write.
+fn unfinished<'a>(why: MakeFault) -> Halt<'a>
+    ensures { result.why ≡ Stop.Unmade 1 why }
+{
+    let line = match why {
+        MakeFault::NoMemory => Fault::NoMemory,
+        MakeFault::Exists | MakeFault::Unmade => Fault::Write,
+    };
+    Halt {
+        why: Stop::Unmade(1, why),
+        line,
+    }
+}
+
+fn make<'a, W: World>(
+    words: &ValidPrefixWords<'a>,
+    bytes: &[u8],
+    world: &mut W,
+) -> Result<(), Halt<'a>>
+    ensures made { OnOk result (W.run world.new ≡ with_made (W.run world.old)
+        (record { name = words.now.out.now; bytes = bytes.now })) }
+    ensures halted { IfErr result (λ halt. IsUnmadeAt words.now.upload.now words.now.out.now
+        halt.why (W.run world.old) (W.run world.new)) }
+{
+    match world.begin(words.out, true) {
+        Err(why) => Err(Halt::of(Stop::Unmade(1, why), words)),
+        Ok(file) => {
+            let mut file = file;
+            match write_bytes(bytes, &mut file) {
+                Ok(()) => match world.finish(words.out, file) {
+                    Ok(()) => Ok(()),
+                    Err(why) => Err(unfinished(why)),
+                },
+                Err(_) => Err(unfinished(world.fail(words.out, file))),
+            }
+        }
+    }
+}
+
+/// Writes the lines, makes the file, and flushes the output.
+fn list_and_make<'a, W: World>(
+    words: &ValidPrefixWords<'a>,
+    text: &[u8],
+    bytes: &[u8],
+    world: &mut W,
+) -> Result<(), Halt<'a>>
+    ensures done { OnOk result (W.run world.new
+        ≡ with_flushed (with_made (with_written (W.run world.old) text.now)
+        (record { name = words.now.out.now; bytes = bytes.now }))) }
+    ensures halted { IfErr result (λ halt. HaltsMaking (words.now.upload.now ∷ words.now.out.now ∷ [])
+        (record { name = words.now.out.now; bytes = bytes.now }) halt.why (W.run world.old)
+        (W.run world.new)) }
+{
+    match world.write(text) {
+        Err(why) => Err(Halt::of(Stop::Unwritten(why), words)),
+        Ok(()) => match make(words, bytes, world) {
+            Err(halt) => Err(halt),
+            Ok(()) => match world.flush() {
+                Err(why) => Err(Halt::of(Stop::Unwritten(why), words)),
+                Ok(()) => Ok(()),
+            },
+        },
+    }
+}
+
+/// After the upload was loaded.
+fn keep<'a, W: World>(
+    alloc: Global,
+    words: &ValidPrefixWords<'a>,
+    upload: &[u8],
+    world: &mut W,
+) -> Result<u8, Halt<'a>>
+    ensures done { IfOk result (λ status. (start : Run)
+        → W.run world.old ≡ with_load start (file_named words.now.upload.now) upload.now
+        → IsDoneMaking (HasValidPrefix (valid_prefix_of words.now)) start (W.run world.new) status) }
+    ensures bound { IfOk result (λ status. status ≤ 1) }
+    ensures halted { IfErr result (λ halt. (start : Run)
+        → W.run world.old ≡ with_load start (file_named words.now.upload.now) upload.now
+        → IsHaltedMaking (HasValidPrefix (valid_prefix_of words.now))
+        (words.now.upload.now ∷ words.now.out.now ∷ []) start (W.run world.new) halt.why) }
+{
+    let facts = facts_of(upload);
+    let valid = valid_prefix(upload);
+    match lines_of(alloc, words, upload, &facts) {
+        Err(line) => Err(Halt {
+            why: Stop::NoMemory,
+            line,
+        }),
+        Ok(text) => match list_and_make(words, text.as_bytes(), valid, world) {
+            Err(halt) => Err(halt),
+            Ok(()) => Ok(status_of(&facts)),
+        },
+    }
+}
+
+fn load_and_keep<'a, W: World>(
+    alloc: Global,
+    words: &ValidPrefixWords<'a>,
+    world: &mut W,
+) -> Result<u8, Halt<'a>>
+    ensures done { IfOk result (IsDoneMaking (HasValidPrefix (valid_prefix_of words.now))
+        (W.run world.old) (W.run world.new)) }
+    ensures bound { IfOk result (λ status. status ≤ 1) }
+    ensures halted { IfErr result (λ halt. IsHaltedMaking (HasValidPrefix (valid_prefix_of words.now))
+        (words.now.upload.now ∷ words.now.out.now ∷ []) (W.run world.old) (W.run world.new)
+        halt.why) }
+{
+    match load_word(world, words.upload) {
+        Err(why) => Err(Halt::of(Stop::Unread(0, why), words)),
+        Ok(upload) => match keep(alloc, words, &upload, world) {
+            Err(halt) => Err(halt),
+            Ok(status) => Ok(status),
+        },
+    }
+}
+
+/// Writes what the upload has, `-` being standard input: its lines, and if requested, how many
+/// different tokens it has. Then makes the file of its batches before its first layout fault. A
+/// fault is reported. The status is 0 if all is done and there is no layout fault, else 1.
+pub fn valid_prefix_over<W: World>(alloc: Global, words: &ValidPrefixWords<'_>, world: &mut W) -> u8
+    ensures status { result ≤ 1 }
+    ensures ends { EndsMaking (HasValidPrefix (valid_prefix_of words.now))
+        (words.now.upload.now ∷ words.now.out.now ∷ []) (W.run world.old) (W.run world.new) result }
+{
+    match load_and_keep(alloc, words, world) {
+        Ok(status) => status,
+        Err(halt) => {
+            report(halt.why, halt.line, world);
             1
         }
     }

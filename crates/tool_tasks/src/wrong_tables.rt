@@ -61,7 +61,8 @@ fn reason_text(reason: Reason) -> &'static str
         Reason::Device => "the device is none of --validators",
         Reason::LocalTime => "the moment is a local time: it has neither Z nor an offset",
         Reason::Early => "the moment is before 2000: say --unit s or --unit ms",
-        Reason::Moment => "the moment is no time before 2100 in whole milliseconds",
+        Reason::Moment => "the moment is no time before 2100",
+        Reason::Riders => "the row is not of one rider",
     }
 }
 

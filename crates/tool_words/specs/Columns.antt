@@ -1,21 +1,26 @@
--- How an agency's CSV is read: what the values of `--columns`, `--separator`, `--unit` and `--only`
--- say.
+-- How an agency's CSV is read: what the values of `--columns`, `--from`, `--separator`, `--unit`,
+-- `--only` and `--drop` say.
 use Rattle.std.specs.Prelude.{◌==◌, ◌||◌, if◌then◌else◌, nat_lt, ℕ, Bool, List, [], ◌∷◌, Option}
-use Rattle.std.specs.Prelude.{None, Some, codes, filter_map, is_some, length}
+use Rattle.std.specs.Prelude.{None, Some, codes, false, filter_map, is_some, length, true}
 use Rattle.std.specs.List.{after_first, before_first, list_all, position_or_len, slice_split}
 use Rattle.std.specs.Option.{option_and_then}
 use Rattle.std.specs.Str.{bytes_eq}
 use Rattle.clap.specs.Words.{Text}
 use Rattle.tap_rows.specs.declared.agency.choice.Separator.{Separator}
-use Rattle.tap_rows.specs.declared.agency.choice.Separator.TheVariants as separators
 use Rattle.tap_rows.specs.declared.agency.choice.Unit.{Unit}
 use Rattle.tap_rows.specs.declared.agency.choice.Unit.TheVariants as units
 
--- the names of the columns of tokens, validators and moments
-pub record ColumnNames : Type 0 where
+-- how a kind of export is read: its columns of tokens, validators and moments, whether a token is
+-- the hash of its field, the column and the value of the rows that are kept, and of those that are
+-- left out, and the column of riders
+pub record Export : Type 0 where
   pub token : Text
   pub validator : Text
   pub moment : Text
+  pub has_hashes : Bool
+  pub only : Option (Text × Text)
+  pub without : Option (Text × Text)
+  pub count : Option Text
 
 abbrev pub is_comma : ℕ → Bool
 is_comma byte = byte == 44
@@ -50,41 +55,86 @@ sole (one ∷ two ∷ more) = None
 abbrev pub only_name : Text → List Text → Option Text
 only_name column words = sole (filter_map (name_given column) words)
 
--- these names, if there are all three
-abbrev pub names_of : Option Text → Option Text → Option Text → Option ColumnNames
-names_of (Some token) (Some validator) (Some moment) =
-    Some (record { token = token; validator = validator; moment = moment })
-names_of _ _ _ = None
+-- the export of which nothing but these names is known, if there are all three
+abbrev pub export_of : Option Text → Option Text → Option Text → Option Export
+export_of (Some token) (Some validator) (Some moment) = Some (record {
+  token = token;
+  validator = validator;
+  moment = moment;
+  has_hashes = false;
+  only = None;
+  without = None;
+  count = None;
+})
+export_of _ _ _ = None
 
--- the names that three words give, if they name each column once
-abbrev pub columns_among : List Text → Option ColumnNames
+-- that of the names that three words give, if they name each column once
+abbrev pub columns_among : List Text → Option Export
 columns_among words = if length words == 3
-    then names_of (only_name (codes "token") words) (only_name (codes "validator") words)
+    then export_of (only_name (codes "token") words) (only_name (codes "validator") words)
     (only_name (codes "moment") words)
     else None
 
--- the names that a value of `--columns` gives, if it names each column once
-abbrev pub columns_in : Text → Option ColumnNames
+-- that of the names that a value of `--columns` gives, if it names each column once
+abbrev pub columns_in : Text → Option Export
 columns_in text = columns_among (between_commas text)
+
+-- the device transactions of Littlepay: taps on that were allowed
+abbrev pub littlepay : Export
+littlepay = record {
+  token = codes "customer_id";
+  validator = codes "device_id";
+  moment = codes "transaction_date_time_utc";
+  has_hashes = false;
+  only = Some (codes "transaction_outcome", codes "allow");
+  without = Some (codes "type", codes "off");
+  count = None;
+}
+
+-- the fare transactions of TIDES
+abbrev pub tides : Export
+tides = record {
+  token = codes "fare_media_id";
+  validator = codes "device_id";
+  moment = codes "event_timestamp";
+  has_hashes = true;
+  only = None;
+  without = None;
+  count = Some (codes "num_riders");
+}
+
+-- the kind of export that a value of `--from` names
+abbrev pub export_named : Text → Option Export
+export_named name = if bytes_eq name (codes "littlepay") then Some littlepay
+    else (if bytes_eq name (codes "tides") then Some tides else None)
+
+-- a byte that may be between two fields: not a quote, a line feed or a carriage return
+abbrev pub separator_of : ℕ → Option Separator
+separator_of byte = if byte == 34 || (byte == 10 || byte == 13) then None
+    else Some (record { byte = byte })
+
+abbrev pub one_byte : Text → Option Separator
+one_byte [] = None
+one_byte (byte ∷ []) = separator_of byte
+one_byte (byte ∷ next ∷ more) = None
 
 -- what is between two fields: a comma if the words do not say, and none if they say it wrong
 abbrev pub separator_in : Option Text → Option Separator
-separator_in None = Some separators.Comma
-separator_in (Some word) = if bytes_eq word (codes ",") then Some separators.Comma
-    else (if bytes_eq word (codes ";") then Some separators.Semicolon
-    else (if bytes_eq word (9 ∷ []) || bytes_eq word (codes "tab") then Some separators.Tab
-    else None))
+separator_in None = Some (record { byte = 44 })
+separator_in (Some word) = if bytes_eq word (codes "tab") then Some (record { byte = 9 })
+    else one_byte word
 
 -- what a plain number counts, and none if the words say it wrong
 abbrev pub unit_in : Option Text → Option Unit
 unit_in None = Some units.Unsaid
 unit_in (Some word) = if bytes_eq word (codes "s") then Some units.Seconds
-    else (if bytes_eq word (codes "ms") then Some units.Milliseconds else None)
+    else (if bytes_eq word (codes "ms") then Some units.Milliseconds
+    else (if bytes_eq word (codes "us") then Some units.Microseconds else None))
 
 -- each word is COLUMN=VALUE
 abbrev pub have_parts : List Text → Bool
 have_parts words = list_all (λ word. is_some (parts_of word)) words
 
--- the columns and values of words of `--only`, if each has both
+-- the columns and values of words of `--only` or `--drop`, if each has both
 abbrev pub conditions_in : List Text → Option (List (Text × Text))
 conditions_in words = if have_parts words then Some (filter_map parts_of words) else None

@@ -1,29 +1,37 @@
 -- What the words of the tools ask for.
 use Rattle.std.specs.Prelude.{ℕ, Bool, ◌&&◌, ◌||◌, if◌then◌else◌, nat_lt}
-use Rattle.std.specs.Prelude.{List, [], ◌∷◌, Option, Some, None, codes, false}
+use Rattle.std.specs.Prelude.{List, [], ◌∷◌, ◌++◌, Option, Some, None, codes, false}
 use Rattle.std.specs.Prelude.{unwrap_or}
 use Rattle.std.specs.List.{count_by, list_any}
-use Rattle.std.specs.Option.{option_map_or}
+use Rattle.std.specs.Option.{option_map_or, option_or, option_to_list}
 use Rattle.std.specs.Str.{bytes_eq}
 use Rattle.clap.specs.Words.{Row, Text, all_of, first_of, subcommand_of}
 use Rattle.program_manners.specs.Words.{is_given}
 use Rattle.tap_rows.specs.declared.agency.choice.Separator.{Separator}
 use Rattle.tap_rows.specs.declared.agency.choice.Unit.{Unit}
-use Rattle.tool_words.specs.Columns.{ColumnNames, columns_in, conditions_in, separator_in, unit_in}
+use Rattle.tool_words.specs.Columns.{Export, columns_in, conditions_in, export_named}
+use Rattle.tool_words.specs.Columns.{separator_in, unit_in}
 use Rattle.tool_words.specs.ToolLine.{breaks_rule, has_value, program}
 use Rattle.tool_words.specs.declared.usage_error.UsageError.{UsageError}
 use Rattle.tool_words.specs.declared.usage_error.UsageError.TheVariants as wrong
 
 -- what `encode` is asked for with columns, beside the file
 pub record RowsRequest : Type 0 where
-  pub columns : ColumnNames
-  -- the file of devices and their validators, if the rows have no validators' numbers
-  pub devices : Option Text
   pub separator : Separator
+  pub token : Text
+  pub validator : Text
+  pub moment : Text
+  -- whether a token is the hash of its field
+  pub has_hashes : Bool
   -- what a plain number of the column of moments counts
   pub unit : Unit
-  -- the column and the value of each condition
+  -- the column and the value of each condition that rows are kept by, and left out by
   pub only : List (Text × Text)
+  pub without : List (Text × Text)
+  -- the column of how many riders a row is of, if there is one
+  pub count : Option Text
+  -- the file of devices and their validators, if the rows have no validators' numbers
+  pub devices : Option Text
   -- the file of the rows that are no taps, if one is made
   pub refused : Option Text
 
@@ -99,40 +107,66 @@ abbrev pub has_devices_twice : List Row → Bool
 has_devices_twice rows = is_input (encoded_file rows)
     && option_map_or is_input (first_of (codes "validators") rows) false
 
--- The rows of an agency's CSV, by these columns, with this separator and this unit, under these
--- conditions; or which of them is wrong.
-abbrev pub rows_by : Option ColumnNames → Option Separator → Option Unit
+-- the words name a kind of export, or else the columns
+abbrev pub export_in : List Row → Option Export
+export_in rows = option_map_or export_named (first_of (codes "from") rows)
+    (columns_in (unwrap_or (first_of (codes "columns") rows) []))
+
+abbrev pub wrong_export : List Row → UsageError
+wrong_export rows = if has_value (codes "from") rows then wrong.Export else wrong.Columns
+
+-- The rows of an agency's CSV, read so, with this separator and this unit, under these conditions
+-- that keep rows and leave them out; or which of them is wrong.
+abbrev pub rows_by : Option Export → Option Separator → Option Unit → Option (List (Text × Text))
     → Option (List (Text × Text)) → List Row → Request
-rows_by None separator unit only rows = usage_error wrong.Columns
-rows_by (Some columns) None unit only rows = usage_error wrong.Separator
-rows_by (Some columns) (Some separator) None only rows = usage_error wrong.Unit
-rows_by (Some columns) (Some separator) (Some unit) None rows = usage_error wrong.Condition
-rows_by (Some columns) (Some separator) (Some unit) (Some only) rows =
+rows_by None separator unit only without rows = usage_error (wrong_export rows)
+rows_by (Some export) None unit only without rows = usage_error wrong.Separator
+rows_by (Some export) (Some separator) None only without rows = usage_error wrong.Unit
+rows_by (Some export) (Some separator) (Some unit) None without rows = usage_error wrong.Condition
+rows_by (Some export) (Some separator) (Some unit) (Some only) None rows =
+    usage_error wrong.DropCondition
+rows_by (Some export) (Some separator) (Some unit) (Some only) (Some without) rows =
     if has_devices_twice rows then usage_error wrong.InputTwice
     else encode_rows (encoded_file rows) (record {
-      columns = columns;
-      devices = first_of (codes "validators") rows;
       separator = separator;
+      token = export.token;
+      validator = export.validator;
+      moment = export.moment;
+      has_hashes = export.has_hashes || is_given (codes "token-hash") rows;
       unit = unit;
-      only = only;
+      only = only ++ option_to_list export.only;
+      without = without ++ option_to_list export.without;
+      count = option_or (first_of (codes "count") rows) export.count;
+      devices = first_of (codes "validators") rows;
       refused = first_of (codes "refused") rows;
     })
 
 -- the rows of an agency's CSV
 abbrev pub rows_request : List Row → Request
-rows_request rows = rows_by (columns_in (unwrap_or (first_of (codes "columns") rows) []))
-    (separator_in (first_of (codes "separator") rows)) (unit_in (first_of (codes "unit") rows))
-    (conditions_in (named (codes "only") rows)) rows
+rows_request rows = rows_by (export_in rows) (separator_in (first_of (codes "separator") rows))
+    (unit_in (first_of (codes "unit") rows)) (conditions_in (named (codes "only") rows))
+    (conditions_in (named (codes "drop") rows)) rows
 
--- a tap table; else the rows of an agency's CSV, or what the words lack
-abbrev pub encode_request : List Row → Request
-encode_request rows =
-    if has_value (codes "columns") rows then rows_request rows
-    else (if has_value (codes "only") rows || (has_value (codes "separator") rows
+-- the rows of an agency's CSV, if the words do not say twice how it is read
+abbrev pub export_request : List Row → Request
+export_request rows = if has_value (codes "columns") rows && has_value (codes "from") rows
+    then usage_error wrong.ColumnsTwice else rows_request rows
+
+-- a tap table, unless the words are of the rows of an agency's CSV
+abbrev pub table_request : List Row → Request
+table_request rows =
+    if has_value (codes "only") rows || (has_value (codes "separator") rows
     || has_value (codes "refused") rows) then usage_error wrong.NoColumns
     else (if has_value (codes "validators") rows then usage_error wrong.NoColumnsForValidators
     else (if has_value (codes "unit") rows then usage_error wrong.NoColumnsForUnit
+    else (if has_value (codes "drop") rows || (has_value (codes "count") rows
+    || is_given (codes "token-hash") rows) then usage_error wrong.NoColumnsForOthers
     else encode (encoded_file rows))))
+
+-- the rows of an agency's CSV, or a tap table
+abbrev pub encode_request : List Row → Request
+encode_request rows = if has_value (codes "columns") rows || has_value (codes "from") rows
+    then export_request rows else table_request rows
 
 -- the good part of one upload
 abbrev pub valid_prefix_request : Text → Bool → List Text → Request

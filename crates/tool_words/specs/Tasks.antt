@@ -27,15 +27,16 @@ condition_of condition = (condition.column.now, condition.value.now)
 
 abbrev pub rows_words_of : RowsWords → RowsRequest
 rows_words_of words = record {
-  columns = record {
-    token = words.token.now;
-    validator = words.validator.now;
-    moment = words.moment.now;
-  };
+  separator = words.columns.separator;
+  token = words.columns.token.now;
+  validator = words.columns.validator.now;
+  moment = words.columns.moment.now;
+  has_hashes = words.columns.has_hashes;
+  unit = words.columns.unit;
+  only = map condition_of words.columns.only.items;
+  without = map condition_of words.columns.without.items;
+  count = text_in words.columns.count;
   devices = text_in words.devices;
-  separator = words.separator;
-  unit = words.unit;
-  only = map condition_of words.only.items;
   refused = text_in words.refused;
 }
 

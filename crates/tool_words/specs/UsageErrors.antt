@@ -12,10 +12,16 @@ usage_error_text wrong.NoColumns = codes "error: --only, --separator and --refus
 usage_error_text wrong.NoColumnsForValidators = codes "error: --validators needs --columns"
 usage_error_text wrong.Columns =
     codes "error: --columns needs token=NAME,validator=NAME,moment=NAME, each once"
-usage_error_text wrong.Separator = codes "error: --separator is one of , ; tab"
+usage_error_text wrong.ColumnsTwice = codes "error: --columns cannot be used with --from"
+usage_error_text wrong.Export = codes "error: encode --from is littlepay or tides"
+usage_error_text wrong.Separator =
+    codes "error: --separator is one byte, not a quote, or tab"
+usage_error_text wrong.NoColumnsForOthers =
+    codes "error: --drop, --count and --token-hash need --columns or --from"
 usage_error_text wrong.NoColumnsForUnit = codes "error: --unit needs --columns"
-usage_error_text wrong.Unit = codes "error: --unit is s or ms"
+usage_error_text wrong.Unit = codes "error: --unit is s, ms or us"
 usage_error_text wrong.Condition = codes "error: --only needs COLUMN=VALUE"
+usage_error_text wrong.DropCondition = codes "error: --drop needs COLUMN=VALUE"
 usage_error_text wrong.NotOneUpload = codes "error: --good-part needs one FILE"
 usage_error_text wrong.From = codes "error: --from needs a moment, as 2026-03-01T00:00:00Z"
 usage_error_text wrong.Until = codes "error: --until needs a moment, as 2026-03-01T00:00:00Z"

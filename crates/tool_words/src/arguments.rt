@@ -6,7 +6,7 @@ ghost use Rattle.tool_words.specs.inside.Rows.{with_rules};
 
 use clap::builder::ValueParser;
 use clap::{Arg, ArgAction, Command};
-use program_manners::{add_list_args, flag_arg, option_arg, positional_arg};
+use program_manners::{add_list_args, flag_arg, option_arg, positional_arg, with_help};
 use std::alloc::{AllocError, Global};
 
 /// What an argument takes. First is its name, last its help, and before that the help's name of a
@@ -124,13 +124,13 @@ pub(crate) fn subcommand<'a>(
     alloc: Global,
     name: &'a str,
     about: &'a str,
-    status: &'a str,
+    notes: &'a str,
     rows: &[Row],
     is_whole: bool,
 ) -> Result<Command<'a>, AllocError>
     ensures { is_whole ≡ false → IfOk result
         (λ command. app_of command ≡ with_rows (new_app name.entry.now) rows.now) }
 {
-    let command = Command::new(alloc, name).about(about).after_help(status);
+    let command = with_help(Command::new(alloc, name), about, notes);
     add_rows(alloc, command, rows, is_whole)
 }

@@ -8,27 +8,32 @@ use crate::arguments::{Need, Row, Takes, subcommand};
 use clap::Command;
 use std::alloc::{AllocError, Global};
 
-const CORRECTIONS_STATUS: &str = "Exit status:
+const CORRECTIONS_NOTES: &str = "Examples:
+  omny_tools corrections monday.csv tuesday.csv > corrections.csv
+  omny_tools corrections --tokens monday.csv tuesday.csv
+
+Exit status:
   0  the corrections are written, also where there is none
-  1  a text is no settled ledger, or could not be read or written, as a line `fault: ..` on the
-     standard error says; what was written is not the corrections
+  1  a text is no settled ledger, or could not be read or written, as a line
+     `fault: ..` on the standard error says; what was written is not the
+     corrections
   2  the command line is wrong";
 
-const CORRECTIONS_ABOUT: &str =
-    "Writes what the bill of the ledger NEW charges otherwise than that of OLD, line by line.
+const CORRECTIONS_ABOUT: &str = "Writes what a later bill charges otherwise, line by line.
 
-Both are ledgers of omny_cli --settle. A line of the one and a line of the other with the same
-token, moment and validator stand beside each other. A line is written, as CSV, for each that only
-one ledger has, and for each whose answer, cents or reason differ. With --tokens these are counted
-and their cents summed: a line for each token that has one. The ledgers are read as it is written,
-so they may be larger than memory. If OLD has lines that NEW has not, their number is reported on
-the standard error.";
+OLD and NEW are ledgers of omny_cli --settle. A line of the one and a line of
+the other with the same token, moment and validator are compared. A line is
+written, as CSV, for each that only one ledger has, and for each whose answer,
+cents or reason differ. With --tokens these are counted and their cents summed:
+a line for each token that has one. The ledgers are read as it is written, so
+they may be larger than memory. If OLD has lines that NEW lacks, their number
+is reported on the standard error.";
 
-const OLD_HELP: &str = "The ledger of the bill that was issued; - stands for standard input";
+const OLD_HELP: &str = "The ledger of the bill that was issued; - is standard input";
 
-const NEW_HELP: &str = "The ledger of the bill that takes its place; - stands for standard input";
+const NEW_HELP: &str = "The ledger of the later bill; - is standard input";
 
-const TOKENS_HELP: &str = "Write the sums of each token's corrections in place of their lines";
+const TOKENS_HELP: &str = "Write the sums of each token's corrections instead";
 
 /// `corrections [--tokens] OLD NEW`
 pub(crate) fn corrections_command<'a>(
@@ -47,7 +52,7 @@ pub(crate) fn corrections_command<'a>(
         alloc,
         "corrections",
         CORRECTIONS_ABOUT,
-        CORRECTIONS_STATUS,
+        CORRECTIONS_NOTES,
         &rows,
         is_whole,
     )

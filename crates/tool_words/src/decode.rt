@@ -8,21 +8,24 @@ use crate::arguments::{Need, Row, Takes, subcommand};
 use clap::Command;
 use std::alloc::{AllocError, Global};
 
-const DECODE_ABOUT: &str =
-    "Writes the taps of uploads as one tap table for encode, to standard output.
+const DECODE_ABOUT: &str = "Writes the taps of uploads as one tap table.
 
-Tokens have lower-case digits, moments are milliseconds. Of an upload with a layout fault the taps
-before it are written, and the fault is reported.";
+Tokens have lower-case digits, moments are milliseconds. Of an upload with a
+layout fault the taps before it are written, and the fault is reported.";
 
-const DECODE_HELP: &str =
-    "Uploads of at most 67108864 bytes; - stands for standard input [default: standard input]";
+const NOTES: &str = "Examples:
+  omny_tools decode a.tap b.tap > taps.csv
+
+Exit status:
+  0  all is done
+  1  a file has a fault, or could not be read or written, as a line `fault: ..`
+     on the standard error says
+  2  the command line is wrong";
+
+const DECODE_HELP: &str = "Uploads, at most 64 MiB each [default: standard input, as -]";
 
 /// `decode [--files-from LIST [-0]] [FILE]...`
-pub(crate) fn decode_command<'a>(
-    alloc: Global,
-    status: &'a str,
-    is_whole: bool,
-) -> Result<Command<'a>, AllocError>
+pub(crate) fn decode_command<'a>(alloc: Global, is_whole: bool) -> Result<Command<'a>, AllocError>
     ensures { is_whole ≡ false → IfOk result
         (λ command. app_of command ≡ leaf (codes "decode") decode_rules) }
 {
@@ -30,5 +33,5 @@ pub(crate) fn decode_command<'a>(
         Row::List,
         Row::One(Takes::Words("FILE", DECODE_HELP), Need::Never),
     ];
-    subcommand(alloc, "decode", DECODE_ABOUT, status, &rows, is_whole)
+    subcommand(alloc, "decode", DECODE_ABOUT, NOTES, &rows, is_whole)
 }

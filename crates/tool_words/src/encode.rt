@@ -8,64 +8,76 @@ use crate::arguments::{Need, Row, Takes, subcommand};
 use clap::Command;
 use std::alloc::{AllocError, Global};
 
-const ENCODE_STATUS: &str = "Exit status:
+const ENCODE_NOTES: &str = "Examples:
+  omny_tools encode taps.csv > day.tap
+  omny_tools encode --columns token=card,validator=reader,moment=tapped_at
+    --only result=ok --validators readers.csv --refused refused.csv
+    export.csv > day.tap
+
+Exit status:
   0  the upload is written
-  1  a file has a fault, or could not be read or written, as a line `fault: ..` on the standard
-     error says; with --columns also if no row is a tap
+  1  a file has a fault, or could not be read or written, as a line `fault: ..`
+     on the standard error says; with --columns also if no row is a tap
   2  the command line is wrong, or standard output is a terminal
   3  with --refused: the upload is written, and rows were refused";
 
-const ENCODE_ABOUT: &str = "Writes the upload of a tap table to standard output.
+const ENCODE_ABOUT: &str = "Makes an upload of a tap table, or of any CSV of an agency.
 
-The tap table is CSV. Its first line is token,validator,moment. Each other line is a tap: 32
-hexadecimal digits, a number from 0 to 4294967295, and a moment before 2100, in milliseconds
-since 1970-01-01T00:00Z or as 2024-03-08T17:00:00Z. A field may stand between double quotes. A line
-ends with LF or CRLF.
+The upload goes to standard output. The tap table is CSV. Its first line is
+token,validator,moment. Each other line is a tap: 32 hexadecimal digits, a
+number from 0 to 4294967295, and a moment before 2100, in milliseconds since
+1970-01-01T00:00Z or as 2024-03-08T17:00:00Z. A field may be between double
+quotes. A line ends with LF or CRLF.
 
-The taps come out in the order of their lines, in TAP1 batches of 4096, the last of fewer.
-If a line is wrong, nothing is written, and its number is reported. So a file is read twice, and
-may be larger than memory. Standard input and pipes are held in memory whole.
+The taps come out in the order of their lines, in TAP1 batches of 4096, the
+last of fewer. If a line is wrong, nothing is written, and its number is
+reported. So a file is read twice, and may be larger than memory. Standard
+input and pipes are held in memory whole.
 
-With --columns the file is any CSV with a head, as an agency has it: fields in quotes by RFC 4180, a
-byte order mark or none. A token may be a UUID, too, and a moment may have an offset, as
-2024-03-08 12:00:00-05:00. The last line on the standard error reports how many rows were read, how
-many are taps, left out and refused, and the first and the last moment. The head is row 1.
+With --columns the file is any CSV with a header line, as an agency has it:
+fields in quotes by RFC 4180, a byte order mark or none. A token may be a UUID,
+too, and a moment may have an offset, as 2024-03-08 12:00:00-05:00. The last
+line on the standard error reports how many rows were read, how many are taps,
+left out and refused, and the first and the last moment. The header is row 1.
 
-With --columns a plain number is a moment in milliseconds. Moments before 2000 are refused, since
-they may be seconds: --unit s reads plain numbers as seconds, --unit ms as milliseconds of any year.
+With --columns a plain number is a moment in milliseconds. Moments before 2000
+are refused, since they may be seconds: --unit s reads plain numbers as
+seconds, --unit ms as milliseconds of any year, --unit us as microseconds.
 
-With --validators the column of validators has the names of devices. DEVICES is CSV with the head
-device,validator and a row for each device, which gives it its number. A row of another device is no
-tap.";
+With --validators the column of validators has the names of devices. DEVICES is
+CSV with the header device,validator and a row for each device, which gives it
+its number. A row of another device is no tap.";
 
-const ENCODE_HELP: &str = "The tap table; - stands for standard input [default: standard input]";
+const ENCODE_HELP: &str = "The tap table [default: standard input, as -]";
 
-const COLUMNS_HELP: &str =
-    "Read any CSV: token=NAME,validator=NAME,moment=NAME are the columns with these names in the head";
+const COLUMNS_HELP: &str = "As token=NAME,validator=NAME,moment=NAME";
 
-const ONLY_HELP: &str =
-    "Keep only the rows with this value in this column; of several, each must be met";
+const FROM_HELP: &str = "In place of --columns: littlepay or tides";
 
-const VALIDATORS_HELP: &str =
-    "Take the validators by the names of their devices in the file DEVICES";
+const ONLY_HELP: &str = "Keep only rows with this value, or one of several";
 
-const SEPARATOR_HELP: &str = "What stands between two fields: , or ; or tab [default: ,]";
+const DROP_HELP: &str = "Leave out rows with this value";
 
-const UNIT_HELP: &str =
-    "Plain numbers are seconds (s) or milliseconds (ms), also before 2000 [default: ms, from 2000 on]";
+const COUNT_HELP: &str = "Refuse a row unless it has 1 rider in this column";
 
-const REFUSED_HELP: &str =
-    "Make the file OUT of the rows that are no taps, with their numbers and reasons, and go on; it must
-not be there";
+const HASH_HELP: &str = "The token is the SHA-256 of its field, cut in half";
 
-/// `encode [--columns NAMES [--validators DEVICES] [--only COLUMN=VALUE]... [--separator S] [--unit
-/// UNIT] [--refused OUT]] [FILE]`
+const VALIDATORS_HELP: &str = "A file with the validator of each device";
+
+const SEPARATOR_HELP: &str = "The byte between two fields, or tab [default: ,]";
+
+const UNIT_HELP: &str = "Plain numbers are s, ms or us, of any year";
+
+const REFUSED_HELP: &str = "Make OUT of the rows that are no taps, and go on";
+
+/// `encode [--columns NAMES | --from EXPORT [OPTION...]] [FILE]`
 pub(crate) fn encode_command<'a>(alloc: Global, is_whole: bool) -> Result<Command<'a>, AllocError>
     ensures { is_whole ≡ false → IfOk result
         (λ command. app_of command ≡ leaf (codes "encode") encode_rules) }
 {
     let rows = [
         Row::One(Takes::Value("columns", "NAMES", COLUMNS_HELP), Need::Never),
+        Row::One(Takes::Value("from", "EXPORT", FROM_HELP), Need::Never),
         Row::One(
             Takes::Value("validators", "DEVICES", VALIDATORS_HELP),
             Need::Never,
@@ -75,6 +87,12 @@ pub(crate) fn encode_command<'a>(alloc: Global, is_whole: bool) -> Result<Comman
             Need::Never,
         ),
         Row::One(
+            Takes::Values("drop", "COLUMN=VALUE", DROP_HELP),
+            Need::Never,
+        ),
+        Row::One(Takes::Value("count", "COLUMN", COUNT_HELP), Need::Never),
+        Row::One(Takes::Flag("token-hash", HASH_HELP), Need::Never),
+        Row::One(
             Takes::Value("separator", "SEPARATOR", SEPARATOR_HELP),
             Need::Never,
         ),
@@ -82,12 +100,5 @@ pub(crate) fn encode_command<'a>(alloc: Global, is_whole: bool) -> Result<Comman
         Row::One(Takes::Value("refused", "OUT", REFUSED_HELP), Need::Never),
         Row::One(Takes::Word("FILE", ENCODE_HELP), Need::Never),
     ];
-    subcommand(
-        alloc,
-        "encode",
-        ENCODE_ABOUT,
-        ENCODE_STATUS,
-        &rows,
-        is_whole,
-    )
+    subcommand(alloc, "encode", ENCODE_ABOUT, ENCODE_NOTES, &rows, is_whole)
 }

@@ -1,27 +1,34 @@
 //! What `encode` with columns requests.
-ghost use Rattle.std.specs.Prelude.{◌≡◌, IfOk, filter_map, map, option_map};
-ghost use Rattle.clap.specs.Words.{found_of, rows_of};
-ghost use Rattle.tool_words.specs.Request.{encoded_file, has_devices_twice, rows_request};
+ghost use Rattle.std.specs.Prelude.{◌≡◌, ◌++◌, IfOk, codes, filter_map, map, option_map};
+ghost use Rattle.std.specs.Option.{option_or, option_to_list};
+ghost use Rattle.clap.specs.Words.{first_of, found_of, rows_of};
+ghost use Rattle.tool_words.specs.Request.{encoded_file, export_in, has_devices_twice};
+ghost use Rattle.tool_words.specs.Request.{rows_request, wrong_export};
 ghost use Rattle.tool_words.specs.Columns.{between_commas, columns_among, columns_in};
-ghost use Rattle.tool_words.specs.Columns.{conditions_in, name_given, names_of, only_name};
-ghost use Rattle.tool_words.specs.Columns.{parts_of};
-ghost use Rattle.tool_words.specs.Columns.{separator_in, unit_in};
+ghost use Rattle.tool_words.specs.Columns.{conditions_in, export_named, export_of, littlepay};
+ghost use Rattle.tool_words.specs.Columns.{name_given, only_name, parts_of, separator_in};
+ghost use Rattle.tool_words.specs.Columns.{separator_of, tides, unit_in};
 ghost use Rattle.tool_words.specs.Tasks.{request_of, condition_of, text_in, texts_of};
-ghost use Rattle.tool_words.specs.inside.Columns.{columns_of};
+ghost use Rattle.tool_words.specs.inside.Columns.{export_by};
 
-use crate::reading::{is_input, is_input_given, value_in};
+use crate::reading::{has_value, is_input, is_input_given, value_in};
 use crate::task::{RowsWords, Task};
 use crate::usage_error::UsageError;
 use clap::ArgMatches;
-use program_manners::names_in;
+use program_manners::{flag_in, names_in};
 use std::alloc::{AllocError, Global};
-use tap_rows::{Condition, Separator, Unit};
+use tap_rows::{Columns, Condition, Separator, Unit};
 
+/// How a kind of export is read.
 #[derive(Clone, Copy)]
-struct Columns<'a> {
+struct Export<'a> {
     token: &'a str,
     validator: &'a str,
     moment: &'a str,
+    has_hashes: bool,
+    only: Option<Condition<'a>>,
+    without: Option<Condition<'a>>,
+    count: Option<&'a str>,
 }
 
 fn parts_of<'a>(word: &'a str) -> Option<(&'a str, &'a str)>
@@ -79,23 +86,27 @@ fn between_commas<'a>(alloc: Global, text: &'a str) -> Result<Vec<&'a str>, Allo
     text.split(',').collect(alloc)
 }
 
-fn columns_of<'a>(
+fn export_of<'a>(
     token: Option<&'a str>,
     validator: Option<&'a str>,
     moment: Option<&'a str>,
-) -> Option<Columns<'a>>
-    ensures { option_map columns_of result
-        ≡ names_of (text_in token.entry) (text_in validator.entry) (text_in moment.entry) }
+) -> Option<Export<'a>>
+    ensures { option_map export_by result
+        ≡ export_of (text_in token.entry) (text_in validator.entry) (text_in moment.entry) }
 {
-    Some(Columns {
+    Some(Export {
         token: token?,
         validator: validator?,
         moment: moment?,
+        has_hashes: false,
+        only: None,
+        without: None,
+        count: None,
     })
 }
 
-fn columns_among<'a>(alloc: Global, words: &[&'a str]) -> Result<Option<Columns<'a>>, AllocError>
-    ensures { IfOk result (λ columns. option_map columns_of columns
+fn columns_among<'a>(alloc: Global, words: &[&'a str]) -> Result<Option<Export<'a>>, AllocError>
+    ensures { IfOk result (λ columns. option_map export_by columns
         ≡ columns_among (texts_of words.now)) }
 {
     if words.len() != 3 {
@@ -104,26 +115,102 @@ fn columns_among<'a>(alloc: Global, words: &[&'a str]) -> Result<Option<Columns<
     let token = only_name(alloc, "token", words)?;
     let validator = only_name(alloc, "validator", words)?;
     let moment = only_name(alloc, "moment", words)?;
-    Ok(columns_of(token, validator, moment))
+    Ok(export_of(token, validator, moment))
 }
 
-fn columns_in<'a>(alloc: Global, text: &'a str) -> Result<Option<Columns<'a>>, AllocError>
-    ensures { IfOk result (λ columns. option_map columns_of columns
-        ≡ columns_in text.entry.now) }
+fn columns_in<'a>(alloc: Global, text: &'a str) -> Result<Option<Export<'a>>, AllocError>
+    ensures { IfOk result (λ columns. option_map export_by columns ≡ columns_in text.entry.now) }
 {
     let words = between_commas(alloc, text)?;
     columns_among(alloc, &words)
+}
+
+fn littlepay() -> Export<'static>
+    ensures { export_by result ≡ littlepay }
+{
+    Export {
+        token: "customer_id",
+        validator: "device_id",
+        moment: "transaction_date_time_utc",
+        has_hashes: false,
+        only: Some(Condition {
+            column: "transaction_outcome",
+            value: "allow",
+        }),
+        without: Some(Condition {
+            column: "type",
+            value: "off",
+        }),
+        count: None,
+    }
+}
+
+fn tides() -> Export<'static>
+    ensures { export_by result ≡ tides }
+{
+    Export {
+        token: "fare_media_id",
+        validator: "device_id",
+        moment: "event_timestamp",
+        has_hashes: true,
+        only: None,
+        without: None,
+        count: Some("num_riders"),
+    }
+}
+
+fn export_named<'a>(name: &str) -> Option<Export<'a>>
+    ensures { option_map export_by result ≡ export_named name.now }
+{
+    if name == "littlepay" {
+        return Some(littlepay());
+    }
+    if name == "tides" {
+        return Some(tides());
+    }
+    None
+}
+
+fn export_in<'a>(alloc: Global, matches: &ArgMatches<'a>) -> Result<Option<Export<'a>>, AllocError>
+    ensures { IfOk result (λ export. option_map export_by export
+        ≡ export_in (rows_of (found_of matches.now))) }
+{
+    match value_in(matches, "from") {
+        Some(name) => Ok(export_named(name)),
+        None => columns_in(alloc, value_in(matches, "columns").unwrap_or("")),
+    }
+}
+
+fn wrong_export(matches: &ArgMatches<'_>) -> UsageError
+    ensures { result ≡ wrong_export (rows_of (found_of matches.now)) }
+{
+    if has_value(matches, "from") {
+        UsageError::Export
+    } else {
+        UsageError::Columns
+    }
+}
+
+fn separator_of(byte: u8) -> Option<Separator>
+    ensures { result ≡ separator_of byte }
+{
+    if byte == b'"' || byte == b'\n' || byte == b'\r' {
+        None
+    } else {
+        Some(Separator { byte })
+    }
 }
 
 fn separator_in(word: Option<&str>) -> Option<Separator>
     ensures { result ≡ separator_in (text_in word.entry) }
 {
     match word {
-        None => Some(Separator::Comma),
-        Some(word) if word == "," => Some(Separator::Comma),
-        Some(word) if word == ";" => Some(Separator::Semicolon),
-        Some(word) if word == "\t" || word == "tab" => Some(Separator::Tab),
-        Some(_) => None,
+        None => Some(Separator { byte: b',' }),
+        Some(word) if word == "tab" => Some(Separator { byte: b'\t' }),
+        Some(word) => match word.as_bytes() {
+            [byte] => separator_of(*byte),
+            _ => None,
+        },
     }
 }
 
@@ -134,6 +221,7 @@ fn unit_in(word: Option<&str>) -> Option<Unit>
         None => Some(Unit::Unsaid),
         Some(word) if word == "s" => Some(Unit::Seconds),
         Some(word) if word == "ms" => Some(Unit::Milliseconds),
+        Some(word) if word == "us" => Some(Unit::Microseconds),
         Some(_) => None,
     }
 }
@@ -167,14 +255,42 @@ fn has_devices_twice(matches: &ArgMatches<'_>) -> bool
     is_input(encoded_file(matches)) && is_input_given(value_in(matches, "validators"))
 }
 
+fn with_one<'a>(
+    conditions: Vec<Condition<'a>>,
+    one: Option<Condition<'a>>,
+) -> Result<Vec<Condition<'a>>, AllocError>
+    ensures { IfOk result (λ all. map condition_of all.items
+        ≡ map condition_of conditions.entry.items
+        ++ option_to_list (option_map condition_of one.entry)) }
+{
+    let mut all = conditions;
+    if let Some(condition) = one {
+        all.push(condition)?;
+    }
+    Ok(all)
+}
+
+fn count_in<'a>(matches: &ArgMatches<'a>, count: Option<&'a str>) -> Option<&'a str>
+    ensures { text_in result
+        ≡ option_or (first_of (codes "count") (rows_of (found_of matches.now)))
+        (text_in count.entry) }
+{
+    match value_in(matches, "count") {
+        Some(column) => Some(column),
+        None => count,
+    }
+}
+
 pub(crate) fn rows_task<'a>(alloc: Global, matches: &ArgMatches<'a>) -> Result<Task<'a>, AllocError>
     ensures { IfOk result (λ task. request_of task ≡ rows_request (rows_of (found_of matches.now))) }
 {
-    let columns = columns_in(alloc, value_in(matches, "columns").unwrap_or(""))?;
+    let export = export_in(alloc, matches)?;
     let only = names_in(alloc, matches, "only")?;
     let only = conditions_in(alloc, &only)?;
-    let Some(columns) = columns else {
-        return Ok(Task::UsageError(UsageError::Columns));
+    let without = names_in(alloc, matches, "drop")?;
+    let without = conditions_in(alloc, &without)?;
+    let Some(export) = export else {
+        return Ok(Task::UsageError(wrong_export(matches)));
     };
     let Some(separator) = separator_in(value_in(matches, "separator")) else {
         return Ok(Task::UsageError(UsageError::Separator));
@@ -185,17 +301,26 @@ pub(crate) fn rows_task<'a>(alloc: Global, matches: &ArgMatches<'a>) -> Result<T
     let Some(only) = only else {
         return Ok(Task::UsageError(UsageError::Condition));
     };
+    let Some(without) = without else {
+        return Ok(Task::UsageError(UsageError::DropCondition));
+    };
     if has_devices_twice(matches) {
         return Ok(Task::UsageError(UsageError::InputTwice));
     }
-    let words = RowsWords {
-        token: columns.token,
-        validator: columns.validator,
-        moment: columns.moment,
-        devices: value_in(matches, "validators"),
+    let columns = Columns {
         separator,
+        token: export.token,
+        validator: export.validator,
+        moment: export.moment,
+        has_hashes: export.has_hashes || flag_in(matches, "token-hash"),
         unit,
-        only,
+        only: with_one(only, export.only)?,
+        without: with_one(without, export.without)?,
+        count: count_in(matches, export.count),
+    };
+    let words = RowsWords {
+        columns,
+        devices: value_in(matches, "validators"),
         refused: value_in(matches, "refused"),
     };
     Ok(Task::EncodeRows(encoded_file(matches), words))

@@ -15,13 +15,19 @@ use clap::Command;
 use program_manners::new_command;
 use std::alloc::{AllocError, Global};
 
-const ABOUT: &str =
-    "Turns tables of taps into uploads and back, and prints what uploads and fare tables have.";
+const ABOUT: &str = "Makes uploads of taps and back, and shows what uploads and fare tables have.";
 
-const STATUS: &str = "Exit status:
+const NOTES: &str = "Examples:
+  omny_tools encode taps.csv > day.tap
+  omny_tools uploads --look monday.tap tuesday.tap
+  omny_tools sort --out week.tap monday.tap tuesday.tap
+  omny_tools table table.toml
+  omny_tools encode --help
+
+Exit status:
   0  all is done
-  1  a file has a fault, or could not be read or written, as a line `fault: ..` on the standard
-     error says
+  1  a file has a fault, or could not be read or written, as a line `fault: ..`
+     on the standard error says
   2  the command line is wrong";
 
 fn with_leaf<'a>(command: Command<'a>, leaf: Command<'a>) -> Result<Command<'a>, AllocError>
@@ -35,7 +41,7 @@ fn with_leaf<'a>(command: Command<'a>, leaf: Command<'a>) -> Result<Command<'a>,
 fn name_command<'a>(alloc: Global) -> Command<'a>
     ensures { app_of result ≡ app_of_name }
 {
-    new_command(alloc, "omny_tools", ABOUT, STATUS)
+    new_command(alloc, "omny_tools", ABOUT, NOTES)
         .subcommand_required(true)
         .arg_required_else_help(true)
 }
@@ -45,9 +51,9 @@ fn texts_command<'a>(alloc: Global, is_whole: bool) -> Result<Command<'a>, Alloc
 {
     let named = name_command(alloc);
     let one = with_leaf(named, encode_command(alloc, is_whole)?)?;
-    let two = with_leaf(one, decode_command(alloc, STATUS, is_whole)?)?;
-    let three = with_leaf(two, uploads_command(alloc, STATUS, is_whole)?)?;
-    with_leaf(three, table_command(alloc, STATUS, is_whole)?)
+    let two = with_leaf(one, decode_command(alloc, is_whole)?)?;
+    let three = with_leaf(two, uploads_command(alloc, is_whole)?)?;
+    with_leaf(three, table_command(alloc, is_whole)?)
 }
 
 /// The rules between arguments are left out if it is not whole: clap's contract says which words it
@@ -57,7 +63,7 @@ pub(crate) fn command<'a>(alloc: Global, is_whole: bool) -> Result<Command<'a>, 
 {
     let texts = texts_command(alloc, is_whole)?;
     let one = with_leaf(texts, sort_command(alloc, is_whole)?)?;
-    let two = with_leaf(one, bounds_command(alloc, STATUS, is_whole)?)?;
+    let two = with_leaf(one, bounds_command(alloc, is_whole)?)?;
     let three = with_leaf(two, merge_command(alloc, is_whole)?)?;
     with_leaf(three, corrections_command(alloc, is_whole)?)
 }

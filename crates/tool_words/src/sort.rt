@@ -8,29 +8,34 @@ use crate::arguments::{Need, Row, Takes, subcommand};
 use clap::Command;
 use std::alloc::{AllocError, Global};
 
-const SORT_STATUS: &str = "Exit status:
+const SORT_NOTES: &str = "Examples:
+  omny_tools sort --out monday.tap bus.tap tram.tap
+  omny_tools sort --merge --out week.tap monday.tap tuesday.tap
+
+Exit status:
   0  OUT is made, and no upload was refused
-  1  a file has a fault, or could not be read or made, as a line `fault: ..` on the standard error
-     says; OUT is not made
+  1  a file has a fault, or could not be read or made, as a line `fault: ..` on
+     the standard error says; OUT is not made
   2  the command line is wrong
-  3  OUT is made of the taps before each upload's first layout fault, and there is one";
+  3  OUT is made of the taps before each upload's first layout fault, and there
+     is one";
 
-const SORT_ABOUT: &str =
-    "Makes an upload of all taps of uploads, in canonical order: by token, moment and validator.
+const SORT_ABOUT: &str = "Makes one upload of all taps of uploads, in canonical order.
 
-The taps before each upload's first layout fault are sorted in memory. With --merge the uploads are
-in canonical order already, and of any length: they are read in pieces and merged. A fault of order
-or layout then ends it. OUT has batches of 512 taps. It is made under another name and then renamed,
-so it is whole, and it may be one of the uploads.";
+That is the order of token, moment and validator. The taps before each upload's
+first layout fault are sorted in memory. With --merge the uploads are in
+canonical order already, and of any length: they are read in pieces and merged.
+A fault of order or layout then ends it. OUT has batches of 512 taps. It is
+made under another name and then renamed, so it is whole, and it may be one of
+the uploads.";
 
 const MERGE_HELP: &str = "Merge uploads that are in canonical order already";
 
-const OUT_HELP: &str = "The file that is made; one that is there is replaced";
+const OUT_HELP: &str = "The file to make; one that exists is replaced";
 
-const ENDS_HELP: &str = "Make a file ENDS of a line for each upload: how it ended, as in a report";
+const ENDS_HELP: &str = "Make ENDS of how each upload ended, a line each";
 
-const UPLOADS_HELP: &str =
-    "Uploads of at most 67108864 bytes (with --merge of any length); - stands for standard input";
+const UPLOADS_HELP: &str = "Uploads, at most 64 MiB each (with --merge of any); - is stdin";
 
 /// `sort [--merge] --out OUT [--ends ENDS] [--files-from LIST [-0]] UPLOAD...`
 pub(crate) fn sort_command<'a>(alloc: Global, is_whole: bool) -> Result<Command<'a>, AllocError>
@@ -44,5 +49,5 @@ pub(crate) fn sort_command<'a>(alloc: Global, is_whole: bool) -> Result<Command<
         Row::List,
         Row::One(Takes::Words("UPLOAD", UPLOADS_HELP), Need::WithoutList),
     ];
-    subcommand(alloc, "sort", SORT_ABOUT, SORT_STATUS, &rows, is_whole)
+    subcommand(alloc, "sort", SORT_ABOUT, SORT_NOTES, &rows, is_whole)
 }

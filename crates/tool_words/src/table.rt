@@ -8,44 +8,50 @@ use crate::arguments::{Need, Row, Takes, subcommand};
 use clap::Command;
 use std::alloc::{AllocError, Global};
 
-const TABLE_ABOUT: &str =
-    "Prints a fare table as it is understood: the zone with its next changes of clocks, the modes,
-the transfers, the classes with the price of each ride of a window, the ranges of validators with
-the gaps between them, and how many riders each class has.
+const TABLE_ABOUT: &str = "Prints a fare table as it is understood, or what is wrong.
 
-Warnings name what the rules of the table pass over: keys that have no meaning and, where uploads
-are given, ranges that no validator of theirs is in, and validators of theirs that are in no range.
-Faults name each wrong value: its whole path, its line and column, and what is wanted. Both go to
-the standard error, and of a table with a fault nothing else is printed.
+That is: the zone with its next changes of clocks, the modes, the transfers,
+the classes with the price of each ride of a window, the ranges of validators
+with the gaps between them, and how many riders each class has.
 
-With --table the tables that follow, each from its date on, are printed behind it. Uploads are held
-against each table by the taps of its own time.";
+Warnings name what the rules of the table pass over: keys that have no meaning
+and, where uploads are given, ranges that no validator of theirs is in, and
+validators of theirs that are in no range. Faults name each wrong value: its
+whole path, its line and column, and what is wanted. Both go to the standard
+error, and of a table with a fault nothing else is printed.
 
-const TABLE_HELP: &str =
-    "The fare table, a TOML file of at most 67108864 bytes; - stands for standard input";
+With --table the tables that follow, each from 00:00 of its date on by the
+clocks of the tables' zone, are printed after it. Uploads are compared with
+each table by the taps of its own time.";
 
-const LATER_HELP: &str =
-    "A fare table that is valid from 00:00 of this date on, by the clocks of the tables' zone";
+const NOTES: &str = "Examples:
+  omny_tools table table.toml
+  omny_tools table --strict table.toml monday.tap
+  omny_tools table old.toml --table new.toml@2026-01-04
+  omny_tools table --sql table.toml | sqlite3 bill.db
 
-const TABLE_UPLOADS_HELP: &str =
-    "Uploads of at most 67108864 bytes, whose validators are held against the ranges";
+Exit status:
+  0  all is done
+  1  a file has a fault, or could not be read or written, as a line `fault: ..`
+     on the standard error says
+  2  the command line is wrong";
 
-const STRICT_HELP: &str = "Let the status be 1 also where there is a warning";
+const TABLE_HELP: &str = "The fare table, at most 64 MiB; - is standard input";
+
+const LATER_HELP: &str = "A fare table that is valid from this date on";
+
+const TABLE_UPLOADS_HELP: &str = "Uploads whose validators are compared with the table";
+
+const STRICT_HELP: &str = "End with status 1 also if there is a warning";
 
 const RIDERS_HELP: &str = "Print each rider with its class";
 
-const SQL_HELP: &str =
-    "Print the table as SQL tables, which SQLite and PostgreSQL read, in place of these lines";
+const SQL_HELP: &str = "Print tables of SQLite and PostgreSQL instead";
 
-const FROM_HELP: &str =
-    "Print the changes of clocks after this moment, as 2026-03-01T00:00:00Z [default: now]";
+const FROM_HELP: &str = "Changes of clocks after it [default: now]";
 
 /// `table [--strict] [--riders] [--from MOMENT] [--sql] F [--table G@YYYY-MM-DD]... [UPLOAD]...`
-pub(crate) fn table_command<'a>(
-    alloc: Global,
-    status: &'a str,
-    is_whole: bool,
-) -> Result<Command<'a>, AllocError>
+pub(crate) fn table_command<'a>(alloc: Global, is_whole: bool) -> Result<Command<'a>, AllocError>
     ensures { is_whole ≡ false → IfOk result
         (λ command. app_of command ≡ leaf (codes "table") table_rules) }
 {
@@ -64,5 +70,5 @@ pub(crate) fn table_command<'a>(
         Row::One(Takes::Word("F", TABLE_HELP), Need::Always),
         Row::One(Takes::Words("UPLOAD", TABLE_UPLOADS_HELP), Need::Never),
     ];
-    subcommand(alloc, "table", TABLE_ABOUT, status, &rows, is_whole)
+    subcommand(alloc, "table", TABLE_ABOUT, NOTES, &rows, is_whole)
 }

@@ -5,20 +5,14 @@ use crate::later_table::LaterTable;
 use crate::usage_error::UsageError;
 use jiff::Timestamp;
 use program_manners::WrongWord;
-use tap_rows::{Condition, Separator, Unit};
+use tap_rows::Columns;
 
 /// How an agency's CSV is read, and what is done with the rows that are not taps.
 #[derive(Drop)]
 pub struct RowsWords<'a> {
-    pub token: &'a str,
-    pub validator: &'a str,
-    pub moment: &'a str,
+    pub columns: Columns<'a>,
     /// The file of devices and their validators; none if the rows have the validators' numbers.
     pub devices: Option<&'a str>,
-    pub separator: Separator,
-    /// What a plain number of the column of moments counts.
-    pub unit: Unit,
-    pub only: Vec<Condition<'a>>,
     /// The file of the rows that are not taps; none if the first of them ends the encoding.
     pub refused: Option<&'a str>,
 }

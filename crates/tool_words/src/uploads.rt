@@ -8,50 +8,58 @@ use crate::arguments::{Need, Row, Takes, subcommand};
 use clap::Command;
 use std::alloc::{AllocError, Global};
 
-const UPLOADS_ABOUT: &str =
-    "Prints what uploads have: batches, taps, first and last moment, and the layout fault, if any,
-with its batch, its tap (both from 0), the offset of its batch in bytes, and what to do.
+const UPLOADS_ABOUT: &str = "Prints what uploads have, and what is wrong with them.
 
-Of an upload with a layout fault the part before it is printed, and the status is 1.
+For each upload: batches, taps, first and last moment, and the layout fault, if
+any, with its batch, its tap (both from 0), the offset of its batch in bytes,
+and what to do. Of an upload with a layout fault the part before it is printed,
+and the status is 1.
 
-With --look, or an option that says what to look for, the uploads are also searched for what an
-auditor fears. How much of each kind is found is printed, with the first of it. Nothing is
-changed or left out, and the status does not depend on what is found. All taps are in memory.";
+With --look, or an option that says what to look for, the uploads are also
+checked for near duplicates, repeated uploads, taps outside a span and inactive
+validators. How many of each kind are found is printed, with the first of them.
+Nothing is changed or left out, and the status does not depend on what is
+found. All taps are in memory.
 
-const TOKENS_HELP: &str =
-    "Print how many tokens each upload has, and how many of these another FILE has, too";
+A near duplicate is a tap at most S seconds (--within) after the tap before it,
+of its token at its validator. A validator of the fare table F (--table) is
+inactive on a day of UTC if it has no tap on it: of the days on which others
+have one, and of all days from --from to --until if both are given.";
 
-const UPLOADS_HELP: &str = "Uploads of at most 67108864 bytes; - stands for standard input";
+const NOTES: &str = "Examples:
+  omny_tools uploads monday.tap tuesday.tap
+  omny_tools uploads --good-part whole.tap damaged.tap
+  omny_tools uploads --look --within 60 --table table.toml week/*.tap
+  omny_tools uploads --list --from 2026-03-02T00:00:00Z week/*.tap
 
-const VALID_PREFIX_HELP: &str =
-    "Make the file OUT of the batches before the layout fault; it must not be there; needs one FILE";
+Exit status:
+  0  all is done
+  1  a file has a fault, or could not be read or written, as a line `fault: ..`
+     on the standard error says
+  2  the command line is wrong";
 
-const LOOK_HELP: &str =
-    "Look for near doubles and repeated uploads, too, and for what the next options ask for";
+const TOKENS_HELP: &str = "Print how many tokens each has, and shares";
 
-const WITHIN_HELP: &str =
-    "A near double is at most so many seconds later than the tap before it, of its token at its
-validator [default: 5]";
+const UPLOADS_HELP: &str = "Uploads, at most 64 MiB each; - is standard input";
 
-const FROM_HELP: &str = "Look for taps before this moment, as 2026-03-02T00:00:00Z";
+const VALID_PREFIX_HELP: &str = "Make OUT of the batches before the layout fault";
 
-const UNTIL_HELP: &str = "Look for taps at this moment or after it, as 2026-03-09T00:00:00Z";
+const LOOK_HELP: &str = "Look for near duplicates and repeated uploads";
 
-const TABLE_HELP: &str =
-    "Look for validators of this fare table that have no tap on a day of UTC, of the days on which
-others have one, and of all days from --from to --until if both are given; - stands for
-standard input";
+const WITHIN_HELP: &str = "Near duplicates: within S seconds [default: 5]";
+
+const FROM_HELP: &str = "Look for taps before 2026-03-02T00:00:00Z";
+
+const UNTIL_HELP: &str = "Look for taps from 2026-03-09T00:00:00Z on";
+
+const TABLE_HELP: &str = "Look for inactive validators; - is standard input";
 
 const LIST_HELP: &str = "Write all that is found as CSV, and nothing else";
 
 /// `uploads [--good-part OUT] [--tokens] [LOOK]... [--files-from LIST [-0]] FILE...`, where LOOK is
 /// `--look`, `--within S`, `--from MOMENT`, `--until MOMENT`, `--table F` or `--list`. A look goes
 /// without `--good-part`.
-pub(crate) fn uploads_command<'a>(
-    alloc: Global,
-    status: &'a str,
-    is_whole: bool,
-) -> Result<Command<'a>, AllocError>
+pub(crate) fn uploads_command<'a>(alloc: Global, is_whole: bool) -> Result<Command<'a>, AllocError>
     ensures { is_whole ≡ false → IfOk result
         (λ command. app_of command ≡ leaf (codes "uploads") uploads_rules) }
 {
@@ -85,5 +93,5 @@ pub(crate) fn uploads_command<'a>(
         Row::List,
         Row::One(Takes::Words("FILE", UPLOADS_HELP), Need::WithoutList),
     ];
-    subcommand(alloc, "uploads", UPLOADS_ABOUT, status, &rows, is_whole)
+    subcommand(alloc, "uploads", UPLOADS_ABOUT, NOTES, &rows, is_whole)
 }

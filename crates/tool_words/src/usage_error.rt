@@ -15,6 +15,11 @@ pub enum UsageError {
     NoColumns,
     NoColumnsForValidators,
     NoColumnsForUnit,
+    NoColumnsForOthers,
+    /// `--columns` and `--from` say twice how a CSV is read.
+    ColumnsTwice,
+    /// What `--from` gives is not a kind of export.
+    Export,
     /// `--unit` is none.
     Unit,
     /// `--columns` does not name each column once.
@@ -23,6 +28,7 @@ pub enum UsageError {
     Separator,
     /// `--only` has no `=`.
     Condition,
+    DropCondition,
     /// A valid prefix is requested, but not of one upload.
     NotOneUpload,
     /// What `--from` gives is not a moment.
@@ -59,10 +65,20 @@ impl fmt::Display for UsageError {
             UsageError::Columns => f.write_str(
                 "error: --columns needs token=NAME,validator=NAME,moment=NAME, each once",
             ),
-            UsageError::Separator => f.write_str("error: --separator is one of , ; tab"),
+            UsageError::ColumnsTwice => {
+                f.write_str("error: --columns cannot be used with --from")
+            }
+            UsageError::Export => f.write_str("error: encode --from is littlepay or tides"),
+            UsageError::Separator => {
+                f.write_str("error: --separator is one byte, not a quote, or tab")
+            }
+            UsageError::NoColumnsForOthers => f.write_str(
+                "error: --drop, --count and --token-hash need --columns or --from",
+            ),
             UsageError::NoColumnsForUnit => f.write_str("error: --unit needs --columns"),
-            UsageError::Unit => f.write_str("error: --unit is s or ms"),
+            UsageError::Unit => f.write_str("error: --unit is s, ms or us"),
             UsageError::Condition => f.write_str("error: --only needs COLUMN=VALUE"),
+            UsageError::DropCondition => f.write_str("error: --drop needs COLUMN=VALUE"),
             UsageError::NotOneUpload => f.write_str("error: --good-part needs one FILE"),
             UsageError::From => {
                 f.write_str("error: --from needs a moment, as 2026-03-01T00:00:00Z")

@@ -5,7 +5,8 @@ ghost use Rattle.clap.specs.Words.{FailsBy, fault_of, found_of, kind_of, matches
 ghost use Rattle.clap.specs.Words.{subcommand_of, subcommand_rows_of};
 ghost use Rattle.program_manners.specs.Words.{IsRequest};
 ghost use Rattle.tool_words.specs.Request.{request_by, request_of_name, requested_once, corrections_request};
-ghost use Rattle.tool_words.specs.Request.{decode, encode_request, ledgers_named, merge_request, named};
+ghost use Rattle.tool_words.specs.Request.{decode, encode_request, export_request, ledgers_named};
+ghost use Rattle.tool_words.specs.Request.{merge_request, named, table_request};
 ghost use Rattle.tool_words.specs.Request.{or_input, shows, sort_request, uploads_request};
 ghost use Rattle.tool_words.specs.Tasks.{request_of, corrections_of, texts_of};
 ghost use Rattle.tool_words.specs.ToolLine.{AsksForText, Parses, program};
@@ -25,25 +26,45 @@ use clap::{ArgMatches, Error};
 use program_manners::{flag_in, names_in};
 use std::alloc::{AllocError, Global};
 
-fn encode_task<'a>(alloc: Global, matches: &ArgMatches<'a>) -> Result<Task<'a>, AllocError>
-    ensures { IfOk result (λ task. request_of task ≡ encode_request (rows_of (found_of matches.now))) }
+/// Of the rows of an agency's CSV, unless the words say twice how it is read.
+fn export_task<'a>(alloc: Global, matches: &ArgMatches<'a>) -> Result<Task<'a>, AllocError>
+    ensures { IfOk result (λ task. request_of task ≡ export_request (rows_of (found_of matches.now))) }
 {
-    if has_value(matches, "columns") {
-        return rows_task(alloc, matches);
+    if has_value(matches, "columns") && has_value(matches, "from") {
+        return Ok(Task::UsageError(UsageError::ColumnsTwice));
     }
+    rows_task(alloc, matches)
+}
+
+/// Of a tap table, unless the words are of the rows of an agency's CSV.
+fn table_rows_task<'a>(matches: &ArgMatches<'a>) -> Task<'a>
+    ensures { request_of result ≡ table_request (rows_of (found_of matches.now)) }
+{
     if has_value(matches, "only")
         || has_value(matches, "separator")
         || has_value(matches, "refused")
     {
-        return Ok(Task::UsageError(UsageError::NoColumns));
+        return Task::UsageError(UsageError::NoColumns);
     }
     if has_value(matches, "validators") {
-        return Ok(Task::UsageError(UsageError::NoColumnsForValidators));
+        return Task::UsageError(UsageError::NoColumnsForValidators);
     }
     if has_value(matches, "unit") {
-        return Ok(Task::UsageError(UsageError::NoColumnsForUnit));
+        return Task::UsageError(UsageError::NoColumnsForUnit);
     }
-    Ok(Task::Encode(encoded_file(matches)))
+    if has_value(matches, "drop") || has_value(matches, "count") || flag_in(matches, "token-hash") {
+        return Task::UsageError(UsageError::NoColumnsForOthers);
+    }
+    Task::Encode(encoded_file(matches))
+}
+
+fn encode_task<'a>(alloc: Global, matches: &ArgMatches<'a>) -> Result<Task<'a>, AllocError>
+    ensures { IfOk result (λ task. request_of task ≡ encode_request (rows_of (found_of matches.now))) }
+{
+    if has_value(matches, "columns") || has_value(matches, "from") {
+        return export_task(alloc, matches);
+    }
+    Ok(table_rows_task(matches))
 }
 
 /// Standard input, if no upload is named.

@@ -21,6 +21,7 @@ input_text load.NoMemory = codes "fault: out of memory"
 
 -- the file of this name that was not made
 abbrev pub make_text : List ℕ → MakeFault → List ℕ
+make_text name make.Exists = codes "fault: " ++ (name ++ codes " is there already")
 make_text name make.Unmade = codes "fault: cannot make " ++ name
 make_text name make.NoMemory = codes "fault: out of memory"
 

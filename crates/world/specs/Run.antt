@@ -130,3 +130,10 @@ with_all r s = record r {
 abbrev pub after_joined : Calls → Calls → Calls
 after_joined c d =
     record c { count = c.count + d.count + 1; run = with_all c.run d.run }
+
+-- A file of this name was made, which these calls wrote.
+abbrev pub after_made : Calls → List ℕ → Calls → Calls
+after_made c name d = record c {
+  count = c.count + d.count + 1;
+  run = with_made c.run (record { name = name; bytes = d.run.written });
+}

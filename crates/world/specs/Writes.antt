@@ -2,7 +2,7 @@
 use Rattle.std.specs.Prelude.{◌≡◌, ℕ, List, ◌++◌}
 use Rattle.world.specs.Run.{Run, with_cut, with_said, with_unmade, with_written}
 use Rattle.world.specs.declared.faults.MakeFault.{MakeFault}
-use Rattle.world.specs.declared.faults.MakeFault.TheVariants.{Unmade, NoMemory}
+use Rattle.world.specs.declared.faults.MakeFault.TheVariants.{Exists, NoMemory, Unmade}
 use Rattle.world.specs.declared.faults.WriteFault.{WriteFault}
 
 -- A prefix of the piece was written, and then a write failed.
@@ -19,5 +19,6 @@ pub record IsSaid (old new : Run) : Type 0 where
 
 -- The file of this name could not be made, or an allocation failed. Nothing else was done.
 abbrev pub IsUnmade : Run → Run → List ℕ → MakeFault → Type 0
+IsUnmade old new name Exists = new ≡ with_unmade old name
 IsUnmade old new name Unmade = new ≡ with_unmade old name
 IsUnmade old new name NoMemory = new ≡ old

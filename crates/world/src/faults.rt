@@ -53,6 +53,8 @@ impl WriteFault {
 /// Why a file was not made.
 #[derive(Clone, Copy, Debug, PartialEq, Eq)]
 pub enum MakeFault {
+    /// It was to be a new file, and there is a file of its name.
+    Exists,
     /// The system refuses it, or a write to it failed.
     Unmade,
     /// A growth of an allocation failed.
@@ -94,6 +96,7 @@ impl fmt::Display for Fault<'_> {
             Fault::Input(LoadFault::Unread) => f.write_str("fault: cannot read standard input"),
             Fault::Input(LoadFault::TooLong) => f.write_str("fault: standard input is too long"),
             Fault::Output(_) => f.write_str("fault: cannot write"),
+            Fault::Made(name, MakeFault::Exists) => write!(f, "fault: {name} is there already"),
             Fault::Made(name, MakeFault::Unmade) => write!(f, "fault: cannot make {name}"),
             Fault::File(_, LoadFault::NoMemory) => f.write_str("fault: out of memory"),
             Fault::Input(LoadFault::NoMemory) => f.write_str("fault: out of memory"),

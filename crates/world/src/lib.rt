@@ -11,7 +11,7 @@
 //! | `faults` | why a load, a write or a file failed, and the fault line |
 //! | `files` | whole files and standard input, up to a limit |
 //! | `loaded` | files that any thread loads |
-//! | `staged` | files that are written whole under another name |
+//! | `new_file` | files that are made: written under another name, and named once whole |
 //! | `stream` | a file or standard input that is read in pieces |
 //! | `writing` | pieces that are written to a stream |
 //! | `saying` | texts and fault lines that are given to the standard error |
@@ -24,9 +24,9 @@ mod faults;
 mod files;
 mod ghost_bytes;
 mod loaded;
+mod new_file;
 mod recorded;
 mod saying;
-mod staged;
 mod stream;
 mod system;
 mod trace;
@@ -37,8 +37,8 @@ pub use faults::{Fault, LoadFault, MakeFault, WriteFault};
 pub use files::{LOAD_LIMIT_BYTES, load_file, load_input, load_into};
 pub use ghost_bytes::GhostBytes;
 pub use loaded::{Loaded, load_apart};
+pub use new_file::{NewFile, folder_of};
 pub use recorded::Recorded;
-pub use staged::Staged;
 pub use stream::Stream;
 pub use system::System;
 pub use trace::Trace;

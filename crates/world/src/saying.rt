@@ -109,6 +109,10 @@ fn give_make<E: Write>(err: &mut E, name: &str, why: MakeFault, trace: &mut Trac
     ensures { trace.new.run ≡ with_said trace.old.run (make_text name.now why) }
 {
     match why {
+        MakeFault::Exists => {
+            give(err, b"fault: ", trace);
+            give_both(err, name, " is there already", trace);
+        }
         MakeFault::Unmade => give_both(err, "fault: cannot make ", name, trace),
         MakeFault::NoMemory => give(err, b"fault: out of memory", trace),
     }

@@ -3,15 +3,16 @@
 use crate::faults::{Fault, LoadFault, MakeFault, WriteFault};
 use crate::files::{load_file, load_input, load_into};
 use crate::loaded::Loaded;
+use crate::new_file::{NewFile, begin, discard, fail, finish};
 use crate::saying::{give, give_fault, give_line};
-use crate::staged::Staged;
 use crate::trace::Trace;
 use crate::world::{Inputs, World};
 use crate::writing::write_piece;
 use std::fmt::Display;
-use std::fs::{Files, OpenFile};
+use std::fs::Files;
+use std::io;
 use std::io::{Input, Write};
-use std::{fs, io};
+use std::random::RandomSource;
 
 /// The files of the system, its standard input and its two output streams, each call recorded.
 #[derive(Drop)]
@@ -63,23 +64,10 @@ impl<R: Files + Input + AllocGlobal, W, E> Inputs for System<'_, R, W, E> {
     }
 }
 
-/// Writes these bytes to the file. They are on the disk when it returns.
-fn fill_file<F: Write + OpenFile>(file: &mut F, bytes: &[u8]) -> io::Result<()> {
-    file.write_all(bytes)?;
-    file.sync_all()
-}
+impl<R: Files + Input + AllocGlobal + RandomSource, W: Write, E: Write> World
+    for System<'_, R, W, E> {
+    type File = NewFile<R::File>;
 
-/// Makes a file of these bytes. If they are not written whole, the file is removed.
-fn write_file<R: Files>(rt: &R, name: &str, bytes: &[u8]) -> io::Result<()> {
-    let mut file = fs::create(rt, name)?;
-    let filled = fill_file(&mut file, bytes);
-    if filled.is_err() {
-        let _ = fs::remove_file(rt, name);
-    }
-    filled
-}
-
-impl<R: Files + Input + AllocGlobal, W: Write, E: Write> World for System<'_, R, W, E> {
     fn write(&mut self, piece: &[u8]) -> Result<(), WriteFault> {
         write_piece(&mut self.out, piece, &mut self.trace)
     }
@@ -110,32 +98,19 @@ impl<R: Files + Input + AllocGlobal, W: Write, E: Write> World for System<'_, R,
         give_line(&mut self.err, line, &mut self.trace)
     }
 
-    fn stage(&mut self, name: &str, started: &str, bytes: &[u8]) -> Result<Staged, MakeFault> {
-        let own = String::from_str(self.rt.alloc(), name)?;
-        let own_started = String::from_str(self.rt.alloc(), started)?;
-        match write_file(self.rt, started, bytes) {
-            Ok(()) => {
-                self.trace.staged(name, bytes);
-                Ok(Staged::new(own, own_started, bytes))
-            }
-            Err(_) => {
-                self.trace.unmade(name);
-                Err(MakeFault::Unmade)
-            }
-        }
+    fn begin(&mut self, name: &str, is_new: bool) -> Result<NewFile<R::File>, MakeFault> {
+        begin(self.rt, name, is_new, &mut self.trace)
     }
 
-    fn publish(&mut self, file: Staged) -> Result<(), MakeFault> {
-        match fs::rename(self.rt, file.started(), file.name()) {
-            Ok(()) => {
-                self.trace.made(&file);
-                Ok(())
-            }
-            Err(_) => {
-                let _ = fs::remove_file(self.rt, file.started());
-                self.trace.unmade(file.name());
-                Err(MakeFault::Unmade)
-            }
-        }
+    fn finish(&mut self, name: &str, file: NewFile<R::File>) -> Result<(), MakeFault> {
+        finish(self.rt, name, file, &mut self.trace)
+    }
+
+    fn fail(&mut self, name: &str, file: NewFile<R::File>) -> MakeFault {
+        fail(self.rt, name, file, &mut self.trace)
+    }
+
+    fn discard(&mut self, file: NewFile<R::File>) {
+        discard(self.rt, file);
     }
 }

@@ -2,7 +2,6 @@
 
 use crate::faults::WriteFault;
 use crate::ghost_bytes::GhostBytes;
-use crate::staged::Staged;
 use std::marker::Model;
 use std::snapshot::Snapshot;
 
@@ -39,10 +38,8 @@ enum Call {
     Flushed(Snapshot<Trace>),
     /// These bytes were given to the standard error.
     Said(Snapshot<Trace>, Snapshot<GhostBytes>),
-    /// A file of these bytes was written whole and synced, under another name.
-    Staged(Snapshot<Trace>, Snapshot<GhostBytes>, Snapshot<GhostBytes>),
-    /// A file that was staged was given its name.
-    Made(Snapshot<Trace>, Snapshot<Staged>),
+    /// A file, written by these calls and synced, was given this name.
+    Made(Snapshot<Trace>, Snapshot<GhostBytes>, Snapshot<Trace>),
     /// The file of this name could not be made.
     Unmade(Snapshot<Trace>, Snapshot<GhostBytes>),
     /// Another thread made these calls.
@@ -71,7 +68,7 @@ impl Trace {
     ghost use Rattle.std.specs.Prelude.{◌≡◌, ◌+◌, ◌≤◌, None, Some, drop, length, string_bytes};
     ghost use Rattle.std.specs.Prelude.{take};
     ghost use Rattle.world.specs.Run.{no_calls, one_more, after_joined, after_opened};
-    ghost use Rattle.world.specs.Run.{after_read, with_cut, with_flushed, with_made, with_said};
+    ghost use Rattle.world.specs.Run.{after_made, after_read, with_cut, with_flushed, with_said};
     ghost use Rattle.world.specs.Run.{with_too_long, with_unmade, with_unread, with_written};
 
     /// No call yet.
@@ -155,23 +152,12 @@ impl Trace {
         self.last = Snapshot::of(&Call::Said(Snapshot::of(self), Snapshot::of(&text)));
     }
 
-    pub(crate) fn staged(&mut self, name: &str, bytes: &[u8])
-        ensures { self.new ≡ one_more self.old self.old.run }
+    pub(crate) fn made(&mut self, name: &str, calls: &Trace)
+        ensures { self.new ≡ after_made self.old name.now calls.now }
     {
         let name = GhostBytes::of(name.as_bytes());
-        let bytes = GhostBytes::of(bytes);
-        let call = Call::Staged(
-            Snapshot::of(self),
-            Snapshot::of(&name),
-            Snapshot::of(&bytes),
-        );
+        let call = Call::Made(Snapshot::of(self), Snapshot::of(&name), Snapshot::of(calls));
         self.last = Snapshot::of(&call);
-    }
-
-    pub(crate) fn made(&mut self, file: &Staged)
-        ensures { self.new ≡ one_more self.old (with_made self.old.run file.now) }
-    {
-        self.last = Snapshot::of(&Call::Made(Snapshot::of(self), Snapshot::of(file)));
     }
 
     pub(crate) fn unmade(&mut self, name: &str)

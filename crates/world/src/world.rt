@@ -3,10 +3,10 @@
 use crate::faults::{Fault, LoadFault, MakeFault, WriteFault};
 use crate::files::LOAD_LIMIT_BYTES;
 use crate::loaded::Loaded;
-use crate::staged::Staged;
 use crate::trace::Trace;
 use std::fmt::Display;
 use std::io;
+use std::io::Write;
 
 /// What a program may read.
 pub trait Inputs {
@@ -51,10 +51,13 @@ pub trait Inputs {
 
 /// What a program may do.
 pub trait World: Inputs {
-    ghost use Rattle.std.specs.Prelude.{◌≡◌, ◌++◌, IfErr, IfOk, IfSome, OnOk, codes};
+    ghost use Rattle.std.specs.Prelude.{◌≡◌, ◌++◌, [], IfErr, IfOk, IfSome, OnOk, Some, codes};
     ghost use Rattle.world.specs.Run.{with_cut, with_flushed, with_made, with_said, with_written};
     ghost use Rattle.world.specs.Faults.{fault_text};
     ghost use Rattle.world.specs.Writes.{IsCut, IsSaid, IsUnmade};
+
+    /// A file that is being made.
+    type File: Write + Drop;
 
     /// Writes the piece to the output, whole if the output takes it.
     fn write(&mut self, piece: &[u8]) -> Result<(), WriteFault>
@@ -83,16 +86,24 @@ pub trait World: Inputs {
             (λ text. Self.run self.new ≡ with_said (Self.run self.old) (text ++ codes "\n"))) }
         ensures said { IsSaid (Self.run self.old) (Self.run self.new) };
 
-    /// Writes and syncs a whole file under the name `started`. `publish` gives it this name.
-    fn stage(&mut self, name: &str, started: &str, bytes: &[u8]) -> Result<Staged, MakeFault>
-        ensures staged { IfOk result (λ file.
-            file ≡ record { name = name.now; bytes = bytes.now }) }
+    /// An empty file that is to have this name. It is written under another one. If it is to be
+    /// new, no file has the name, else a regular file of the name is replaced once this is whole.
+    fn begin(&mut self, name: &str, is_new: bool) -> Result<Self::File, MakeFault>
+        ensures empty { IfOk result (λ file. Self.File.contents file ≡ Some []) }
         ensures unchanged { OnOk result (Self.run self.new ≡ Self.run self.old) }
         ensures unmade { IfErr result (IsUnmade (Self.run self.old) (Self.run self.new) name.now) };
 
-    /// Gives the file its name. A file of this name that was there is replaced.
-    fn publish(&mut self, file: Staged) -> Result<(), MakeFault>
-        ensures made { OnOk result (Self.run self.new ≡ with_made (Self.run self.old) file) }
-        ensures unmade { IfErr result
-            (IsUnmade (Self.run self.old) (Self.run self.new) file.name) };
+    /// Gives the file its name once it is on the disk. A fault leaves nothing of it.
+    fn finish(&mut self, name: &str, file: Self::File) -> Result<(), MakeFault>
+        ensures made { OnOk result (IfSome (Self.File.contents file) (λ bytes. Self.run self.new
+            ≡ with_made (Self.run self.old) (record { name = name.now; bytes = bytes }))) }
+        ensures unmade { IfErr result (IsUnmade (Self.run self.old) (Self.run self.new) name.now) };
+
+    /// Removes the file, and says why it was not made: a write to it failed, or an allocation.
+    fn fail(&mut self, name: &str, file: Self::File) -> MakeFault
+        ensures { IsUnmade (Self.run self.old) (Self.run self.new) name.now result };
+
+    /// Removes the file.
+    fn discard(&mut self, file: Self::File)
+        ensures { Self.run self.new ≡ Self.run self.old };
 }

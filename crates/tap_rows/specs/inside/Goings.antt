@@ -38,11 +38,11 @@ pub record IsGoing {R : Type 0} (remaining : R → Option (List ℕ)) (choice : 
   pub readings : List Reading
   pub columns : ArePositions choice head positions
   pub consumed : (bytes : List ℕ) → text ≡ Some bytes
-      → HasConsumed remaining choice.separator bytes (head ∷ rows) reader
+      → HasConsumed remaining choice.columns.now.separator bytes (head ∷ rows) reader
   pub each : AllZip (IsParseOf choice head) rows readings
   pub number : length rows ≡ count
   pub room : AreEncodable (λ tap. tap.moment) waiting
   pub written : AreWritten old new waiting (taps_in readings)
   pub refused : Appends old_refused new_refused
-      (refusals_text choice.separator head (refusals rows readings))
+      (refusals_text choice.columns.now.separator head (refusals rows readings))
   pub summary_is : IsSummary rows readings summary

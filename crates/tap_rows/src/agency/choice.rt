@@ -1,28 +1,11 @@
 //! What of an agency's CSV is encoded.
 
-ghost use Rattle.std.specs.Prelude.{◌≡◌};
-ghost use Rattle.tap_rows.specs.AgencyTexts.{separator_byte};
-
 use crate::devices::DeviceTable;
 
-/// What is between two fields.
+/// What is between two fields: one byte, and none of a quote, a line feed and a carriage return.
 #[derive(Clone, Copy, Debug, PartialEq, Eq)]
-pub enum Separator {
-    Comma,
-    Semicolon,
-    Tab,
-}
-
-impl Separator {
-    pub(crate) fn byte(self) -> u8
-        ensures { result ≡ separator_byte self }
-    {
-        match self {
-            Separator::Comma => b',',
-            Separator::Semicolon => b';',
-            Separator::Tab => b'\t',
-        }
-    }
+pub struct Separator {
+    pub byte: u8,
 }
 
 /// What a plain number of the column of moments counts from 1970-01-01T00:00Z.
@@ -32,29 +15,39 @@ pub enum Unit {
     Unsaid,
     Seconds,
     Milliseconds,
+    Microseconds,
 }
 
-/// What a row's field must be, so that the row is kept.
+/// What a row's field is compared with.
 #[derive(Clone, Copy, Debug)]
 pub struct Condition<'a> {
     pub column: &'a str,
     pub value: &'a str,
 }
 
+/// The columns of an agency's CSV by their names in its head, and how their fields are read.
+#[derive(Debug, Drop)]
+pub struct Columns<'a> {
+    pub separator: Separator,
+    pub token: &'a str,
+    pub validator: &'a str,
+    pub moment: &'a str,
+    /// Whether the token is a hash of what its column has, which may then be any text.
+    pub has_hashes: bool,
+    /// What a plain number in the column of moments counts.
+    pub unit: Unit,
+    /// A row is kept only if, in each column that these name, it has one of their values.
+    pub only: Vec<Condition<'a>>,
+    /// A row that has one of these values is not kept.
+    pub without: Vec<Condition<'a>>,
+    /// The column of how many riders a row is of: it must be one.
+    pub count: Option<&'a str>,
+}
+
 /// How an agency's CSV is read.
 #[derive(Clone, Copy, Debug)]
 pub struct Choice<'a> {
-    pub separator: Separator,
-    /// The name of the column of tokens.
-    pub token: &'a [u8],
-    /// The name of the column of validators.
-    pub validator: &'a [u8],
-    /// The devices whose names are in that column; none if it has the validators' numbers.
+    pub columns: &'a Columns<'a>,
+    /// The devices whose names are in the column of validators; none if it has their numbers.
     pub devices: Option<&'a DeviceTable>,
-    /// The name of the column of moments.
-    pub moment: &'a [u8],
-    /// What a plain number in that column counts.
-    pub unit: Unit,
-    /// What a row must meet, so that it is kept: all of them.
-    pub only: &'a [Condition<'a>],
 }

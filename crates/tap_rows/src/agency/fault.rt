@@ -9,8 +9,11 @@ pub enum Wanted {
     Token,
     Validator,
     Moment,
-    /// That of the condition at this index.
+    /// That of the condition at this index, by which rows are kept.
     Only(usize),
+    /// That of the condition at this index, by which rows are left out.
+    Without(usize),
+    Count,
 }
 
 /// Why an agency's CSV is not turned into an upload. The head is row 1.

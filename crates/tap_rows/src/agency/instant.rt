@@ -1,82 +1,92 @@
-//! The moment that a field of an agency's row gives: a number, or RFC 3339 with `Z` or an offset.
+//! The moment that a field of an agency's row gives: a number, or RFC 3339 with an offset.
 
-ghost use Rattle.std.specs.Prelude.{◌≡◌, ◌<◌, ◌^◌, ◌↔◌, ◌*◌, ℕ, Ok, pos, IsTrue, MatchOption};
-ghost use Rattle.tap_rows.specs.AgencyMoments.{HasClock, HasOffset, IsAgencyMoment, IsAgencyTime};
-ghost use Rattle.tap_rows.specs.AgencyMoments.{IsEarly, IsLocalTime, IsPlainTime, KeepsToRfc};
-ghost use Rattle.tap_rows.specs.AgencyMoments.{earliest_ms};
+ghost use Rattle.std.specs.Prelude.{◌≡◌, ◌<◌, ◌≤◌, ◌+◌, ◌++◌, ◌^◌, Bool, IfOk, IfSome, length};
+ghost use Rattle.std.specs.Prelude.{option_map};
 ghost use Rattle.jiff_fmt.specs.Temporal.{parse_timestamp};
+ghost use Rattle.tap_rows.specs.AgencyMoments.{clock_moment, earliest_ms, has_clock, has_shift};
+ghost use Rattle.tap_rows.specs.AgencyMoments.{instant_in, instant_ms, is_fraction, moment_in};
+ghost use Rattle.tap_rows.specs.AgencyMoments.{moment_of, offset_in, plain_ms, scaled, whole_ms};
+ghost use Rattle.tap_views.specs.Layout.{moment_limit};
 
 use crate::agency::choice::Unit;
-use crate::moment::{instant_of, number_of};
+use crate::agency::numbers::{decimal_in, digits_len, fraction_len, thousandths_in};
+use crate::agency::reading::Reason;
+use arrayvec::ArrayVec;
+use jiff_fmt::temporal::parse_timestamp;
 use tap_views::MOMENT_LIMIT_MS;
-
-const SECOND_MS: u64 = 1_000;
 
 /// 2000-01-01T00:00Z.
 const YEAR_2000_MS: u64 = 946_684_800_000;
 
-/// Also with a blank for the `T`.
+/// Also with a `t` or a blank for the `T`.
 fn has_clock(text: &[u8]) -> bool
-    ensures { IsTrue result ↔ HasClock text.now }
+    ensures { result ≡ has_clock text.now }
 {
     text.len() >= 19
         && text[4] == b'-'
         && text[7] == b'-'
-        && (text[10] == b'T' || text[10] == b' ')
+        && (text[10] == b'T' || text[10] == b't' || text[10] == b' ')
         && text[13] == b':'
         && text[16] == b':'
 }
 
-fn has_offset(text: &[u8]) -> bool
-    ensures { IsTrue result ↔ HasOffset text.now }
+fn has_shift(text: &[u8]) -> bool
+    requires { 3 ≤ length text.now }
+    ensures { result ≡ has_shift text.now }
 {
-    text.len() >= 20 && text[text.len() - 1] == b'Z'
-        || text.len() >= 25
-            && (text[text.len() - 6] == b'+' || text[text.len() - 6] == b'-')
-            && text[text.len() - 3] == b':'
+    (text[0] == b'+' || text[0] == b'-') && (text[1] < b'2' || text[1] == b'2' && text[2] < b'4')
 }
 
-pub(crate) fn is_local_time(text: &[u8]) -> bool
-    ensures { IsTrue result ↔ IsLocalTime text.now }
+fn with_part(text: ArrayVec<u8, 29>, part: &[u8]) -> ArrayVec<u8, 29>
+    requires { length text.items + length part.now ≤ 29 }
+    ensures { result.items ≡ text.items ++ part.now }
 {
-    has_clock(text) && !has_offset(text)
-}
-
-fn keeps_to_rfc(text: &[u8]) -> bool
-    ensures { IsTrue result ↔ KeepsToRfc text.now }
-{
-    text.len() >= 20
-        && text[19] != b','
-        && (text[text.len() - 1] == b'Z'
-            || text[text.len() - 5] < b'2'
-            || text[text.len() - 5] == b'2' && text[text.len() - 4] < b'4')
-}
-
-fn plain_time_of(unit: Unit, field: &[u8]) -> Option<u64>
-    ensures { MatchOption result ((number : ℕ) → number < 2 ^ 64
-        → ¬ (IsPlainTime unit field.now number)) (λ number. IsPlainTime unit field.now number) }
-{
-    let Some(count) = number_of(field) else {
-        return None;
-    };
-    match unit {
-        Unit::Seconds => count.checked_mul(SECOND_MS),
-        Unit::Unsaid | Unit::Milliseconds => Some(count),
+    let mut longer = text;
+    match longer.try_extend_from_slice(part) {
+        Ok(()) => longer,
+        Err(_) => longer,
     }
 }
 
-fn time_of(unit: Unit, field: &[u8]) -> Option<u64>
-    ensures { MatchOption result ((number : ℕ) → number < 2 ^ 64
-        → ¬ (IsAgencyTime unit field.now number)) (λ number. IsAgencyTime unit field.now number) }
+/// Texts one after the other, as long as the longest clock with an offset at most.
+fn joined(first: &[u8], second: &[u8], third: &[u8]) -> ArrayVec<u8, 29>
+    requires { length first.now + length second.now + length third.now ≤ 29 }
+    ensures { result.items ≡ first.now ++ (second.now ++ third.now) }
 {
-    if has_clock(field) {
-        if has_offset(field) && keeps_to_rfc(field) {
-            instant_of(field)
-        } else {
-            None
-        }
-    } else {
-        plain_time_of(unit, field)
+    let clock = with_part(ArrayVec::new(), first);
+    with_part(with_part(clock, second), third)
+}
+
+fn offset_in(text: &[u8]) -> Option<ArrayVec<u8, 29>>
+    ensures offset { option_map (λ offset. offset.items) result ≡ offset_in text.now }
+    ensures short { IfSome result (λ offset. length offset.items ≤ 6) }
+{
+    if text == b"Z".as_slice() || text == b"z".as_slice() || text == b" UTC".as_slice() {
+        return Some(joined(b"Z", b"", b""));
+    }
+    match text.len() {
+        3 if has_shift(text) => Some(joined(text, b":00", b"")),
+        5 if has_shift(text) => Some(joined(&text[..3], b":", &text[3..])),
+        6 if has_shift(text) && text[3] == b':' => Some(joined(text, b"", b"")),
+        _ => None,
+    }
+}
+
+fn whole_ms(nanoseconds: i128) -> Option<u64>
+    ensures { result ≡ whole_ms nanoseconds }
+{
+    match u128::try_from(nanoseconds) {
+        Ok(nanoseconds) => u64::try_from(nanoseconds / 1_000_000).ok(),
+        Err(_) => None,
+    }
+}
+
+fn instant_ms(text: &[u8]) -> Option<u64>
+    ensures { result ≡ instant_ms (parse_timestamp text.now) }
+{
+    match parse_timestamp(text) {
+        Ok(instant) => whole_ms(instant.nanosecond),
+        Err(_) => None,
     }
 }
 
@@ -86,32 +96,103 @@ fn earliest_ms(unit: Unit) -> u64
 {
     match unit {
         Unit::Unsaid => YEAR_2000_MS,
-        Unit::Seconds | Unit::Milliseconds => 0,
+        Unit::Seconds | Unit::Milliseconds | Unit::Microseconds => 0,
     }
 }
 
-pub(crate) fn is_early(unit: Unit, field: &[u8]) -> bool
-    ensures { IsTrue result ↔ IsEarly unit field.now }
+fn moment_of(unit: Unit, time: Option<u64>) -> Result<u64, Reason>
+    ensures moment { result ≡ moment_of unit time }
+    ensures early { IfOk result (λ moment. moment < moment_limit) }
 {
-    let Some(number) = time_of(unit, field) else {
-        return false;
+    let Some(ms) = time else {
+        return Err(Reason::Moment);
     };
-    if number < earliest_ms(unit) {
-        return true;
+    if ms < earliest_ms(unit) {
+        return Err(Reason::Early);
     }
-    false
-}
-
-pub(crate) fn agency_moment_in(unit: Unit, field: &[u8]) -> Option<u64>
-    ensures { MatchOption result ((number : ℕ) → ¬ (IsAgencyMoment unit field.now number))
-        (λ number. IsAgencyMoment unit field.now number) }
-{
-    let Some(number) = time_of(unit, field) else {
-        return None;
-    };
-    if number >= earliest_ms(unit) && number < MOMENT_LIMIT_MS {
-        Some(number)
+    if ms < MOMENT_LIMIT_MS {
+        Ok(ms)
     } else {
-        None
+        Err(Reason::Moment)
+    }
+}
+
+fn joined_ms(first: &[u8], second: &[u8], third: &[u8]) -> Option<u64>
+    requires { length first.now + length second.now + length third.now ≤ 29 }
+    ensures { result
+        ≡ instant_ms (parse_timestamp (first.now ++ (second.now ++ third.now))) }
+{
+    let text = joined(first, second, third);
+    instant_ms(&text)
+}
+
+fn offset_moment(unit: Unit, text: &[u8], offset: &[u8]) -> Result<u64, Reason>
+    requires clock { 19 ≤ length text.now }
+    requires short { length offset.now ≤ 6 }
+    ensures moment { result ≡ moment_of unit (instant_in text.now offset.now) }
+    ensures early { IfOk result (λ moment. moment < moment_limit) }
+{
+    let after = &text[19..];
+    let fraction = &after[..fraction_len(after).min(4)];
+    moment_of(unit, joined_ms(&text[..19], fraction, offset))
+}
+
+#[tactic(auto, using(crate::proofs::AgencyMomentLemmas::with_offset))]
+fn clock_moment(unit: Unit, text: &[u8]) -> Result<u64, Reason>
+    requires { 19 ≤ length text.now }
+    ensures moment { result ≡ clock_moment unit text.now }
+    ensures early { IfOk result (λ moment. moment < moment_limit) }
+{
+    let after = &text[19..];
+    let rest = &after[fraction_len(after)..];
+    if rest.is_empty() {
+        return Err(Reason::LocalTime);
+    }
+    match offset_in(rest) {
+        Some(offset) => offset_moment(unit, text, &offset),
+        None => Err(Reason::Moment),
+    }
+}
+
+fn scaled(unit: Unit, number: u64, thousandths: u64) -> u64
+    requires number { number < 2 ^ 54 }
+    requires thousandths { thousandths < 30_000 }
+    ensures { result ≡ scaled unit number thousandths }
+{
+    match unit {
+        Unit::Unsaid | Unit::Milliseconds => number,
+        Unit::Seconds => number * 1_000 + thousandths,
+        Unit::Microseconds => number / 1_000,
+    }
+}
+
+fn is_fraction(text: &[u8]) -> bool
+    ensures { result ≡ is_fraction text.now }
+{
+    fraction_len(text) == text.len() && text.len() != 1
+}
+
+fn plain_ms(unit: Unit, text: &[u8]) -> Option<u64>
+    ensures { result ≡ plain_ms unit text.now }
+{
+    let length = digits_len(text);
+    let fraction = &text[length..];
+    if !is_fraction(fraction) {
+        return None;
+    }
+    match decimal_in(&text[..length]) {
+        Some(number) => Some(scaled(unit, number, thousandths_in(fraction))),
+        None => None,
+    }
+}
+
+pub(crate) fn moment_in(unit: Unit, text: &[u8]) -> Result<u64, Reason>
+    ensures moment { result ≡ moment_in unit text.now }
+    ensures early { IfOk result (λ moment. moment < moment_limit) }
+{
+    if has_clock(text) {
+        clock_moment(unit, text)
+    } else {
+        moment_of(unit, plain_ms(unit, text))
     }
 }

@@ -5,22 +5,31 @@ ghost use Rattle.csv.specs.Records.{field_at, fields_of};
 ghost use Rattle.std.specs.List.{AllZip};
 ghost use Rattle.tap_rows.specs.AgencyRows.{IsColumn};
 ghost use Rattle.tap_rows.specs.inside.Positions.{ArePositions, IsHeadFault, IsPositionOf};
+ghost use Rattle.tap_rows.specs.inside.Positions.{IsTestOf, IsTestsFault, wanted_at};
 
-use crate::agency::choice::Choice;
+use crate::agency::choice::{Choice, Condition};
 use crate::agency::fault::{AgencyFault, Wanted};
 use csv::ByteRecord;
 use std::alloc::Global;
 
+/// A condition, and the index of its column.
+#[derive(Clone, Copy)]
+pub(crate) struct Test<'a> {
+    pub(crate) position: usize,
+    pub(crate) value: &'a str,
+}
+
 /// The indices of the columns of a choice.
 #[derive(Drop)]
-pub(crate) struct Positions {
+pub(crate) struct Positions<'a> {
     /// How many fields the head has.
     pub(crate) width: usize,
     pub(crate) token: usize,
     pub(crate) validator: usize,
     pub(crate) moment: usize,
-    /// The column of each condition.
-    pub(crate) only: Vec<usize>,
+    pub(crate) only: Vec<Test<'a>>,
+    pub(crate) without: Vec<Test<'a>>,
+    pub(crate) count: Option<usize>,
 }
 
 pub(crate) fn has_at(row: &ByteRecord, position: usize, text: &[u8]) -> bool
@@ -48,49 +57,79 @@ fn position_of(head: &ByteRecord, name: &[u8]) -> Option<usize>
     found
 }
 
-fn wanted_position(head: &ByteRecord, name: &[u8], wanted: Wanted) -> Result<usize, AgencyFault>
+fn wanted_position(head: &ByteRecord, name: &str, wanted: Wanted) -> Result<usize, AgencyFault>
     ensures position { IfOk result (λ position. IsColumn (fields_of head.now) name.now position) }
     ensures fault { IfErr result (λ fault. (fault ≡ AgencyFault.Column wanted)
         × ((position : ℕ) → ¬ (IsColumn (fields_of head.now) name.now position))) }
 {
-    match position_of(head, name) {
+    match position_of(head, name.as_bytes()) {
         Some(position) => Ok(position),
         None => Err(AgencyFault::Column(wanted)),
     }
 }
 
-fn positions_of_conditions(
-    alloc: Global,
-    choice: &Choice<'_>,
-    head: &ByteRecord,
-) -> Result<Vec<usize>, AgencyFault>
-    ensures positions { IfOk result
-        (λ positions. AllZip (IsPositionOf (fields_of head.now)) choice.now.only.now positions.items) }
-    ensures fault { IfErr result (IsHeadFault choice.now (fields_of head.now)) }
+fn wanted_at(is_only: bool, index: usize) -> Wanted
+    ensures { result ≡ wanted_at is_only index }
 {
-    let only = choice.only;
-    let mut positions = Vec::with_capacity(alloc, only.len())?;
-    for index in 0..only.len() {
-        let condition = &only[index];
-        let position = wanted_position(head, condition.column.as_bytes(), Wanted::Only(index))?;
-        positions.push(position)?;
+    if is_only {
+        Wanted::Only(index)
+    } else {
+        Wanted::Without(index)
     }
-    Ok(positions)
 }
 
-pub(crate) fn positions_of(
+fn tests_of<'a>(
     alloc: Global,
-    choice: &Choice<'_>,
+    is_only: bool,
+    conditions: &[Condition<'a>],
     head: &ByteRecord,
-) -> Result<Positions, AgencyFault>
+) -> Result<Vec<Test<'a>>, AgencyFault>
+    ensures tests { IfOk result
+        (λ tests. AllZip (IsTestOf (fields_of head.now)) conditions.now tests.items) }
+    ensures fault { IfErr result (IsTestsFault is_only conditions.now (fields_of head.now)) }
+{
+    let mut tests = Vec::with_capacity(alloc, conditions.len())?;
+    for index in 0..conditions.len() {
+        let condition = &conditions[index];
+        let position = wanted_position(head, condition.column, wanted_at(is_only, index))?;
+        tests.push(Test {
+            position,
+            value: condition.value,
+        })?;
+    }
+    Ok(tests)
+}
+
+fn count_position(choice: &Choice<'_>, head: &ByteRecord) -> Result<Option<usize>, AgencyFault>
+    ensures position { IfOk result
+        (IsPositionOf (fields_of head.now) choice.now.columns.now.count) }
+    ensures fault { IfErr result (IsHeadFault choice.now (fields_of head.now)) }
+{
+    match choice.columns.count {
+        Some(name) => match wanted_position(head, name, Wanted::Count) {
+            Ok(position) => Ok(Some(position)),
+            Err(fault) => Err(fault),
+        },
+        None => Ok(None),
+    }
+}
+
+pub(crate) fn positions_of<'a>(
+    alloc: Global,
+    choice: &Choice<'a>,
+    head: &ByteRecord,
+) -> Result<Positions<'a>, AgencyFault>
     ensures positions { IfOk result (ArePositions choice.now (fields_of head.now)) }
     ensures fault { IfErr result (IsHeadFault choice.now (fields_of head.now)) }
 {
+    let columns = choice.columns;
     Ok(Positions {
         width: head.len(),
-        token: wanted_position(head, choice.token, Wanted::Token)?,
-        validator: wanted_position(head, choice.validator, Wanted::Validator)?,
-        moment: wanted_position(head, choice.moment, Wanted::Moment)?,
-        only: positions_of_conditions(alloc, choice, head)?,
+        token: wanted_position(head, columns.token, Wanted::Token)?,
+        validator: wanted_position(head, columns.validator, Wanted::Validator)?,
+        moment: wanted_position(head, columns.moment, Wanted::Moment)?,
+        only: tests_of(alloc, true, &columns.only, head)?,
+        without: tests_of(alloc, false, &columns.without, head)?,
+        count: count_position(choice, head)?,
     })
 }

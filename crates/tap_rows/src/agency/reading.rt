@@ -1,25 +1,26 @@
 //! What a row of an agency's CSV is read as.
 
-ghost use Rattle.std.specs.Prelude.{◌≡◌, ◌<◌, ◌↔◌, ℕ, List, None, Some, All, IfErr, IfOk, IsTrue};
-ghost use Rattle.std.specs.Prelude.{MatchOption, length};
-ghost use Rattle.std.specs.List.{AllZip};
+ghost use Rattle.std.specs.Prelude.{◌≡◌, ◌<◌, List, ℕ, All, IfOk, Some, length, map, take};
+ghost use Rattle.std.specs.List.{list_all, list_any};
 ghost use Rattle.csv.specs.Records.{field_at, fields_of};
+ghost use Rattle.sha2.specs.Sha256.{sha256};
+ghost use Rattle.uuid.specs.Text.{parsed};
 ghost use Rattle.tap_rows.specs.Agencies as Spec;
-ghost use Rattle.tap_rows.specs.AgencyRows.{IsAsLong, IsMet, IsMomentReason, IsNoTap, IsParseOf};
-ghost use Rattle.tap_rows.specs.AgencyRows.{IsTapOf};
-ghost use Rattle.tap_rows.specs.AgencyRows.{IsTokenText, RepresentsValidator};
-ghost use Rattle.tap_rows.specs.Devices.{devices_of, validator_of};
-ghost use Rattle.tap_rows.specs.Rows.{IsNoValidator, IsValidator};
-ghost use Rattle.tap_rows.specs.inside.Validators.{IsWrongValidator};
-ghost use Rattle.tap_rows.specs.inside.Positions.{ArePositions, IsPositionOf};
+ghost use Rattle.tap_rows.specs.AgencyRows.{IsParseOf, device_named, field, is_kept, is_one_rider};
+ghost use Rattle.tap_rows.specs.AgencyRows.{kept_reading, passes, passes_one, reading_by};
+ghost use Rattle.tap_rows.specs.AgencyRows.{tap_from, token_in, validator_in, validator_numbered};
+ghost use Rattle.tap_rows.specs.Numbers.{whole_number_in};
+ghost use Rattle.tap_rows.specs.Devices.{devices_of};
+ghost use Rattle.tap_rows.specs.inside.Positions.{ArePositions, layout_of, test_of};
 ghost use Rattle.tap_views.specs.Layout.{moment_limit};
 
-use crate::agency::choice::{Choice, Condition, Unit};
-use crate::agency::instant::{agency_moment_in, is_early, is_local_time};
-use crate::agency::positions::{Positions, has_at};
+use crate::agency::choice::Choice;
+use crate::agency::instant::moment_in;
+use crate::agency::numbers::whole_number_in;
+use crate::agency::positions::{Positions, Test};
 use crate::devices::DeviceTable;
-use crate::row::validator_in;
 use csv::ByteRecord;
+use sha2::{Digest, Sha256};
 use tap_views::TapFields;
 use uuid::Uuid;
 
@@ -40,6 +41,8 @@ pub enum Reason {
     Early,
     /// The moment's field gives no moment below 2100-01-01T00:00Z.
     Moment,
+    /// The row is not of one rider.
+    Riders,
 }
 
 /// What a row is read as.
@@ -53,31 +56,9 @@ pub enum Reading {
     Refused(Reason),
 }
 
-fn token_text_in(value: &[u8]) -> Option<[u8; 16]>
-    ensures { MatchOption result ((token : List ℕ)
-        → ¬ (IsTokenText value.now token)) (λ token. IsTokenText value.now token) }
-{
-    match Uuid::try_parse_ascii(value) {
-        Ok(token) => Some(token.into_bytes()),
-        Err(_) => None,
-    }
-}
-
-fn is_kept(only: &[Condition<'_>], positions: &[usize], row: &ByteRecord) -> bool
-    ensures { (head : List (List ℕ)) → AllZip (IsPositionOf head) only.now positions.now
-        → (IsTrue result ↔ All (IsMet head (fields_of row.now)) only.now) }
-{
-    for index in 0..only.len().min(positions.len()) {
-        let condition = &only[index];
-        if !has_at(row, positions[index], condition.value.as_bytes()) {
-            return false;
-        }
-    }
-    true
-}
-
 pub(crate) fn field_in(row: &ByteRecord, position: usize) -> &[u8]
-    ensures { position < length (fields_of row.now)
+    ensures field { result.now ≡ field (fields_of row.now) position }
+    ensures there { position < length (fields_of row.now)
         → field_at (fields_of row.now) position ≡ Some result.now }
 {
     match row.get(position) {
@@ -86,91 +67,187 @@ pub(crate) fn field_in(row: &ByteRecord, position: usize) -> &[u8]
     }
 }
 
-fn number_in(field: &[u8]) -> Result<u32, Reason>
-    ensures number { IfOk result (IsValidator field.now) }
-    ensures wrong { IfErr result
-        (λ reason. (reason ≡ Reason.Validator) × IsNoValidator field.now) }
+fn passes(row: &ByteRecord, test: &Test<'_>) -> bool
+    ensures { result ≡ passes (fields_of row.now) (test_of test.now) }
 {
-    match validator_in(field) {
-        Some(number) => Ok(number),
+    field_in(row, test.position) == test.value.as_bytes()
+}
+
+fn passes_one(row: &ByteRecord, tests: &[Test<'_>], position: usize) -> bool
+    ensures { result ≡ passes_one (fields_of row.now) (map test_of tests.now) position }
+{
+    match tests {
+        [] => false,
+        [test, more @ ..] => {
+            test.position == position && passes(row, test) || passes_one(row, more, position)
+        }
+    }
+}
+
+/// Whether the row passes one of the tests of each column of `left`, of these tests.
+fn passes_each(row: &ByteRecord, tests: &[Test<'_>], left: &[Test<'_>]) -> bool
+    ensures { result ≡ list_all
+        (λ test. passes_one (fields_of row.now) (map test_of tests.now) test.0)
+        (map test_of left.now) }
+{
+    match left {
+        [] => true,
+        [test, more @ ..] => {
+            passes_one(row, tests, test.position) && passes_each(row, tests, more)
+        }
+    }
+}
+
+fn passes_any(row: &ByteRecord, tests: &[Test<'_>]) -> bool
+    ensures { result ≡ list_any (passes (fields_of row.now)) (map test_of tests.now) }
+{
+    match tests {
+        [] => false,
+        [test, more @ ..] => passes(row, test) || passes_any(row, more),
+    }
+}
+
+fn is_kept(positions: &Positions<'_>, row: &ByteRecord) -> bool
+    ensures { result ≡ is_kept (layout_of positions.now) (fields_of row.now) }
+{
+    passes_each(row, &positions.only, &positions.only) && !passes_any(row, &positions.without)
+}
+
+fn hash_of(text: &[u8]) -> [u8; 16]
+    ensures { result ≡ take 16 (sha256 text.now) }
+{
+    let digest = Sha256::digest(text);
+    let mut token = [0; 16];
+    token.copy_from_slice(&digest[..16]);
+    token
+}
+
+fn parsed(text: &[u8]) -> Option<[u8; 16]>
+    ensures { result ≡ parsed text.now }
+{
+    match Uuid::try_parse_ascii(text) {
+        Ok(token) => Some(token.into_bytes()),
+        Err(_) => None,
+    }
+}
+
+fn token_in(has_hashes: bool, text: &[u8]) -> Option<[u8; 16]>
+    ensures { result ≡ token_in has_hashes text.now }
+{
+    if !has_hashes {
+        return parsed(text);
+    }
+    if text.is_empty() {
+        None
+    } else {
+        Some(hash_of(text))
+    }
+}
+
+fn validator_numbered(number: Option<u64>) -> Result<u32, Reason>
+    ensures { result ≡ validator_numbered number }
+{
+    match number {
+        Some(number) => match u32::try_from(number) {
+            Ok(number) => Ok(number),
+            Err(_) => Err(Reason::Validator),
+        },
         None => Err(Reason::Validator),
     }
 }
 
-fn device_in(devices: &DeviceTable, field: &[u8]) -> Result<u32, Reason>
-    ensures number { IfOk result
-        (λ number. validator_of (devices_of devices.now) field.now ≡ Some number) }
-    ensures wrong { IfErr result (λ reason. (reason ≡ Reason.Device)
-        × (validator_of (devices_of devices.now) field.now ≡ None)) }
+fn device_named(number: Option<u32>) -> Result<u32, Reason>
+    ensures { result ≡ device_named number }
 {
-    match devices.validator_of(field) {
+    match number {
         Some(number) => Ok(number),
         None => Err(Reason::Device),
     }
 }
 
-fn validator_for(choice: &Choice<'_>, field: &[u8]) -> Result<u32, Reason>
-    ensures validator { IfOk result (RepresentsValidator choice.now.devices field.now) }
-    ensures wrong { IfErr result (IsWrongValidator choice.now.devices field.now) }
+fn validator_in(devices: Option<&DeviceTable>, text: &[u8]) -> Result<u32, Reason>
+    ensures { result ≡ validator_in devices.entry text.now }
 {
-    match choice.devices {
-        None => number_in(field),
-        Some(devices) => device_in(devices, field),
+    match devices {
+        None => validator_numbered(whole_number_in(text)),
+        Some(devices) => device_named(devices.validator_of(text)),
     }
 }
 
-fn moment_reason(unit: Unit, field: &[u8]) -> Reason
-    ensures { IsMomentReason unit field.now result }
+fn is_one_rider(count: Option<usize>, row: &ByteRecord) -> bool
+    ensures { result ≡ is_one_rider count (fields_of row.now) }
 {
-    if is_local_time(field) {
-        Reason::LocalTime
-    } else if is_early(unit, field) {
-        Reason::Early
-    } else {
-        Reason::Moment
+    match count {
+        None => true,
+        Some(position) => match whole_number_in(field_in(row, position)) {
+            None => false,
+            Some(number) => number == 1,
+        },
     }
 }
 
-fn tap_of(choice: &Choice<'_>, positions: &Positions, row: &ByteRecord) -> Result<TapFields, Reason>
-    ensures tap { (head : List (List ℕ)) → ArePositions choice.now head positions.now
-        → IsAsLong head (fields_of row.now)
-        → IfOk result (IsTapOf choice.now head (fields_of row.now)) }
-    ensures wrong { (head : List (List ℕ)) → ArePositions choice.now head positions.now
-        → IsAsLong head (fields_of row.now)
-        → IfErr result (IsNoTap choice.now head (fields_of row.now)) }
-    ensures early { IfOk result (λ tap. tap.moment < moment_limit) }
+fn tap_from(
+    token: Option<[u8; 16]>,
+    validator: Result<u32, Reason>,
+    moment: Result<u64, Reason>,
+) -> Reading
+    requires { IfOk moment (λ moment. moment < moment_limit) }
+    ensures reading { result ≡ tap_from token validator moment }
+    ensures early { All (λ tap. tap.moment < moment_limit) (Spec.tap_of result) }
 {
-    let Some(token) = token_text_in(field_in(row, positions.token)) else {
-        return Err(Reason::Token);
+    let Some(token) = token else {
+        return Reading::Refused(Reason::Token);
     };
-    let validator = match validator_for(choice, field_in(row, positions.validator)) {
+    let validator = match validator {
         Ok(validator) => validator,
-        Err(reason) => return Err(reason),
+        Err(reason) => return Reading::Refused(reason),
     };
-    let field = field_in(row, positions.moment);
-    let Some(moment) = agency_moment_in(choice.unit, field) else {
-        return Err(moment_reason(choice.unit, field));
-    };
-    Ok(TapFields {
-        token,
-        validator,
-        moment,
-    })
+    match moment {
+        Ok(moment) => Reading::Tap(TapFields {
+            token,
+            validator,
+            moment,
+        }),
+        Err(reason) => Reading::Refused(reason),
+    }
 }
 
-pub(crate) fn reading_of(choice: &Choice<'_>, positions: &Positions, row: &ByteRecord) -> Reading
-    ensures reading { (head : List (List ℕ)) → ArePositions choice.now head positions.now
-        → IsParseOf choice.now head (fields_of row.now) result }
+fn kept_reading(choice: &Choice<'_>, positions: &Positions<'_>, row: &ByteRecord) -> Reading
+    ensures reading { result
+        ≡ kept_reading choice.now (layout_of positions.now) (fields_of row.now) }
+    ensures early { All (λ tap. tap.moment < moment_limit) (Spec.tap_of result) }
+{
+    if !is_one_rider(positions.count, row) {
+        return Reading::Refused(Reason::Riders);
+    }
+    let token = token_in(choice.columns.has_hashes, field_in(row, positions.token));
+    let validator = validator_in(choice.devices, field_in(row, positions.validator));
+    let moment = moment_in(choice.columns.unit, field_in(row, positions.moment));
+    tap_from(token, validator, moment)
+}
+
+fn reading_by(choice: &Choice<'_>, positions: &Positions<'_>, row: &ByteRecord) -> Reading
+    ensures reading { result
+        ≡ reading_by choice.now (layout_of positions.now) (fields_of row.now) }
     ensures early { All (λ tap. tap.moment < moment_limit) (Spec.tap_of result) }
 {
     if row.len() != positions.width {
         return Reading::Refused(Reason::Fields);
     }
-    if !is_kept(choice.only, &positions.only, row) {
+    if !is_kept(positions, row) {
         return Reading::LeftOut;
     }
-    match tap_of(choice, positions, row) {
-        Ok(tap) => Reading::Tap(tap),
-        Err(reason) => Reading::Refused(reason),
-    }
+    kept_reading(choice, positions, row)
+}
+
+pub(crate) fn reading_of(
+    choice: &Choice<'_>,
+    positions: &Positions<'_>,
+    row: &ByteRecord,
+) -> Reading
+    ensures reading { (head : List (List ℕ)) → ArePositions choice.now head positions.now
+        → IsParseOf choice.now head (fields_of row.now) result }
+    ensures early { All (λ tap. tap.moment < moment_limit) (Spec.tap_of result) }
+{
+    reading_by(choice, positions, row)
 }

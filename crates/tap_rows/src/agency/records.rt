@@ -19,7 +19,7 @@ pub(crate) fn records_of<R: Read>(alloc: Global, separator: Separator, text: R) 
     ReaderBuilder::new()
         .has_headers(false)
         .flexible(true)
-        .delimiter(separator.byte())
+        .delimiter(separator.byte)
         .from_reader(alloc, text)
 }
 

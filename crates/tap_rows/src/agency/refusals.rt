@@ -26,6 +26,7 @@ fn word_of(reason: Reason) -> &'static str
         Reason::LocalTime => "local time",
         Reason::Early => "before 2000",
         Reason::Moment => "moment",
+        Reason::Riders => "riders",
     }
 }
 
@@ -34,7 +35,7 @@ fn text_of(alloc: Global, separator: Separator, row: &ByteRecord) -> Result<Vec<
     ensures fault { IfErr result IsOfSystem }
 {
     let mut writer = WriterBuilder::new()
-        .delimiter(separator.byte())
+        .delimiter(separator.byte)
         .from_writer(Vec::new(alloc));
     if writer.write_byte_record(row).is_err() {
         return Err(AgencyFault::NoMemory);
@@ -61,9 +62,9 @@ fn put<X: Write>(
     let text = text_of(alloc, separator, row)?;
     let mut line = Vec::new(alloc);
     line.extend_from_slice(first.as_bytes())?;
-    line.push(separator.byte())?;
+    line.push(separator.byte)?;
     line.extend_from_slice(second.as_bytes())?;
-    line.push(separator.byte())?;
+    line.push(separator.byte)?;
     line.extend_from_slice(&text)?;
     match out.write_all(&line) {
         Ok(()) => Ok(()),

@@ -9,6 +9,7 @@ ghost use Rattle.tap_rows.specs.Agencies.{AreStarted, IsAgencyFault, IsOfRows, I
 ghost use Rattle.tap_rows.specs.Agencies.{IsUploadStarted, MayEndOnce, refusal_of, refusal_text};
 ghost use Rattle.tap_rows.specs.Agencies.{tap_of};
 ghost use Rattle.tap_rows.specs.inside.Goings.{IsOfSystem};
+ghost use Rattle.tap_rows.specs.inside.Positions.{ArePositions, IsHeadFault};
 ghost use Rattle.tap_rows.specs.inside.WaitingTaps.{AreWritten};
 ghost use Rattle.tap_views.specs.Encoding.{AreEncodable};
 ghost use Rattle.tap_views.specs.Layout.{moment_limit};
@@ -16,7 +17,8 @@ ghost use Rattle.tap_views.specs.declared.encoder.TapFields.{TapFields};
 
 use crate::agency::choice::{Choice, Separator};
 use crate::agency::fault::{AgencyFault, Wanted};
-use crate::agency::positions::positions_of;
+use crate::agency::note::{note_fault, note_reading};
+use crate::agency::positions::{Positions, positions_of};
 use crate::agency::reading::{Reading, reading_of};
 use crate::agency::records::{next_record, records_of};
 use crate::agency::refusals::{write_refusal, write_refusals_head};
@@ -61,15 +63,34 @@ fn put_row<W: Write, X: Write>(
     }
 }
 
+fn noted_positions<'a>(
+    alloc: Global,
+    choice: &Choice<'a>,
+    head: &ByteRecord,
+    note: &mut String,
+) -> Result<Positions<'a>, AgencyFault>
+    ensures positions { IfOk result (ArePositions choice.now (fields_of head.now)) }
+    ensures fault { IfErr result (IsHeadFault choice.now (fields_of head.now)) }
+{
+    match positions_of(alloc, choice, head) {
+        Ok(positions) => Ok(positions),
+        Err(fault) => {
+            note_fault(alloc, note, choice, head, &fault);
+            Err(fault)
+        }
+    }
+}
+
 /// Writes the upload of the rows that a choice keeps, in `TAP1` batches of 4,096 taps, and the rows
 /// that are not taps to `refused`. Nothing is written if the head lacks a column, and a prefix
-/// after another error.
+/// after another error. `note` gets what is wrong with the head, or with the first refused row.
 pub fn encode_some_rows<R: Read + Drop, W: Write, X: Write>(
     alloc: Global,
     choice: &Choice<'_>,
     text: R,
     out: &mut W,
     refused: &mut X,
+    note: &mut String,
 ) -> Result<Summary, AgencyFault>
     ensures upload { IfOk result (λ summary. IfSome (R.remaining text)
         (λ bytes. IsRowsEncoded choice.now bytes (W.contents out.old) (W.contents out.new)
@@ -82,14 +103,14 @@ pub fn encode_some_rows<R: Read + Drop, W: Write, X: Write>(
         (λ bytes. IsUploadStarted choice.now bytes (W.contents out.old) (W.contents out.new))) }
     ensures once { IfErr result MayEndOnce }
 {
-    let mut reader = records_of(alloc, choice.separator, text);
+    let mut reader = records_of(alloc, choice.columns.separator, text);
     let mut row = ByteRecord::new(alloc);
     let has_head = next_record(&mut reader, &mut row)?;
     if !has_head {
         return Err(AgencyFault::Column(Wanted::Token));
     }
-    let positions = positions_of(alloc, choice, &row)?;
-    write_refusals_head(alloc, choice.separator, &row, refused)?;
+    let positions = noted_positions(alloc, choice, &row, note)?;
+    write_refusals_head(alloc, choice.columns.separator, &row, refused)?;
     let mut waiting = Vec::with_capacity(alloc, MAX_TAPS)?;
     let mut summary = Summary::new();
     for count in 0..u64::MAX - 2 {
@@ -99,10 +120,11 @@ pub fn encode_some_rows<R: Read + Drop, W: Write, X: Write>(
             return Ok(summary);
         }
         let reading = reading_of(choice, &positions, &row);
+        note_reading(note, choice, &positions, &row, &reading);
         let number = count + 2;
         put_row(
             alloc,
-            choice.separator,
+            choice.columns.separator,
             number,
             &row,
             &reading,
@@ -135,13 +157,15 @@ fn when_read_again(fault: AgencyFault) -> AgencyFault
 }
 
 /// Writes the upload of the rows that a choice keeps, if each is a tap. The text is read twice, so
-/// that nothing is written if a row is refused, and a prefix after another error.
+/// that nothing is written if a row is refused, and a prefix after another error. `note` gets what
+/// is wrong with the head, or with that row.
 pub fn encode_rows<R: Read + Drop, S: Read + Drop, W: Write>(
     alloc: Global,
     choice: &Choice<'_>,
     text: R,
     again: S,
     out: &mut W,
+    note: &mut String,
 ) -> Result<Summary, AgencyFault>
     ensures upload { IfOk result (λ summary. IfSome (S.remaining again)
         (λ bytes. IsRowsEncoded choice.now bytes (W.contents out.old) (W.contents out.new)
@@ -155,11 +179,11 @@ pub fn encode_rows<R: Read + Drop, S: Read + Drop, W: Write>(
     ensures same { IsErrOf result AgencyFault.Changed → IsSome (R.remaining text)
         → R.remaining text ≡ S.remaining again → ⊥ }
 {
-    let found = encode_some_rows(alloc, choice, text, &mut sink(), &mut sink())?;
+    let found = encode_some_rows(alloc, choice, text, &mut sink(), &mut sink(), note)?;
     if let Some((number, reason)) = found.first_refused {
         return Err(AgencyFault::Row { number, reason });
     }
-    match encode_some_rows(alloc, choice, again, out, &mut sink()) {
+    match encode_some_rows(alloc, choice, again, out, &mut sink(), note) {
         Ok(summary) => if is_same(&summary, &found) {
             Ok(summary)
         } else {

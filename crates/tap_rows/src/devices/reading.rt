@@ -67,7 +67,7 @@ pub fn read_devices(
     match read_by(alloc, seed, separator, text) {
         Ok(table) => Ok(table),
         Err(fault) => match fault {
-            DevicesFault::Head => read_by(alloc, seed, Separator::Comma, text),
+            DevicesFault::Head => read_by(alloc, seed, Separator { byte: b',' }, text),
             _ => Err(fault),
         },
     }

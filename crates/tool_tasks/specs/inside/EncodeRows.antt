@@ -52,7 +52,7 @@ abbrev pub IsRowsFault : RowsWords → List ℕ → Option WriteEnd → Option W
     → Fault → Type 0
 IsRowsFault words word end refused_end (agency.Column wanted)
     (Rows named (wrong_rows.Column name)) =
-    (named.now ≡ word) × IsColumnName words wanted name.now
+    (named.now ≡ word) × IsColumnName words.columns wanted name.now
 IsRowsFault words word end refused_end (agency.Row number reason)
     (Rows named (wrong_rows.Row row why)) =
     (named.now ≡ word) × (row ≡ number) × (why ≡ reason)

@@ -1,29 +1,56 @@
--- Files that could not be made, and lines of faults: what private functions alone cite.
-use Rattle.std.specs.Prelude.{◌≡◌, ◌≢◌, ⊤, ℕ, List, [], None, Option, Some}
+-- Files that are loaded and made, and lines of faults: what private functions alone cite.
+use Rattle.std.specs.Prelude.{◌≡◌, ⊤, ℕ, List, [], ◌++◌, None, Option, Some, map}
+use Rattle.frame.specs.Ends.{Answer}
+use Rattle.frame.specs.Making.{did_making}
+use Rattle.frame.specs.Stops.{IsNamed, Leaves}
+use Rattle.frame.specs.declared.stop.Stop.{Stop}
+use Rattle.frame.specs.declared.stop.Stop.TheVariants as stop
 use Rattle.tap_views.specs.declared.upload_end.UploadEnd.{UploadEnd}
 use Rattle.sorted_taps.specs.declared.fault.SortedFault.{SortedFault}
 use Rattle.sorted_taps.specs.declared.fault.SortedFault.TheVariants as sorted
 use Rattle.program_manners.specs.Refusals.{IsOneOf}
-use Rattle.program_manners.specs.declared.output.WriteEnd.{WriteEnd}
-use Rattle.tool_tasks.specs.Sink.{Made}
-use Rattle.tool_tasks.specs.Sort.{refused_line}
+use Rattle.tool_tasks.specs.Names.{file_named}
+use Rattle.tool_tasks.specs.Sort.{Sorts, refused_line}
 use Rattle.tool_tasks.specs.declared.fault.Fault.{Fault}
 use Rattle.tool_tasks.specs.declared.fault.Fault.TheVariants.{Layout, NoMemory, OutOfOrder}
-use Rattle.tool_tasks.specs.declared.fault.Fault.TheVariants.{TooManyOpen, Unmade, Unread}
-use Rattle.tool_tasks.specs.declared.sink.MakeFault.{MakeFault}
-use Rattle.tool_tasks.specs.declared.sink.MakeFault.TheVariants as make
+use Rattle.tool_tasks.specs.declared.fault.Fault.TheVariants.{TooManyOpen, Unread}
+use Rattle.tool_words.specs.Request.{SortRequest}
+use Rattle.world.specs.Origins.{with_loads}
+use Rattle.world.specs.Run.{Load, Named, Run}
+use Rattle.world.specs.Writes.{IsUnmade}
 
--- the second fault is the first one, of the file of this word
-abbrev pub IsMakeFault : List ℕ → MakeFault → Fault → Type 0
-IsMakeFault word make.Unmade (Unmade named) = named.now ≡ word
-IsMakeFault word make.NoMemory NoMemory = ⊤
-IsMakeFault word first second = ⊥
+-- these texts were loaded, each under the name that its word names, one after the other
+pub record LoadsAll (words : List (List ℕ)) (old new : Run) (texts : List (List ℕ)) : Type 0 where
+  pub loads : List Load
+  pub named : map (λ load. load.name) loads ≡ map file_named words
+  pub bytes : map (λ load. load.bytes) loads ≡ texts
+  pub all : new ≡ with_loads old loads
 
--- a write to the file of this word failed, as its writer remembers it; or memory was refused
-abbrev pub IsUnwritten : List ℕ → Option WriteEnd → Fault → Type 0
-IsUnwritten word end (Unmade named) = (named.now ≡ word) × (end ≢ None)
-IsUnwritten word end NoMemory = ⊤
-IsUnwritten word end fault = ⊥
+-- some of the files were loaded, and the next one was not
+pub record HaltsLoading (names : List (List ℕ)) (why : Stop) (old new : Run) : Type 0 where
+  pub loads : List Load
+  pub named : IsNamed names why
+  pub all : Leaves names why (with_loads old loads) new
+
+abbrev pub with_files : Run → List Named → Run
+with_files r files = record r { made = r.made ++ files }
+
+-- the file of this name, which has this number, was not made
+abbrev pub HaltsMade : List ℕ → ℕ → Stop → Run → Run → Type 0
+HaltsMade name number (stop.Unmade which why) old new = (which ≡ number) × IsUnmade old new name why
+HaltsMade name number why old new = ⊥
+
+-- What was to be done was these files and then this note. It was stopped after a part of it.
+pub record HaltsMaking (names : List (List ℕ)) (files : List Named) (note : List ℕ) (why : Stop)
+    (old new : Run) : Type 0 where
+  pub made : List Named
+  pub others : List Named
+  pub is_files : files ≡ made ++ others
+  pub said : List ℕ
+  pub rest : List ℕ
+  pub is_note : note ≡ said ++ rest
+  pub named : IsNamed names why
+  pub all : Leaves names why (did_making old [] (record { text = []; note = said }) made) new
 
 -- a file of this word could not be opened; or memory was refused
 abbrev pub IsOpenFault : List ℕ → Fault → Type 0
@@ -54,7 +81,8 @@ IsUnopened words (TooManyOpen word) = IsOneOf word.now words
 IsUnopened words NoMemory = ⊤
 IsUnopened words fault = ⊥
 
--- These are the bytes of a file, if the sink keeps the files that it makes.
-abbrev pub HasBytes : Option (List Made) → Option (List ℕ) → List ℕ → Type 0
-HasBytes None written bytes = ⊤
-HasBytes (Some before) written bytes = written ≡ Some bytes
+-- the rule of `sort` once these texts are loaded, whatever loads gave them
+abbrev pub SortsTexts : SortRequest → List (List ℕ) → List Load → Answer → List Named → ℕ → Type 0
+SortsTexts request texts loads answer files status = (loads ≡ []) × ((all : List Load)
+    → map (λ load. load.name) all ≡ map file_named request.uploads
+    → map (λ load. load.bytes) all ≡ texts → Sorts request all answer files status)

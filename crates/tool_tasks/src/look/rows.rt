@@ -1,13 +1,9 @@
 //! All that is found in uploads, as CSV.
 
-use crate::fault::Fault;
 use crate::look::found_texts::{push_day, push_tap};
 use crate::names::Name;
-use crate::uploads::write_text;
 use fare_texts::write_moment;
-use program_manners::Output;
 use std::alloc::{AllocError, Global};
-use std::io::Write;
 use tap_views::TapFields;
 use upload_checks::{Findings, InactiveDays, InactiveRun, Repeat};
 
@@ -75,31 +71,32 @@ fn inactive_row(alloc: Global, run: &InactiveRun) -> Result<String, AllocError> 
     Ok(text)
 }
 
-/// Writes the header line, and the row of each that is found in the uploads.
-pub(crate) fn write_table<'a, W: Write>(
+/// Appends the header line, and the row of each that is found in the uploads.
+pub(crate) fn push_table(
     alloc: Global,
     names: &[&str],
     found: &Findings,
     silent: &Option<InactiveDays>,
-    out: &mut Output<W>,
-) -> Result<(), Fault<'a>> {
-    write_text(HEAD_LINE, out)?;
+    piece: &mut Vec<u8>,
+) -> Result<(), AllocError> {
+    piece.extend_from_slice(HEAD_LINE.as_bytes())?;
     for double in &found.duplicates {
         let earlier = Some(double.earlier);
-        write_text(&tap_row(alloc, "double", &double.tap, earlier)?, out)?;
+        let row = tap_row(alloc, "double", &double.tap, earlier)?;
+        piece.extend_from_slice(row.as_bytes())?;
     }
     for tap in &found.before {
-        write_text(&tap_row(alloc, "before", tap, None)?, out)?;
+        piece.extend_from_slice(tap_row(alloc, "before", tap, None)?.as_bytes())?;
     }
     for tap in &found.after {
-        write_text(&tap_row(alloc, "after", tap, None)?, out)?;
+        piece.extend_from_slice(tap_row(alloc, "after", tap, None)?.as_bytes())?;
     }
     for repeat in &found.repeated {
-        write_text(&repeat_row(alloc, names, repeat)?, out)?;
+        piece.extend_from_slice(repeat_row(alloc, names, repeat)?.as_bytes())?;
     }
     if let Some(silent) = silent {
         for run in &silent.runs {
-            write_text(&inactive_row(alloc, run)?, out)?;
+            piece.extend_from_slice(inactive_row(alloc, run)?.as_bytes())?;
         }
     }
     Ok(())

@@ -1,21 +1,20 @@
 //! Tables that follow others.
 
 use crate::fault::Fault;
+use crate::informs::push_line;
 use crate::names::Escaped;
-use crate::table::say_lines;
 use fare_table::{FareTable, FollowFault, TableFault};
-use program_manners::{Complaints, FollowLine, NextFault, TableWord, table_after};
+use program_manners::{FollowLine, NextFault, TableWord, table_after};
 use std::alloc::{AllocError, Global};
-use std::io::Write;
 use table_report::TableText;
 use tap_views::MomentSpan;
 use tool_words::{LaterTable, TableQuestion};
 
-fn say_next<'a, E: Write>(
+fn note_next<'a>(
     alloc: Global,
     word: &'a str,
     fault: NextFault,
-    err: &mut Complaints<E>,
+    note: &mut Vec<u8>,
 ) -> Result<(), Fault<'a>> {
     match fault {
         NextFault::Table(TableFault::NoMemory) | NextFault::Follow(FollowFault::NoMemory) => {
@@ -23,25 +22,24 @@ fn say_next<'a, E: Write>(
         }
         NextFault::Table(fault) => {
             let refused = Fault::FareTable(TableWord::of(word).name, fault);
-            let line = format!(in alloc; "{refused}")?;
-            say_lines(err, line.as_str());
+            push_line(alloc, refused, note)?;
         }
         NextFault::Follow(fault) => {
             let shown = Escaped(word);
             let word = format!(in alloc; "{shown}")?;
-            err.report_line(FollowLine { word: &word, fault });
+            push_line(alloc, FollowLine { word: &word, fault }, note)?;
         }
     }
     Ok(())
 }
 
-/// Nothing if it does not follow, which is reported.
-fn table_next<'a, E: Write>(
+/// Nothing if it does not follow, which is noted.
+fn table_next<'a>(
     alloc: Global,
     fares: FareTable,
     later: &LaterTable<'a>,
     text: &[u8],
-    err: &mut Complaints<E>,
+    note: &mut Vec<u8>,
 ) -> Result<Option<FareTable>, Fault<'a>> {
     let Some(date) = TableWord::of(later.word).date else {
         unreachable!();
@@ -49,26 +47,26 @@ fn table_next<'a, E: Write>(
     match table_after(alloc, fares, date, text) {
         Ok(all) => Ok(Some(all)),
         Err(fault) => {
-            say_next(alloc, later.word, fault, err)?;
+            note_next(alloc, later.word, fault, note)?;
             Ok(None)
         }
     }
 }
 
-/// The tables of these texts as one; nothing if one does not follow, which is reported.
-pub(crate) fn joined<'a, E: Write>(
+/// The tables of these texts as one; nothing if one does not follow, which is noted.
+pub(crate) fn joined<'a>(
     alloc: Global,
     question: &TableQuestion<'a>,
     tables: &[TableText<'_>],
     texts: &[Vec<u8>],
-    err: &mut Complaints<E>,
+    note: &mut Vec<u8>,
 ) -> Result<Option<FareTable>, Fault<'a>> {
     let Some(first) = tables.first() else {
         return Ok(None);
     };
     let mut fares = first.fares(alloc)?;
     for (table, text) in question.later.iter().zip(texts.iter().skip(1)) {
-        match table_next(alloc, fares, table, text, err)? {
+        match table_next(alloc, fares, table, text, note)? {
             Some(all) => fares = all,
             None => return Ok(None),
         }

@@ -3,10 +3,8 @@
 use crate::fault::Fault;
 use crate::names::Name;
 use crate::refused_text::RefusedText;
-use crate::table::say_lines;
-use program_manners::Complaints;
+use crate::table::push_lines;
 use std::alloc::Global;
-use std::io::Write;
 use table_report::{Refusal, TableText};
 
 /// Why a text is not a table.
@@ -24,35 +22,35 @@ fn lines_of<'a>(alloc: Global, word: &'a str, refusal: Refusal) -> Result<String
     Ok(format!(in alloc; "{refused}")?)
 }
 
-/// Nothing if it is not a table, which is reported.
-fn read_text<'a, 't, E: Write>(
+/// Nothing if it is not a table, which is noted.
+fn read_text<'a, 't>(
     alloc: Global,
     word: &'a str,
     text: &'t [u8],
-    err: &mut Complaints<E>,
+    note: &mut Vec<u8>,
 ) -> Result<Option<TableText<'t>>, Fault<'a>> {
     let shown = format!(in alloc; "{}", Name(word))?;
     match TableText::read(alloc, &shown, text) {
         Ok(table) => Ok(Some(table)),
         Err(refusal) => {
             let lines = lines_of(alloc, word, refusal)?;
-            say_lines(err, &lines);
+            push_lines(&lines, note)?;
             Ok(None)
         }
     }
 }
 
-/// What the texts mean; nothing if one is not a table. Why each of these is none is reported.
-pub(crate) fn read_texts<'a, 't, E: Write>(
+/// What the texts mean; nothing if one is not a table. Why each of these is none is noted.
+pub(crate) fn read_texts<'a, 't>(
     alloc: Global,
     words: &[&'a str],
     texts: &'t [Vec<u8>],
-    err: &mut Complaints<E>,
+    note: &mut Vec<u8>,
 ) -> Result<Option<Vec<TableText<'t>>>, Fault<'a>> {
     let mut tables = Vec::new(alloc);
     let mut succeeded = true;
     for (word, text) in words.iter().zip(texts.iter()) {
-        match read_text(alloc, word, text, err)? {
+        match read_text(alloc, word, text, note)? {
             Some(table) => tables.push(table)?,
             None => succeeded = false,
         }

@@ -1,10 +1,16 @@
--- The names of an agency's columns, as contracts see them.
-use Rattle.tool_words.specs.Columns.{ColumnNames}
-use Rattle.tool_words.specs.declared.encode_words.Columns.{Columns}
+-- How a kind of export is read, as contracts see it.
+use Rattle.std.specs.Prelude.{option_map}
+use Rattle.tool_words.specs.Columns.{Export}
+use Rattle.tool_words.specs.Tasks.{condition_of, text_in}
+use Rattle.tool_words.specs.declared.encode_words.Export.{Export as Words}
 
-abbrev pub columns_of : Columns → ColumnNames
-columns_of columns = record {
-  token = columns.token.now;
-  validator = columns.validator.now;
-  moment = columns.moment.now;
+abbrev pub export_by : Words → Export
+export_by words = record {
+  token = words.token.now;
+  validator = words.validator.now;
+  moment = words.moment.now;
+  has_hashes = words.has_hashes;
+  only = option_map condition_of words.only;
+  without = option_map condition_of words.without;
+  count = text_in words.count;
 }

@@ -1,12 +1,13 @@
 -- What a system call adds to those before it.
 use Rattle.std.specs.Prelude.{None, Some, drop}
-use Rattle.world.specs.Run.{Calls, no_calls, one_more, after_joined, after_opened, after_read}
-use Rattle.world.specs.Run.{with_cut, with_flushed, with_made, with_said, with_too_long}
+use Rattle.world.specs.Run.{Calls, no_calls, one_more, after_joined, after_made, after_opened}
+use Rattle.world.specs.Run.{after_read}
+use Rattle.world.specs.Run.{with_cut, with_flushed, with_said, with_too_long}
 use Rattle.world.specs.Run.{with_unmade, with_unread, with_written}
 use Rattle.world.specs.declared.trace.Call.{Call}
 use Rattle.world.specs.declared.trace.Call.TheVariants.{Start, Opened, Input, Read, Stopped, Unread}
 use Rattle.world.specs.declared.trace.Call.TheVariants.{Unopened, Wrote, Cut, Flushed, Said}
-use Rattle.world.specs.declared.trace.Call.TheVariants.{Staged, Made, Unmade, Joined}
+use Rattle.world.specs.declared.trace.Call.TheVariants.{Made, Unmade, Joined}
 
 abbrev pub after_call : Call → Calls
 after_call Start = no_calls
@@ -26,8 +27,7 @@ after_call (Cut before fault) = one_more before.value (with_cut before.value.run
 after_call (Flushed before) = one_more before.value (with_flushed before.value.run)
 after_call (Said before text) =
     one_more before.value (with_said before.value.run text.value.bytes)
-after_call (Staged before name bytes) = one_more before.value before.value.run
-after_call (Made before file) = one_more before.value (with_made before.value.run file.value)
+after_call (Made before name calls) = after_made before.value name.value.bytes calls.value
 after_call (Unmade before name) =
     one_more before.value (with_unmade before.value.run name.value.bytes)
 after_call (Joined before other) = after_joined before.value other.value

@@ -1,6 +1,9 @@
-use Rattle.std.proofs.Common.{◌≡◌, ◌<◌, ◌∙◌, ℕ, zero, suc, true, refl, ap, arith, inl, inr, length}
-use Rattle.std.proofs.Common.{subst, sym, map, string_bytes, true≢false, codes}
-use Rattle.std.specs.List.{slice_index_or}
+use Rattle.std.proofs.Common.{◌≡◌, ◌<◌, ◌∙◌, ℕ, Bool, List, [], ◌∷◌, zero, suc, false, true, refl}
+use Rattle.std.proofs.Common.{ap, arith, inl, inr, length, subst, sym, map, string_bytes, true≢false}
+use Rattle.std.proofs.Common.{codes}
+use Rattle.std.specs.Prelude.{if◌then◌else◌, not}
+use Rattle.std.specs.List.{list_all, slice_index_or}
+use Rattle.std.proofs.lemmas.List.Folds.{list_all_at}
 use Rattle.std.specs.Str.{bytes_eq}
 use Rattle.std.proofs.lemmas.Result.{IfOk-weaker}
 use Rattle.clap.specs.Words.{App, FailsBy, IsParsedFrom, Rule, app_of, fault_of, is_simple}
@@ -38,73 +41,38 @@ returns-clause-kinds c =
     subst (λ (a : App). FailsBy (fault_of a words) c.try_get_matches_from.result) same
     (c.try_get_matches_from.ensures.kinds (ap is_simple_and_free same ∙ is_free))
 
--- no other option has the name
+-- whether no rule but that of index `k` passes
+abbrev is_only : (Rule → Bool) → ℕ → List Rule → Bool
+is_only p k [] = true
+is_only p zero (r ∷ rs) = list_all (λ x. not (p x)) rs
+is_only p (suc k) (r ∷ rs) = if p r then false else is_only p k rs
+
+only : (p : Rule → Bool) (k : ℕ) (rs : List Rule) (j : ℕ) (e : Rule) → is_only p k rs ≡ true
+    → j < length rs → p (slice_index_or rs j e) ≡ true → j ≡ k
+only p k [] j e ok lt is = absurd (omega arith)
+only p zero (r ∷ rs) zero e ok lt is = refl
+only p zero (r ∷ rs) (suc j) e ok lt is =
+    absurd (true≢false (sym ok ∙ list_all_at (λ x. not (p x)) rs j e (omega arith) (ap not is)))
+only p (suc k) (r ∷ rs) zero e ok lt is =
+    let bad : false ≡ true = rw is at ok in
+    cc
+only p (suc k) (r ∷ rs) (suc j) e ok lt is =
+    go (p r) ok (λ rest. only p k rs j e rest (omega arith) is)
+  where
+    go : (b : Bool) → (if b then false else is_only p k rs) ≡ true
+        → (is_only p k rs ≡ true → j ≡ k) → suc j ≡ suc k
+    go true bad later = absurd (true≢false (sym bad))
+    go false rest later = ap suc (later rest)
+
 only_workers : (j : ℕ) (e : Rule) → j < length program.top.rules
     → bytes_eq (slice_index_or program.top.rules j e).id (codes "workers") ≡ true → j ≡ 5
 unfolding program
-only_workers zero e lt same = absurd (true≢false (sym same))
-only_workers (suc zero) e lt same = absurd (true≢false (sym same))
-only_workers (suc (suc zero)) e lt same = absurd (true≢false (sym same))
-only_workers (suc (suc (suc zero))) e lt same = absurd (true≢false (sym same))
-only_workers (suc (suc (suc (suc zero)))) e lt same = absurd (true≢false (sym same))
-only_workers (suc (suc (suc (suc (suc zero))))) e lt same = refl
-only_workers (suc (suc (suc (suc (suc (suc zero)))))) e lt same = absurd (true≢false (sym same))
-only_workers (suc (suc (suc (suc (suc (suc (suc zero))))))) e lt same =
-    absurd (true≢false (sym same))
-only_workers (suc (suc (suc (suc (suc (suc (suc (suc zero)))))))) e lt same =
-    absurd (true≢false (sym same))
-only_workers (suc (suc (suc (suc (suc (suc (suc (suc (suc zero))))))))) e lt same =
-    absurd (true≢false (sym same))
-only_workers (suc (suc (suc (suc (suc (suc (suc (suc (suc (suc zero)))))))))) e lt same =
-    absurd (true≢false (sym same))
-only_workers (suc (suc (suc (suc (suc (suc (suc (suc (suc (suc (suc zero))))))))))) e lt same =
-    absurd (true≢false (sym same))
-only_workers (suc (suc (suc (suc (suc (suc (suc (suc (suc (suc (suc (suc zero)))))))))))) e lt
-    same = absurd (true≢false (sym same))
-only_workers (suc (suc (suc (suc (suc (suc (suc (suc (suc (suc (suc (suc (suc zero))))))))))))) e lt
-    same = absurd (true≢false (sym same))
-only_workers
-    (suc (suc (suc (suc (suc (suc (suc (suc (suc (suc (suc (suc (suc (suc zero)))))))))))))) e lt
-    same = absurd (true≢false (sym same))
-only_workers
-    (suc (suc (suc (suc (suc (suc (suc (suc (suc (suc (suc (suc (suc (suc (suc zero))))))))))))))) e lt
-    same = absurd (true≢false (sym same))
-only_workers
-    (suc (suc (suc (suc (suc (suc (suc (suc (suc (suc (suc (suc (suc (suc (suc (suc j)))))))))))))))) e lt
-    same = absurd (omega arith)
+only_workers j e = only (λ r. bytes_eq r.id (codes "workers")) 5 program.top.rules j e refl
 
 only_shards : (j : ℕ) (e : Rule) → j < length program.top.rules
     → bytes_eq (slice_index_or program.top.rules j e).id (codes "shards") ≡ true → j ≡ 6
 unfolding program
-only_shards zero e lt same = absurd (true≢false (sym same))
-only_shards (suc zero) e lt same = absurd (true≢false (sym same))
-only_shards (suc (suc zero)) e lt same = absurd (true≢false (sym same))
-only_shards (suc (suc (suc zero))) e lt same = absurd (true≢false (sym same))
-only_shards (suc (suc (suc (suc zero)))) e lt same = absurd (true≢false (sym same))
-only_shards (suc (suc (suc (suc (suc zero))))) e lt same = absurd (true≢false (sym same))
-only_shards (suc (suc (suc (suc (suc (suc zero)))))) e lt same = refl
-only_shards (suc (suc (suc (suc (suc (suc (suc zero))))))) e lt same =
-    absurd (true≢false (sym same))
-only_shards (suc (suc (suc (suc (suc (suc (suc (suc zero)))))))) e lt same =
-    absurd (true≢false (sym same))
-only_shards (suc (suc (suc (suc (suc (suc (suc (suc (suc zero))))))))) e lt same =
-    absurd (true≢false (sym same))
-only_shards (suc (suc (suc (suc (suc (suc (suc (suc (suc (suc zero)))))))))) e lt same =
-    absurd (true≢false (sym same))
-only_shards (suc (suc (suc (suc (suc (suc (suc (suc (suc (suc (suc zero))))))))))) e lt same =
-    absurd (true≢false (sym same))
-only_shards (suc (suc (suc (suc (suc (suc (suc (suc (suc (suc (suc (suc zero)))))))))))) e lt same =
-    absurd (true≢false (sym same))
-only_shards (suc (suc (suc (suc (suc (suc (suc (suc (suc (suc (suc (suc (suc zero))))))))))))) e lt
-    same = absurd (true≢false (sym same))
-only_shards (suc (suc (suc (suc (suc (suc (suc (suc (suc (suc (suc (suc (suc (suc zero))))))))))))))
-    e lt same = absurd (true≢false (sym same))
-only_shards
-    (suc (suc (suc (suc (suc (suc (suc (suc (suc (suc (suc (suc (suc (suc (suc zero))))))))))))))) e lt
-    same = absurd (true≢false (sym same))
-only_shards
-    (suc (suc (suc (suc (suc (suc (suc (suc (suc (suc (suc (suc (suc (suc (suc (suc j)))))))))))))))) e lt
-    same = absurd (omega arith)
+only_shards j e = only (λ r. bytes_eq r.id (codes "shards")) 6 program.top.rules j e refl
 
 workers_given : (c : Command) (m : ArgMatches) → app_of c ≡ program → IsParsedFrom c m
     → HasNumber 16 (codes "workers") (rows_of (found_of m))

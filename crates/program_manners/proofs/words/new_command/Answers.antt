@@ -4,6 +4,5 @@ use Rattle.program_manners.proofs.words.new_command.Goals as goal
 
 pub returns : goal.returns
 returns c =
-    ap app_of_fields c.after_help.ensures ∙ ap app_of_fields c.about.ensures
-    ∙ ap app_of_fields c.version.ensures
+    c.with_help.ensures ∙ ap app_of_fields c.version.ensures
     ∙ ap (on_top (λ (s : Shape). record s { has_version = true })) c.new.ensures.app

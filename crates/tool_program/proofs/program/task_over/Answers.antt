@@ -8,18 +8,6 @@ use Rattle.tool_program.specs.Merge.{AbortsMerge}
 use Rattle.tool_program.specs.Program.{usage_error_line}
 use Rattle.tool_program.proofs.program.task_over.Goals as goal
 
-pub returns-in-Sort-clause-done : goal.returns-in-Sort-clause-done
-returns-in-Sort-clause-done g c =
-    λ zero. rw c.in-Sort.is (c.sort_task.ensures.done None None None false zero)
-
-pub returns-in-Sort-clause-partly : goal.returns-in-Sort-clause-partly
-returns-in-Sort-clause-partly g c = λ three.
-    rw c.in-Sort.is (c.sort_task.ensures.partly None None None false three)
-
-pub returns-in-Sort-clause-aborted : goal.returns-in-Sort-clause-aborted
-returns-in-Sort-clause-aborted g c = λ one.
-    rw c.in-Sort.is (c.sort_task.ensures.aborted None None None false one)
-
 pub returns-in-Merge-clause-aborted : goal.returns-in-Merge-clause-aborted
 returns-in-Merge-clause-aborted g c = λ one.
     let (fault, reported, gives) = c.merge_over.ensures.faults one in
@@ -50,18 +38,10 @@ pub returns-in-EncodeRows-clause-aborted : goal.returns-in-EncodeRows-clause-abo
 returns-in-EncodeRows-clause-aborted g c = λ one. rw c.in-EncodeRows.is (
     elim (c.encode_rows_over.ensures.faults one) [
       | inl empty ↦ inl (λ kept keeps. (c.in-EncodeRows.words, refl, empty kept keeps))
-      | inr stopped ↦ inr (stopped.0, stopped.1, (c.in-EncodeRows.words, refl, stopped.2))
+      | inr stopped ↦ inr (
+          stopped.0, stopped.1, stopped.2, (c.in-EncodeRows.words, refl, stopped.3))
     ]
     )
-
-pub returns-in-ValidPrefix-clause-done : goal.returns-in-ValidPrefix-clause-done
-returns-in-ValidPrefix-clause-done g c = λ zero.
-    let done = c.valid_prefix_over.ensures.done zero in
-    rw c.in-ValidPrefix.is (c.in-ValidPrefix.words, refl, done.0, done.1, done.2)
-
-pub returns-in-ValidPrefix-clause-aborted : goal.returns-in-ValidPrefix-clause-aborted
-returns-in-ValidPrefix-clause-aborted g c = λ one.
-    rw c.in-ValidPrefix.is (c.in-ValidPrefix.words, refl, c.valid_prefix_over.ensures.faults one)
 
 pub returns-in-UsageError-clause-misused : goal.returns-in-UsageError-clause-misused
 returns-in-UsageError-clause-misused g c = λ line is.

@@ -12,7 +12,7 @@ returns-in-Ok-clause-table g c =
 
 pub returns-in-Err-clause-stops : goal.returns-in-Err-clause-stops
 returns-in-Err-clause-stops g c =
-    subst (λ (d : Option (Bor (List ℕ))). FailsDevices (word_in d) c.args.words.now.separator
+    subst (λ (d : Option (Bor (List ℕ))). FailsDevices (word_in d) c.args.words.now.columns.separator
     (g.S.Source.loaded c.args.source.now) (g.S.Source.loaded c.load_devices.new.source)
     (g.S.Source.refused c.load_devices.new.source) c.in-Err.fault) (sym c.in-Some.is)
     c.in-Err.ensures.stops

@@ -14,7 +14,6 @@ returns g c = λ bytes known.
         c.flexible.ensures,
         c.has_headers.ensures,
         c.new.ensures.config,
-        c.byte.ensures,
       ) at fr.config;
       trims = rw (c.delimiter.ensures, c.flexible.ensures, c.has_headers.ensures) at fr.trim
           ∙ c.new.ensures.trim;

@@ -10,7 +10,7 @@ returns-then-is_empty-clause-wrong c = λ devices.
     let long : length row ≡ 2 = omega (arith, c.len.ensures, c.if-len-ne2.false) in
     let none = empty_name c.field_in-name.result.now c.is_empty.result c.is_empty.ensures
     c.if-is_empty.true in
-    let first = c.field_in-name.ensures (omega (arith, long)) ∙ ap Some none in
+    let first = c.field_in-name.ensures.there (omega (arith, long)) ∙ ap Some none in
     let (digits, second) = field_there row 1 (omega (arith, long)) in
     (digits, two_fields row [] digits long first second)
 
@@ -22,8 +22,8 @@ returns-in_default-clause-wrong c = λ devices.
     let digits = c.field_in.result.now in (
       name,
       digits,
-      two_fields row name digits long (c.field_in-name.ensures (omega (arith, long)))
-          (c.field_in.ensures (omega (arith, long))),
+      two_fields row name digits long (c.field_in-name.ensures.there (omega (arith, long)))
+          (c.field_in.ensures.there (omega (arith, long))),
       some_name name c.is_empty.result c.is_empty.ensures c.if-is_empty.false,
       c.in_default.ensures,
     )
@@ -36,8 +36,8 @@ returns-clause-device c =
     let digits = c.field_in.result.now in
     record {
       digits = digits;
-      fields = two_fields row name digits long (c.field_in-name.ensures (omega (arith, long)))
-          (c.field_in.ensures (omega (arith, long)));
+      fields = two_fields row name digits long (c.field_in-name.ensures.there (omega (arith, long)))
+          (c.field_in.ensures.there (omega (arith, long)));
       named = some_name name c.is_empty.result c.is_empty.ensures c.if-is_empty.false;
       number = c.in-Some.ensures;
     }

@@ -1,0 +1,126 @@
+//! The line of a hint.
+
+use crate::shown::Quoted;
+use std::fmt::Write as _;
+use std::{fmt, io};
+
+/// What to do about a fault. Its `Display` is the line without its line feed.
+#[derive(Clone, Copy)]
+pub enum Hint<'a> {
+    /// Why the system refuses this file.
+    Reason(&'a str, io::Error),
+    /// Why the system refuses a write.
+    Unwritten(io::Error),
+    /// This fare table is none.
+    Table(&'a str),
+    /// This fare table has a zone that is none.
+    Zone(&'a str),
+    /// A file is too long to be read whole.
+    TooLong,
+    /// There are too many files.
+    TooMany,
+    /// An allocation failed.
+    NoMemory,
+    /// This upload has a layout fault.
+    Damaged(&'a str),
+    /// This file is text, and an upload is wanted.
+    Text(&'a str),
+    /// This file is compressed, and an upload is wanted.
+    Compressed(&'a str, &'static str),
+    /// This sorted file is out of order.
+    Unsorted(&'a str),
+    /// More files are damaged.
+    MoreDamaged,
+}
+
+#[derive(Clone, Copy)]
+struct Reason(io::Error);
+
+#[derive(Drop)]
+struct Message {
+    bytes: [u8; 128],
+    used: usize,
+}
+
+impl fmt::Write for Message {
+    fn write_str(&mut self, text: &str) -> fmt::Result {
+        for byte in text.as_bytes() {
+            if let Some(byte_kept) = self.bytes.get_mut(self.used) {
+                *byte_kept = *byte;
+                self.used = self.used.saturating_add(1);
+            }
+        }
+        Ok(())
+    }
+}
+
+impl fmt::Display for Reason {
+    fn fmt<W: fmt::Write>(&self, f: &mut fmt::Formatter<W>) -> fmt::Result {
+        let mut message = Message {
+            bytes: [0; 128],
+            used: 0,
+        };
+        write!(message, "{}", self.0)?;
+        let bytes = message.bytes.get(..message.used).unwrap_or(&[]);
+        let text = str::from_utf8(bytes).unwrap_or("");
+        match text.split_once(" (os error") {
+            Some((text, _)) => f.write_str(text),
+            None => f.write_str(text),
+        }
+    }
+}
+
+impl fmt::Display for Hint<'_> {
+    fn fmt<W: fmt::Write>(&self, f: &mut fmt::Formatter<W>) -> fmt::Result {
+        match self {
+            Hint::Reason(name, error) => { write!(f, "hint: {}: {}", Quoted(name), Reason(*error)) }
+            Hint::Unwritten(error) => write!(f, "hint: standard output: {}", Reason(*error)),
+            Hint::Table(name) => write!(
+                f,
+                "hint: `omny_tools table {}` says where, and what is wanted",
+                Quoted(name)
+            ),
+            Hint::Zone(name) => write!(
+                f,
+                "hint: the zone of {} is to be as EST5EDT,M3.2.0,M11.1.0: the last line of its file below /usr/share/zoneinfo",
+                Quoted(name)
+            ),
+            Hint::TooLong => f.write_str(
+                "hint: --settle --sorted reads files of any length that omny_tools sort made",
+            ),
+            Hint::TooMany => f.write_str("hint: omny_tools sort makes one file of many"),
+            Hint::NoMemory => f.write_str(
+                "hint: --settle --sorted takes little memory, over files that omny_tools sort made",
+            ),
+            Hint::Damaged(name) => write!(
+                f,
+                "hint: {} is damaged: `omny_tools uploads {}` says where, and what to do",
+                Quoted(name),
+                Quoted(name)
+            ),
+            Hint::Text(name) => write!(
+                f,
+                "hint: {} is text. If it is a table of taps, `omny_tools encode {}` makes an upload of it",
+                Quoted(name),
+                Quoted(name)
+            ),
+            Hint::Compressed(name, how) => {
+                write!(
+                    f,
+                    "hint: {} is compressed: `{how} {}`",
+                    Quoted(name),
+                    Quoted(name)
+                )
+            }
+            Hint::Unsorted(name) => write!(
+                f,
+                "hint: `omny_tools sort --out {} {}` puts its taps in order",
+                Quoted(name),
+                Quoted(name)
+            ),
+            Hint::MoreDamaged => {
+                f.write_str("hint: others may be damaged, too: omny_tools uploads says of each")
+            }
+        }
+    }
+}

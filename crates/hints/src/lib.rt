@@ -1,0 +1,16 @@
+//! What a person at a terminal can do about a fault: lines after those that the specification fixes.
+//! It is tested, and nothing but safety is proved.
+#![tactic(auto)]
+
+mod damage;
+mod faults;
+mod hint;
+mod overheard;
+mod shown;
+mod unwritten;
+
+pub use damage::damaged;
+pub use faults::{Named, hint_on_fault};
+pub use hint::Hint;
+pub use overheard::{Overheard, Said};
+pub use unwritten::Unwritten;

@@ -1,0 +1,56 @@
+//! Words that represent the standard input.
+
+use std::alloc::{AllocError, Global};
+
+/// What the system calls the standard input.
+pub(crate) const INPUT_FILE: &str = "/dev/stdin";
+
+/// Options whose value is not read as a file of the run.
+const OTHER_OPTIONS: [&str; 6] = [
+    "--token",
+    "--tokens",
+    "--workers",
+    "--shards",
+    "--files-from",
+    "--made-by",
+];
+
+fn is_other_option(word: &str) -> bool {
+    for option in &OTHER_OPTIONS {
+        if word == *option {
+            return true;
+        }
+    }
+    false
+}
+
+/// The words with the system's name of the standard input in place of each `-` that is a FILE or a
+/// fare table, and how many words represent it, a list of files among them.
+pub(crate) fn with_input_file(
+    alloc: Global,
+    words: &[String],
+) -> Result<(Vec<String>, usize), AllocError> {
+    let mut all = Vec::new(alloc);
+    let mut inputs = 0usize;
+    let mut before = "";
+    let mut has_files_alone = false;
+    for word in words {
+        let is_other = !has_files_alone && is_other_option(before);
+        let mut name = word.as_str();
+        if name == "-" && !is_other {
+            name = INPUT_FILE;
+            inputs = inputs.saturating_add(1);
+        }
+        if name == "--table=-" {
+            name = "--table=/dev/stdin";
+            inputs = inputs.saturating_add(1);
+        }
+        if name == "--files-from=-" || (name == "-" && before == "--files-from") {
+            inputs = inputs.saturating_add(1);
+        }
+        all.push(String::from_str(alloc, name)?)?;
+        has_files_alone |= name == "--";
+        before = word.as_str();
+    }
+    Ok((all, inputs))
+}
