@@ -1,0 +1,105 @@
+//! A writer that writes a text in another form.
+
+use crate::layout::Layout;
+use crate::shape::{Form, Shape};
+use std::alloc::Global;
+use std::io;
+use std::io::{ErrorKind, Write};
+
+/// How many bytes are collected before they are written.
+const SEND_BYTES: usize = 65_536;
+
+/// A writer of a text that writes it in a form. It keeps what is after the last line feed.
+#[derive(Drop)]
+pub struct Shaped<W: Write + Drop> {
+    to: W,
+    /// None if the text is written as it is.
+    shape: Option<Shape>,
+    line: Vec<u8>,
+    /// What is not written yet.
+    out: Vec<u8>,
+}
+
+impl<W: Write + Drop> Shaped<W> {
+    /// A writer to which nothing was written yet.
+    pub fn new(alloc: Global, to: W, layout: Layout, form: Form) -> Shaped<W> {
+        let shape = match form {
+            Form::Text => None,
+            Form::Csv => Some(Shape::new(layout, false)),
+            Form::Json => Some(Shape::new(layout, true)),
+        };
+        Shaped {
+            to,
+            shape,
+            line: Vec::new(alloc),
+            out: Vec::new(alloc),
+        }
+    }
+
+    /// Writes what follows the last line, after the whole text.
+    pub fn close(&mut self) -> io::Result<()> {
+        let Some(shape) = &mut self.shape else {
+            return Ok(());
+        };
+        if !self.line.is_empty() {
+            return Err(io::Error::from(ErrorKind::InvalidData));
+        }
+        shape.finish(&mut self.out)?;
+        self.send()?;
+        self.to.flush()
+    }
+
+    /// The writer below.
+    pub fn into_writer(self) -> W {
+        let Shaped {
+            to,
+            shape: _,
+            line: _,
+            out: _,
+        } = self;
+        to
+    }
+
+    fn send(&mut self) -> io::Result<()> {
+        self.to.write_all(&self.out)?;
+        self.out.clear();
+        Ok(())
+    }
+}
+
+/// Takes a piece of a text, which ends at its first line feed or has none.
+fn take(shape: &mut Shape, line: &mut Vec<u8>, piece: &[u8], out: &mut Vec<u8>) -> io::Result<()> {
+    let Some((b'\n', rest)) = piece.split_last() else {
+        line.extend_from_slice(piece)?;
+        return Ok(());
+    };
+    if line.is_empty() {
+        return shape.add(rest, out);
+    }
+    line.extend_from_slice(rest)?;
+    shape.add(line, out)?;
+    line.clear();
+    Ok(())
+}
+
+impl<W: Write + Drop> Write for Shaped<W> {
+    fn write(&mut self, bytes: &[u8]) -> io::Result<usize> {
+        if self.shape.is_none() {
+            return self.to.write(bytes);
+        }
+        for piece in bytes.split_inclusive(|byte| *byte == b'\n') {
+            if let Some(shape) = &mut self.shape {
+                take(shape, &mut self.line, piece, &mut self.out)?;
+            }
+            if self.out.len() >= SEND_BYTES {
+                self.send()?;
+            }
+        }
+        Ok(bytes.len())
+    }
+
+    fn flush(&mut self) -> io::Result<()> {
+        self.send()?;
+        self.to.flush()
+    }
+}
