@@ -22,7 +22,7 @@ use options::{Options, list_words, reads_input};
 use program::main_over;
 use program_manners::{Complaints, Escaping, Output, WriteEnd, take_list, unread_words, words_of};
 use std::io;
-use std::io::{ErrorKind, IsTerminal, Write};
+use std::io::{IsTerminal, Write};
 use std::process::ExitCode;
 use text_forms::{FINDINGS, Form, Shaped};
 use world::{Stream, System};
@@ -81,19 +81,6 @@ fn compare_made_by<W: Write, E: Write>(
     }
 }
 
-/// Writes what the form has after the findings. The status is 1 after a fault, which was reported.
-fn close<W: Write + Drop, E: Write>(out: &mut Shaped<W>, err: &mut E) -> u8 {
-    match out.close() {
-        Ok(()) => 0,
-        Err(error) => {
-            if error.kind() != ErrorKind::BrokenPipe {
-                Complaints::new(err).report_line("fault: cannot write");
-            }
-            1
-        }
-    }
-}
-
 /// Says on a terminal what to do about the fault that was reported.
 fn report_hint(rt: &HostRuntime, words: &[String], said: &Said, error: Option<io::Error>) {
     let Ok(options) = Options::read(rt.alloc(), words) else {
@@ -112,24 +99,33 @@ fn report_hint(rt: &HostRuntime, words: &[String], said: &Said, error: Option<io
     }
 }
 
-/// The form that the words name: none if it is no form.
-fn form_of(rt: &HostRuntime, words: &[String]) -> Option<Form> {
-    match Options::read(rt.alloc(), words) {
-        Ok(options) => Form::of(options.format.unwrap_or("text")),
-        Err(_) => Some(Form::Text),
+/// The form of the findings that the words name; else the line of a usage error.
+fn form_of(rt: &HostRuntime, words: &[String]) -> Result<Form, &'static str> {
+    let Ok(options) = Options::read(rt.alloc(), words) else {
+        return Ok(Form::Text);
+    };
+    match Form::of(options.format.unwrap_or("text")) {
+        None => Err("fault: --format is text, json or csv"),
+        Some(form) if form != Form::Text && options.made_by.is_some() => {
+            Err("fault: --format cannot be used with --made-by")
+        }
+        Some(form) => Ok(form),
     }
 }
 
 /// Runs the words, of which the list's names are arguments, and returns the status.
 fn run(rt: &HostRuntime, words: &[String], mut err: Escaping<io::Stderr>) -> u8 {
-    let Some(form) = form_of(rt, words) else {
-        Complaints::new(&mut err).report_line("fault: --format is text, json or csv");
-        err.finish();
-        return 2;
+    let form = match form_of(rt, words) {
+        Ok(form) => form,
+        Err(line) => {
+            Complaints::new(&mut err).report_line(line);
+            err.finish();
+            return 2;
+        }
     };
     note_input(rt, words);
-    let out = Unwritten::new(rt.stdout());
-    let mut out = Shaped::new(rt.alloc(), out, FINDINGS, form);
+    let out = Shaped::new(rt.alloc(), rt.stdout(), FINDINGS, form);
+    let mut out = Unwritten::new(out);
     let mut err = Overheard::new(err);
     let mut status = main_over(
         rt,
@@ -138,13 +134,10 @@ fn run(rt: &HostRuntime, words: &[String], mut err: Escaping<io::Stderr>) -> u8 
         &mut Stream::new(),
         &mut System::new(rt, &mut out, &mut err),
     );
-    if status < 2 && err.said().is_silent() {
+    if status < 2 && err.said().is_silent() && out.error().is_none() {
         status = status.max(compare_made_by(rt, words, &mut out, &mut err));
     }
-    if status < 2 && err.said().is_silent() {
-        status = status.max(close(&mut out, &mut err));
-    }
-    let error = out.into_writer().error();
+    let error = out.error();
     let (escaping, said) = err.into_parts();
     escaping.finish();
     report_hint(rt, words, &said, error);

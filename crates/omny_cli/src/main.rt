@@ -18,7 +18,7 @@ use program_manners::{Escaping, WriteEnd, take_list};
 use provenance::RunSums;
 use run_progress::{Findings, Hushing, Steps, Ticker, Watched};
 use std::fs;
-use std::io::{ErrorKind, IsTerminal, Stderr, Stdout, Write};
+use std::io::{IsTerminal, Stderr, Write};
 use std::marker::Sync;
 use std::process::ExitCode;
 use std::random::RandomSource;
@@ -113,19 +113,6 @@ fn writes_to_file(rt: &HostRuntime) -> bool {
     }
 }
 
-/// Writes what the form has after the text. On an error it was reported.
-fn close(rt: &HostRuntime, mut shaped: Shaped<Stdout>) -> bool {
-    match shaped.close() {
-        Ok(()) => true,
-        Err(error) => {
-            if error.kind() != ErrorKind::BrokenPipe {
-                Complaints::new(rt.stderr()).report_line("fault: cannot write");
-            }
-            false
-        }
-    }
-}
-
 /// Runs the words, of which these name files, in this form, and returns the status.
 fn run<R: Threads + Wait + Clock + RandomSource + Sync + AllocGlobal>(
     handles: &R,
@@ -156,7 +143,7 @@ fn run<R: Threads + Wait + Clock + RandomSource + Sync + AllocGlobal>(
         &mut err,
     );
     let end = out.end();
-    let (shaped, _text) = out.into_writer().into_writer().into_parts();
+    drop(out);
     let (overheard, _calls) = err.into_writer().into_writer().into_parts();
     let (escaping, said) = overheard.into_parts();
     if end == Some(WriteEnd::Closed) {
@@ -164,15 +151,12 @@ fn run<R: Threads + Wait + Clock + RandomSource + Sync + AllocGlobal>(
         return status;
     }
     escaping.finish();
-    let is_written = status < 2 && said.is_silent();
-    if is_written && !close(rt, shaped) {
-        return 1;
-    }
     let findings = ticker.findings(handles);
     report_findings(&findings, &mut Complaints::new(rt.stderr()));
     if status == 1 && rt.stderr().is_terminal() {
         report_hints(rt, files, &said, &findings);
     }
+    let is_written = status < 2 && said.is_silent();
     if let Some(name) = files.made_by
         && is_written
         && let Some(sums) = ticker.into_sums()

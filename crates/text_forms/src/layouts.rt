@@ -101,7 +101,7 @@ pub const STATEMENT: Layout = Layout {
 pub const FINDINGS: Layout = Layout {
     parts: &[Part::List("findings")],
     columns: "wrong,lines,line,token,moment,validator,upload,place,class,taps,ledger_taps,offset,\
-        fault,tokens,cents,wanted_cents,wanted,made_by,name",
+        fault,tokens,cents,wanted_cents,wanted",
     kind: Some("finding"),
     lines: &[
         Line(0, "wrong line", "line #line wants *wanted"),
@@ -160,10 +160,6 @@ pub const FINDINGS: Layout = Layout {
             "damaged upload",
             "upload #upload refused #taps at #offset @fault",
         ),
-        Line(0, "made by", "made by *made_by"),
-        Line(0, "another text", "made another text"),
-        Line(0, "file not given", "made of *name"),
-        Line(0, "other file", "not made of *name"),
     ],
 };
 

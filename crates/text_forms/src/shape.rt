@@ -43,10 +43,11 @@ pub(crate) struct Shape {
     is_json: bool,
     /// The part that is written.
     open: Option<Part>,
-    /// How many parts were begun.
-    begun: usize,
+    /// How many parts were started.
+    started: usize,
     /// Whether the part has a line.
     has_items: bool,
+    is_ended: bool,
 }
 
 impl Shape {
@@ -55,8 +56,9 @@ impl Shape {
             layout,
             is_json,
             open: None,
-            begun: 0,
+            started: 0,
             has_items: false,
+            is_ended: false,
         }
     }
 
@@ -65,6 +67,9 @@ impl Shape {
         let Some(found) = self.line_of(line) else {
             return Err(unfit());
         };
+        if self.is_ended {
+            return Err(unfit());
+        }
         if self.is_json {
             return self.add_json(found, line, out);
         }
@@ -75,8 +80,12 @@ impl Shape {
         Ok(())
     }
 
-    /// Appends what follows the last line.
+    /// Appends what follows the last line, after which no line follows.
     pub(crate) fn finish(&mut self, out: &mut Vec<u8>) -> Result<(), AllocError> {
+        if self.is_ended {
+            return Ok(());
+        }
+        self.is_ended = true;
         if !self.is_json {
             return self.begin_table(out);
         }
@@ -104,7 +113,7 @@ impl Shape {
             return Err(unfit());
         };
         let is_list = matches!(part, Part::List(_));
-        if self.begun.saturating_sub(1) != index || (self.has_items && !is_list) {
+        if self.started.saturating_sub(1) != index || (self.has_items && !is_list) {
             return Err(unfit());
         }
         if self.has_items {
@@ -119,11 +128,11 @@ impl Shape {
         Ok(())
     }
 
-    /// Begins the parts up to this one that are not begun.
+    /// Begins the parts up to this one that are not started.
     fn begin_parts(&mut self, last: usize, out: &mut Vec<u8>) -> Result<(), AllocError> {
         let parts = self.layout.parts;
         for (index, part) in parts.iter().enumerate() {
-            if index >= self.begun && index <= last {
+            if index >= self.started && index <= last {
                 self.begin_part(*part, out)?;
             }
         }
@@ -132,7 +141,7 @@ impl Shape {
 
     fn begin_part(&mut self, part: Part, out: &mut Vec<u8>) -> Result<(), AllocError> {
         self.end_part(out)?;
-        let before: &[u8] = if self.begun == 0 { b"{" } else { b",\n" };
+        let before: &[u8] = if self.started == 0 { b"{" } else { b",\n" };
         out.extend_from_slice(before)?;
         push_json(out, part.name().as_bytes())?;
         out.extend_from_slice(b":")?;
@@ -140,7 +149,7 @@ impl Shape {
             out.extend_from_slice(b"[")?;
         }
         self.open = Some(part);
-        self.begun = self.begun.saturating_add(1);
+        self.started = self.started.saturating_add(1);
         self.has_items = false;
         Ok(())
     }
@@ -183,10 +192,10 @@ impl Shape {
 
     /// Appends the head of the table, if it has none.
     fn begin_table(&mut self, out: &mut Vec<u8>) -> Result<(), AllocError> {
-        if self.begun != 0 {
+        if self.started != 0 {
             return Ok(());
         }
-        self.begun = 1;
+        self.started = 1;
         push_cell(out, self.layout.kind.unwrap_or("kind").as_bytes())?;
         out.extend_from_slice(b",")?;
         out.extend_from_slice(self.layout.columns.as_bytes())?;
