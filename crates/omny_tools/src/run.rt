@@ -14,6 +14,7 @@ use std::io;
 use std::io::Write;
 use std::marker::Sync;
 use std::thread::Threads;
+use text_forms::{Form, Shaped, UPLOADS};
 use tool_program::{Fault, main_over, say};
 use world::Recorded;
 
@@ -79,7 +80,12 @@ pub(crate) fn run<R: Threads + Sync, E: Write>(
         say(err, &Fault::NoMemory);
         return 1;
     };
-    let Ok(framed_out) = collect(rt, io::writer(rt)) else {
+    let form = match manner {
+        Manner::Uploads(form) => form,
+        _ => Form::Text,
+    };
+    let framed_out = Shaped::new(rt.alloc(), io::writer(rt), UPLOADS, form);
+    let Ok(framed_out) = collect(rt, framed_out) else {
         say(err, &Fault::NoMemory);
         return 1;
     };
