@@ -1,5 +1,5 @@
 -- Texts in JSON and in CSV.
-use Rattle.std.specs.Prelude.{ℕ, ◌+◌, ◌%◌, ◌/◌, Bool, true, false, List, [], ◌∷◌, ◌++◌, codes}
+use Rattle.std.specs.Prelude.{ℕ, ◌+◌, ◌%◌, ◌/◌, Bool, List, [], ◌∷◌, ◌++◌}
 use Rattle.std.specs.Prelude.{flat_map, if◌then◌else◌, ◌||◌, ◌==◌, nat_lt}
 use Rattle.std.specs.List.{list_any}
 
@@ -10,7 +10,7 @@ hex_digit n = if nat_lt n 10 then 48 + n else 87 + n
 -- a byte within a string of JSON: quotes, backslashes and control characters are escaped
 abbrev pub json_byte : ℕ → List ℕ
 json_byte b = if (b == 34) || (b == 92) then 92 ∷ b ∷ []
-    else if nat_lt b 32 then codes "\\u00" ++ (48 + b / 16) ∷ hex_digit (b % 16) ∷ [] else b ∷ []
+    else if nat_lt b 32 then 92 ∷ 117 ∷ 48 ∷ 48 ∷ (48 + b / 16) ∷ hex_digit (b % 16) ∷ [] else b ∷ []
 
 -- the string of JSON
 abbrev pub json_string : List ℕ → List ℕ

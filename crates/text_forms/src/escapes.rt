@@ -1,13 +1,15 @@
 //! Texts in JSON and in CSV.
-ghost use Rattle.std.specs.Prelude.{◌≡◌, ◌++◌, OnOk};
-ghost use Rattle.text_forms.specs.Escapes.{csv_byte, csv_cell, has_special, is_special};
-ghost use Rattle.text_forms.specs.Escapes.{json_byte, json_string};
+ghost use Rattle.std.specs.Prelude.{◌≡◌, ◌++◌, ◌%◌, OnOk};
+ghost use Rattle.text_forms.specs.Escapes.{csv_byte, csv_cell, has_special, hex_digit};
+ghost use Rattle.text_forms.specs.Escapes.{is_special, json_byte, json_string};
 
 use std::alloc::AllocError;
 
 const LOW_DIGITS: u8 = 16;
 
-fn hex_digit(byte: u8) -> u8 {
+fn hex_digit(byte: u8) -> u8
+    ensures { result ≡ hex_digit (byte % 16) }
+{
     match byte % LOW_DIGITS {
         digit @ 0..=9 => b'0' + digit,
         digit => b'W' + digit,
