@@ -1,2 +1,2 @@
-pub mod Escapes
+pub mod inside
 pub mod Shaped

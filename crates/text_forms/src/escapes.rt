@@ -1,7 +1,7 @@
 //! Texts in JSON and in CSV.
 ghost use Rattle.std.specs.Prelude.{◌≡◌, ◌++◌, ◌%◌, OnOk};
-ghost use Rattle.text_forms.specs.Escapes.{csv_byte, csv_cell, has_special, hex_digit};
-ghost use Rattle.text_forms.specs.Escapes.{is_special, json_byte, json_string};
+ghost use Rattle.text_forms.specs.inside.Escapes.{csv_byte, csv_cell, has_special, hex_digit};
+ghost use Rattle.text_forms.specs.inside.Escapes.{is_special, json_byte, json_string};
 
 use std::alloc::AllocError;
 

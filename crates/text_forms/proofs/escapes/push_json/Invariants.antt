@@ -1,6 +1,6 @@
 use Rattle.std.proofs.Common.{◌≡◌, ◌++◌, take}
 use Rattle.std.specs.Prelude.{flat_map}
-use Rattle.text_forms.specs.Escapes.{json_byte}
+use Rattle.text_forms.specs.inside.Escapes.{json_byte}
 use Rattle.text_forms.proofs.escapes.push_json.Given as goal
 
 abbrev pub invariant-loop-byte : goal.invariant-loop-byte
