@@ -1,5 +1,4 @@
-//! What the words request of the system: what is refused before anything is read or made, and how a
-//! CSV is read.
+//! What the words request of the system that is refused before anything is read or made.
 
 use std::fs;
 use std::io::IsTerminal;
@@ -54,24 +53,14 @@ fn has_ends_in_place(rt: &HostRuntime, words: &SortingWords<'_>) -> bool {
     false
 }
 
-#[derive(Clone, Copy)]
-pub(crate) enum Manner {
-    Refused(&'static str),
-    /// An agency's CSV is read, with this byte between two fields.
-    Rows(u8),
-    Other,
-}
-
-pub(crate) fn manner_of(rt: &HostRuntime, words: &[String]) -> Manner {
+/// Why what the words request is refused.
+pub(crate) fn refusal_of(rt: &HostRuntime, words: &[String]) -> Option<&'static str> {
     let Ok(task) = read(rt.alloc(), words) else {
-        return Manner::Other;
+        return None;
     };
     match &task {
-        Task::Encode(_) | Task::EncodeRows(..) if rt.stdout().is_terminal() => {
-            Manner::Refused(TO_TERMINAL)
-        }
-        Task::Sort(words) if has_ends_in_place(rt, words) => Manner::Refused(ENDS_IN_PLACE),
-        Task::EncodeRows(_, words) => Manner::Rows(words.columns.separator.byte),
-        _ => Manner::Other,
+        Task::Encode(_) | Task::EncodeRows(..) if rt.stdout().is_terminal() => Some(TO_TERMINAL),
+        Task::Sort(words) if has_ends_in_place(rt, words) => Some(ENDS_IN_PLACE),
+        _ => None,
     }
 }
