@@ -1,5 +1,5 @@
-//! The rows of an agency's own CSV, as an upload: the columns are found by their names, and the rows
-//! are selected by their values.
+//! The rows of an agency's own CSV, as an upload: the columns are found by their names, and the
+//! rows are selected by their values.
 
 mod choice;
 mod fault;

@@ -1,6 +1,6 @@
 //! An upload that grows by a batch at a time.
 
-ghost use Rattle.std.specs.Prelude.{◌<◌, ◌++◌, ◌∷◌, [], List, IfOk, OnOk};
+ghost use Rattle.std.specs.Prelude.{◌≡◌, ◌<◌, ◌++◌, ◌∷◌, [], List, IfOk, OnOk};
 ghost use Rattle.tap_rows.specs.inside.Growing.{IsGrown};
 ghost use Rattle.tap_views.specs.Files.{IsFileOf};
 ghost use Rattle.tap_views.specs.Layout.{moment_limit};

@@ -38,7 +38,7 @@ fn push_rows(text: &mut Vec<u8>, batch: &Batch) -> Result<(), AllocError>
 
 /// Appends the header line of a table.
 pub fn push_head(text: &mut Vec<u8>) -> Result<(), AllocError>
-    ensures { OnOk result (text.new.items ≡ text.old.items ++ head ++ 10 ∷ []) }
+    ensures { OnOk result (text.new.items ≡ text.old.items ++ (head ++ 10 ∷ [])) }
 {
     text.extend_from_slice(b"token,validator,moment\n")
 }

@@ -30,6 +30,14 @@ did_file : (old : Run) (text : List ℕ) (file : Named)
 did_file old text file = rw (append-nil old.loads, append-nil old.said) refl
 
 -- ---- what stopped it
+-- the file of this number was not made
+pub unmade_as : (name : List ℕ) (number : ℕ) (why : Stop) (fault : MakeFault) (old mid new : Run)
+    → why ≡ Unmade number fault → mid ≡ old → IsUnmade mid new name fault
+    → HaltsMade name number why old new
+unmade_as name number why fault old mid new is same unmade =
+    subst (λ w. HaltsMade name number w old new) (sym is)
+    (refl, subst (λ r. IsUnmade r new name fault) same unmade)
+
 pub part_none : (names : List (List ℕ)) (text : List ℕ) (files : List Named) (why : Stop)
     (old new : Run) → IsNamed names why → Leaves names why old new
     → HaltsPart names text files why old new

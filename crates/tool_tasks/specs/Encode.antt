@@ -14,18 +14,19 @@ use Rattle.world.specs.Run.{Load, Named}
 abbrev pub load_of : List ℕ → List ℕ → Load
 load_of word bytes = record { name = file_named word; bytes = bytes }
 
--- Nothing is written and no file is made. The line is noted, with more after it, and the status is 1.
+-- Nothing is written and no file is made. The line is noted, with more after it. The status is 1.
 abbrev pub Refuses : (line more : List ℕ) → Answer → List Named → ℕ → Type 0
 Refuses line more answer files status =
-    (answer ≡ record { text = []; note = line ++ (more ++ codes "\n") }) × (files ≡ []) × (status ≡ 1)
+    (answer ≡ record { text = []; note = line ++ (more ++ codes "\n") }) × (files ≡ [])
+    × (status ≡ 1)
 
 -- what is wrong with the text, of which no upload is written
 abbrev pub IsWrongTapTable : List ℕ → WrongTapTable → Type 0
 IsWrongTapTable text table.Head = ¬ (IsHead (first_line text))
 IsWrongTapTable text (table.Row number column) = IsBadRow text number column
 
--- What is written is the upload of exactly the taps of the table, and nothing is noted; or the table
--- is wrong, and its first wrong line is noted.
+-- What is written is the upload of exactly the taps of the table, and nothing is noted; or the
+-- table is wrong, and its first wrong line is noted.
 abbrev pub IsTableAnswer : (word text : List ℕ) → Answer → List Named → ℕ → Type 0
 IsTableAnswer word text answer files status =
     (IsEncoded text answer.text × (answer.note ≡ []) × (files ≡ []) × (status ≡ 0))

@@ -126,7 +126,7 @@ IsWrongDevices separator text (wrong_devices.Row number why) =
     IsDevicesFault separator text (devices.Row number why)
 
 -- ---- THE rule
--- the upload of the rows of the text; or the text is wrong, and the line is noted, with more after it
+-- it is the upload of the rows; or the text is wrong: its line is noted, with more after it
 abbrev pub IsRowsAnswer : RowsWords → List ℕ → Choice → List ℕ → Answer → List Named → ℕ → Type 0
 IsRowsAnswer words word choice text answer files status =
     IsRowsUpload (word_in words.refused) choice text answer files status

@@ -288,11 +288,11 @@ fn encode<'a, W: World + Counted>(
 }
 
 /// Encodes the rows of the agency's CSV that the word names, `-` being standard input, as the words
-/// say: loads the device table, if they name one, reads the CSV whole, writes the upload of the rows
-/// that are kept, makes the file of the refused rows, if it has a name, and then notes how many rows
-/// there are of each kind. A fault is noted, too. `seed` is random, so that no file can choose names
-/// of devices that are found slowly. The status is 0 if all is written, 3 if it is and rows were
-/// refused, 1 after a fault or if no row is a tap.
+/// say: loads the device table, if they name one, reads the CSV whole, writes the upload of the
+/// rows that are kept, makes the file of the refused rows, if it has a name, and then notes how
+/// many rows there are of each kind. A fault is noted, too. `seed` is random, so that no file can
+/// choose names of devices that are found slowly. The status is 0 if all is written, 3 if it is and
+/// rows were refused, 1 after a fault or if no row is a tap.
 pub fn encode_rows_over<W: World + Counted>(
     alloc: Global,
     seed: RandomState,

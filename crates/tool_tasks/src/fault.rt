@@ -1,6 +1,6 @@
 //! Why a subcommand is given up, and the line that says so.
 ghost use Rattle.std.specs.Prelude.{◌≡◌, ◌≢◌, ◌⊎◌, ℕ, Err, IfErr, IfOk, List, None, Ok, OnErr};
-ghost use Rattle.std.specs.Prelude.{◌++◌, OnOk, Option, Some, false, true};
+ghost use Rattle.std.specs.Prelude.{OnOk, Option, Some, false, true};
 ghost use Rattle.std.specs.Io.KnownBytes.{Keeps};
 ghost use Rattle.program_manners.specs.Refusals.{IsOneOf, Refuses};
 ghost use Rattle.world.specs.declared.faults.LoadFault.{LoadFault as ALoadFault};

@@ -34,8 +34,8 @@ pub(crate) fn refusal<'a>(
     fault: Fault<'_>,
     more: &str,
 ) -> Result<Prepared<'a>, AllocError>
-    ensures { IfOk result (λ prepared. Refuses (fault_text fault) more.now (answer_of prepared)
-        (files_of prepared) prepared.status) }
+    ensures { IfOk result (λ prepared. Refuses (fault_text fault.entry) more.now
+        (answer_of prepared) (files_of prepared) prepared.status) }
 {
     Ok(Prepared {
         text: Vec::new(alloc),
@@ -46,11 +46,7 @@ pub(crate) fn refusal<'a>(
 }
 
 /// Begins the file, which no file may have the name of, and writes its bytes.
-fn begin<'a, W: World>(
-    name: &'a str,
-    bytes: &[u8],
-    world: &mut W,
-) -> Result<W::File, Halt<'a>>
+fn begin<'a, W: World>(name: &'a str, bytes: &[u8], world: &mut W) -> Result<W::File, Halt<'a>>
     ensures begun { IfOk result (λ file. W.File.contents file ≡ Some bytes.now) }
     ensures unchanged { OnOk result (W.run world.new ≡ W.run world.old) }
     ensures halted { IfErr result (λ halt. HaltsMade name.entry.now FILE_NUMBER halt.why
@@ -130,9 +126,9 @@ pub(crate) fn carry_out<'a, W: World>(
                 Err(halt) => Err(halt),
             },
         },
-        Some((name, bytes)) => match begin(name, bytes, world) {
+        Some((name, bytes)) => match begin(*name, bytes, world) {
             Err(halt) => Err(halt),
-            Ok(file) => match write(&prepared.text, name, file, world) {
+            Ok(file) => match write(&prepared.text, *name, file, world) {
                 Err(halt) => Err(halt),
                 Ok(()) => match end(&prepared.note, world) {
                     Ok(()) => Ok(prepared.status),

@@ -43,8 +43,8 @@ impl Quotes {
     }
 }
 
-/// The line of the last quote that opens a field, if nothing closes it. It takes all later rows into
-/// its field. No clause says more of it.
+/// The line of the last quote that opens a field, if nothing closes it. It takes all later rows
+/// into its field. No clause says more of it.
 pub(crate) fn open_quote(text: &[u8], separator: u8) -> Option<u64> {
     let mut quotes = Quotes {
         position: Position::Begin,

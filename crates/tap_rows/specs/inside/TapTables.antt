@@ -1,14 +1,10 @@
 -- How far a tap table is read: what private functions alone cite.
 use Rattle.std.specs.Prelude.{◌≡◌, ℕ, ◌+◌, List, length}
-use Rattle.std.specs.Io.BufRead.{drop_through, take_through}
+use Rattle.std.specs.Io.BufRead.{drop_through}
 use Rattle.tap_views.specs.declared.encoder.TapFields.{TapFields}
 use Rattle.tap_rows.specs.TapTables.{BeginsWithRows}
 use Rattle.tap_rows.specs.declared.growing.Growing.{Growing}
 use Rattle.tap_rows.specs.inside.Growing.{IsGrown}
-
--- the line with its end, and what is after it
-abbrev pub IsSplit : List ℕ → List ℕ → List ℕ → Type 0
-IsSplit text line rest = (line ≡ take_through 10 text) × (rest ≡ drop_through 10 text)
 
 -- the rows before the line of this number are read, and their taps are in the upload
 pub record HasEncoded (text left : List ℕ) (number : ℕ) (growing : Growing) : Type 0 where
