@@ -110,12 +110,20 @@ impl<W, E> Counted for Framed<'_, W, E> {
         let mut stream = Stream::new();
         let read = read_whole(self.rt, name, &mut self.counts, &mut stream);
         self.counts.end();
-        // the calls of a load for which an allocation failed are dropped
-        if let Err(LoadFault::NoMemory) = read {
-            return Err(LoadFault::NoMemory);
+        match read {
+            Ok(bytes) => {
+                self.system.join(stream.into_trace());
+                Ok(bytes)
+            }
+            Err(why) => match why {
+                // the calls are dropped
+                LoadFault::NoMemory => Err(why),
+                LoadFault::Unread | LoadFault::TooLong => {
+                    self.system.join(stream.into_trace());
+                    Err(why)
+                }
+            },
         }
-        self.system.join(stream.into_trace());
-        read
     }
 }
 

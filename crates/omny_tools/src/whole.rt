@@ -1,5 +1,5 @@
 //! A file or standard input that is read whole.
-ghost use Rattle.std.specs.Prelude.{◌≡◌, IfErr, IfOk, option_map};
+ghost use Rattle.std.specs.Prelude.{◌≡◌, ◌≢◌, IfErr, IfOk, option_map};
 ghost use Rattle.world.specs.Loads.{IsRefused};
 ghost use Rattle.world.specs.Run.{no_calls, nothing_yet, with_load};
 
@@ -16,7 +16,7 @@ pub(crate) fn read_whole(
     requires { stream.old.trace ≡ no_calls }
     ensures loaded { IfOk result (λ bytes. stream.new.trace.run
         ≡ with_load nothing_yet (option_map (λ n. n.now) name.entry) bytes.items) }
-    ensures refused { IfErr result (λ why. why ≡ LoadFault.Unread → IsRefused nothing_yet
+    ensures refused { IfErr result (λ why. why ≢ LoadFault.NoMemory → IsRefused nothing_yet
         stream.new.trace.run (option_map (λ n. n.now) name.entry) why) }
 {
     stream.open(rt, name)?;

@@ -33,6 +33,6 @@ pub(crate) fn next_record(
 {
     match reader.read_byte_record(row) {
         Ok(found) => Ok(found),
-        Err(_) => Err(AllocError),
+        Err(_error) => Err(AllocError),
     }
 }
