@@ -2,6 +2,7 @@
 
 use crate::lines::Lines;
 use crate::progress::Progress;
+use crate::whole::read_whole;
 use frame::Streams;
 use program_manners::{Opened, open_file};
 use std::fmt::Display;
@@ -10,7 +11,7 @@ use std::io;
 use std::io::{BufReader, Write};
 use tool_program::Counted;
 use world::{
-    Fault, Inputs, LoadFault, Loaded, MakeFault, NewFile, System, Trace, World, WriteFault,
+    Fault, Inputs, LoadFault, Loaded, MakeFault, NewFile, Stream, System, Trace, World, WriteFault,
 };
 
 const READ_BYTES: usize = 65_536;
@@ -89,7 +90,7 @@ impl<W, E> Streams for Framed<'_, W, E> {
             Some(name) => Opened::File(open_file(self.rt, name)?),
             None => Opened::Input(self.rt.reader()),
         };
-        match BufReader::with_capacity(self.rt.alloc(), READ_BYTES, Lines::new(opened, true)) {
+        match BufReader::with_capacity(self.rt.alloc(), READ_BYTES, Lines::new(opened)) {
             Ok(text) => Ok(text),
             Err(_) => Err(LoadFault::NoMemory),
         }
@@ -104,6 +105,26 @@ impl<W, E> Counted for Framed<'_, W, E> {
     fn end_count(&mut self) {
         self.counts.end();
     }
+
+    fn load_whole(&mut self, name: Option<&str>) -> Result<Vec<u8>, LoadFault> {
+        let mut stream = Stream::new();
+        let read = read_whole(self.rt, name, &mut self.counts, &mut stream);
+        self.counts.end();
+        match read {
+            Ok(bytes) => {
+                self.system.join(stream.into_trace());
+                Ok(bytes)
+            }
+            Err(why) => match why {
+                // the calls are dropped
+                LoadFault::NoMemory => Err(why),
+                LoadFault::Unread | LoadFault::TooLong => {
+                    self.system.join(stream.into_trace());
+                    Err(why)
+                }
+            },
+        }
+    }
 }
 
 impl<W: Write, E: Write> World for Framed<'_, W, E> {
@@ -114,7 +135,7 @@ impl<W: Write, E: Write> World for Framed<'_, W, E> {
         match self.system.write(piece) {
             Ok(()) => {
                 self.done = self.done.saturating_add(piece.len() as u64);
-                self.progress.report_bytes(self.done, None, "written");
+                self.progress.report_bytes(self.done, "written");
                 Ok(())
             }
             Err(why) => {

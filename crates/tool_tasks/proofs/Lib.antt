@@ -2,12 +2,10 @@ mod Informing
 pub mod KnownBytes
 mod Loading
 pub mod Decoding
-pub mod Encoded
-pub mod EncodedRows
 pub mod Faults
-pub mod FilesMade
 pub mod Making
 pub mod MergedUploads
 pub mod Opened
+mod Preparing
 pub mod Sorting
 pub mod ValidPrefixes

@@ -75,7 +75,6 @@ impl<'a> Decoding<'a> {
     /// The piece is the rows of the next upload before its first layout fault.
     fn put_rows<I: Counted>(
         &mut self,
-        alloc: Global,
         files: &mut I,
         piece: &mut Vec<u8>,
     ) -> Result<Step, Stop>
@@ -98,7 +97,7 @@ impl<'a> Decoding<'a> {
                 files.show_count(number, self.words.len());
                 match load_at(files, &self.words, number) {
                     Err(why) => Err(why),
-                    Ok(upload) => match tap_rows::decode(alloc, &upload, piece) {
+                    Ok(upload) => match tap_rows::decode(&upload, piece) {
                         Ok(None) => {
                             self.done = next_of(number, &self.words);
                             Ok(Step::More(For::Text))
@@ -109,7 +108,7 @@ impl<'a> Decoding<'a> {
                             self.stage = DecodeStage::Note(word, offset, fault);
                             Ok(Step::More(For::Text))
                         }
-                        Err(_) => Err(Stop::NoMemory),
+                        Err(AllocError) => Err(Stop::NoMemory),
                     },
                 }
             }
@@ -140,14 +139,14 @@ impl<'a, I: Counted> Task<I> for Decoding<'a> {
 
     fn next(&mut self, alloc: Global, files: &mut I, piece: &mut Vec<u8>) -> Result<Step, Stop> {
         match self.stage {
-            DecodeStage::Head => match tap_rows::write_head(piece) {
+            DecodeStage::Head => match tap_rows::push_head(piece) {
                 Ok(()) => {
                     self.stage = DecodeStage::Rows;
                     Ok(Step::More(For::Text))
                 }
-                Err(_) => Err(Stop::NoMemory),
+                Err(AllocError) => Err(Stop::NoMemory),
             },
-            DecodeStage::Rows => self.put_rows(alloc, files, piece),
+            DecodeStage::Rows => self.put_rows(files, piece),
             DecodeStage::Note(word, offset, fault) => {
                 match note_layout(alloc, word, offset, fault, piece) {
                     Ok(()) => {
