@@ -1,4 +1,5 @@
 //! Where files are made.
+ghost use Rattle.std.specs.Prelude.{◌≡◌};
 
 use program_manners::Output;
 use std::alloc::{AllocError, Global};
