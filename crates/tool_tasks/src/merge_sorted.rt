@@ -172,6 +172,7 @@ fn merge<D: PlacedFiles, W: World>(
 /// canonical order, and before it that of a line for each upload, if it has a name. The uploads are
 /// read at any offset. A fault is reported. Gives the status: 0 if the files are made, 1 after a
 /// fault.
+#[tactic(auto, using(crate::proofs::MergedUploads::merge_status))]
 pub fn merge_sorted_over<D: PlacedFiles, W: World>(
     alloc: Global,
     words: &SortingWords<'_>,
