@@ -90,14 +90,6 @@ right_unopened words word (TooManyOpen named) one is =
 right_unopened words word NoMemory one is = tt
 right_unopened words word said one is = absurd is
 
--- such a fault is right of files that are merged
-pub unopened_right : (words : List (List ℕ)) (known : List (Option (List ℕ))) (said : Fault)
-    → IsUnopened words said → IsRightFileFault words known said
-unopened_right words known (Unread named) one = one
-unopened_right words known (TooManyOpen named) one = one
-unopened_right words known NoMemory one = tt
-unopened_right words known said one = absurd one
-
 -- the files of these ends and of these taps are right
 pub merges_right : (request : SortRequest) (known : List (Option (List ℕ))) (ends : List UploadEnd)
     (lines note file : List ℕ) (status : ℕ)

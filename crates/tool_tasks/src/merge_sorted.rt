@@ -156,15 +156,17 @@ fn merge<D: PlacedFiles, W: World>(
                 Err(Stop::NoMemory)
             }
         },
-        Err(None) => Err(Stop::Unmade(0, world.fail(words.out, file))),
-        Err(Some(Fault::NoMemory)) => {
-            world.discard(file);
-            Err(Stop::NoMemory)
-        }
-        Err(Some(fault)) => {
-            world.discard(file);
-            refuse(alloc, fault, world)
-        }
+        Err(why) => match why {
+            None => Err(Stop::Unmade(0, world.fail(words.out, file))),
+            Some(Fault::NoMemory) => {
+                world.discard(file);
+                Err(Stop::NoMemory)
+            }
+            Some(fault) => {
+                world.discard(file);
+                refuse(alloc, fault, world)
+            }
+        },
     }
 }
 
