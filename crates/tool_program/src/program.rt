@@ -107,7 +107,7 @@ fn task_over<
         Task::Decode(words) => decode_over(alloc, words, world),
         Task::Uploads(words, has_tokens) => uploads_over(alloc, words, has_tokens, world),
         Task::ValidPrefix(words) => valid_prefix_over(alloc, &words, world),
-        Task::Look(words, names) => look_over(threads, alloc, &words, &names, world),
+        Task::Look(words, names) => look_over(alloc, &words, &names, world),
         Task::Table(question) => table_over(alloc, &question, moment, world),
         Task::Sort(words) if words.is_merge => merge_sorted_over(alloc, &words, files, world),
         Task::Sort(words) => sort_over(threads, alloc, &words, world),
