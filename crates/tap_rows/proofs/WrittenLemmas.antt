@@ -159,13 +159,15 @@ first_line_of line rest none =
     rw ends refl in
     ap trimmed (taken line rest none) ∙ whole ∙ ap (strip_last 13) (no_feed line)
 
+no_feed_more : (x : ℕ) (line : List ℕ) → 13 < x → HasNoFeed line → (k d : ℕ)
+    → k < length (x ∷ line) → ¬ (slice_index_or (x ∷ line) k d ≡ 10)
+no_feed_more x line above none zero d within = λ same. absurd (omega (arith, same, above))
+no_feed_more x line above none (suc k) d within = none k d (omega (arith, within))
+
 unbroken_no_feed : (line : List ℕ) → IsUnbroken line → HasNoFeed line
 unbroken_no_feed [] unbroken = λ k d within. absurd (omega (arith, within))
-unbroken_no_feed (x ∷ line) unbroken = go
-  where
-    go : (k d : ℕ) → k < length (x ∷ line) → ¬ (slice_index_or (x ∷ line) k d ≡ 10)
-    go zero d within = λ same. absurd (omega (arith, same, unbroken.0))
-    go (suc k) d within = unbroken_no_feed line unbroken.1 k d (omega (arith, within))
+unbroken_no_feed (x ∷ line) unbroken =
+    no_feed_more x line unbroken.0 (unbroken_no_feed line unbroken.1)
 
 pub first : (line rest : List ℕ) → IsUnbroken line → first_line (line ++ 10 ∷ rest) ≡ line
 first line rest unbroken = first_line_of line rest (unbroken_no_feed line unbroken)

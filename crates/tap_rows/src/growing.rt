@@ -1,6 +1,6 @@
 //! An upload that grows by a batch at a time.
 
-ghost use Rattle.std.specs.Prelude.{◌≡◌, ◌<◌, ◌++◌, ◌∷◌, [], List, IfOk, OnOk};
+ghost use Rattle.std.specs.Prelude.{◌≡◌, ◌<◌, ◌++◌, ◌∷◌, [], List, IfOk, OnOk, length};
 ghost use Rattle.tap_rows.specs.inside.Growing.{IsGrown};
 ghost use Rattle.tap_views.specs.Files.{IsFileOf};
 ghost use Rattle.tap_views.specs.Layout.{moment_limit};
@@ -37,17 +37,36 @@ impl Growing {
         Ok(())
     }
 
+    fn wait(&mut self, tap: TapFields) -> Result<(), AllocError>
+        requires grown { (taps : List TapFields) × IsGrown self.old taps }
+        requires room { length self.old.waiting.items < 4096 }
+        requires early { tap.moment < moment_limit }
+        ensures { OnOk result ((taps : List TapFields) → IsGrown self.old taps
+            → IsGrown self.new (taps ++ tap ∷ [])) }
+    {
+        self.waiting.push(tap)?;
+        Ok(())
+    }
+
     pub(crate) fn push(&mut self, tap: TapFields) -> Result<(), AllocError>
         requires grown { (taps : List TapFields) × IsGrown self.old taps }
         requires early { tap.moment < moment_limit }
         ensures { OnOk result ((taps : List TapFields) → IsGrown self.old taps
             → IsGrown self.new (taps ++ tap ∷ [])) }
     {
-        if self.waiting.len() == MAX_TAPS {
-            self.put_waiting()?;
+        if self.waiting.len() < MAX_TAPS {
+            return self.wait(tap);
         }
-        self.waiting.push(tap)?;
-        Ok(())
+        self.put_waiting()?;
+        self.wait(tap)
+    }
+
+    fn into_upload(self) -> Vec<u8>
+        ensures { result ≡ self.upload }
+    {
+        let Growing { upload, waiting } = self;
+        let _ = waiting;
+        upload
     }
 
     /// The upload of all these taps.
@@ -56,11 +75,10 @@ impl Growing {
         ensures { IfOk result (λ upload. (taps : List TapFields) → IsGrown self taps
             → IsFileOf upload.items taps) }
     {
-        if !self.waiting.is_empty() {
-            self.put_waiting()?;
+        if self.waiting.is_empty() {
+            return Ok(self.into_upload());
         }
-        let Growing { upload, waiting } = self;
-        let _ = waiting;
-        Ok(upload)
+        self.put_waiting()?;
+        Ok(self.into_upload())
     }
 }

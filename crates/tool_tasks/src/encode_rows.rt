@@ -251,7 +251,7 @@ fn encode_by_devices<'a, W: World + Counted>(
     name: &'a str,
     world: &mut W,
 ) -> Result<u8, Halt<'a>>
-    requires { word_in words.now.devices ≡ Some name.entry.now }
+    requires { word_in words.now.devices ≡ Some name.now }
     ensures done { IfOk result (IsDoneMaking (EncodesRows words.now word.entry.now)
         (W.run world.old) (W.run world.new)) }
     ensures halted { IfErr result (λ halt. IsHaltedMaking (EncodesRows words.now word.entry.now)

@@ -1,6 +1,7 @@
-use Rattle.std.proofs.Common.{[], refl}
+use Rattle.std.proofs.Common.{◌∙◌, [], ◌++◌, ap, refl}
 use Rattle.std.proofs.lemmas.Result.{err_from_is_err_and}
 use Rattle.csv.specs.Records.{fields_of}
+use Rattle.tap_rows.specs.Agencies.{refusals_head}
 use Rattle.tap_rows.proofs.AgencyRowLemmas.{no_wanting}
 use Rattle.tap_rows.proofs.GoingLemmas.{going_first, going_more, head_fault, head_is, no_head}
 use Rattle.tap_rows.proofs.agency.writing.encode_rows.Goals as goal
@@ -32,7 +33,9 @@ loop-count-init c =
     c.in_ok-growing.growing c.push_refusals_head.new.text.items c.new-summary.result
     (fields_of c.next_record.new.row) c.in_ok-positions.ensures.positions
     (c.in_ok-has_head.ensures.more c.if-not-has_head.false choice.columns.now.separator text []
-    c.records_of-reader.ensures) c.in_ok-growing.ensures c.in_ok-push_refusals_head.ensures
+    c.records_of-reader.ensures) c.in_ok-growing.ensures
+    (c.in_ok-push_refusals_head.ensures ∙ ap (λ old. old ++ refusals_head
+    choice.columns.now.separator (fields_of c.next_record.new.row)) c.new-refused.ensures.items)
     c.new-summary.ensures
 
 pub loop-count-preserved : goal.loop-count-preserved

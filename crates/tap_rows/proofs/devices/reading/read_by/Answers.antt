@@ -37,7 +37,8 @@ pub returns-in_err-add-clause-fault : goal.returns-in_err-add-clause-fault
 returns-in_err-add-clause-fault c =
     let text = c.args.text.now in
     let row = fields_of c.next_record-in-loop-count.new.row in
-    let p = err_from_is_err_and c.from_residual.result c.from_residual.ensures.1 in
+    let p = err_from_is_err_and c.from_residual-in_err-add.result
+    c.from_residual-in_err-add.ensures.1 in
     rw (p.1, p.2)
     (row_fault c.args.separator text c.loop-count.count _ c.loop-count.reader
     c.next_record-in-loop-count.new.reader (devices_of c.loop-count.table) row
