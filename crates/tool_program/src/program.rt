@@ -76,7 +76,7 @@ fn task_over<
     err: &mut Complaints<E>,
     world: &mut X,
 ) -> u8
-    // What the frame runs ends as it says. Anything else does nothing in its world.
+    // What the frame runs ends as it says. Else nothing is done.
     ensures framed { IsFramed X.bytes_under (D.bytes_under files.now)
         (request_of task.entry) (X.run world.old) (X.run world.new) result }
     ensures done { result ≡ 0 → IsDone (request_of task.entry) (run_of (S.loaded source.old)
@@ -145,8 +145,7 @@ pub fn main_over<
     err: &mut Complaints<E>,
     world: &mut X,
 ) -> u8
-    // What is run over the world ends as it says. Only being out of memory, while the words are read,
-    // may come before it. Anything else does nothing in the world.
+    // What is run over the world ends as it says, unless an allocation fails before.
     ensures framed { Parses (map string_bytes words.now)
         → IsFramed X.bytes_under (D.bytes_under files.now) (request_by (map string_bytes words.now))
         (X.run world.old) (X.run world.new) result

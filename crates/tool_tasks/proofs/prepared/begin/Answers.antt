@@ -9,8 +9,8 @@ returns-in-Err-clause-halted g c =
     unmade_as c.args.name.now 2 c.of.result.why c.in-Err.why (run c.args.world.now)
     (run c.args.world.now) (run c.begin.new.self) c.of.ensures refl c.in-Err.ensures.unmade
 
-pub returns-in-Ok-write_bytes-clause-begun : goal.returns-in-Ok-write_bytes-clause-begun
-returns-in-Ok-write_bytes-clause-begun g c =
+pub returns-in-Ok-write_bytes-clause-held : goal.returns-in-Ok-write_bytes-clause-held
+returns-in-Ok-write_bytes-clause-held g c =
     let contents = g.W.File.Write.contents in
     known_whole (contents c.in-Ok.file) (contents c.write_bytes.new.out) c.args.bytes.now
     c.in-Ok.ensures.empty c.in-Ok-write_bytes.ensures.whole
