@@ -1,5 +1,6 @@
 -- What `encode` has done when it ends.
-use Rattle.std.proofs.Common.{◌≡◌, ◌∙◌, ◌⊎◌, ◌∷◌, ◌++◌, ◌≤◌, ℕ, Bool, List, [], None, Option, Some}
+use Rattle.std.proofs.Common.{◌≡◌, ◌∙◌, ◌⊎◌, ◌∷◌, ◌++◌, ◌≤◌, ℕ, Bool, Err, IfOk, List, [], None, Ok}
+use Rattle.std.proofs.Common.{Option, Result, Some}
 use Rattle.std.proofs.Common.{ap, arith, false, if◌then◌else◌, inl, inr, refl, subst, sym, true}
 use Rattle.std.specs.Prelude.{◌==◌, codes, slice_get, unwrap_or}
 use Rattle.frame.specs.Ends.{Answer}
@@ -21,9 +22,14 @@ use Rattle.tool_tasks.proofs.Loading.{unread_leaves}
 use Rattle.tool_tasks.proofs.Making.{halts_at_once, halts_loaded}
 use Rattle.tool_tasks.specs.Encode.{EncodesTable, IsTableAnswer, Refuses, load_of}
 use Rattle.tool_tasks.specs.EncodeRows.{AreDeviceLoads, EncodesRows, EncodesText, IsChoice}
-use Rattle.tool_tasks.specs.EncodeRows.{IsRowsAnswer, IsRowsUpload, IsSummaryLine, names_of}
+use Rattle.tool_tasks.specs.EncodeRows.{IsRowsAnswer, IsRowsUpload, IsSummaryLine}
+use Rattle.tool_tasks.specs.EncodeRows.{IsWrongDevices, names_of}
 use Rattle.tool_tasks.specs.EncodeRows.{refused_files, rows_status, word_in}
+use Rattle.tool_tasks.specs.Fault.{wrong_line}
 use Rattle.tool_tasks.specs.Names.{file_named}
+use Rattle.tool_tasks.specs.WrongTables.{devices_text}
+use Rattle.tool_tasks.specs.declared.wrong_tables.WrongDevices.{WrongDevices}
+use Rattle.tool_tasks.specs.inside.Prepared.{IsNamedIn, files_in}
 
 -- ---- the load of a word
 pub word_loaded : (word : List ℕ) (old new : Run) (name : Option (List ℕ)) (bytes : List ℕ)
@@ -62,15 +68,50 @@ no_memory Right names stop old new loads is loaded =
     subst (λ s. IsHaltedMaking Right names old new s) (sym is)
     (halts_loaded Right names old new NoMemory loads tt loaded)
 
+-- ---- the names of the files
+-- no file is made, and so none is the third of these
+pub none_named : (names : List (List ℕ)) (file : Option (List ℕ × List ℕ)) → files_in file ≡ []
+    → IsNamedIn names file
+none_named names None none = tt
+none_named names (Some (name, bytes)) none = absurd (cc none)
+
+pub table_named : (names : List (List ℕ)) (word text : List ℕ) (answer : Answer)
+    (file : Option (List ℕ × List ℕ)) (status : ℕ)
+    → IsTableAnswer word text answer (files_in file) status → IsNamedIn names file
+table_named names word text answer file status (inl upload) = none_named names file upload.2
+table_named names word text answer file status (inr wrong) = none_named names file wrong.2.1
+
+abbrev first_name : List Named → List ℕ
+first_name [] = []
+first_name (file ∷ files) = file.name
+
+refused_named : (word other : List ℕ) (refused : Option (List ℕ)) (rows : List ℕ)
+    (file : Option (List ℕ × List ℕ)) → files_in file ≡ refused_files refused rows
+    → IsNamedIn (word ∷ other ∷ unwrap_or refused word ∷ []) file
+refused_named word other refused rows None is = tt
+refused_named word other None rows (Some (name, bytes)) is = absurd (cc is)
+refused_named word other (Some given) rows (Some (name, bytes)) is =
+    ap (λ (files : List Named). Some (first_name files)) (sym is)
+
+pub rows_named : (words : RowsWords) (word : List ℕ) (choice : Choice) (text : List ℕ)
+    (answer : Answer) (file : Option (List ℕ × List ℕ)) (status : ℕ)
+    → IsRowsAnswer words word choice text answer (files_in file) status
+    → IsNamedIn (names_of words word) file
+rows_named words word choice text answer file status (inl upload) =
+    refused_named word (unwrap_or (word_in words.devices) word) (word_in words.refused) upload.rows
+    file upload.made
+rows_named words word choice text answer file status (inr wrong) =
+    none_named (names_of words word) file wrong.3.1
+
 -- ---- a tap table
 pub table_right : (word text read : List ℕ) (answer : Answer) (files : List Named)
     (status given : ℕ) → IsTableAnswer word read answer files given → read ≡ text → status ≡ given
     → EncodesTable word (load_of word text ∷ []) answer files status
-table_right word text read answer files status given is same as = record {
+table_right word text read answer files status given is same given_is = record {
   text = text;
   loaded = refl;
   answered = subst (λ t. IsTableAnswer word t answer files status) same
-      (subst (IsTableAnswer word read answer files) (sym as) is);
+      (subst (IsTableAnswer word read answer files) (sym given_is) is);
 }
 
 pub table_status : (word : List ℕ) (names : List (List ℕ)) (old new : Run) (status : ℕ)
@@ -90,7 +131,7 @@ pub rows_right : (words : RowsWords) (word text read : List ℕ) (before : List 
     → read ≡ text → status ≡ given
     → EncodesRows words word (before ++ load_of word text ∷ []) answer files status
 rows_right words word text read before devices choice answer files status given of is_choice is same
-    as = inl (record {
+    given_is = inl (record {
       before = before;
       devices = devices;
       of_devices = of;
@@ -99,7 +140,7 @@ rows_right words word text read before devices choice answer files status given 
       text = text;
       loaded = refl;
       answered = subst (λ t. IsRowsAnswer words word choice t answer files status) same
-          (subst (IsRowsAnswer words word choice read answer files) (sym as) is);
+          (subst (IsRowsAnswer words word choice read answer files) (sym given_is) is);
     })
 
 one_of_three : (a b : Bool) (status : ℕ) → status ≡ (if a then 1 else (if b then 0 else 3))
@@ -135,3 +176,48 @@ first_refused choice text file refused summary number reason is first = record {
   is_read = is.is_read;
   first = sym is.summary_is.first_refused ∙ first;
 }
+
+-- what is written of rows that are encoded
+pub rows_uploaded : (refused given : Option (List ℕ)) (choice : Choice)
+    (text upload rows : List ℕ) (summary : Summary) (answer : Answer) (files : List Named)
+    (status : ℕ) → given ≡ refused → IsRowsEncoded choice text upload rows summary
+    → answer.text ≡ upload → files ≡ refused_files given rows
+    → ((line : List ℕ) × IsSummaryLine summary line × (answer.note ≡ line ++ codes "\n"))
+    → status ≡ rows_status summary → (refused ≡ None → summary.first_refused ≡ None)
+    → IsRowsUpload refused choice text answer files status
+rows_uploaded refused given choice text upload rows summary answer files status same encoded texts
+    made noted is whole = record {
+      rows = rows;
+      summary = summary;
+      encoded = subst (λ (file : List ℕ). IsRowsEncoded choice text file rows summary) (sym texts)
+          encoded;
+      line = noted.0;
+      is_line = noted.1;
+      noted = noted.2;
+      made = made ∙ ap (λ (r : Option (List ℕ)). refused_files r rows) same;
+      whole = whole;
+      status_is = is;
+    }
+
+-- four facts of a result
+pub all_four : {T E : Type 0} (r : Result T E) (A B C D P : T → Type 0) → IfOk r A → IfOk r B
+    → IfOk r C → IfOk r D → ((x : T) → A x → B x → C x → D x → P x) → IfOk r P
+all_four (Ok x) A B C D P a b c d make = make x a b c d
+all_four (Err e) A B C D P a b c d make = tt
+
+-- the file of the devices is none
+pub devices_right : (words : RowsWords) (word name text : List ℕ) (wrong : WrongDevices)
+    (answer : Answer) (files : List Named) (status given : ℕ) → word_in words.devices ≡ Some name
+    → IsWrongDevices words.columns.separator text wrong
+    → Refuses (wrong_line name (devices_text wrong)) [] answer files given → status ≡ given
+    → EncodesRows words word (load_of name text ∷ []) answer files status
+devices_right words word name text wrong answer files status given named is refused given_is =
+    inr (record {
+      name = name;
+      named = named;
+      text = text;
+      loaded = refl;
+      wrong = wrong;
+      is_wrong = is;
+      answered = (refused.0, refused.1, given_is ∙ refused.2);
+    })
