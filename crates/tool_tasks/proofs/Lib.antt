@@ -2,6 +2,7 @@ mod Informing
 pub mod KnownBytes
 mod Loading
 pub mod Decoding
+mod Encoding
 pub mod Faults
 pub mod Making
 pub mod MergedUploads
