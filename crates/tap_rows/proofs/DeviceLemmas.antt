@@ -158,7 +158,8 @@ devices_more separator text count reader after old new row device has consumed i
 
 -- a row that was not added is the first that is wrong
 pub row_fault : (separator : Separator)
-    (text : List ℕ) (count number : ℕ) (reader after : Reader (Bor (List ℕ))) (devices : List Device)
+    (text : List ℕ) (count number : ℕ) (reader after : Reader (Bor (List ℕ)))
+    (devices : List Device)
     (row : List (List ℕ)) (f : DevicesFault)
     → HasDevices separator text count reader devices
     → ((rows : List (List (List ℕ))) → HasConsumed separator text rows reader

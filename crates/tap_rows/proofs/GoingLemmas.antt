@@ -1,5 +1,6 @@
 -- The rows of an agency's CSV, as they are read and encoded.
-use Rattle.std.proofs.Common.{◌≡◌, ℕ, ◌+◌, List, [], ◌∷◌, ◌++◌, Bor, length, None, Some, refl, sym, ap}
+use Rattle.std.proofs.Common.{◌≡◌, ℕ, ◌+◌, List, [], ◌∷◌, ◌++◌, Bor, length, None, Some, refl, sym}
+use Rattle.std.proofs.Common.{ap}
 use Rattle.std.proofs.Common.{subst, ◌∙◌, arith, append-nil, append_assoc, length-append}
 use Rattle.std.specs.Prelude.{flat_map}
 use Rattle.std.proofs.lemmas.Slice.Zip.{AllZip-long}
@@ -11,7 +12,8 @@ use Rattle.csv.specs.declared.parser.State.TheVariants.{StartRecord}
 use Rattle.csv.specs.declared.reader.Reader.{Reader}
 use Rattle.tap_views.specs.declared.encoder.TapFields.{TapFields}
 use Rattle.tap_rows.specs.Agencies.{HasNoColumn, IsAgencyFault, IsWanting, IsSummary}
-use Rattle.tap_rows.specs.Agencies.{refusal_of, refusal_text, refusals, refusals_head, refusals_text}
+use Rattle.tap_rows.specs.Agencies.{refusal_of, refusal_text, refusals, refusals_head}
+use Rattle.tap_rows.specs.Agencies.{refusals_text}
 use Rattle.tap_rows.specs.Agencies.{tap_of, taps_in}
 use Rattle.tap_rows.specs.AgencyRows.{IsParseOf}
 use Rattle.tap_rows.specs.AgencyTexts.{HasRecords, config_of, fields_read, first_record}

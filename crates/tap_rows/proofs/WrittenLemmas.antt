@@ -1,5 +1,6 @@
 -- The table that is written is read as the taps that it was written for.
-use Rattle.std.proofs.Common.{All, inl, inr, ◌≡◌, ℕ, zero, suc, ◌+◌, ◌-◌, ◌<◌, ◌≤◌, ◌^◌, List, [], ◌∷◌, ◌++◌}
+use Rattle.std.proofs.Common.{All, inl, inr, ◌≡◌, ℕ, zero, suc, ◌+◌, ◌-◌, ◌<◌, ◌≤◌, ◌^◌, List, []}
+use Rattle.std.proofs.Common.{◌∷◌, ◌++◌}
 use Rattle.std.proofs.Common.{length, take, refl, sym, ap, subst, ◌∙◌, arith, append_assoc}
 use Rattle.std.proofs.Common.{length-append, true, false, Bool, ◌==◌, ◌&&◌}
 use Rattle.std.specs.Prelude.{codes, slice_index, slice_index_or, nat_lt, IsOk, if◌then◌else◌}
@@ -329,5 +330,6 @@ table_back taps are =
     record {
       head_line = subst IsHead (sym (first head (rows_text taps) unbroken)) head_back;
       rows = subst (λ text. BeginsWithRows text taps [])
-          (sym (dropped head (rows_text taps) (unbroken_no_feed head unbroken))) (rows_back taps are);
+          (sym (dropped head (rows_text taps) (unbroken_no_feed head unbroken)))
+          (rows_back taps are);
     }

@@ -18,7 +18,7 @@ use Rattle.tool_tasks.specs.ValidPrefix.{HasValidPrefix}
 use Rattle.tool_tasks.specs.MergeSorted.{MergesOrRefuses}
 use Rattle.tool_tasks.specs.Sort.{Sorts, names_of}
 use Rattle.tool_tasks.specs.declared.fault.Fault.{Fault}
-use Rattle.tool_words.specs.Request.{Request, RowsRequest, corrections, decode, encode}
+use Rattle.tool_words.specs.Request.{Request, corrections, decode, encode}
 use Rattle.tool_words.specs.Request.{encode_rows, valid_prefix, merge, usage_error, shows, sort}
 use Rattle.tool_words.specs.UsageErrors.{usage_error_text}
 use Rattle.tool_words.specs.Tasks.{rows_words_of}
@@ -119,15 +119,15 @@ abbrev pub run_of : Option (List Loaded) → Option (List Loaded)
     → Option (Option (List ℕ) × LoadFault) → (List ℕ → Option (List ℕ)) → Option (List ℕ)
     → Option (List ℕ) → Option WriteEnd → Bool → Option (List ℕ) → Option (List ℕ) → Bool → Run
 run_of loaded loaded' refused bytes_under out out' end is_flushed said said' unsaid = record {
-      loaded = loaded;
-      loaded' = loaded';
-      refused = refused;
-      bytes_under = bytes_under;
-      out = out;
-      out' = out';
-      end = end;
-      is_flushed = is_flushed;
-      said = said;
-      said' = said';
-      unsaid = unsaid;
-    }
+  loaded = loaded;
+  loaded' = loaded';
+  refused = refused;
+  bytes_under = bytes_under;
+  out = out;
+  out' = out';
+  end = end;
+  is_flushed = is_flushed;
+  said = said;
+  said' = said';
+  unsaid = unsaid;
+}

@@ -126,7 +126,8 @@ table_status word names old new status (inr stopped) =
 -- ---- an agency's CSV
 pub rows_right : (words : RowsWords) (word text read : List ℕ) (before : List Load)
     (devices : Option (List Device)) (choice : Choice) (answer : Answer) (files : List Named)
-    (status given : ℕ) → AreDeviceLoads (word_in words.devices) words.columns.separator before devices
+    (status given : ℕ)
+    → AreDeviceLoads (word_in words.devices) words.columns.separator before devices
     → IsChoice words devices choice → IsRowsAnswer words word choice read answer files given
     → read ≡ text → status ≡ given
     → EncodesRows words word (before ++ load_of word text ∷ []) answer files status

@@ -2,7 +2,7 @@ mod Informing
 pub mod KnownBytes
 mod Loading
 pub mod Decoding
-pub mod Encoding
+mod Encoding
 pub mod Faults
 pub mod Making
 pub mod MergedUploads

@@ -1,5 +1,6 @@
 //! `decode`.
-ghost use Rattle.std.specs.Prelude.{◌≡◌, ◌<◌, ◌≤◌, ◌+◌, ◌++◌, [], ℕ, List, OnOk, codes, if◌then◌else◌};
+ghost use Rattle.std.specs.Prelude.{◌≡◌, ◌<◌, ◌≤◌, ◌+◌, ◌++◌, [], ℕ, List, OnOk, codes};
+ghost use Rattle.std.specs.Prelude.{if◌then◌else◌};
 ghost use Rattle.std.specs.Prelude.{length, map};
 ghost use Rattle.frame.specs.Ends.{Answer, Ends, did};
 ghost use Rattle.frame.specs.Tasks.{Goes};
@@ -73,11 +74,7 @@ struct Decoding<'a> {
 
 impl<'a> Decoding<'a> {
     /// The piece is the rows of the next upload before its first layout fault.
-    fn put_rows<I: Counted>(
-        &mut self,
-        files: &mut I,
-        piece: &mut Vec<u8>,
-    ) -> Result<Step, Stop>
+    fn put_rows<I: Counted>(&mut self, files: &mut I, piece: &mut Vec<u8>) -> Result<Step, Stop>
         requires empty { piece.old.items ≡ [] }
         requires stage { self.old.stage ≡ DecodeStage.Rows }
         ensures words { self.new.words ≡ self.old.words }

@@ -12,7 +12,7 @@ ghost use Rattle.tool_tasks.specs.EncodeRows.{IsWrongDevices, names_of, refused_
 ghost use Rattle.tool_tasks.specs.EncodeRows.{word_in};
 ghost use Rattle.tool_tasks.specs.Fault.{wrong_line};
 ghost use Rattle.tool_tasks.specs.WrongTables.{devices_text, rows_text};
-ghost use Rattle.tool_tasks.specs.declared.wrong_tables.WrongDevices.{WrongDevices as AWrongDevices};
+ghost use Rattle.tool_tasks.specs.declared.wrong_tables.WrongDevices.{WrongDevices as AWrong};
 ghost use Rattle.tool_tasks.specs.inside.Prepared.{answer_of, files_in, files_of};
 ghost use Rattle.world.specs.Origins.{with_loads};
 ghost use Rattle.world.specs.Run.{Load, Run};
@@ -140,11 +140,7 @@ fn prepare_encoded<'a>(
 }
 
 /// The lines of a quote that nothing closes.
-fn open_quote_refusal<'a>(
-    alloc: Global,
-    word: &str,
-    line: u64,
-) -> Result<Prepared<'a>, AllocError>
+fn open_quote_refusal<'a>(alloc: Global, word: &str, line: u64) -> Result<Prepared<'a>, AllocError>
     ensures { IfOk result (λ prepared. (more : List ℕ)
         × Refuses (wrong_line word.now (rows_text (WrongRows.Quote line))) more
         (answer_of prepared) (files_of prepared) prepared.status) }
@@ -228,7 +224,7 @@ fn refuse_devices<'a>(
     fault: DevicesFault,
 ) -> Result<Prepared<'a>, AllocError>
     ensures { (separator : Separator) (text : List ℕ) → IsDevicesFault separator text fault
-        → IfOk result (λ prepared. (wrong : AWrongDevices) × IsWrongDevices separator text wrong
+        → IfOk result (λ prepared. (wrong : AWrong) × IsWrongDevices separator text wrong
         × Refuses (wrong_line word.now (devices_text wrong)) [] (answer_of prepared)
         (files_of prepared) prepared.status) }
 {

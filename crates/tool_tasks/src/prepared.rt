@@ -47,7 +47,7 @@ pub(crate) fn refusal<'a>(
 
 /// Begins the file, which no file may have the name of, and writes its bytes.
 fn begin<'a, W: World>(name: &'a str, bytes: &[u8], world: &mut W) -> Result<W::File, Halt<'a>>
-    ensures held { IfOk result (λ file. W.File.contents file ≡ Some bytes.now) }
+    ensures bytes { IfOk result (λ file. W.File.contents file ≡ Some bytes.now) }
     ensures unchanged { OnOk result (W.run world.new ≡ W.run world.old) }
     ensures halted { IfErr result (λ halt. HaltsMade name.entry.now FILE_NUMBER halt.why
         (W.run world.old) (W.run world.new)) }

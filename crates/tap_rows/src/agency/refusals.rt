@@ -85,5 +85,12 @@ pub(crate) fn push_refusal(
         (record { number = number; reason = reason; row = fields_of row.now })) }
 {
     let mut digits = Buffer::new();
-    push(alloc, separator, digits.format(number), word_of(reason), row, text)
+    push(
+        alloc,
+        separator,
+        digits.format(number),
+        word_of(reason),
+        row,
+        text,
+    )
 }

@@ -109,7 +109,15 @@ pub fn encode_rows(
         let reading = reading_of(choice, &positions, &row);
         note_reading(note, choice, &positions, &row, &reading);
         let number = count + 2;
-        put_row(alloc, separator, number, &row, &reading, &mut growing, &mut refused)?;
+        put_row(
+            alloc,
+            separator,
+            number,
+            &row,
+            &reading,
+            &mut growing,
+            &mut refused,
+        )?;
         summary = with_row(summary, number, &reading);
     }
     // no slice has so many rows

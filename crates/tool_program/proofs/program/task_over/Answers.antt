@@ -1,4 +1,4 @@
-use Rattle.std.proofs.Common.{◌≡◌, ◌∙◌, Bor, List, None, ap, arith, false, inl, inr, map, refl}
+use Rattle.std.proofs.Common.{◌∙◌, Bor, List, ap, inl, inr, map, refl}
 use Rattle.std.proofs.Common.{subst, sym, ℕ}
 use Rattle.program_manners.specs.LineWritten.{LineWritten}
 use Rattle.tool_words.specs.UsageErrors.{usage_error_text}

@@ -17,8 +17,8 @@ pub returns-in_err-positions-clause-fault : goal.returns-in_err-positions-clause
 returns-in_err-positions-clause-fault c =
     let separator = c.args.choice.now.columns.now.separator in
     let head = fields_of c.next_record.new.row in
-    let consumed = c.in_ok-has_head.ensures.more c.if-not-has_head.false separator c.args.text.now []
-    c.records_of-reader.ensures in
+    let consumed = c.in_ok-has_head.ensures.more c.if-not-has_head.false separator
+    c.args.text.now [] c.records_of-reader.ensures in
     let p = err_from_is_err_and c.from_residual-in_err-positions.result
     c.from_residual-in_err-positions.ensures.1 in
     rw (p.1, p.2) (head_fault c.args.choice.now c.args.text.now head c.in_err-positions.field-0.0
