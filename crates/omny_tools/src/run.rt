@@ -25,8 +25,9 @@ struct Shows {
     counts: bool,
     /// Whether it is shown how much of the text is written. Then reports or ledgers are read.
     text: bool,
-    /// Whether the text is an upload, which is written at once: no file is made if that fails.
-    upload: bool,
+    /// Whether what is written goes out at once: no file is made, and nothing more is said, if an
+    /// upload or corrections cannot be written.
+    at_once: bool,
 }
 
 impl Shows {
@@ -39,7 +40,7 @@ impl Shows {
         Shows {
             counts: name == "uploads" || name == "table" || name == "sort",
             text: name == "merge" || name == "corrections",
-            upload: name == "encode",
+            at_once: name == "encode" || name == "corrections",
         }
     }
 }
@@ -75,7 +76,7 @@ pub(crate) fn run<R: Threads + Sync, E: Write>(
         return 1;
     };
     let framed_out = Shaped::new(rt.alloc(), io::writer(rt), UPLOADS, form);
-    let collected = if shows.upload { 0 } else { WRITE_BYTES };
+    let collected = if shows.at_once { 0 } else { WRITE_BYTES };
     let Ok(framed_out) = collect(rt, framed_out, collected) else {
         say(err, &Fault::NoMemory);
         return 1;
