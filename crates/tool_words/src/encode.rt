@@ -31,8 +31,7 @@ quotes. A line ends with LF or CRLF.
 
 The taps come out in the order of their lines, in TAP1 batches of 4096, the
 last of fewer. If a line is wrong, nothing is written, and its number is
-reported. So a file is read twice, and may be larger than memory. Standard
-input and pipes are held in memory whole.
+reported. The table is read whole, into memory.
 
 With --columns the file is any CSV with a header line, as an agency has it:
 fields in quotes by RFC 4180, a byte order mark or none. A token may be a UUID,
@@ -60,7 +59,7 @@ const DROP_HELP: &str = "Leave out rows with this value";
 
 const COUNT_HELP: &str = "Refuse a row unless it has 1 rider in this column";
 
-const HASH_HELP: &str = "The token is the SHA-256 of its field, cut in half";
+const HASH_HELP: &str = "The token is half of the SHA-256 of its field";
 
 const VALIDATORS_HELP: &str = "A file with the validator of each device";
 
