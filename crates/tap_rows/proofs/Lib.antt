@@ -7,6 +7,7 @@ pub mod StartedLemmas
 mod DeviceLemmas
 mod FieldLemmas
 mod GoingLemmas
+mod LocalLemmas
 pub mod MomentLemmas
 mod OneDeviceTable
 mod UniqueParse

@@ -14,8 +14,8 @@ mod read;
 mod row;
 
 pub use agency::{
-    AgencyFault, Choice, Columns, Condition, Reading, Reason, Separator, Summary, Unit, Wanted,
-    encode_rows, encode_some_rows,
+    AgencyFault, Choice, Columns, Condition, Fold, LocalClock, Reading, Reason, Separator, Summary,
+    TokenKey, Unit, Wanted, WrongKey, encode_rows, encode_some_rows,
 };
 pub use column::Column;
 pub use devices::{DeviceTable, DevicesFault, WrongDevice, read_devices};

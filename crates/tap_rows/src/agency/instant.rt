@@ -1,18 +1,23 @@
-//! The moment that a field of an agency's row gives: a number, or RFC 3339 with an offset.
+//! The moment that a field of an agency's row gives: a number, or RFC 3339 with an offset or a zone.
 
 ghost use Rattle.std.specs.Prelude.{◌≡◌, ◌<◌, ◌≤◌, ◌+◌, ◌++◌, ◌^◌, Bool, IfOk, IfSome, length};
 ghost use Rattle.std.specs.Prelude.{option_map};
-ghost use Rattle.jiff_fmt.specs.Temporal.{parse_timestamp};
+ghost use Rattle.jiff_fmt.specs.Temporal.{parse_datetime, parse_timestamp};
 ghost use Rattle.tap_rows.specs.AgencyMoments.{clock_moment, earliest_ms, has_clock, has_shift};
-ghost use Rattle.tap_rows.specs.AgencyMoments.{instant_in, instant_ms, is_fraction, moment_in};
-ghost use Rattle.tap_rows.specs.AgencyMoments.{moment_of, offset_in, plain_ms, scaled, whole_ms};
+ghost use Rattle.tap_rows.specs.AgencyMoments.{instant_in, instant_ms, is_fraction, local_moment};
+ghost use Rattle.tap_rows.specs.AgencyMoments.{moment_by, moment_in, moment_of, offset_in};
+ghost use Rattle.tap_rows.specs.AgencyMoments.{plain_ms, scaled, whole_ms, written_moment};
+ghost use Rattle.tap_rows.specs.LocalTimes.{written_of};
 ghost use Rattle.tap_views.specs.Layout.{moment_limit};
 
-use crate::agency::choice::Unit;
+use crate::agency::choice::{LocalClock, Unit};
+use crate::agency::local::offset_at;
 use crate::agency::numbers::{decimal_in, digits_len, fraction_len, thousandths_in};
 use crate::agency::reading::Reason;
 use arrayvec::ArrayVec;
-use jiff_fmt::temporal::parse_timestamp;
+use jiff_core::Offset;
+use jiff_core::civil::DateTime;
+use jiff_fmt::temporal::{parse_datetime, parse_timestamp};
 use tap_views::MOMENT_LIMIT_MS;
 
 /// 2000-01-01T00:00Z.
@@ -137,16 +142,54 @@ fn offset_moment(unit: Unit, text: &[u8], offset: &[u8]) -> Result<u64, Reason>
     moment_of(unit, joined_ms(&text[..19], fraction, offset))
 }
 
-#[tactic(auto, using(crate::proofs::AgencyMomentLemmas::with_offset))]
-fn clock_moment(unit: Unit, text: &[u8]) -> Result<u64, Reason>
+fn moment_by(
+    unit: Unit,
+    time: DateTime,
+    offset: Result<Offset, Reason>,
+) -> Result<u64, Reason>
+    ensures moment { result ≡ moment_by unit (written_of time) offset }
+    ensures early { IfOk result (λ moment. moment < moment_limit) }
+{
+    match offset {
+        Ok(offset) => moment_of(unit, whole_ms(time.to_nanosecond() - offset.to_nanosecond())),
+        Err(reason) => Err(reason),
+    }
+}
+
+fn written_moment(unit: Unit, clock: LocalClock<'_>, text: &[u8]) -> Result<u64, Reason>
+    ensures moment { result ≡ written_moment unit clock.entry (parse_datetime text.now) }
+    ensures early { IfOk result (λ moment. moment < moment_limit) }
+{
+    match parse_datetime(text) {
+        Ok(time) => moment_by(unit, time, offset_at(clock, time)),
+        Err(_) => Err(Reason::Moment),
+    }
+}
+
+fn local_moment(unit: Unit, clock: Option<LocalClock<'_>>, text: &[u8]) -> Result<u64, Reason>
     requires { 19 ≤ length text.now }
-    ensures moment { result ≡ clock_moment unit text.now }
+    ensures moment { result ≡ local_moment unit clock.entry text.now }
+    ensures early { IfOk result (λ moment. moment < moment_limit) }
+{
+    let Some(clock) = clock else {
+        return Err(Reason::LocalTime);
+    };
+    let after = &text[19..];
+    let fraction = &after[..fraction_len(after).min(4)];
+    let local = joined(&text[..19], fraction, b"");
+    written_moment(unit, clock, &local)
+}
+
+#[tactic(auto, using(crate::proofs::AgencyMomentLemmas::with_offset))]
+fn clock_moment(unit: Unit, clock: Option<LocalClock<'_>>, text: &[u8]) -> Result<u64, Reason>
+    requires { 19 ≤ length text.now }
+    ensures moment { result ≡ clock_moment unit clock.entry text.now }
     ensures early { IfOk result (λ moment. moment < moment_limit) }
 {
     let after = &text[19..];
     let rest = &after[fraction_len(after)..];
     if rest.is_empty() {
-        return Err(Reason::LocalTime);
+        return local_moment(unit, clock, text);
     }
     match offset_in(rest) {
         Some(offset) => offset_moment(unit, text, &offset),
@@ -186,12 +229,16 @@ fn plain_ms(unit: Unit, text: &[u8]) -> Option<u64>
     }
 }
 
-pub(crate) fn moment_in(unit: Unit, text: &[u8]) -> Result<u64, Reason>
-    ensures moment { result ≡ moment_in unit text.now }
+pub(crate) fn moment_in(
+    unit: Unit,
+    clock: Option<LocalClock<'_>>,
+    text: &[u8],
+) -> Result<u64, Reason>
+    ensures moment { result ≡ moment_in unit clock.entry text.now }
     ensures early { IfOk result (λ moment. moment < moment_limit) }
 {
     if has_clock(text) {
-        clock_moment(unit, text)
+        clock_moment(unit, clock, text)
     } else {
         moment_of(unit, plain_ms(unit, text))
     }
