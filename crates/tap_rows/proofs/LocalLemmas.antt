@@ -15,7 +15,7 @@ use Rattle.jiff_tz.specs.declared.posix.Dst.{Dst}
 use Rattle.jiff_tz.specs.declared.posix.TimeZone.{TimeZone as Rule}
 use Rattle.jiff_tz.specs.declared.timezone.TimeZone.{TimeZone}
 use Rattle.jiff_tz.specs.declared.timezone.TimeZone.TheVariants as zones
-use Rattle.tap_rows.specs.LocalTimes.{clock_seconds, offsets_by, offsets_in_zone, rule_offsets}
+use Rattle.tap_rows.specs.LocalTimes.{clock_nanos, clock_seconds, offsets_by, offsets_in_zone, rule_offsets}
 use Rattle.tap_rows.specs.LocalTimes.{written_of}
 
 by_rule : (standard : Offset) (dst : Option Dst) (time : DateTime)
@@ -29,6 +29,10 @@ after : (rule : Option Rule) (first : AmbiguousOffset) (time : DateTime)
     ≡ match_some rule first (rule_offsets (written_of time))
 after None first time = refl
 after (Some rule) first time = by_rule rule.std_offset rule.dst time
+
+pub nanos_written : (time : DateTime) → civil_nanos time ≡ clock_nanos (written_of time)
+unfolding civil_nanos
+nanos_written time = refl
 
 pub zone_offsets : (zone : TimeZone) (time : DateTime)
     → ambiguous_at zone time ≡ offsets_in_zone zone (written_of time)

@@ -1,8 +1,7 @@
 -- Rows of an agency's CSV that were encoded, or not.
 use Rattle.std.proofs.Common.{◌≡◌, ◌≢◌, ◌⊎◌, ℕ, Err, List, [], ◌∷◌, Option, None, Some, inl, inr}
 use Rattle.std.proofs.Common.{refl}
-use Rattle.std.proofs.Common.{Bor, Ok, Result, append-nil, option_map, subst, sym}
-use Rattle.std.specs.Option.{option_copied}
+use Rattle.std.proofs.Common.{Bor, Ok, Result, append-nil, subst, sym}
 use Rattle.std.specs.Prelude.{IfErr, IfOk, IfSome}
 use Rattle.std.specs.Io.KnownBytes.{Keeps}
 use Rattle.std.proofs.KnownBytes.{Appends-kept, Keeps-refl, Keeps-trans}
@@ -15,13 +14,12 @@ use Rattle.tap_rows.specs.declared.agency.fault.AgencyFault.{AgencyFault}
 use Rattle.tap_rows.specs.declared.agency.fault.AgencyFault.TheVariants as agency
 use Rattle.tap_rows.specs.declared.agency.reading.Reason.{Reason}
 use Rattle.tap_rows.specs.declared.agency.summary.Summary.{Summary}
-use Rattle.tap_rows.specs.Devices.{Device, IsDevicesFault, devices_of}
+use Rattle.tap_rows.specs.Devices.{Device, IsDevicesFault}
 use Rattle.tap_rows.specs.declared.agency.choice.Separator.{Separator}
 use Rattle.tap_rows.specs.declared.devices.fault.DevicesFault.{DevicesFault}
 use Rattle.tap_rows.specs.declared.devices.fault.DevicesFault.TheVariants as devices
 use Rattle.tap_rows.specs.declared.devices.fault.WrongDevice.{WrongDevice}
-use Rattle.tap_rows.specs.declared.devices.table.DeviceTable.{DeviceTable}
-use Rattle.tool_tasks.specs.EncodeRows.{AbortsText, HasDevices, IsChoice, IsRefusedUnmade}
+use Rattle.tool_tasks.specs.EncodeRows.{AbortsText, HasDevices, IsRefusedUnmade}
 use Rattle.tool_tasks.specs.EncodeRows.{IsRightRowsFault, FailsDevices, word_in, words_in}
 use Rattle.tool_tasks.specs.Fault.{failed_as}
 use Rattle.program_manners.specs.Loads.{Loaded}
@@ -334,22 +332,6 @@ wrong_devices word separator text loaded loaded' unread (devices.Row number why)
 wrong_devices word separator text loaded loaded' unread devices.NoMemory NoMemory is opened wrong =
     inl tt
 wrong_devices word separator text loaded loaded' unread fault reported is opened wrong = absurd is
-
--- the choice, by the table that was lent
-pub choice_of : (words : RowsWords) (table : Option DeviceTable)
-    (provided : Option (Bor DeviceTable))
-    (choice : Choice) → option_copied provided ≡ table
-    → IsChoice words (option_map (λ d. devices_of d.now) provided) choice
-    → IsChoice words (option_map devices_of table) choice
-choice_of words table provided choice same is =
-    subst (λ (t : Option DeviceTable). IsChoice words (option_map devices_of t) choice) same
-    (by_provided provided is)
-  where
-    by_provided : (provided : Option (Bor DeviceTable))
-        → IsChoice words (option_map (λ d. devices_of d.now) provided) choice
-        → IsChoice words (option_map devices_of (option_copied provided)) choice
-    by_provided None is = is
-    by_provided (Some table) is = is
 
 -- ---- the file of the refused rows
 -- it was not begun

@@ -20,12 +20,15 @@ use Rattle.tap_rows.specs.declared.agency.fault.Wanted.{Wanted}
 use Rattle.tap_rows.specs.declared.agency.fault.Wanted.TheVariants as wanted
 use Rattle.tap_rows.specs.declared.agency.summary.Summary.{Summary}
 use Rattle.tap_rows.specs.declared.devices.fault.DevicesFault.TheVariants as devices
+use Rattle.tap_rows.specs.declared.agency.key.TokenKey.{TokenKey}
 use Rattle.tool_tasks.specs.Encode.{ReadsTwice}
+use Rattle.tool_tasks.specs.EncodeTables.{FailsKey, FailsZone, IsClock, IsKey, IsZone}
 use Rattle.tool_tasks.specs.Fault.{IsRefusal}
 use Rattle.tool_tasks.specs.Sink.{IsNewName, IsNotMade, Made, Makes, RefusesNew}
 use Rattle.tool_tasks.specs.Source.{HasOpened}
 use Rattle.tool_tasks.specs.Uploads.{IsMomentOrDash}
 use Rattle.tool_words.specs.declared.task.RowsWords.{RowsWords}
+use Rattle.tool_tasks.specs.declared.encode_tables.Tables.{Tables}
 use Rattle.tool_tasks.specs.declared.encode_rows.RowsOutcome.{RowsOutcome}
 use Rattle.tool_tasks.specs.declared.encode_rows.RowsOutcome.TheVariants as outcomes
 use Rattle.tool_tasks.specs.declared.fault.Fault.{Fault}
@@ -47,11 +50,13 @@ words_in None = []
 words_in (Some word) = word ∷ []
 
 -- ---- how the rows are read
--- the choice is that of the words, of rows that have the names of these devices if there are such
-pub record IsChoice (words : RowsWords) (devices : Option (List Device)) (choice : Choice)
-    : Type 0 where
+-- the choice is that of the words and these tables
+pub record IsChoice (words : RowsWords) (tables : Tables) (choice : Choice) : Type 0 where
   pub columns : choice.columns.now ≡ words.columns
-  pub table : option_map (λ table. devices_of table.now) choice.devices ≡ devices
+  pub table : option_map (λ table. devices_of table.now) choice.devices
+      ≡ option_map devices_of tables.devices
+  pub key : option_map (λ key. key.now.block) choice.key ≡ option_map (λ key. key.block) tables.key
+  pub clock : IsClock tables.zone words.fold choice.clock
 
 -- beside rows with this separator, the texts are that of the device table, if there is one
 abbrev pub AreDeviceTexts : Separator → List (List ℕ) → Option (List Device) → Type 0
@@ -66,6 +71,66 @@ pub record HasDevices (words : RowsWords) (loaded loaded' : Option (List Loaded)
   pub opened : HasOpened (words_in (word_in words.devices)) loaded loaded' texts
   pub are : AreDeviceTexts words.columns.separator texts devices
 
+-- the text is no device table beside rows with this separator, as the fault of this word reports
+abbrev pub IsDevicesFaultOf : List ℕ → Separator → List ℕ → Fault → Type 0
+IsDevicesFaultOf word separator text (Devices named wrong_devices.Head) =
+    (named.now ≡ word) × IsDevicesFault separator text devices.Head
+IsDevicesFaultOf word separator text (Devices named (wrong_devices.Row number why)) =
+    (named.now ≡ word) × IsDevicesFault separator text (devices.Row number why)
+IsDevicesFaultOf word separator text fault = ⊥
+
+-- the file that the word names was loaded, and is no device table
+pub record RefusesDevices (word : List ℕ) (separator : Separator)
+    (loaded loaded' : Option (List Loaded)) (fault : Fault) : Type 0 where
+  pub text : List ℕ
+  pub opened : HasOpened (word ∷ []) loaded loaded' (text ∷ [])
+  pub wrong : IsDevicesFaultOf word separator text fault
+
+-- there is no device table: it was not loaded, or memory was refused; or it is none
+abbrev pub FailsDevices : Option (List ℕ) → Separator → Option (List Loaded)
+    → Option (List Loaded) → Option (Option (List ℕ) × LoadFault) → Fault → Type 0
+FailsDevices None separator loaded loaded' unread fault = ⊥
+FailsDevices (Some word) separator loaded loaded' unread fault =
+    IsRefusal unread (word ∷ []) fault ⊎ RefusesDevices word separator loaded loaded' fault
+
+-- ---- what is loaded beside the rows
+-- the tables were loaded, one after the other, as the words name them
+pub record HasTables (words : RowsWords) (loaded loaded' : Option (List Loaded)) (tables : Tables)
+    : Type 0 where
+  pub then_key : Option (List Loaded)
+  pub then_zone : Option (List Loaded)
+  pub of_devices : HasDevices words loaded then_key (option_map devices_of tables.devices)
+  pub of_key : IsKey (word_in words.key) then_key then_zone tables.key
+  pub of_zone : IsZone (word_in words.zone) then_zone loaded' tables.zone
+
+-- the devices were loaded, and there is no key
+pub record FailsThenKey (words : RowsWords) (loaded loaded' : Option (List Loaded))
+    (unread : Option (Option (List ℕ) × LoadFault)) (fault : Fault) : Type 0 where
+  pub then_key : Option (List Loaded)
+  pub devices : Option (List Device)
+  pub of_devices : HasDevices words loaded then_key devices
+  pub fails : FailsKey (word_in words.key) then_key loaded' unread fault
+
+-- the devices and the key were loaded, and there is no zone
+pub record FailsThenZone (words : RowsWords) (loaded loaded' : Option (List Loaded))
+    (unread : Option (Option (List ℕ) × LoadFault)) (fault : Fault) : Type 0 where
+  pub then_key : Option (List Loaded)
+  pub then_zone : Option (List Loaded)
+  pub devices : Option (List Device)
+  pub key : Option TokenKey
+  pub of_devices : HasDevices words loaded then_key devices
+  pub of_key : IsKey (word_in words.key) then_key then_zone key
+  pub fails : FailsZone (word_in words.zone) then_zone loaded' unread fault
+
+-- a table was not loaded, or is none
+abbrev pub FailsTables : RowsWords → Option (List Loaded) → Option (List Loaded)
+    → Option (Option (List ℕ) × LoadFault) → Fault → Type 0
+FailsTables words loaded loaded' unread fault =
+    FailsDevices (word_in words.devices) words.columns.separator loaded loaded' unread fault
+    ⊎ (FailsThenKey words loaded loaded' unread fault
+    ⊎ FailsThenZone words loaded loaded' unread fault)
+
+-- ---- the rows
 -- The text was read under the name of the word: once if the refused rows have a file, and else
 -- twice, so that what was read again may be another one.
 abbrev pub ReadsText : Option (List ℕ) → List ℕ → Option (List Loaded) → Option (List Loaded)
@@ -128,15 +193,15 @@ pub record EncodesText (refused : Option (List ℕ)) (word : List ℕ) (choice :
   pub files : Makes made made' (refused_files refused refusals)
   pub whole : refused ≡ None → summary.first_refused ≡ None
 
--- the device table was loaded, if the words name one, and then the text was encoded
+-- the tables were loaded, as the words name them, and then the text was encoded
 pub record EncodesRows (words : RowsWords) (word : List ℕ)
     (loaded loaded' : Option (List Loaded)) (made made' : Option (List Made))
     (out out' : Option (List ℕ)) (summary : Summary) : Type 0 where
-  pub devices : Option (List Device)
+  pub tables : Tables
   pub choice : Choice
-  pub is_choice : IsChoice words devices choice
+  pub is_choice : IsChoice words tables choice
   pub between : Option (List Loaded)
-  pub of_devices : HasDevices words loaded between devices
+  pub of_tables : HasTables words loaded between tables
   pub encodes : EncodesText (word_in words.refused) word choice between loaded' made made' out out'
       summary
 
@@ -234,49 +299,26 @@ AbortsText words refused word choice loaded loaded' unread unstarted failed end 
     ((IsRefusal unread (word ∷ []) fault ⊎ IsNotStarted refused unstarted fault) × Keeps out out')
     ⊎ FailsTextWrite words refused word choice loaded loaded' failed end fault out out'
 
--- the text is no device table beside rows with this separator, as the fault of this word reports
-abbrev pub IsDevicesFaultOf : List ℕ → Separator → List ℕ → Fault → Type 0
-IsDevicesFaultOf word separator text (Devices named wrong_devices.Head) =
-    (named.now ≡ word) × IsDevicesFault separator text devices.Head
-IsDevicesFaultOf word separator text (Devices named (wrong_devices.Row number why)) =
-    (named.now ≡ word) × IsDevicesFault separator text (devices.Row number why)
-IsDevicesFaultOf word separator text fault = ⊥
-
--- the file that the word names was loaded, and is no device table
-pub record RefusesDevices (word : List ℕ) (separator : Separator)
-    (loaded loaded' : Option (List Loaded)) (fault : Fault) : Type 0 where
-  pub text : List ℕ
-  pub opened : HasOpened (word ∷ []) loaded loaded' (text ∷ [])
-  pub wrong : IsDevicesFaultOf word separator text fault
-
--- there is no device table: it was not loaded, or memory was refused; or it is none
-abbrev pub FailsDevices : Option (List ℕ) → Separator → Option (List Loaded)
-    → Option (List Loaded) → Option (Option (List ℕ) × LoadFault) → Fault → Type 0
-FailsDevices None separator loaded loaded' unread fault = ⊥
-FailsDevices (Some word) separator loaded loaded' unread fault =
-    IsRefusal unread (word ∷ []) fault ⊎ RefusesDevices word separator loaded loaded' fault
-
--- the device table was loaded, if the words name one, and then the encoding was given up
-pub record AbortsAfterDevices (words : RowsWords) (word : List ℕ)
+-- the tables were loaded, as the words name them, and then the encoding was given up
+pub record AbortsAfterTables (words : RowsWords) (word : List ℕ)
     (loaded loaded' : Option (List Loaded)) (unread : Option (Option (List ℕ) × LoadFault))
     (unstarted : Option (List ℕ × NewFault)) (failed : Option (List ℕ)) (end : Option WriteEnd)
     (fault : Fault) (out out' : Option (List ℕ)) : Type 0 where
-  pub devices : Option (List Device)
+  pub tables : Tables
   pub choice : Choice
-  pub is_choice : IsChoice words devices choice
+  pub is_choice : IsChoice words tables choice
   pub between : Option (List Loaded)
-  pub of_devices : HasDevices words loaded between devices
+  pub of_tables : HasTables words loaded between tables
   pub aborts : AbortsText words (word_in words.refused) word choice between loaded' unread
       unstarted failed end fault out out'
 
--- The encoding was given up: there is no device table, and nothing was written; or behind it. No
--- file was made.
+-- The encoding was given up: a table is missing, and nothing was written; or behind them. No file
+-- was made.
 abbrev pub AbortsRows : RowsWords → List ℕ → Option (List Loaded) → Option (List Loaded)
     → Option (Option (List ℕ) × LoadFault) → Option (List Made) → Option (List Made)
     → Option (List ℕ × NewFault) → Option (List ℕ) → Option WriteEnd → Fault → Option (List ℕ)
     → Option (List ℕ) → Type 0
 AbortsRows words word loaded loaded' unread made made' unstarted failed end fault out out' =
     (made' ≡ made)
-    × ((FailsDevices (word_in words.devices) words.columns.separator loaded loaded' unread fault
-    × Keeps out out')
-    ⊎ AbortsAfterDevices words word loaded loaded' unread unstarted failed end fault out out')
+    × ((FailsTables words loaded loaded' unread fault × Keeps out out')
+    ⊎ AbortsAfterTables words word loaded loaded' unread unstarted failed end fault out out')

@@ -4,6 +4,7 @@ pub mod Corrections
 pub mod Decode
 pub mod Decoded
 pub mod EncodeRows
+pub mod EncodeTables
 pub mod Fault
 pub mod Informs
 pub mod Loads

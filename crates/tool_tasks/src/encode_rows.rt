@@ -22,6 +22,7 @@ ghost use Rattle.tool_tasks.specs.inside.EncodeRows.{IsNewFault, IsRowsEnd, IsRo
 ghost use Rattle.tool_tasks.specs.inside.EncodeRows.{IsUnfinished};
 ghost use Rattle.tool_tasks.specs.inside.EncodeRows.{FailsOnce};
 
+use crate::encode_tables::{Tables, tables_in};
 use crate::fault::{Fault, finish, say_noted};
 use crate::names::file_of;
 use crate::sink::{MakeFault, NewFault, Sink};
@@ -38,13 +39,15 @@ use tap_rows::{
 };
 use tool_words::RowsWords;
 
-/// The choice that the words make, with the devices that they name.
-fn choice<'c>(words: &'c RowsWords<'_>, devices: Option<&'c DeviceTable>) -> Choice<'c>
-    ensures { IsChoice words.entry.now (option_map (λ d. devices_of d.now) devices.entry) result }
+/// The choice that the words make, with the tables that they name.
+fn choice<'c>(words: &'c RowsWords<'_>, tables: &'c Tables) -> Choice<'c>
+    ensures { IsChoice words.entry.now tables.entry.now result }
 {
     Choice {
         columns: &words.columns,
-        devices,
+        devices: tables.devices(),
+        key: tables.key(),
+        clock: tables.clock(words.fold),
     }
 }
 
@@ -106,7 +109,7 @@ fn load_devices<'a, S: Source>(
 }
 
 /// The device table, if the words name one.
-fn devices_in<'a, S: Source>(
+pub(crate) fn devices_in<'a, S: Source>(
     alloc: Global,
     seed: RandomState,
     words: &RowsWords<'a>,
@@ -519,7 +522,7 @@ fn encode_text<'a, S: Source, K: Sink, W: Write>(
     }
 }
 
-/// Loads the device table, if the words name one, and encodes the rows of the file that the word
+/// Loads the tables that the words name, and encodes the rows of the file that the word
 /// names. Gives how it ended.
 fn encode<'a, S: Source, K: Sink, W: Write>(
     alloc: Global,
@@ -543,8 +546,8 @@ fn encode<'a, S: Source, K: Sink, W: Write>(
         (W.contents out.new.writer)) }
     ensures flushed { OnOk result (out.new.is_flushed ≡ true) }
 {
-    let devices = devices_in(alloc, seed, words, source)?;
-    let choice = choice(words, devices.as_ref());
+    let tables = tables_in(alloc, seed, words, source)?;
+    let choice = choice(words, &tables);
     encode_text(alloc, &choice, words, word, source, sink, out, note)
 }
 
@@ -557,7 +560,7 @@ fn note_on<'a>(fault: &Fault<'_>, note: &'a str) -> &'a str {
 }
 
 /// Encodes the rows of the agency's CSV that the word names, `-` being standard input, as the words
-/// say: loads the device table, if they name one, writes the upload of the rows that are kept to
+/// say: loads the tables that they name, writes the upload of the rows that are kept to
 /// `out`, makes the file of the refused rows, if they name one, and then says on `err` how many
 /// rows there are of each kind. A fault is said on `err`, too. `seed` is random, so that no file
 /// can choose names of devices that are found slowly. Gives the status: 0 if all is written, 3 if

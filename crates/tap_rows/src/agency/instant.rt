@@ -1,10 +1,11 @@
 //! The moment that a field of an agency's row gives: a number, or RFC 3339 with an offset or a zone.
 
 ghost use Rattle.std.specs.Prelude.{◌≡◌, ◌<◌, ◌≤◌, ◌+◌, ◌++◌, ◌^◌, Bool, IfOk, IfSome, length};
-ghost use Rattle.std.specs.Prelude.{option_map};
+ghost use Rattle.std.specs.Prelude.{[], option_map};
 ghost use Rattle.jiff_fmt.specs.Temporal.{parse_datetime, parse_timestamp};
 ghost use Rattle.tap_rows.specs.AgencyMoments.{clock_moment, earliest_ms, has_clock, has_shift};
-ghost use Rattle.tap_rows.specs.AgencyMoments.{instant_in, instant_ms, is_fraction, local_moment};
+ghost use Rattle.tap_rows.specs.AgencyMoments.{instant_in, instant_ms, instant_text, is_fraction};
+ghost use Rattle.tap_rows.specs.AgencyMoments.{local_moment};
 ghost use Rattle.tap_rows.specs.AgencyMoments.{moment_by, moment_in, moment_of, offset_in};
 ghost use Rattle.tap_rows.specs.AgencyMoments.{plain_ms, scaled, whole_ms, written_moment};
 ghost use Rattle.tap_rows.specs.LocalTimes.{written_of};
@@ -166,18 +167,41 @@ fn written_moment(unit: Unit, clock: LocalClock<'_>, text: &[u8]) -> Result<u64,
     }
 }
 
+fn joined_moment(
+    unit: Unit,
+    clock: LocalClock<'_>,
+    first: &[u8],
+    second: &[u8],
+) -> Result<u64, Reason>
+    requires { length first.now + length second.now ≤ 29 }
+    ensures moment { result
+        ≡ written_moment unit clock.entry (parse_datetime (first.now ++ (second.now ++ []))) }
+    ensures early { IfOk result (λ moment. moment < moment_limit) }
+{
+    let text = joined(first, second, b"");
+    written_moment(unit, clock, &text)
+}
+
+fn zone_moment(unit: Unit, clock: LocalClock<'_>, text: &[u8]) -> Result<u64, Reason>
+    requires { 19 ≤ length text.now }
+    ensures moment { result
+        ≡ written_moment unit clock.entry (parse_datetime (instant_text text.now [])) }
+    ensures early { IfOk result (λ moment. moment < moment_limit) }
+{
+    let after = &text[19..];
+    let fraction = &after[..fraction_len(after).min(4)];
+    joined_moment(unit, clock, &text[..19], fraction)
+}
+
 fn local_moment(unit: Unit, clock: Option<LocalClock<'_>>, text: &[u8]) -> Result<u64, Reason>
     requires { 19 ≤ length text.now }
     ensures moment { result ≡ local_moment unit clock.entry text.now }
     ensures early { IfOk result (λ moment. moment < moment_limit) }
 {
-    let Some(clock) = clock else {
-        return Err(Reason::LocalTime);
-    };
-    let after = &text[19..];
-    let fraction = &after[..fraction_len(after).min(4)];
-    let local = joined(&text[..19], fraction, b"");
-    written_moment(unit, clock, &local)
+    match clock {
+        None => Err(Reason::LocalTime),
+        Some(clock) => zone_moment(unit, clock, text),
+    }
 }
 
 #[tactic(auto, using(crate::proofs::AgencyMomentLemmas::with_offset))]
