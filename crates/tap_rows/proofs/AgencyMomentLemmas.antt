@@ -6,7 +6,8 @@ use Rattle.tap_rows.specs.AgencyMoments.{local_moment, offset_in, offset_moment}
 use Rattle.tap_rows.specs.declared.agency.choice.LocalClock.{LocalClock}
 use Rattle.tap_rows.specs.declared.agency.choice.Unit.{Unit}
 
-pub with_offset : (unit : Unit) (local : Option LocalClock) (text offset : List ℕ) → length (after_fraction text) ≢ 0
+pub with_offset : (unit : Unit) (local : Option LocalClock) (text offset : List ℕ)
+    → length (after_fraction text) ≢ 0
     → Some offset ≡ offset_in (after_fraction text)
     → moment_of unit (instant_in text offset) ≡ clock_moment unit local text
 with_offset unit local text offset some found = by (length (after_fraction text) == 0) refl

@@ -2,7 +2,8 @@
 -- and the clock of RFC 3339, with an offset or of a zone. What is less than a millisecond is
 -- dropped.
 use Rattle.std.specs.Prelude.{◌==◌, ◌&&◌, ◌||◌, ◌+◌, ◌*◌, ◌/◌, ◌^◌, ◌++◌, ℕ, ℤ, pos, Bool, not}
-use Rattle.std.specs.Prelude.{[], ◌-ℤ◌, negsuc, Err, List, None, Ok, Option, Result, Some, codes, drop}
+use Rattle.std.specs.Prelude.{[], ◌-ℤ◌, negsuc, Err, List, None, Ok, Option, Result, Some, codes}
+use Rattle.std.specs.Prelude.{drop}
 use Rattle.std.specs.Prelude.{if◌then◌else◌, length, min, nat_le, nat_lt, option_map, slice_index}
 use Rattle.std.specs.Prelude.{take}
 use Rattle.std.specs.Str.{bytes_eq}

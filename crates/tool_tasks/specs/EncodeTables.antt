@@ -93,7 +93,7 @@ FailsZone (Some word) loaded loaded' unread fault =
     (read_whole word ≡ None) × RefusesZone word loaded loaded' unread fault
 
 abbrev pub is_table : Tzif → TimeZone → Type 0
-is_table table (zones.Tzif lent) = lent.now ≡ table
+is_table table (zones.Tzif provided) = provided.now ≡ table
 is_table table zone = ⊥
 
 -- the clock is that of the zone and the fold, if there is a zone

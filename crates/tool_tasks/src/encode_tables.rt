@@ -1,5 +1,4 @@
-//! What `encode` loads beside the rows of an agency: devices, the key of tokens, and the zone of local
-//! times.
+//! What `encode` loads beside the rows of an agency: devices, the key of tokens, the zone of times.
 ghost use Rattle.std.specs.Prelude.{◌≡◌, IfErr, IfOk, None, Some, option_map};
 ghost use Rattle.jiff_tz.specs.PosixReader.{read_whole};
 ghost use Rattle.tap_rows.specs.Devices.{devices_of};

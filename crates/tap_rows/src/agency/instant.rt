@@ -1,7 +1,9 @@
-//! The moment that a field of an agency's row gives: a number, or RFC 3339 with an offset or a zone.
+//! The moment that a field of an agency's row gives: a number, or RFC 3339, also of a zone.
 
 ghost use Rattle.std.specs.Prelude.{◌≡◌, ◌<◌, ◌≤◌, ◌+◌, ◌++◌, ◌^◌, Bool, IfOk, IfSome, length};
-ghost use Rattle.std.specs.Prelude.{[], option_map};
+ghost use Rattle.std.specs.Prelude.{◌-ℤ◌, [], option_map};
+ghost use Rattle.jiff_core.specs.DateTime.{civil_nanos};
+ghost use Rattle.jiff_core.specs.Timestamp.{nanos_of_seconds};
 ghost use Rattle.jiff_fmt.specs.Temporal.{parse_datetime, parse_timestamp};
 ghost use Rattle.tap_rows.specs.AgencyMoments.{clock_moment, earliest_ms, has_clock, has_shift};
 ghost use Rattle.tap_rows.specs.AgencyMoments.{instant_in, instant_ms, instant_text, is_fraction};
@@ -143,6 +145,12 @@ fn offset_moment(unit: Unit, text: &[u8], offset: &[u8]) -> Result<u64, Reason>
     moment_of(unit, joined_ms(&text[..19], fraction, offset))
 }
 
+fn nanos_at(time: DateTime, offset: Offset) -> i128
+    ensures { result ≡ civil_nanos time -ℤ nanos_of_seconds offset.seconds }
+{
+    time.to_nanosecond() - offset.to_nanosecond()
+}
+
 fn moment_by(
     unit: Unit,
     time: DateTime,
@@ -152,7 +160,7 @@ fn moment_by(
     ensures early { IfOk result (λ moment. moment < moment_limit) }
 {
     match offset {
-        Ok(offset) => moment_of(unit, whole_ms(time.to_nanosecond() - offset.to_nanosecond())),
+        Ok(offset) => moment_of(unit, whole_ms(nanos_at(time, offset))),
         Err(reason) => Err(reason),
     }
 }

@@ -44,21 +44,21 @@ fn push_number(note: &mut String, number: usize) -> Result<(), AllocError> {
 
 /// A column of a row. Under a key no value of the column of tokens is shown.
 #[derive(Clone, Copy)]
-struct Place<'a> {
+struct Cell<'a> {
     row: &'a ByteRecord,
     is_secret: bool,
     column: &'a str,
     position: usize,
 }
 
-fn push_value(note: &mut String, place: Place<'_>) -> Result<(), AllocError> {
+fn push_value(note: &mut String, cell: Cell<'_>) -> Result<(), AllocError> {
     note.push_str(": ")?;
-    push_text(note, place.column)?;
-    if place.is_secret {
+    push_text(note, cell.column)?;
+    if cell.is_secret {
         return note.push_str(", which is not shown under --token-key");
     }
     note.push_str(" is ")?;
-    push_field(note, field_in(place.row, place.position))
+    push_field(note, field_in(cell.row, cell.position))
 }
 
 fn push_refusal(
@@ -88,13 +88,13 @@ fn push_refusal(
             _ => return Ok(()),
         },
     };
-    let place = Place {
+    let cell = Cell {
         row,
         is_secret: choice.key.is_some() && position == positions.token,
         column,
         position,
     };
-    push_value(note, place)
+    push_value(note, cell)
 }
 
 /// Notes the first row that is refused, as far as memory allows.
