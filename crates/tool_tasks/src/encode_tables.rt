@@ -1,11 +1,15 @@
 //! What `encode` loads beside the rows of an agency: devices, the key of tokens, the zone of times.
-ghost use Rattle.std.specs.Prelude.{◌≡◌, IfErr, IfOk, None, Some, option_map};
-ghost use Rattle.jiff_tz.specs.PosixReader.{read_whole};
+ghost use Rattle.std.specs.Prelude.{◌≡◌, IfErr, IfOk, Some, option_map, string_bytes};
+ghost use Rattle.program_manners.specs.Loads.{LoadsOne};
+ghost use Rattle.program_manners.specs.Refusals.{Refuses};
 ghost use Rattle.tap_rows.specs.Devices.{devices_of};
 ghost use Rattle.tool_tasks.specs.EncodeRows.{FailsTables, HasTables, word_in};
 ghost use Rattle.tool_tasks.specs.EncodeTables.{FailsKey, FailsZone, IsClock, IsKey, IsZone};
-ghost use Rattle.tool_tasks.specs.EncodeTables.{is_name_byte, is_zone_name};
+ghost use Rattle.tool_tasks.specs.EncodeTables.{RefusesZone, is_name_byte, is_zone_name};
+ghost use Rattle.tool_tasks.specs.EncodeTables.{zone_file};
+ghost use Rattle.tool_tasks.specs.inside.EncodeTables.{HasZoneFile, IsNoTable, IsTableOf};
 ghost use Rattle.tool_tasks.specs.inside.EncodeTables.{IsZoneFault};
+ghost use Rattle.world.specs.declared.faults.LoadFault.{LoadFault as ALoadFault};
 
 use crate::encode_rows::devices_in;
 use crate::fault::Fault;
@@ -13,7 +17,7 @@ use crate::source::{Source, load_upload};
 use jiff_core::Error;
 use jiff_tz::{TimeZone, Tzif, posix};
 use program_manners::LoadFault;
-use std::alloc::Global;
+use std::alloc::{AllocError, Global};
 use std::hash::RandomState;
 use tap_rows::{DeviceTable, Fold, LocalClock, TokenKey};
 use tool_words::RowsWords;
@@ -138,32 +142,57 @@ fn zone_fault<'a>(word: &'a str, fault: LoadFault) -> Fault<'a>
     }
 }
 
+fn zone_path(alloc: Global, word: &str) -> Result<String, AllocError>
+    ensures { IfOk result (λ path. string_bytes path ≡ zone_file word.now) }
+{
+    format!(in alloc; "/usr/share/zoneinfo/{word}")
+}
+
+fn load_path<'a, S: Source>(
+    alloc: Global,
+    word: &'a str,
+    path: &str,
+    source: &mut S,
+) -> Result<Vec<u8>, Fault<'a>>
+    ensures reported { IfOk result (λ text. LoadsOne (S.loaded source.old) (S.loaded source.new)
+        (Some path.now) text.items) }
+    ensures stops { IfErr result (λ fault. (why : ALoadFault)
+        × IsZoneFault word.entry.now why fault × Refuses (S.refused source.new) (Some path.now) why) }
+{
+    match source.load(alloc, Some(path)) {
+        Ok(text) => Ok(text),
+        Err(fault) => Err(zone_fault(word, fault)),
+    }
+}
+
+fn table_in<'a>(alloc: Global, word: &'a str, text: &[u8]) -> Result<ZoneTable, Fault<'a>>
+    ensures zone { IfOk result (IsTableOf text.now) }
+    ensures stops { IfErr result (IsNoTable word.entry.now text.now) }
+{
+    match Tzif::parse(alloc, None, text) {
+        Ok(table) => Ok(ZoneTable::Table(table)),
+        Err(Error::OutOfMemory) => Err(Fault::NoMemory),
+        Err(_) => Err(Fault::ZoneFile(word)),
+    }
+}
+
 /// The zone of this name, of the system's zone files.
 fn load_zone<'a, S: Source>(
     alloc: Global,
     word: &'a str,
     source: &mut S,
 ) -> Result<ZoneTable, Fault<'a>>
-    ensures zone { read_whole word.entry.now ≡ None → IfOk result
-        (λ zone. IsZone (Some word.entry.now) (S.loaded source.old) (S.loaded source.new)
-        (Some zone)) }
-    ensures stops { read_whole word.entry.now ≡ None → IfErr result
-        (FailsZone (Some word.entry.now) (S.loaded source.old) (S.loaded source.new)
-        (S.refused source.new)) }
+    ensures zone { IfOk result (λ zone. HasZoneFile word.entry.now (S.loaded source.old)
+        (S.loaded source.new) zone) }
+    ensures stops { IfErr result (RefusesZone word.entry.now (S.loaded source.old)
+        (S.loaded source.new) (S.refused source.new)) }
 {
     if !is_zone_name(word) {
         return Err(Fault::Zone(word));
     }
-    let name = format!(in alloc; "/usr/share/zoneinfo/{word}")?;
-    let text = match source.load(alloc, Some(name.as_str())) {
-        Ok(text) => text,
-        Err(fault) => return Err(zone_fault(word, fault)),
-    };
-    match Tzif::parse(alloc, None, &text) {
-        Ok(table) => Ok(ZoneTable::Table(table)),
-        Err(Error::OutOfMemory) => Err(Fault::NoMemory),
-        Err(_) => Err(Fault::ZoneFile(word)),
-    }
+    let path = zone_path(alloc, word)?;
+    let text = load_path(alloc, word, path.as_str(), source)?;
+    table_in(alloc, word, &text)
 }
 
 /// The zone, if there is a word: a POSIX rule, or else a name.
