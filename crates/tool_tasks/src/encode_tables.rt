@@ -195,7 +195,27 @@ fn load_zone<'a, S: Source>(
     table_in(alloc, word, &text)
 }
 
-/// The zone, if there is a word: a POSIX rule, or else a name.
+/// The zone of a word: a POSIX rule, or else a name.
+fn zone_of<'a, S: Source>(
+    alloc: Global,
+    word: &'a str,
+    source: &mut S,
+) -> Result<ZoneTable, Fault<'a>>
+    ensures zone { IfOk result (λ zone. IsZone (Some word.entry.now) (S.loaded source.old)
+        (S.loaded source.new) (Some zone)) }
+    ensures stops { IfErr result (FailsZone (Some word.entry.now) (S.loaded source.old)
+        (S.loaded source.new) (S.refused source.new)) }
+{
+    match posix::TimeZone::parse(word.as_bytes()) {
+        Ok(rule) => Ok(ZoneTable::Rule(rule)),
+        Err(_) => match load_zone(alloc, word, source) {
+            Ok(zone) => Ok(zone),
+            Err(fault) => Err(fault),
+        },
+    }
+}
+
+/// The zone, if there is a word.
 fn zone_in<'a, S: Source>(
     alloc: Global,
     word: Option<&'a str>,
@@ -206,12 +226,9 @@ fn zone_in<'a, S: Source>(
     ensures stops { IfErr result (FailsZone (word_in word.entry) (S.loaded source.old)
         (S.loaded source.new) (S.refused source.new)) }
 {
-    let Some(word) = word else {
-        return Ok(None);
-    };
-    match posix::TimeZone::parse(word.as_bytes()) {
-        Ok(rule) => Ok(Some(ZoneTable::Rule(rule))),
-        Err(_) => match load_zone(alloc, word, source) {
+    match word {
+        None => Ok(None),
+        Some(word) => match zone_of(alloc, word, source) {
             Ok(zone) => Ok(Some(zone)),
             Err(fault) => Err(fault),
         },

@@ -1,4 +1,4 @@
-use Rattle.std.proofs.Common.{◌≡◌, ◌∙◌, ap, of_z, sym, to_z}
+use Rattle.std.proofs.Common.{◌≡◌, ◌∙◌, SFits, ap, of_z, rules, sym, to_z}
 use Rattle.std.specs.Prelude.{◌-ℤ◌}
 use Rattle.std.specs.Int.{w128}
 use Rattle.std.proofs.lemmas.Int.{to_z-of_z}
@@ -12,9 +12,10 @@ pub returns-in-Ok-clause-moment : goal.returns-in-Ok-clause-moment
 returns-in-Ok-clause-moment c =
     let written = written_of c.args.time in
     let seconds = c.in-Ok.offset.seconds in
+    let fits : SFits w128 c.nanos_at.result = search rules in
     let nanos : to_z w128 (of_z w128 c.nanos_at.result)
     ≡ clock_nanos written -ℤ nanos_of_seconds seconds =
-    to_z-of_z w128 c.nanos_at.result c.nanos_at.type_inv ∙ c.nanos_at.ensures
+    to_z-of_z w128 c.nanos_at.result fits ∙ c.nanos_at.ensures
     ∙ ap (λ n. n -ℤ nanos_of_seconds seconds) (nanos_written c.args.time) in
     c.moment_of.ensures.moment
     ∙ (ap (moment_of c.args.unit) (c.whole_ms.ensures ∙ ap whole_ms nanos)
