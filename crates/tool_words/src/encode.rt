@@ -68,9 +68,9 @@ const DROP_HELP: &str = "Leave out rows with this value";
 
 const COUNT_HELP: &str = "Refuse a row unless it has 1 rider in this column";
 
-const HASH_HELP: &str = "The token is the SHA-256 of its field, cut in half";
+const HASH_HELP: &str = "The token is half of the SHA-256 of its field";
 
-const KEY_HELP: &str = "The token is a code of any text, by the key in KEY";
+const KEY_HELP: &str = "The token is a code of any text, by the file KEY";
 
 const ZONE_HELP: &str = "The zone of local times, by name or POSIX rule";
 
