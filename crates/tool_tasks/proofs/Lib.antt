@@ -1,5 +1,6 @@
 mod Informing
 pub mod KnownBytes
+mod LoadedTables
 mod Loading
 pub mod Decoding
 pub mod Encoding
