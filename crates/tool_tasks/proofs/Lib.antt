@@ -1,6 +1,5 @@
 mod Informing
 pub mod KnownBytes
-mod LoadedTables
 mod Loading
 pub mod Decoding
 pub mod Encoding
@@ -10,4 +9,5 @@ pub mod MergedUploads
 pub mod Opened
 mod Preparing
 pub mod Sorting
+mod TablesLoaded
 pub mod ValidPrefixes

@@ -37,6 +37,18 @@ abbrev pub wrong_key_text : WrongKey → List ℕ
 wrong_key_text key.Empty = codes "the key is empty"
 wrong_key_text key.Long = codes "the key has more than 65536 bytes"
 
+-- the lines of a file that is no key, and of a word that has no zone
+abbrev pub key_line : List ℕ → WrongKey → List ℕ
+key_line word wrong = codes "fault: " ++ (called word ++ (codes ": " ++ wrong_key_text wrong))
+
+abbrev pub no_zone_line : List ℕ → List ℕ
+no_zone_line word = codes "fault: the zone "
+    ++ (escaped word ++ codes " is no POSIX rule, nor a file of /usr/share/zoneinfo")
+
+abbrev pub zone_file_line : List ℕ → List ℕ
+zone_file_line word =
+    codes "fault: the zone " ++ (escaped word ++ codes " has a file that is wrong")
+
 -- the line of a layout fault, in the batch at this offset
 abbrev pub layout_text : List ℕ → ℕ → LayoutFault → List ℕ
 layout_text word offset fault = codes "fault: " ++ (called word ++ (codes " at "
@@ -61,12 +73,9 @@ fault_text (OutOfOrder word tap) = codes "fault: " ++ (called word.now ++ (codes
 fault_text (TapTable word wrong) = wrong_line word.now (tap_table_text wrong)
 fault_text (Rows word wrong) = wrong_line word.now (rows_text wrong)
 fault_text (Devices word wrong) = wrong_line word.now (devices_text wrong)
-fault_text (Key word wrong) =
-    codes "fault: " ++ (called word.now ++ (codes ": " ++ wrong_key_text wrong))
-fault_text (Zone word) = codes "fault: the zone "
-    ++ (escaped word.now ++ codes " is no POSIX rule, nor a file of /usr/share/zoneinfo")
-fault_text (ZoneFile word) =
-    codes "fault: the zone " ++ (escaped word.now ++ codes " has a file that is wrong")
+fault_text (Key word wrong) = key_line word.now wrong
+fault_text (Zone word) = no_zone_line word.now
+fault_text (ZoneFile word) = zone_file_line word.now
 fault_text (FareTable word fault) =
     codes "fault: " ++ (called word.now ++ (codes ": " ++ fare_table_text fault))
 fault_text SomeChanged = codes "fault: a file changed while it was read"

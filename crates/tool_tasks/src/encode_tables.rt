@@ -1,120 +1,51 @@
-//! What `encode` loads beside the rows of an agency: devices, the key of tokens, the zone of times.
-ghost use Rattle.std.specs.Prelude.{◌≡◌, IfErr, IfOk, Some, option_map, string_bytes};
-ghost use Rattle.program_manners.specs.Loads.{LoadsOne};
-ghost use Rattle.program_manners.specs.Refusals.{Refuses};
+//! What `encode` loads beside the rows of an agency: the key of tokens, and the zone of local times.
+ghost use Rattle.std.specs.Prelude.{◌≡◌, ◌++◌, [], ℕ, IfErr, IfOk, List, None, Some, codes};
+ghost use Rattle.std.specs.Prelude.{option_map, string_bytes};
+ghost use Rattle.frame.specs.Making.{did_making};
+ghost use Rattle.jiff_tz.specs.PosixReader.{read_whole};
+ghost use Rattle.jiff_tz.specs.PosixText.{tz_view};
 ghost use Rattle.tap_rows.specs.Devices.{devices_of};
-ghost use Rattle.tool_tasks.specs.EncodeRows.{FailsTables, HasTables, word_in};
-ghost use Rattle.tool_tasks.specs.EncodeTables.{FailsKey, FailsZone, IsClock, IsKey, IsZone};
-ghost use Rattle.tool_tasks.specs.EncodeTables.{RefusesZone, is_name_byte, is_zone_name};
-ghost use Rattle.tool_tasks.specs.EncodeTables.{zone_file};
-ghost use Rattle.tool_tasks.specs.inside.EncodeTables.{HasZoneFile, IsNoTable, IsTableOf};
-ghost use Rattle.tool_tasks.specs.inside.EncodeTables.{IsZoneFault};
-ghost use Rattle.world.specs.declared.faults.LoadFault.{LoadFault as ALoadFault};
+ghost use Rattle.tool_tasks.specs.EncodeRows.{AreDeviceLoads, AreKeyedLoads, word_in};
+ghost use Rattle.tool_tasks.specs.EncodeTables.{is_name_byte, is_zone_name, zone_file};
+ghost use Rattle.tool_tasks.specs.Fault.{fault_text};
+ghost use Rattle.tool_tasks.specs.inside.EncodeTables.{IsDoneAfter, IsHaltedAfter, IsMade};
+ghost use Rattle.tool_tasks.specs.inside.EncodeTables.{IsTableClock};
+ghost use Rattle.tool_tasks.specs.inside.Prepared.{HaltsPart};
+ghost use Rattle.world.specs.Run.{with_flushed};
 
-use crate::encode_rows::devices_in;
+use crate::counted::Counted;
+use crate::encode_rows::encode_table;
 use crate::fault::Fault;
-use crate::source::{Source, load_upload};
+use crate::loads::load_word;
+use crate::prepared::{carry_out, refusal};
+use crate::stops::Halt;
+use frame::Stop;
 use jiff_core::Error;
 use jiff_tz::{TimeZone, Tzif, posix};
-use program_manners::LoadFault;
 use std::alloc::{AllocError, Global};
-use std::hash::RandomState;
-use tap_rows::{DeviceTable, Fold, LocalClock, TokenKey};
+use tap_rows::{Choice, DeviceTable, Fold, LocalClock, TokenKey};
 use tool_words::RowsWords;
+use world::{LoadFault, World};
 
-/// The zone of local times.
-#[derive(Drop)]
-pub(crate) enum ZoneTable {
-    /// A POSIX rule, which holds in all years.
-    Rule(posix::TimeZone),
-    /// A file of the system's zone files.
-    Table(Tzif),
-}
+/// The numbers of the key and of the file of the zone among the words that name files.
+const KEY_NUMBER: usize = 3;
+const ZONE_NUMBER: usize = 4;
 
-/// What was loaded.
-#[derive(Drop)]
-pub(crate) struct Tables {
-    /// The devices whose names are in the column of validators, if it has names.
-    pub(crate) devices: Option<DeviceTable>,
-    /// The key under which any text is a token, if there is one.
-    pub(crate) key: Option<TokenKey>,
-    /// The zone of local times, if they are read.
-    pub(crate) zone: Option<ZoneTable>,
-}
-
-impl Tables {
-    pub(crate) fn devices<'c>(&'c self) -> Option<&'c DeviceTable>
-        ensures { option_map (λ table. devices_of table.now) result
-            ≡ option_map devices_of self.entry.now.devices }
-    {
-        match &self.devices {
-            Some(devices) => Some(devices),
-            None => None,
-        }
-    }
-
-    pub(crate) fn key<'c>(&'c self) -> Option<&'c TokenKey>
-        ensures { option_map (λ key. key.now.block) result
-            ≡ option_map (λ key. key.block) self.entry.now.key }
-    {
-        match &self.key {
-            Some(key) => Some(key),
-            None => None,
-        }
-    }
-
-    pub(crate) fn clock<'c>(&'c self, fold: Fold) -> Option<LocalClock<'c>>
-        ensures { IsClock self.entry.now.zone fold result }
-    {
-        match &self.zone {
-            None => None,
-            Some(ZoneTable::Rule(rule)) => Some(LocalClock {
-                zone: TimeZone::Posix(*rule),
-                fold,
-            }),
-            Some(ZoneTable::Table(table)) => Some(LocalClock {
-                zone: TimeZone::Tzif(table),
-                fold,
-            }),
-        }
-    }
-}
-
-/// The key in the file that the word names.
-fn load_key<'a, S: Source>(
+/// Notes the line of the fault, and nothing else.
+fn refuse<'a, W: World>(
     alloc: Global,
-    word: &'a str,
-    source: &mut S,
-) -> Result<TokenKey, Fault<'a>>
-    ensures key { IfOk result (λ key. IsKey (Some word.entry.now) (S.loaded source.old)
-        (S.loaded source.new) (Some key)) }
-    ensures stops { IfErr result (FailsKey (Some word.entry.now) (S.loaded source.old)
-        (S.loaded source.new) (S.refused source.new)) }
+    fault: Fault<'_>,
+    world: &mut W,
+) -> Result<u8, Halt<'a>>
+    ensures done { IfOk result (λ status. (status ≡ 1) × (W.run world.new
+        ≡ with_flushed (did_making (W.run world.old) [] (record { text = [];
+        note = fault_text fault.entry ++ codes "\n" }) []))) }
+    ensures halted { (names : List (List ℕ)) → IfErr result (λ halt.
+        HaltsPart names [] [] halt.why (W.run world.old) (W.run world.new)) }
 {
-    let text = load_upload(alloc, source, word)?;
-    match TokenKey::of_file(&text) {
-        Ok(key) => Ok(key),
-        Err(wrong) => Err(Fault::Key(word, wrong)),
-    }
-}
-
-/// The key, if there is a word of its file.
-fn key_in<'a, S: Source>(
-    alloc: Global,
-    word: Option<&'a str>,
-    source: &mut S,
-) -> Result<Option<TokenKey>, Fault<'a>>
-    ensures key { IfOk result
-        (IsKey (word_in word.entry) (S.loaded source.old) (S.loaded source.new)) }
-    ensures stops { IfErr result (FailsKey (word_in word.entry) (S.loaded source.old)
-        (S.loaded source.new) (S.refused source.new)) }
-{
-    match word {
-        None => Ok(None),
-        Some(word) => match load_key(alloc, word, source) {
-            Ok(key) => Ok(Some(key)),
-            Err(fault) => Err(fault),
-        },
+    match refusal(alloc, fault, "") {
+        Err(AllocError) => Err(Halt::of(Stop::NoMemory, None)),
+        Ok(prepared) => carry_out(&prepared, world),
     }
 }
 
@@ -131,124 +62,181 @@ fn is_zone_name(word: &str) -> bool
     word.as_bytes().iter().all(|byte| is_name_byte(*byte))
 }
 
-/// Why the file of a zone was not loaded.
-fn zone_fault<'a>(word: &'a str, fault: LoadFault) -> Fault<'a>
-    ensures { IsZoneFault word.entry.now fault result }
-{
-    match fault {
-        LoadFault::Unread => Fault::Zone(word),
-        LoadFault::TooLong => Fault::ZoneFile(word),
-        LoadFault::NoMemory => Fault::NoMemory,
-    }
-}
-
 fn zone_path(alloc: Global, word: &str) -> Result<String, AllocError>
     ensures { IfOk result (λ path. string_bytes path ≡ zone_file word.now) }
 {
     format!(in alloc; "/usr/share/zoneinfo/{word}")
 }
 
-fn load_path<'a, S: Source>(
-    alloc: Global,
-    word: &'a str,
-    path: &str,
-    source: &mut S,
-) -> Result<Vec<u8>, Fault<'a>>
-    ensures reported { IfOk result (λ text. LoadsOne (S.loaded source.old) (S.loaded source.new)
-        (Some path.now) text.items) }
-    ensures stops { IfErr result (λ fault. (why : ALoadFault)
-        × IsZoneFault word.entry.now why fault × Refuses (S.refused source.new) (Some path.now) why) }
-{
-    match source.load(alloc, Some(path)) {
-        Ok(text) => Ok(text),
-        Err(fault) => Err(zone_fault(word, fault)),
-    }
-}
-
-fn table_in<'a>(alloc: Global, word: &'a str, text: &[u8]) -> Result<ZoneTable, Fault<'a>>
-    ensures zone { IfOk result (IsTableOf text.now) }
-    ensures stops { IfErr result (IsNoTable word.entry.now text.now) }
-{
-    match Tzif::parse(alloc, None, text) {
-        Ok(table) => Ok(ZoneTable::Table(table)),
-        Err(Error::OutOfMemory) => Err(Fault::NoMemory),
-        Err(_) => Err(Fault::ZoneFile(word)),
-    }
-}
-
-/// The zone of this name, of the system's zone files.
-fn load_zone<'a, S: Source>(
-    alloc: Global,
-    word: &'a str,
-    source: &mut S,
-) -> Result<ZoneTable, Fault<'a>>
-    ensures zone { IfOk result (λ zone. HasZoneFile word.entry.now (S.loaded source.old)
-        (S.loaded source.new) zone) }
-    ensures stops { IfErr result (RefusesZone word.entry.now (S.loaded source.old)
-        (S.loaded source.new) (S.refused source.new)) }
-{
-    if !is_zone_name(word) {
-        return Err(Fault::Zone(word));
-    }
-    let path = zone_path(alloc, word)?;
-    let text = load_path(alloc, word, path.as_str(), source)?;
-    table_in(alloc, word, &text)
-}
-
-/// The zone of a word: a POSIX rule, or else a name.
-fn zone_of<'a, S: Source>(
-    alloc: Global,
-    word: &'a str,
-    source: &mut S,
-) -> Result<ZoneTable, Fault<'a>>
-    ensures zone { IfOk result (λ zone. IsZone (Some word.entry.now) (S.loaded source.old)
-        (S.loaded source.new) (Some zone)) }
-    ensures stops { IfErr result (FailsZone (Some word.entry.now) (S.loaded source.old)
-        (S.loaded source.new) (S.refused source.new)) }
+fn rule_of(word: &str) -> Option<posix::TimeZone>
+    ensures { option_map tz_view result ≡ read_whole word.now }
 {
     match posix::TimeZone::parse(word.as_bytes()) {
-        Ok(rule) => Ok(ZoneTable::Rule(rule)),
-        Err(_) => match load_zone(alloc, word, source) {
-            Ok(zone) => Ok(zone),
-            Err(fault) => Err(fault),
-        },
+        Ok(rule) => Some(rule),
+        Err(_) => None,
     }
 }
 
-/// The zone, if there is a word.
-fn zone_in<'a, S: Source>(
-    alloc: Global,
-    word: Option<&'a str>,
-    source: &mut S,
-) -> Result<Option<ZoneTable>, Fault<'a>>
-    ensures zone { IfOk result
-        (IsZone (word_in word.entry) (S.loaded source.old) (S.loaded source.new)) }
-    ensures stops { IfErr result (FailsZone (word_in word.entry) (S.loaded source.old)
-        (S.loaded source.new) (S.refused source.new)) }
+fn clock_of<'c>(table: &'c Tzif, fold: Fold) -> LocalClock<'c>
+    ensures { IsTableClock table.entry.now fold result }
 {
-    match word {
-        None => Ok(None),
-        Some(word) => match zone_of(alloc, word, source) {
-            Ok(zone) => Ok(Some(zone)),
-            Err(fault) => Err(fault),
-        },
+    let zone = TimeZone::Tzif(table);
+    LocalClock { zone, fold }
+}
+
+/// The choice that the words make, with what was loaded.
+fn choice<'c>(
+    words: &'c RowsWords<'_>,
+    devices: Option<&'c DeviceTable>,
+    key: Option<&'c TokenKey>,
+    clock: Option<LocalClock<'c>>,
+) -> Choice<'c>
+    ensures { IsMade words.entry.now (option_map (λ d. devices_of d.now) devices.entry)
+        (option_map (λ k. k.now.block) key.entry) clock.entry result }
+{
+    Choice {
+        columns: &words.columns,
+        devices,
+        key,
+        clock,
     }
 }
 
-/// Loads what the words name beside the rows: devices, then the key, then the zone.
-pub(crate) fn tables_in<'a, S: Source>(
+/// The file of the zone of this name was not loaded.
+fn unread_zone<'a>(word: &'a str, why: LoadFault) -> Halt<'a>
+    ensures { result.why ≡ Stop.Unread ZONE_NUMBER why }
+{
+    let line = match why {
+        LoadFault::Unread => Fault::Zone(word),
+        LoadFault::TooLong => Fault::ZoneFile(word),
+        LoadFault::NoMemory => Fault::NoMemory,
+    };
+    Halt {
+        why: Stop::Unread(ZONE_NUMBER, why),
+        line,
+    }
+}
+
+/// The same as `encode_by_zone`, with the zone in the file of this name.
+fn encode_by_zone_file<'a, W: World + Counted>(
     alloc: Global,
-    seed: RandomState,
     words: &RowsWords<'a>,
-    source: &mut S,
-) -> Result<Tables, Fault<'a>>
-    ensures tables { IfOk result
-        (HasTables words.now (S.loaded source.old) (S.loaded source.new)) }
-    ensures stops { IfErr result (FailsTables words.now (S.loaded source.old)
-        (S.loaded source.new) (S.refused source.new)) }
+    word: &'a str,
+    name: &'a str,
+    devices: Option<&DeviceTable>,
+    key: Option<&TokenKey>,
+    world: &mut W,
+) -> Result<u8, Halt<'a>>
+    requires named { word_in words.now.zone ≡ Some name.now }
+    requires no_rule { read_whole name.now ≡ None }
+    ensures done { IfOk result (IsDoneAfter (AreKeyedLoads words.now
+        (option_map (λ d. devices_of d.now) devices.entry) (option_map (λ k. k.now.block) key.entry))
+        words.now word.entry.now (W.run world.old) (W.run world.new)) }
+    ensures halted { IfErr result (λ halt. IsHaltedAfter (AreKeyedLoads words.now
+        (option_map (λ d. devices_of d.now) devices.entry) (option_map (λ k. k.now.block) key.entry))
+        words.now word.entry.now (W.run world.old) (W.run world.new) halt.why) }
 {
-    let devices = devices_in(alloc, seed, words, source)?;
-    let key = key_in(alloc, words.key, source)?;
-    let zone = zone_in(alloc, words.zone, source)?;
-    Ok(Tables { devices, key, zone })
+    if !is_zone_name(name) {
+        return refuse(alloc, Fault::Zone(name), world);
+    }
+    match zone_path(alloc, name) {
+        Err(AllocError) => Err(Halt::of(Stop::NoMemory, None)),
+        Ok(path) => match load_word(world, path.as_str()) {
+            Err(why) => Err(unread_zone(name, why)),
+            Ok(text) => match Tzif::parse(alloc, None, &text) {
+                Ok(table) => {
+                    let clock = clock_of(&table, words.fold);
+                    let choice = choice(words, devices, key, Some(clock));
+                    encode_table(alloc, words, word, &choice, world)
+                }
+                Err(Error::Tzif(_)) => refuse(alloc, Fault::ZoneFile(name), world),
+                Err(_) => Err(Halt::of(Stop::NoMemory, None)),
+            },
+        },
+    }
+}
+
+/// Finds the zone, if the words name one, by its rule or its name, and goes on with the rows.
+fn encode_by_zone<'a, 'c, W: World + Counted>(
+    alloc: Global,
+    words: &'c RowsWords<'a>,
+    word: &'a str,
+    devices: Option<&'c DeviceTable>,
+    key: Option<&'c TokenKey>,
+    world: &mut W,
+) -> Result<u8, Halt<'a>>
+    ensures done { IfOk result (IsDoneAfter (AreKeyedLoads words.now
+        (option_map (λ d. devices_of d.now) devices.entry) (option_map (λ k. k.now.block) key.entry))
+        words.now word.entry.now (W.run world.old) (W.run world.new)) }
+    ensures halted { IfErr result (λ halt. IsHaltedAfter (AreKeyedLoads words.now
+        (option_map (λ d. devices_of d.now) devices.entry) (option_map (λ k. k.now.block) key.entry))
+        words.now word.entry.now (W.run world.old) (W.run world.new) halt.why) }
+{
+    match words.zone {
+        None => {
+            let choice = choice(words, devices, key, None);
+            encode_table(alloc, words, word, &choice, world)
+        }
+        Some(name) => match rule_of(name) {
+            None => encode_by_zone_file(alloc, words, word, name, devices, key, world),
+            Some(rule) => {
+                let zone = TimeZone::Posix(rule);
+                let clock = LocalClock {
+                    zone,
+                    fold: words.fold,
+                };
+                let choice = choice(words, devices, key, Some(clock));
+                encode_table(alloc, words, word, &choice, world)
+            }
+        },
+    }
+}
+
+/// The same as `encode_by_key`, with the key of the file that this word names.
+fn encode_by_key_file<'a, W: World + Counted>(
+    alloc: Global,
+    words: &RowsWords<'a>,
+    word: &'a str,
+    name: &'a str,
+    devices: Option<&DeviceTable>,
+    world: &mut W,
+) -> Result<u8, Halt<'a>>
+    requires { word_in words.now.key ≡ Some name.now }
+    ensures done { IfOk result (IsDoneAfter (λ before. AreDeviceLoads (word_in words.now.devices)
+        words.now.columns.separator before (option_map (λ d. devices_of d.now) devices.entry))
+        words.now word.entry.now (W.run world.old) (W.run world.new)) }
+    ensures halted { IfErr result (λ halt. IsHaltedAfter (λ before.
+        AreDeviceLoads (word_in words.now.devices) words.now.columns.separator before
+        (option_map (λ d. devices_of d.now) devices.entry))
+        words.now word.entry.now (W.run world.old) (W.run world.new) halt.why) }
+{
+    match load_word(world, name) {
+        Err(why) => Err(Halt::of(Stop::Unread(KEY_NUMBER, why), Some(name))),
+        Ok(text) => match TokenKey::of_file(&text) {
+            Ok(key) => encode_by_zone(alloc, words, word, devices, Some(&key), world),
+            Err(wrong) => refuse(alloc, Fault::Key(name, wrong), world),
+        },
+    }
+}
+
+/// Loads the key, if the words name one, and goes on with the zone. The device table was loaded.
+pub(crate) fn encode_by_key<'a, W: World + Counted>(
+    alloc: Global,
+    words: &RowsWords<'a>,
+    word: &'a str,
+    devices: Option<&DeviceTable>,
+    world: &mut W,
+) -> Result<u8, Halt<'a>>
+    ensures done { IfOk result (IsDoneAfter (λ before. AreDeviceLoads (word_in words.now.devices)
+        words.now.columns.separator before (option_map (λ d. devices_of d.now) devices.entry))
+        words.now word.entry.now (W.run world.old) (W.run world.new)) }
+    ensures halted { IfErr result (λ halt. IsHaltedAfter (λ before.
+        AreDeviceLoads (word_in words.now.devices) words.now.columns.separator before
+        (option_map (λ d. devices_of d.now) devices.entry))
+        words.now word.entry.now (W.run world.old) (W.run world.new) halt.why) }
+{
+    match words.key {
+        Some(name) => encode_by_key_file(alloc, words, word, name, devices, world),
+        None => encode_by_zone(alloc, words, word, devices, None, world),
+    }
 }

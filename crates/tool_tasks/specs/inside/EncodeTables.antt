@@ -1,37 +1,43 @@
--- The file of a zone: what private functions alone cite.
-use Rattle.std.specs.Prelude.{◌≡◌, ⊤, ℕ, List, Ok, Option, Some}
-use Rattle.jiff_core.specs.declared.error.Error.{Error}
-use Rattle.jiff_tz.specs.Tzif.{IsParseFailure, tzif_view}
-use Rattle.jiff_tz.specs.TzifReader.{read_tzif}
-use Rattle.program_manners.specs.Loads.{Loaded, LoadsOne}
-use Rattle.world.specs.declared.faults.LoadFault.{LoadFault}
-use Rattle.world.specs.declared.faults.LoadFault.TheVariants as load
-use Rattle.tool_tasks.specs.EncodeTables.{zone_file}
-use Rattle.tool_tasks.specs.declared.encode_tables.ZoneTable.{ZoneTable}
-use Rattle.tool_tasks.specs.declared.encode_tables.ZoneTable.TheVariants.{Rule, Table}
-use Rattle.tool_tasks.specs.declared.fault.Fault.{Fault}
-use Rattle.tool_tasks.specs.declared.fault.Fault.TheVariants.{NoMemory, Zone, ZoneFile}
+-- How an encoding ends that had loaded files when it began: what private functions alone cite.
+use Rattle.std.specs.Prelude.{◌≡◌, ℕ, List, Option, option_map}
+use Rattle.frame.specs.Making.{IsDoneMaking, IsHaltedMaking}
+use Rattle.frame.specs.declared.stop.Stop.{Stop}
+use Rattle.jiff_tz.specs.declared.timezone.TimeZone.{TimeZone}
+use Rattle.jiff_tz.specs.declared.timezone.TimeZone.TheVariants as zones
+use Rattle.jiff_tz.specs.declared.tzif.Tzif.{Tzif}
+use Rattle.tap_rows.specs.Devices.{Device, devices_of}
+use Rattle.tap_rows.specs.declared.agency.choice.Choice.{Choice}
+use Rattle.tap_rows.specs.declared.agency.choice.Fold.{Fold}
+use Rattle.tap_rows.specs.declared.agency.choice.LocalClock.{LocalClock}
+use Rattle.tool_tasks.specs.EncodeRows.{EncodesRows, names_of}
+use Rattle.tool_words.specs.declared.task.RowsWords.{RowsWords}
+use Rattle.world.specs.Origins.{with_loads}
+use Rattle.world.specs.Run.{Load, Run}
 
--- the second fault is the first one, of the file of the zone of this word
-abbrev pub IsZoneFault : List ℕ → LoadFault → Fault → Type 0
-IsZoneFault word load.Unread (Zone named) = named.now ≡ word
-IsZoneFault word load.TooLong (ZoneFile named) = named.now ≡ word
-IsZoneFault word load.NoMemory NoMemory = ⊤
-IsZoneFault word first second = ⊥
+-- of a run that loaded these before, all was done
+abbrev pub IsDoneAfter : (List Load → Type 0) → RowsWords → List ℕ → Run → Run → ℕ → Type 0
+IsDoneAfter Before words word old new status = (start : Run) (before : List Load)
+    → old ≡ with_loads start before → Before before
+    → IsDoneMaking (EncodesRows words word) start new status
 
--- the zone is what this text has
-abbrev pub IsTableOf : List ℕ → ZoneTable → Type 0
-IsTableOf text (Rule rule) = ⊥
-IsTableOf text (Table table) = read_tzif text ≡ Ok (tzif_view table)
+-- the same of a run that something outside stopped
+abbrev pub IsHaltedAfter : (List Load → Type 0) → RowsWords → List ℕ → Run → Run → Stop → Type 0
+IsHaltedAfter Before words word old new why = (start : Run) (before : List Load)
+    → old ≡ with_loads start before → Before before
+    → IsHaltedMaking (EncodesRows words word) (names_of words word) start new why
 
--- the text has no zone, or an allocation failed
-abbrev pub IsNoTable : List ℕ → List ℕ → Fault → Type 0
-IsNoTable word text (ZoneFile named) =
-    (named.now ≡ word) × (error : Error) × IsParseFailure error text
-IsNoTable word text NoMemory = ⊤
-IsNoTable word text fault = ⊥
+-- the zone is this table
+abbrev pub IsTable : Tzif → TimeZone → Type 0
+IsTable table (zones.Tzif held) = held.now ≡ table
+IsTable table zone = ⊥
 
--- the zone is what the file of this name has, which was loaded
-abbrev pub HasZoneFile : List ℕ → Option (List Loaded) → Option (List Loaded) → ZoneTable → Type 0
-HasZoneFile word loaded loaded' zone = (text : List ℕ)
-    × LoadsOne loaded loaded' (Some (zone_file word)) text × IsTableOf text zone
+abbrev pub IsTableClock : Tzif → Fold → LocalClock → Type 0
+IsTableClock table fold clock = (clock.fold ≡ fold) × IsTable table clock.zone
+
+-- the choice has the columns of the words, these devices, the key of this block, and this clock
+pub record IsMade (words : RowsWords) (devices : Option (List Device)) (block : Option (List ℕ))
+    (clock : Option LocalClock) (choice : Choice) : Type 0 where
+  pub columns : choice.columns.now ≡ words.columns
+  pub has_devices : option_map (λ table. devices_of table.now) choice.devices ≡ devices
+  pub has_key : option_map (λ key. key.now.block) choice.key ≡ block
+  pub has_clock : choice.clock ≡ clock

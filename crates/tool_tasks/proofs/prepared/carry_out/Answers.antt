@@ -37,7 +37,7 @@ returns-in-Err-end-2-clause-halted g c = λ names named.
     let is : files_of c.args.prepared.now
     ≡ record { name = c.in-Some.name.now; bytes = c.in-Some.bytes.items } ∷ [] =
     rw c.in-Some.is refl in
-    let made = c.in-Ok-write.ensures.done bytes c.in-Ok-begin.ensures.begun
+    let made = c.in-Ok-write.ensures.done bytes c.in-Ok-begin.ensures.held
     ∙ ap (λ (t : List ℕ). with_made (with_written (run c.begin.new.world) t) file)
     c.deref-in-Ok-begin.ensures.value
     ∙ ap (λ (r : Run). with_made (with_written r text) file) c.in-Ok-begin.ensures.unchanged in
