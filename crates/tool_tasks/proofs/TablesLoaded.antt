@@ -149,8 +149,8 @@ zone_right words word name line devices block rest named is before of = inr (inr
 
 -- the word is no rule
 pub no_rule : {A : Type 0} (o : Option A) → ¬ (IsSome o) → o ≡ None
-no_rule None not = refl
-no_rule (Some x) not = absurd (not tt)
+no_rule None none = refl
+no_rule (Some x) none = absurd (none refl)
 
 -- what a word names
 pub named_key : (words : RowsWords) (name text block : List ℕ) → word_in words.key ≡ Some name
@@ -170,11 +170,14 @@ named_clock words name rest clock named fold is =
 pub table_zone : (name text : List ℕ) (table : Tzif) (zone : TimeZone) → IsTable table zone
     → read_whole name ≡ None → is_zone_name name ≡ true → read_tzif text ≡ Ok (tzif_view table)
     → IsZone name (load_of (zone_file name) text ∷ []) zone
-table_zone name text table (zones.Tzif held) is no_rule named read = (
-  no_rule,
+table_zone name text table (zones.Tzif held) is none named read = (
+  none,
   named,
   text,
   refl,
   read ∙ sym (ap (λ (t : Tzif). Ok (tzif_view t)) is),
 )
-table_zone name text table zone is no_rule named read = absurd is
+table_zone name text table zones.UTC is none named read = absurd is
+table_zone name text table zones.Unknown is none named read = absurd is
+table_zone name text table (zones.Fixed offset) is none named read = absurd is
+table_zone name text table (zones.Posix rule) is none named read = absurd is

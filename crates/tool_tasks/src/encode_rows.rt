@@ -129,11 +129,7 @@ fn prepare_encoded<'a>(
 }
 
 /// The lines of a quote that nothing closes.
-fn open_quote_refusal<'a>(
-    alloc: Global,
-    word: &str,
-    line: u64,
-) -> Result<Prepared<'a>, AllocError>
+fn open_quote_refusal<'a>(alloc: Global, word: &str, line: u64) -> Result<Prepared<'a>, AllocError>
     ensures { IfOk result (λ prepared. (more : List ℕ)
         × Refuses (wrong_line word.now (rows_text (WrongRows.Quote line))) more
         (answer_of prepared) (files_of prepared) prepared.status) }

@@ -29,17 +29,16 @@ use world::{LoadFault, World};
 
 /// The numbers of the key and of the file of the zone among the words that name files.
 const KEY_NUMBER: usize = 3;
+
 const ZONE_NUMBER: usize = 4;
 
 /// Notes the line of the fault, and nothing else.
-fn refuse<'a, W: World>(
-    alloc: Global,
-    fault: Fault<'_>,
-    world: &mut W,
-) -> Result<u8, Halt<'a>>
+fn refuse<'a, W: World>(alloc: Global, fault: Fault<'_>, world: &mut W) -> Result<u8, Halt<'a>>
     ensures done { IfOk result (λ status. (status ≡ 1) × (W.run world.new
-        ≡ with_flushed (did_making (W.run world.old) [] (record { text = [];
-        note = fault_text fault.entry ++ codes "\n" }) []))) }
+        ≡ with_flushed (did_making (W.run world.old) [] (record {
+          text = [];
+          note = fault_text fault.entry ++ codes "\n";
+        }) []))) }
     ensures halted { (names : List (List ℕ)) → IfErr result (λ halt.
         HaltsPart names [] [] halt.why (W.run world.old) (W.run world.new)) }
 {

@@ -30,9 +30,13 @@ returns-in-Ok-read_devices-clause-done g c =
     let loads = load_of c.args.name.now text ∷ [] in
     let devices = Some (devices_of c.in-Ok-read_devices.devices) in
     let of = subst (λ (d : Option (List ℕ)). AreDeviceLoads d separator loads devices)
-    (sym c.requires) (text, refl, subst (λ (t : List ℕ). AreDevices separator t
-    (devices_of c.in-Ok-read_devices.devices)) c.deref.ensures.value
-    c.in-Ok-read_devices.ensures.table) in
+    (sym c.requires) (
+      text,
+      refl,
+      subst (λ (t : List ℕ). AreDevices separator t
+          (devices_of c.in-Ok-read_devices.devices)) c.deref.ensures.value
+          c.in-Ok-read_devices.ensures.table,
+    ) in
     IfOk-weaker c.encode_by_key.result _ _
     (λ status ends. ends old loads c.in-Ok.ensures.loaded of) c.encode_by_key.ensures.done
 
@@ -44,9 +48,13 @@ returns-in-Ok-read_devices-clause-halted g c =
     let loads = load_of c.args.name.now text ∷ [] in
     let devices = Some (devices_of c.in-Ok-read_devices.devices) in
     let of = subst (λ (d : Option (List ℕ)). AreDeviceLoads d separator loads devices)
-    (sym c.requires) (text, refl, subst (λ (t : List ℕ). AreDevices separator t
-    (devices_of c.in-Ok-read_devices.devices)) c.deref.ensures.value
-    c.in-Ok-read_devices.ensures.table) in
+    (sym c.requires) (
+      text,
+      refl,
+      subst (λ (t : List ℕ). AreDevices separator t
+          (devices_of c.in-Ok-read_devices.devices)) c.deref.ensures.value
+          c.in-Ok-read_devices.ensures.table,
+    ) in
     IfErr-weaker c.encode_by_key.result _ _
     (λ halt ends. ends old loads c.in-Ok.ensures.loaded of) c.encode_by_key.ensures.halted
 

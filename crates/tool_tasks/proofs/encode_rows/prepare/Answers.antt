@@ -31,10 +31,10 @@ returns-in-Some-refused c =
     all_four c.prepare_encoded.result _ _ _ _ _ is.text is.files is.note is.status
     (λ prepared text files note status.
     inl (rows_uploaded (word_in words.refused) (Some c.in-Some-refused.name.now)
-          c.args.choice.now c.args.table.now encoded.upload.items encoded.refused.items
-          encoded.summary (answer_of prepared) (files_of prepared) prepared.status same
-          c.in-Ok.ensures.encoded (ap vec_items text) files note status
-          (λ none. absurd (cc (same, none)))))
+    c.args.choice.now c.args.table.now encoded.upload.items encoded.refused.items
+    encoded.summary (answer_of prepared) (files_of prepared) prepared.status same
+    c.in-Ok.ensures.encoded (ap vec_items text) files note status
+    (λ none. absurd (cc (same, none)))))
 
 pub returns-in-None-first_refused : goal.returns-in-None-first_refused
 returns-in-None-first_refused c =
@@ -45,9 +45,9 @@ returns-in-None-first_refused c =
     all_four c.prepare_encoded-in-None-first_refused.result _ _ _ _ _ is.text is.files is.note
     is.status (λ prepared text files note status.
     inl (rows_uploaded (word_in words.refused) None c.args.choice.now c.args.table.now
-          encoded.upload.items encoded.refused.items encoded.summary (answer_of prepared)
-          (files_of prepared) prepared.status same c.in-Ok.ensures.encoded (ap vec_items text)
-          files note status (λ none. c.in-None-first_refused.is)))
+    encoded.upload.items encoded.refused.items encoded.summary (answer_of prepared)
+    (files_of prepared) prepared.status same c.in-Ok.ensures.encoded (ap vec_items text)
+    files note status (λ none. c.in-None-first_refused.is)))
 
 pub returns : goal.returns
 returns c =

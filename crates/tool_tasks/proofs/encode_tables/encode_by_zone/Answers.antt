@@ -13,7 +13,7 @@ returns-in-None-clause-done g c =
     let none : AreClockLoads (word_in words.zone) words.fold [] None = rw c.in-None.is refl in
     IfOk-weaker c.encode_table.result _ _ (λ status done. done_on _ _ words c.args.word.now old old
     (g.W.Inputs.run c.encode_table.new.world) status [] (sym (no_loads old))
-    (chosen words _ _ None c.choice.result [] c.choice.ensures none) done) c.encode_table.ensures.done
+    (chosen words _ _ None c.choice-choice.result [] c.choice-choice.ensures none) done) c.encode_table.ensures.done
 
 pub returns-in-None-clause-halted : goal.returns-in-None-clause-halted
 returns-in-None-clause-halted g c =
@@ -22,7 +22,7 @@ returns-in-None-clause-halted g c =
     let none : AreClockLoads (word_in words.zone) words.fold [] None = rw c.in-None.is refl in
     IfErr-weaker c.encode_table.result _ _ (λ halt halted. halted_on _ _ words c.args.word.now old
     old (g.W.Inputs.run c.encode_table.new.world) halt.why [] (sym (no_loads old))
-    (chosen words _ _ None c.choice.result [] c.choice.ensures none) halted) c.encode_table.ensures.halted
+    (chosen words _ _ None c.choice-choice.result [] c.choice-choice.ensures none) halted) c.encode_table.ensures.halted
 
 pub returns-in-Some-rule_of-clause-done : goal.returns-in-Some-rule_of-clause-done
 returns-in-Some-rule_of-clause-done g c =
@@ -32,8 +32,8 @@ returns-in-Some-rule_of-clause-done g c =
     let named : word_in words.zone ≡ Some name = rw c.in-Some.is refl in
     IfOk-weaker c.encode_table-in-Some-rule_of.result _ _ (λ status done. done_on _ _ words
     c.args.word.now old old (g.W.Inputs.run c.encode_table-in-Some-rule_of.new.world) status []
-    (sym (no_loads old)) (chosen words _ _ _ c.choice-in-Some-rule_of.result []
-    c.choice-in-Some-rule_of.ensures (named_clock words name [] _ named refl
+    (sym (no_loads old)) (chosen words _ _ _ c.choice-choice-in-Some-rule_of.result []
+    c.choice-choice-in-Some-rule_of.ensures (named_clock words name [] _ named refl
     (refl, sym c.in-Some-rule_of.ensures))) done)
     c.encode_table-in-Some-rule_of.ensures.done
 
@@ -45,7 +45,7 @@ returns-in-Some-rule_of-clause-halted g c =
     let named : word_in words.zone ≡ Some name = rw c.in-Some.is refl in
     IfErr-weaker c.encode_table-in-Some-rule_of.result _ _ (λ halt halted. halted_on _ _ words
     c.args.word.now old old (g.W.Inputs.run c.encode_table-in-Some-rule_of.new.world) halt.why []
-    (sym (no_loads old)) (chosen words _ _ _ c.choice-in-Some-rule_of.result []
-    c.choice-in-Some-rule_of.ensures (named_clock words name [] _ named refl
+    (sym (no_loads old)) (chosen words _ _ _ c.choice-choice-in-Some-rule_of.result []
+    c.choice-choice-in-Some-rule_of.ensures (named_clock words name [] _ named refl
     (refl, sym c.in-Some-rule_of.ensures))) halted)
     c.encode_table-in-Some-rule_of.ensures.halted
