@@ -21,7 +21,7 @@ _omny_tools() {
     case $task in
     '') words='-V --version' ;;
     encode)
-        words='--columns --from --validators --only --drop --count --token-hash --separator --unit --refused'
+        words='--columns --from --validators --only --drop --count --token-hash --token-key --separator --unit --zone --fold --refused'
         ending=csv
         ;;
     corrections) words='--tokens' ending=csv ;;
@@ -46,8 +46,8 @@ _omny_tools() {
     uploads--table | table--table) ending=toml ;;
     esac
     case $before in
-    --from | --until | --within | --parts | --columns | --only | --drop | --count | --separator | --unit) return ;;
-    --good-part | --refused | --files-from) ending='*' ;;
+    --from | --until | --within | --parts | --columns | --only | --drop | --count | --separator | --unit | --zone | --fold) return ;;
+    --good-part | --refused | --token-key | --files-from) ending='*' ;;
     --format)
         mapfile -t COMPREPLY < <(compgen -W 'text json csv' -- "$word")
         return

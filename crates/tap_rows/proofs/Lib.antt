@@ -6,6 +6,7 @@ mod DeviceLemmas
 mod FieldLemmas
 mod GoingLemmas
 mod GrowingLemmas
+mod LocalLemmas
 pub mod MomentLemmas
 mod OneDeviceTable
 mod UniqueParse

@@ -1,13 +1,19 @@
 -- The moment of a tap, as the field of an agency's row gives it: by a plain number, or by the date
--- and the clock of RFC 3339 with an offset. What is less than a millisecond is dropped.
+-- and the clock of RFC 3339, with an offset or of a zone. What is less than a millisecond is
+-- dropped.
 use Rattle.std.specs.Prelude.{◌==◌, ◌&&◌, ◌||◌, ◌+◌, ◌*◌, ◌/◌, ◌^◌, ◌++◌, ℕ, ℤ, pos, Bool, not}
-use Rattle.std.specs.Prelude.{negsuc, Err, List, None, Ok, Option, Result, Some, codes, drop}
+use Rattle.std.specs.Prelude.{[], ◌-ℤ◌, negsuc, Err, List, None, Ok, Option, Result, Some, codes}
+use Rattle.std.specs.Prelude.{drop}
 use Rattle.std.specs.Prelude.{if◌then◌else◌, length, min, nat_le, nat_lt, option_map, slice_index}
 use Rattle.std.specs.Prelude.{take}
 use Rattle.std.specs.Str.{bytes_eq}
+use Rattle.jiff_core.specs.Timestamp.{nanos_of_seconds}
+use Rattle.jiff_core.specs.declared.Offset.{Offset}
 use Rattle.jiff_core.specs.declared.error.Error.{Error}
-use Rattle.jiff_fmt.specs.Temporal.{parse_timestamp}
+use Rattle.jiff_fmt.specs.Temporal.{parse_datetime, parse_timestamp}
+use Rattle.tap_rows.specs.LocalTimes.{Written, clock_nanos, offset_at}
 use Rattle.tap_rows.specs.Numbers.{decimal_in, digits_len, fraction_len, thousandths_in}
+use Rattle.tap_rows.specs.declared.agency.choice.LocalClock.{LocalClock}
 use Rattle.tap_rows.specs.declared.agency.choice.Unit.{Unit}
 use Rattle.tap_rows.specs.declared.agency.choice.Unit.TheVariants as unit
 use Rattle.tap_rows.specs.declared.agency.reading.Reason.{Reason}
@@ -109,13 +115,30 @@ abbrev pub offset_moment : Unit → List ℕ → Option (List ℕ) → Result �
 offset_moment counted text None = Err why.Moment
 offset_moment counted text (Some offset) = moment_of counted (instant_in text offset)
 
--- the moment of a clock; with nothing after its seconds it is a local time, and in autumn one such
--- time comes twice
-abbrev pub clock_moment : Unit → List ℕ → Result ℕ Reason
-clock_moment counted text = if length (after_fraction text) == 0 then Err why.LocalTime
+-- the moment of a date and a clock at its offset, if it has one
+abbrev pub moment_by : Unit → Written → Result Offset Reason → Result ℕ Reason
+moment_by counted time (Err reason) = Err reason
+moment_by counted time (Ok offset) =
+    moment_of counted (whole_ms (clock_nanos time -ℤ nanos_of_seconds offset.seconds))
+
+-- the moment of a local time that was read, on this clock
+abbrev pub written_moment : Unit → LocalClock → Result Written Error → Result ℕ Reason
+written_moment counted local (Err error) = Err why.Moment
+written_moment counted local (Ok time) = moment_by counted time (offset_at local time)
+
+-- the moment of a local time, if there is a clock of local times
+abbrev pub local_moment : Unit → Option LocalClock → List ℕ → Result ℕ Reason
+local_moment counted None text = Err why.LocalTime
+local_moment counted (Some local) text =
+    written_moment counted local (parse_datetime (instant_text text []))
+
+-- the moment of a date and a clock; with nothing after its seconds it is a local time
+abbrev pub clock_moment : Unit → Option LocalClock → List ℕ → Result ℕ Reason
+clock_moment counted local text =
+    if length (after_fraction text) == 0 then local_moment counted local text
     else offset_moment counted text (offset_in (after_fraction text))
 
 -- the moment that a field gives, or why it gives none
-abbrev pub moment_in : Unit → List ℕ → Result ℕ Reason
-moment_in counted text = if has_clock text then clock_moment counted text
+abbrev pub moment_in : Unit → Option LocalClock → List ℕ → Result ℕ Reason
+moment_in counted local text = if has_clock text then clock_moment counted local text
     else moment_of counted (plain_ms counted text)

@@ -12,9 +12,11 @@ use Rattle.uuid.specs.Text.{parsed}
 use Rattle.tap_views.specs.declared.encoder.TapFields.{TapFields}
 use Rattle.tap_rows.specs.AgencyMoments.{moment_in}
 use Rattle.tap_rows.specs.Devices.{devices_of, validator_of}
+use Rattle.tap_rows.specs.Keys.{code_by}
 use Rattle.tap_rows.specs.Numbers.{whole_number_in}
 use Rattle.tap_rows.specs.declared.agency.choice.Choice.{Choice}
 use Rattle.tap_rows.specs.declared.agency.choice.Condition.{Condition}
+use Rattle.tap_rows.specs.declared.agency.key.TokenKey.{TokenKey}
 use Rattle.tap_rows.specs.declared.agency.reading.Reading.{Reading}
 use Rattle.tap_rows.specs.declared.agency.reading.Reading.TheVariants as read
 use Rattle.tap_rows.specs.declared.agency.reading.Reason.{Reason}
@@ -77,11 +79,20 @@ is_kept layout row =
     && not (list_any (passes row) layout.without)
 
 -- ---- the tap of a row
--- the token that a field gives: 32 hexadecimal digits, of either case, or a UUID; or, if hashes are
--- wanted, the first 16 bytes of the SHA-256 of any text but none
-abbrev pub token_in : Bool → List ℕ → Option (List ℕ)
-token_in false text = parsed text
-token_in true text = if length text == 0 then None else Some (take 16 (sha256 text))
+-- the first 16 bytes of the SHA-256 of a text, if it is not empty
+abbrev pub hashed : List ℕ → Option (List ℕ)
+hashed text = if length text == 0 then None else Some (take 16 (sha256 text))
+
+-- the first 16 bytes of its HMAC-SHA-256 under the key of this block, if it is not empty
+abbrev pub keyed : List ℕ → List ℕ → Option (List ℕ)
+keyed block text = if length text == 0 then None else Some (take 16 (code_by block text))
+
+-- the token that a field gives: 32 hexadecimal digits, of either case, or a UUID; if hashes are
+-- wanted, a hash of any text; and under a key a code of any text
+abbrev pub token_in : Option (Bor TokenKey) → Bool → List ℕ → Option (List ℕ)
+token_in None false text = parsed text
+token_in None true text = hashed text
+token_in (Some key) has_hashes text = keyed key.now.block text
 
 -- the validator with this number, if it is one
 abbrev pub validator_numbered : Option ℕ → Result ℕ Reason
@@ -121,9 +132,9 @@ tap_from (Some token) (Ok validator) (Ok moment) =
 abbrev pub kept_reading : Choice → HeadLayout → List (List ℕ) → Reading
 kept_reading choice layout row =
     if is_one_rider layout.count row
-    then tap_from (token_in choice.columns.now.has_hashes (field row layout.token))
+    then tap_from (token_in choice.key choice.columns.now.has_hashes (field row layout.token))
     (validator_in choice.devices (field row layout.validator))
-    (moment_in choice.columns.now.unit (field row layout.moment))
+    (moment_in choice.columns.now.unit choice.clock (field row layout.moment))
     else read.Refused why.Riders
 
 -- what a row is read as, if the columns are here: a tap that is kept, a row that is not, or one

@@ -5,6 +5,8 @@ pub mod AgencyTexts
 pub mod Decoded
 pub mod Devices
 pub mod Fields
+pub mod Keys
+pub mod LocalTimes
 pub mod Moments
 pub mod Numbers
 pub mod Rows

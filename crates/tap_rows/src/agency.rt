@@ -4,6 +4,8 @@
 mod choice;
 mod fault;
 mod instant;
+mod key;
+mod local;
 mod note;
 mod numbers;
 mod positions;
@@ -13,8 +15,9 @@ mod refusals;
 mod summary;
 mod writing;
 
-pub use choice::{Choice, Columns, Condition, Separator, Unit};
+pub use choice::{Choice, Columns, Condition, Fold, LocalClock, Separator, Unit};
 pub use fault::{AgencyFault, Wanted};
+pub use key::{TokenKey, WrongKey};
 pub(crate) use positions::has_at;
 pub(crate) use reading::field_in;
 pub use reading::{Reading, Reason};

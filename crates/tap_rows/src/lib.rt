@@ -15,8 +15,8 @@ mod read;
 mod row;
 
 pub use agency::{
-    AgencyFault, Choice, Columns, Condition, EncodedRows, Reading, Reason, Separator, Summary,
-    Unit, Wanted, encode_rows,
+    AgencyFault, Choice, Columns, Condition, EncodedRows, Fold, LocalClock, Reading, Reason,
+    Separator, Summary, TokenKey, Unit, Wanted, WrongKey, encode_rows,
 };
 pub use column::Column;
 pub use devices::{DeviceTable, DevicesFault, WrongDevice, read_devices};

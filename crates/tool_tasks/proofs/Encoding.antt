@@ -13,7 +13,6 @@ use Rattle.world.specs.Origins.{with_loads}
 use Rattle.world.specs.Run.{Load, Named, Run, with_load}
 use Rattle.world.specs.declared.faults.LoadFault.{LoadFault}
 use Rattle.tap_rows.specs.Agencies.{IsFirstRefused, IsRowsEncoded}
-use Rattle.tap_rows.specs.Devices.{Device}
 use Rattle.tap_rows.specs.declared.agency.choice.Choice.{Choice}
 use Rattle.tap_rows.specs.declared.agency.reading.Reason.{Reason}
 use Rattle.tap_rows.specs.declared.agency.summary.Summary.{Summary}
@@ -21,7 +20,7 @@ use Rattle.tool_words.specs.declared.task.RowsWords.{RowsWords}
 use Rattle.tool_tasks.proofs.Loading.{unread_leaves}
 use Rattle.tool_tasks.proofs.Making.{halts_at_once, halts_loaded}
 use Rattle.tool_tasks.specs.Encode.{EncodesTable, IsTableAnswer, Refuses, load_of}
-use Rattle.tool_tasks.specs.EncodeRows.{AreDeviceLoads, EncodesRows, EncodesText, IsChoice}
+use Rattle.tool_tasks.specs.EncodeRows.{EncodesRows, EncodesText, IsChoice}
 use Rattle.tool_tasks.specs.EncodeRows.{IsRowsAnswer, IsRowsUpload, IsSummaryLine}
 use Rattle.tool_tasks.specs.EncodeRows.{IsWrongDevices, names_of}
 use Rattle.tool_tasks.specs.EncodeRows.{refused_files, rows_status, word_in}
@@ -85,12 +84,12 @@ abbrev first_name : List Named → List ℕ
 first_name [] = []
 first_name (file ∷ files) = file.name
 
-refused_named : (word other : List ℕ) (refused : Option (List ℕ)) (rows : List ℕ)
-    (file : Option (List ℕ × List ℕ)) → files_in file ≡ refused_files refused rows
-    → IsNamedIn (word ∷ other ∷ unwrap_or refused word ∷ []) file
-refused_named word other refused rows None is = tt
-refused_named word other None rows (Some (name, bytes)) is = absurd (cc is)
-refused_named word other (Some given) rows (Some (name, bytes)) is =
+refused_named : (word other : List ℕ) (refused : Option (List ℕ)) (more : List (List ℕ))
+    (rows : List ℕ) (file : Option (List ℕ × List ℕ)) → files_in file ≡ refused_files refused rows
+    → IsNamedIn (word ∷ other ∷ unwrap_or refused word ∷ more) file
+refused_named word other refused more rows None is = tt
+refused_named word other None more rows (Some (name, bytes)) is = absurd (cc is)
+refused_named word other (Some given) more rows (Some (name, bytes)) is =
     ap (λ (files : List Named). Some (first_name files)) (sym is)
 
 pub rows_named : (words : RowsWords) (word : List ℕ) (choice : Choice) (text : List ℕ)
@@ -98,8 +97,8 @@ pub rows_named : (words : RowsWords) (word : List ℕ) (choice : Choice) (text :
     → IsRowsAnswer words word choice text answer (files_in file) status
     → IsNamedIn (names_of words word) file
 rows_named words word choice text answer file status (inl upload) =
-    refused_named word (unwrap_or (word_in words.devices) word) (word_in words.refused) upload.rows
-    file upload.made
+    refused_named word (unwrap_or (word_in words.devices) word) (word_in words.refused) _
+    upload.rows file upload.made
 rows_named words word choice text answer file status (inr wrong) =
     none_named (names_of words word) file wrong.3.1
 
@@ -125,17 +124,13 @@ table_status word names old new status (inr stopped) =
 
 -- ---- an agency's CSV
 pub rows_right : (words : RowsWords) (word text read : List ℕ) (before : List Load)
-    (devices : Option (List Device)) (choice : Choice) (answer : Answer) (files : List Named)
-    (status given : ℕ)
-    → AreDeviceLoads (word_in words.devices) words.columns.separator before devices
-    → IsChoice words devices choice → IsRowsAnswer words word choice read answer files given
+    (choice : Choice) (answer : Answer) (files : List Named) (status given : ℕ)
+    → IsChoice words choice before → IsRowsAnswer words word choice read answer files given
     → read ≡ text → status ≡ given
     → EncodesRows words word (before ++ load_of word text ∷ []) answer files status
-rows_right words word text read before devices choice answer files status given of is_choice is same
-    given_is = inl (record {
+rows_right words word text read before choice answer files status given is_choice is same given_is =
+    inl (record {
       before = before;
-      devices = devices;
-      of_devices = of;
       choice = choice;
       is_choice = is_choice;
       text = text;
@@ -155,7 +150,9 @@ pub rows_statuses : (words : RowsWords) (word : List ℕ) (names : List (List �
     → (status ≡ 0) ⊎ ((status ≡ 1) ⊎ (status ≡ 3))
 rows_statuses words word names old new status (inl done) = elim done.right [
   | inl text ↦ by text.answered
-  | inr devices ↦ inr (inl devices.answered.2)
+  | inr (inl devices) ↦ inr (inl devices.answered.2)
+  | inr (inr (inl key)) ↦ inr (inl key.answered.2)
+  | inr (inr (inr zone)) ↦ inr (inl zone.answered.2)
 ]
   where
     by : {choice : Choice} {text : List ℕ}
@@ -213,7 +210,7 @@ pub devices_right : (words : RowsWords) (word name text : List ℕ) (wrong : Wro
     → Refuses (wrong_line name (devices_text wrong)) [] answer files given → status ≡ given
     → EncodesRows words word (load_of name text ∷ []) answer files status
 devices_right words word name text wrong answer files status given named is refused given_is =
-    inr (record {
+    inr (inl (record {
       name = name;
       named = named;
       text = text;
@@ -221,4 +218,4 @@ devices_right words word name text wrong answer files status given named is refu
       wrong = wrong;
       is_wrong = is;
       answered = (refused.0, refused.1, given_is ∙ refused.2);
-    })
+    }))

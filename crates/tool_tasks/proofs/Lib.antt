@@ -9,4 +9,5 @@ pub mod MergedUploads
 pub mod Opened
 mod Preparing
 pub mod Sorting
+mod TablesLoaded
 pub mod ValidPrefixes

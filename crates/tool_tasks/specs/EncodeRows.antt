@@ -1,6 +1,6 @@
 -- What `encode` of an agency's own CSV does: of the word of its file, and of the words that say how
 -- it is read.
-use Rattle.std.specs.Prelude.{◌≡◌, ◌⊎◌, ⊤, ◌+◌, ◌==◌, ℕ, List, [], ◌∷◌, ◌++◌, Option, None, Some}
+use Rattle.std.specs.Prelude.{◌≡◌, ◌⊎◌, ⊤, ◌+◌, ◌==◌, ℕ, Err, List, [], ◌∷◌, ◌++◌, Option, None, Some}
 use Rattle.std.specs.Prelude.{IfSome, if◌then◌else◌, codes, decimal, option_map, slice_get}
 use Rattle.std.specs.Prelude.{unwrap_or}
 use Rattle.std.specs.Borrow.{Bor}
@@ -8,16 +8,19 @@ use Rattle.frame.specs.Ends.{Answer}
 use Rattle.tap_rows.specs.Agencies.{IsFirstRefused, IsRowsEncoded, IsWanting}
 use Rattle.tap_rows.specs.AgencyTexts.{first_record}
 use Rattle.tap_rows.specs.Devices.{AreDevices, Device, IsDevicesFault, devices_of}
+use Rattle.tap_rows.specs.Keys.{key_of}
 use Rattle.tap_rows.specs.declared.agency.choice.Choice.{Choice}
 use Rattle.tap_rows.specs.declared.agency.choice.Columns.{Columns}
 use Rattle.tap_rows.specs.declared.agency.choice.Condition.{Condition}
 use Rattle.tap_rows.specs.declared.agency.choice.Separator.{Separator}
 use Rattle.tap_rows.specs.declared.agency.fault.Wanted.{Wanted}
 use Rattle.tap_rows.specs.declared.agency.fault.Wanted.TheVariants as wanted
+use Rattle.tap_rows.specs.declared.agency.key.WrongKey.{WrongKey}
 use Rattle.tap_rows.specs.declared.agency.summary.Summary.{Summary}
 use Rattle.tap_rows.specs.declared.devices.fault.DevicesFault.TheVariants as devices
 use Rattle.tool_tasks.specs.Encode.{Refuses, load_of}
-use Rattle.tool_tasks.specs.Fault.{wrong_line}
+use Rattle.tool_tasks.specs.EncodeTables.{AreClockLoads, AreKeyLoads, IsNoZone, zone_file}
+use Rattle.tool_tasks.specs.Fault.{key_line, wrong_line}
 use Rattle.tool_tasks.specs.Names.{file_named}
 use Rattle.tool_tasks.specs.Uploads.{IsMomentOrDash}
 use Rattle.tool_tasks.specs.WrongTables.{devices_text, rows_text}
@@ -32,18 +35,14 @@ use Rattle.world.specs.Run.{Load, Named}
 abbrev pub word_in : Option (Bor (List ℕ)) → Option (List ℕ)
 word_in word = option_map (λ w. w.now) word
 
--- the files that the words name: the CSV, the device table, and the file of the refused rows
+-- the files that the words name: the CSV, the device table, the file of the refused rows, the key
+-- and the file of the zone
 abbrev pub names_of : RowsWords → List ℕ → List (List ℕ)
-names_of words word =
-    word ∷ unwrap_or (word_in words.devices) word ∷ unwrap_or (word_in words.refused) word ∷ []
+names_of words word = word ∷ unwrap_or (word_in words.devices) word
+    ∷ unwrap_or (word_in words.refused) word ∷ unwrap_or (word_in words.key) word
+    ∷ unwrap_or (option_map zone_file (word_in words.zone)) word ∷ []
 
 -- ---- how the rows are read
--- the choice is that of the words, of rows that have the names of these devices if there are such
-pub record IsChoice (words : RowsWords) (devices : Option (List Device)) (choice : Choice)
-    : Type 0 where
-  pub columns : choice.columns.now ≡ words.columns
-  pub table : option_map (λ table. devices_of table.now) choice.devices ≡ devices
-
 -- The device table, if it has a word, was read to its end beside rows with this separator, and has
 -- these devices.
 abbrev pub AreDeviceLoads : Option (List ℕ) → Separator → List Load → Option (List Device) → Type 0
@@ -51,6 +50,26 @@ AreDeviceLoads None separator loads None = loads ≡ []
 AreDeviceLoads (Some word) separator loads (Some devices) =
     (text : List ℕ) × (loads ≡ load_of word text ∷ []) × AreDevices separator text devices
 AreDeviceLoads word separator loads devices = ⊥
+
+-- the device table was loaded, and then the key, as the words name them
+pub record AreKeyedLoads (words : RowsWords) (devices : Option (List Device))
+    (block : Option (List ℕ)) (loads : List Load) : Type 0 where
+  pub first : List Load
+  pub rest : List Load
+  pub of_devices : AreDeviceLoads (word_in words.devices) words.columns.separator first devices
+  pub of_key : AreKeyLoads (word_in words.key) rest block
+  pub in_order : loads ≡ first ++ rest
+
+-- The choice is that of the words, and what it has of files was loaded: devices, then the key, then
+-- the zone.
+pub record IsChoice (words : RowsWords) (choice : Choice) (loads : List Load) : Type 0 where
+  pub columns : choice.columns.now ≡ words.columns
+  pub first : List Load
+  pub rest : List Load
+  pub of_tables : AreKeyedLoads words (option_map (λ table. devices_of table.now) choice.devices)
+      (option_map (λ key. key.now.block) choice.key) first
+  pub of_clock : AreClockLoads (word_in words.zone) words.fold rest choice.clock
+  pub in_order : loads ≡ first ++ rest
 
 -- ---- all is well
 -- the beginning of a summary's line
@@ -133,15 +152,12 @@ IsRowsAnswer words word choice text answer files status =
     ⊎ ((wrong : WrongRows) × IsWrongRows words choice text wrong × (more : List ℕ)
     × Refuses (wrong_line word (rows_text wrong)) more answer files status)
 
--- the device table was loaded, if the words name one, the CSV was read to its end, and this is the
--- answer
+-- what the words name was loaded, the CSV was read to its end, and this is the answer
 pub record EncodesText (words : RowsWords) (word : List ℕ) (loads : List Load) (answer : Answer)
     (files : List Named) (status : ℕ) : Type 0 where
   pub before : List Load
-  pub devices : Option (List Device)
-  pub of_devices : AreDeviceLoads (word_in words.devices) words.columns.separator before devices
   pub choice : Choice
-  pub is_choice : IsChoice words devices choice
+  pub is_choice : IsChoice words choice before
   pub text : List ℕ
   pub loaded : loads ≡ before ++ load_of word text ∷ []
   pub answered : IsRowsAnswer words word choice text answer files status
@@ -157,8 +173,38 @@ pub record RefusesDevices (words : RowsWords) (loads : List Load) (answer : Answ
   pub is_wrong : IsWrongDevices words.columns.separator text wrong
   pub answered : Refuses (wrong_line name (devices_text wrong)) [] answer files status
 
+-- the words name a key, its file was loaded after the devices, and it is none
+pub record RefusesKey (words : RowsWords) (loads : List Load) (answer : Answer)
+    (files : List Named) (status : ℕ) : Type 0 where
+  pub before : List Load
+  pub devices : Option (List Device)
+  pub of_devices : AreDeviceLoads (word_in words.devices) words.columns.separator before devices
+  pub name : List ℕ
+  pub named : word_in words.key ≡ Some name
+  pub text : List ℕ
+  pub loaded : loads ≡ before ++ load_of name text ∷ []
+  pub wrong : WrongKey
+  pub is_wrong : key_of text ≡ Err wrong
+  pub answered : Refuses (key_line name wrong) [] answer files status
+
+-- the words name a zone, and after the key it was found that there is none
+pub record RefusesZone (words : RowsWords) (loads : List Load) (answer : Answer)
+    (files : List Named) (status : ℕ) : Type 0 where
+  pub before : List Load
+  pub devices : Option (List Device)
+  pub block : Option (List ℕ)
+  pub of_tables : AreKeyedLoads words devices block before
+  pub name : List ℕ
+  pub named : word_in words.zone ≡ Some name
+  pub rest : List Load
+  pub loaded : loads ≡ before ++ rest
+  pub line : List ℕ
+  pub is_none : IsNoZone name rest line
+  pub answered : Refuses line [] answer files status
+
 -- THE rule of `encode` of an agency's own CSV
 abbrev pub EncodesRows : RowsWords → List ℕ → List Load → Answer → List Named → ℕ → Type 0
 EncodesRows words word loads answer files status =
     EncodesText words word loads answer files status
-    ⊎ RefusesDevices words loads answer files status
+    ⊎ (RefusesDevices words loads answer files status
+    ⊎ (RefusesKey words loads answer files status ⊎ RefusesZone words loads answer files status))

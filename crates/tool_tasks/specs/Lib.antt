@@ -2,6 +2,7 @@ pub mod Corrections
 pub mod Decode
 pub mod Encode
 pub mod EncodeRows
+pub mod EncodeTables
 pub mod Fault
 pub mod ValidPrefix
 pub mod Informs

@@ -3,6 +3,7 @@ pub mod Corrected
 pub mod Corrections
 pub mod Decode
 pub mod Decoded
+pub mod EncodeTables
 pub mod Informs
 pub mod Loads
 pub mod Prepared

@@ -2,22 +2,21 @@
 ghost use Rattle.std.specs.Prelude.{◌≡◌, ◌⊎◌, ◌++◌, ◌∷◌, [], ℕ, IfErr, IfOk, List, None, Option};
 ghost use Rattle.std.specs.Prelude.{Some, codes, option_map, string_bytes};
 ghost use Rattle.frame.specs.Making.{EndsMaking, IsDoneMaking, IsHaltedMaking};
-ghost use Rattle.tap_rows.specs.Devices.{IsDevicesFault, devices_of};
-ghost use Rattle.tap_rows.specs.declared.agency.choice.Choice.{Choice as AChoice};
+ghost use Rattle.tap_rows.specs.Devices.{IsDevicesFault};
 ghost use Rattle.tap_rows.specs.declared.agency.choice.Separator.{Separator};
 ghost use Rattle.tool_tasks.specs.Encode.{Refuses};
-ghost use Rattle.tool_tasks.specs.EncodeRows.{AreDeviceLoads, EncodesRows, IsChoice, IsColumnName};
+ghost use Rattle.tool_tasks.specs.EncodeRows.{EncodesRows, IsChoice, IsColumnName};
 ghost use Rattle.tool_tasks.specs.EncodeRows.{IsConditionName, IsRowsAnswer, IsSummaryLine};
 ghost use Rattle.tool_tasks.specs.EncodeRows.{IsWrongDevices, names_of, refused_files, rows_status};
 ghost use Rattle.tool_tasks.specs.EncodeRows.{word_in};
 ghost use Rattle.tool_tasks.specs.Fault.{wrong_line};
 ghost use Rattle.tool_tasks.specs.WrongTables.{devices_text, rows_text};
 ghost use Rattle.tool_tasks.specs.declared.wrong_tables.WrongDevices.{WrongDevices as AWrong};
+ghost use Rattle.tool_tasks.specs.inside.EncodeTables.{IsDoneAfter, IsHaltedAfter};
 ghost use Rattle.tool_tasks.specs.inside.Prepared.{answer_of, files_in, files_of};
-ghost use Rattle.world.specs.Origins.{with_loads};
-ghost use Rattle.world.specs.Run.{Load, Run};
 
 use crate::counted::Counted;
+use crate::encode_tables::encode_by_key;
 use crate::fault::Fault;
 use crate::loads::load_word;
 use crate::names::{Name, file_of};
@@ -35,16 +34,6 @@ use tap_rows::{
 };
 use tool_words::RowsWords;
 use world::World;
-
-/// The choice that the words make, with the devices that they name.
-fn choice<'c>(words: &'c RowsWords<'_>, devices: Option<&'c DeviceTable>) -> Choice<'c>
-    ensures { IsChoice words.entry.now (option_map (λ d. devices_of d.now) devices.entry) result }
-{
-    Choice {
-        columns: &words.columns,
-        devices,
-    }
-}
 
 /// The name of the column of the condition at this position.
 fn condition_name<'a>(conditions: &[Condition<'a>], position: usize) -> &'a str
@@ -155,20 +144,17 @@ fn prepare<'a>(
     alloc: Global,
     words: &RowsWords<'a>,
     word: &str,
-    devices: Option<&DeviceTable>,
+    choice: &Choice<'_>,
     table: &[u8],
 ) -> Result<Prepared<'a>, AllocError>
-    ensures { IfOk result (λ prepared. (choice : AChoice)
-        × IsChoice words.now (option_map (λ d. devices_of d.now) devices.entry) choice
-        × IsRowsAnswer words.now word.now choice table.now (answer_of prepared)
-        (files_of prepared) prepared.status) }
+    ensures { IfOk result (λ prepared. IsRowsAnswer words.now word.now choice.now table.now
+        (answer_of prepared) (files_of prepared) prepared.status) }
 {
-    let choice = choice(words, devices);
     if let Some(line) = open_quote(table, words.columns.separator.byte) {
         return open_quote_refusal(alloc, word, line);
     }
     let mut note = String::new(alloc);
-    match encode_rows(alloc, &choice, table, &mut note) {
+    match encode_rows(alloc, choice, table, &mut note) {
         Err(AgencyFault::NoMemory) => Err(AllocError),
         Err(AgencyFault::Column(wanted)) => {
             let wrong = WrongRows::Column(name_of(&words.columns, wanted));
@@ -187,30 +173,22 @@ fn prepare<'a>(
     }
 }
 
-/// Reads the table, and does what is prepared of it. The device table was loaded, if the words name
-/// one.
-fn encode_table<'a, W: World + Counted>(
+/// Reads the table, and does what is prepared of it. What the choice has of files was loaded.
+pub(crate) fn encode_table<'a, W: World + Counted>(
     alloc: Global,
     words: &RowsWords<'a>,
     word: &'a str,
-    devices: Option<&DeviceTable>,
+    choice: &Choice<'_>,
     world: &mut W,
 ) -> Result<u8, Halt<'a>>
-    ensures done { IfOk result (λ status. (start : Run) (before : List Load)
-        → W.run world.old ≡ with_loads start before
-        → AreDeviceLoads (word_in words.now.devices) words.now.columns.separator before
-        (option_map (λ d. devices_of d.now) devices.entry)
-        → IsDoneMaking (EncodesRows words.now word.entry.now) start (W.run world.new) status) }
-    ensures halted { IfErr result (λ halt. (start : Run) (before : List Load)
-        → W.run world.old ≡ with_loads start before
-        → AreDeviceLoads (word_in words.now.devices) words.now.columns.separator before
-        (option_map (λ d. devices_of d.now) devices.entry)
-        → IsHaltedMaking (EncodesRows words.now word.entry.now)
-        (names_of words.now word.entry.now) start (W.run world.new) halt.why) }
+    ensures done { IfOk result (IsDoneAfter (IsChoice words.now choice.now) words.now
+        word.entry.now (W.run world.old) (W.run world.new)) }
+    ensures halted { IfErr result (λ halt. IsHaltedAfter (IsChoice words.now choice.now) words.now
+        word.entry.now (W.run world.old) (W.run world.new) halt.why) }
 {
     match world.load_whole(file_of(word)) {
         Err(why) => Err(Halt::of(Stop::Unread(0, why), Some(word))),
-        Ok(table) => match prepare(alloc, words, word, devices, &table) {
+        Ok(table) => match prepare(alloc, words, word, choice, &table) {
             Err(AllocError) => Err(Halt::of(Stop::NoMemory, None)),
             Ok(prepared) => carry_out(&prepared, world),
         },
@@ -256,7 +234,7 @@ fn encode_by_devices<'a, W: World + Counted>(
     match load_word(world, name) {
         Err(why) => Err(Halt::of(Stop::Unread(1, why), Some(name))),
         Ok(text) => match read_devices(alloc, seed, words.columns.separator, &text) {
-            Ok(devices) => encode_table(alloc, words, word, Some(&devices), world),
+            Ok(devices) => encode_by_key(alloc, words, word, Some(&devices), world),
             Err(fault) => match refuse_devices(alloc, name, fault) {
                 Err(AllocError) => Err(Halt::of(Stop::NoMemory, None)),
                 Ok(prepared) => carry_out(&prepared, world),
@@ -279,12 +257,12 @@ fn encode<'a, W: World + Counted>(
 {
     match words.devices {
         Some(name) => encode_by_devices(alloc, seed, words, word, name, world),
-        None => encode_table(alloc, words, word, None, world),
+        None => encode_by_key(alloc, words, word, None, world),
     }
 }
 
 /// Encodes the rows of the agency's CSV that the word names, `-` being standard input, as the words
-/// say: loads the device table, if they name one, reads the CSV whole, writes the upload of the
+/// say: loads the device table, the key and the zone, if they name such, reads the CSV whole, writes the upload of the
 /// rows that are kept, makes the file of the refused rows, if it has a name, and then notes how
 /// many rows there are of each kind. A fault is noted, too. `seed` is random, so that no file can
 /// choose names of devices that are found slowly. The status is 0 if all is written, 3 if it is and

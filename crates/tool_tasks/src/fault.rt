@@ -5,11 +5,11 @@ ghost use Rattle.std.specs.Io.KnownBytes.{Keeps};
 ghost use Rattle.program_manners.specs.Refusals.{IsOneOf, Refuses};
 ghost use Rattle.world.specs.declared.faults.LoadFault.{LoadFault as ALoadFault};
 ghost use Rattle.tool_tasks.specs.Fault.{IsFaultReported, IsRefusal, failed_as};
-ghost use Rattle.tool_tasks.specs.Fault.{fault_text, is_quiet, wrong_text};
+ghost use Rattle.tool_tasks.specs.Fault.{fault_text, is_quiet, wrong_key_text, wrong_text};
 ghost use Rattle.tool_tasks.specs.Names.{file_named};
 
 use crate::layout::{Cause, Remedy};
-use crate::names::Name;
+use crate::names::{Escaped, Name};
 use crate::wrong_tables::{WrongDevices, WrongFareTable, WrongRows, WrongTapTable};
 use fare_table::TableFault;
 use program_manners::{Complaints, LoadFault, Output, WriteEnd};
@@ -17,6 +17,7 @@ use report_texts::Wrong;
 use std::alloc::{AllocError, AllocFailed};
 use std::fmt;
 use std::io::Write;
+use tap_rows::WrongKey;
 use tap_views::{LayoutFault, NoMemory};
 
 /// Why a subcommand is given up. A file is named by its word of the command line. Its `Display` is
@@ -45,6 +46,12 @@ pub enum Fault<'a> {
     Rows(&'a str, WrongRows<'a>),
     /// The file is no device table.
     Devices(&'a str, WrongDevices),
+    /// The file is no key.
+    Key(&'a str, WrongKey),
+    /// The word is neither a POSIX rule nor the name of a zone file that can be read.
+    Zone(&'a str),
+    /// The zone file of this name is none.
+    ZoneFile(&'a str),
     /// The file is no fare table.
     FareTable(&'a str, TableFault),
     /// A file was another one when it was read again.
@@ -137,6 +144,15 @@ fn wrong_text(wrong: Wrong) -> &'static str
     }
 }
 
+fn wrong_key_text(wrong: WrongKey) -> &'static str
+    ensures { result.now ≡ wrong_key_text wrong }
+{
+    match wrong {
+        WrongKey::Empty => "the key is empty",
+        WrongKey::Long => "the key has more than 65536 bytes",
+    }
+}
+
 impl fmt::Display for Fault<'_> {
     ghost output = { λ fault. Some (fault_text fault) };
 
@@ -164,6 +180,21 @@ impl fmt::Display for Fault<'_> {
             Fault::TapTable(word, wrong) => write!(f, "fault: {} {wrong}", Name(word)),
             Fault::Rows(word, wrong) => write!(f, "fault: {} {wrong}", Name(word)),
             Fault::Devices(word, wrong) => write!(f, "fault: {} {wrong}", Name(word)),
+            Fault::Key(word, wrong) => {
+                let why = wrong_key_text(*wrong);
+                write!(f, "fault: {}: {why}", Name(word))
+            }
+            Fault::Zone(word) => {
+                let name = Escaped(word);
+                write!(
+                    f,
+                    "fault: the zone {name} is no POSIX rule, nor a file of /usr/share/zoneinfo"
+                )
+            }
+            Fault::ZoneFile(word) => {
+                let name = Escaped(word);
+                write!(f, "fault: the zone {name} has a file that is wrong")
+            }
             Fault::FareTable(word, fault) => {
                 let why = WrongFareTable(*fault);
                 write!(f, "fault: {}: {why}", Name(word))

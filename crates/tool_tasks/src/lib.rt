@@ -15,6 +15,7 @@
 //! | `layout`, `wrong_tables` | what is wrong with an upload, or with a table, in words |
 //! | `encode` | `encode` of a tap table |
 //! | `encode_rows` | `encode` of an agency's own CSV |
+//! | `encode_tables` | what it loads beside the rows and the devices: a key, a zone |
 //! | `decode` | `decode` |
 //! | `placed` | files that are read at any offset |
 //! | `sort` | `sort` of uploads that are loaded |
@@ -35,6 +36,7 @@ mod counted;
 mod decode;
 mod encode;
 mod encode_rows;
+mod encode_tables;
 mod fault;
 mod informs;
 mod known;

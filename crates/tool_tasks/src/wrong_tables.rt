@@ -62,6 +62,8 @@ fn reason_text(reason: Reason) -> &'static str
         Reason::Validator => "the validator is no number from 0 to 4294967295",
         Reason::Device => "the device is none of --validators",
         Reason::LocalTime => "the moment is a local time: it has neither Z nor an offset",
+        Reason::Skipped => "the moment is a local time that clocks skip",
+        Reason::Twice => "the moment is a local time that comes twice: say --fold",
         Reason::Early => "the moment is before 2000: say --unit s or --unit ms",
         Reason::Moment => "the moment is no time before 2100",
         Reason::Riders => "the row is not of one rider",

@@ -1,11 +1,13 @@
 -- How an agency's CSV is read: what the values of `--columns`, `--from`, `--separator`, `--unit`,
--- `--only` and `--drop` say.
+-- `--fold`, `--only` and `--drop` say.
 use Rattle.std.specs.Prelude.{◌==◌, ◌||◌, if◌then◌else◌, nat_lt, ℕ, Bool, List, [], ◌∷◌, Option}
 use Rattle.std.specs.Prelude.{None, Some, codes, false, filter_map, is_some, length, true}
 use Rattle.std.specs.List.{after_first, before_first, list_all, position_or_len, slice_split}
 use Rattle.std.specs.Option.{option_and_then}
 use Rattle.std.specs.Str.{bytes_eq}
 use Rattle.clap.specs.Words.{Text}
+use Rattle.tap_rows.specs.declared.agency.choice.Fold.{Fold}
+use Rattle.tap_rows.specs.declared.agency.choice.Fold.TheVariants as folds
 use Rattle.tap_rows.specs.declared.agency.choice.Separator.{Separator}
 use Rattle.tap_rows.specs.declared.agency.choice.Unit.{Unit}
 use Rattle.tap_rows.specs.declared.agency.choice.Unit.TheVariants as units
@@ -130,6 +132,13 @@ unit_in None = Some units.Unsaid
 unit_in (Some word) = if bytes_eq word (codes "s") then Some units.Seconds
     else (if bytes_eq word (codes "ms") then Some units.Milliseconds
     else (if bytes_eq word (codes "us") then Some units.Microseconds else None))
+
+-- which of two moments a time is, which needs a zone; none if the words say it wrong
+abbrev pub fold_in : Bool → Option Text → Option Fold
+fold_in has_zone None = Some folds.Unsaid
+fold_in false (Some word) = None
+fold_in true (Some word) = if bytes_eq word (codes "first") then Some folds.First
+    else (if bytes_eq word (codes "second") then Some folds.Second else None)
 
 -- each word is COLUMN=VALUE
 abbrev pub have_parts : List Text → Bool

@@ -7,9 +7,10 @@ use Rattle.std.specs.Option.{option_map_or, option_or, option_to_list}
 use Rattle.std.specs.Str.{bytes_eq}
 use Rattle.clap.specs.Words.{Row, Text, all_of, first_of, subcommand_of}
 use Rattle.program_manners.specs.Words.{is_given}
+use Rattle.tap_rows.specs.declared.agency.choice.Fold.{Fold}
 use Rattle.tap_rows.specs.declared.agency.choice.Separator.{Separator}
 use Rattle.tap_rows.specs.declared.agency.choice.Unit.{Unit}
-use Rattle.tool_words.specs.Columns.{Export, columns_in, conditions_in, export_named}
+use Rattle.tool_words.specs.Columns.{Export, columns_in, conditions_in, export_named, fold_in}
 use Rattle.tool_words.specs.Columns.{separator_in, unit_in}
 use Rattle.tool_words.specs.ToolLine.{breaks_rule, has_value, program}
 use Rattle.tool_words.specs.declared.usage_error.UsageError.{UsageError}
@@ -32,6 +33,11 @@ pub record RowsRequest : Type 0 where
   pub count : Option Text
   -- the file of devices and their validators, if the rows have no validators' numbers
   pub devices : Option Text
+  -- the file of the key under which any text is a token, if there is one
+  pub key : Option Text
+  -- the zone of local times, if they are read, and which of two moments such a time is
+  pub zone : Option Text
+  pub fold : Fold
   -- the file of the rows that are no taps, if one is made
   pub refused : Option Text
 
@@ -102,10 +108,15 @@ or_input (word ∷ words) = word ∷ words
 abbrev pub encoded_file : List Row → Text
 encoded_file rows = unwrap_or (first_of (codes "FILE") rows) (codes "-")
 
--- the devices are standard input, and so is the agency's CSV
-abbrev pub has_devices_twice : List Row → Bool
-has_devices_twice rows = is_input (encoded_file rows)
-    && option_map_or is_input (first_of (codes "validators") rows) false
+-- the words name a file under this name that is standard input
+abbrev pub has_input_at : Text → List Row → Bool
+has_input_at name rows = option_map_or is_input (first_of name rows) false
+
+-- two of the agency's CSV, the devices and the key are standard input
+abbrev pub has_table_twice : List Row → Bool
+has_table_twice rows = if has_input_at (codes "validators") rows
+    then is_input (encoded_file rows) || has_input_at (codes "token-key") rows
+    else is_input (encoded_file rows) && has_input_at (codes "token-key") rows
 
 -- the words name a kind of export, or else the columns
 abbrev pub export_in : List Row → Option Export
@@ -115,18 +126,20 @@ export_in rows = option_map_or export_named (first_of (codes "from") rows)
 abbrev pub wrong_export : List Row → UsageError
 wrong_export rows = if has_value (codes "from") rows then wrong.Export else wrong.Columns
 
--- The rows of an agency's CSV, read so, with this separator and this unit, under these conditions
--- that keep rows and leave them out; or which of them is wrong.
-abbrev pub rows_by : Option Export → Option Separator → Option Unit → Option (List (Text × Text))
-    → Option (List (Text × Text)) → List Row → Request
-rows_by None separator unit only without rows = usage_error (wrong_export rows)
-rows_by (Some export) None unit only without rows = usage_error wrong.Separator
-rows_by (Some export) (Some separator) None only without rows = usage_error wrong.Unit
-rows_by (Some export) (Some separator) (Some unit) None without rows = usage_error wrong.Condition
-rows_by (Some export) (Some separator) (Some unit) (Some only) None rows =
+-- The rows of an agency's CSV, read so, with this separator, this unit and this fold, under these
+-- conditions that keep rows and leave them out; or which of them is wrong.
+abbrev pub rows_by : Option Export → Option Separator → Option Unit → Option Fold
+    → Option (List (Text × Text)) → Option (List (Text × Text)) → List Row → Request
+rows_by None separator unit fold only without rows = usage_error (wrong_export rows)
+rows_by (Some export) None unit fold only without rows = usage_error wrong.Separator
+rows_by (Some export) (Some separator) None fold only without rows = usage_error wrong.Unit
+rows_by (Some export) (Some separator) (Some unit) None only without rows = usage_error wrong.Fold
+rows_by (Some export) (Some separator) (Some unit) (Some fold) None without rows =
+    usage_error wrong.Condition
+rows_by (Some export) (Some separator) (Some unit) (Some fold) (Some only) None rows =
     usage_error wrong.DropCondition
-rows_by (Some export) (Some separator) (Some unit) (Some only) (Some without) rows =
-    if has_devices_twice rows then usage_error wrong.InputTwice
+rows_by (Some export) (Some separator) (Some unit) (Some fold) (Some only) (Some without) rows =
+    if has_table_twice rows then usage_error wrong.InputTwice
     else encode_rows (encoded_file rows) (record {
       separator = separator;
       token = export.token;
@@ -138,14 +151,18 @@ rows_by (Some export) (Some separator) (Some unit) (Some only) (Some without) ro
       without = without ++ option_to_list export.without;
       count = option_or (first_of (codes "count") rows) export.count;
       devices = first_of (codes "validators") rows;
+      key = first_of (codes "token-key") rows;
+      zone = first_of (codes "zone") rows;
+      fold = fold;
       refused = first_of (codes "refused") rows;
     })
 
 -- the rows of an agency's CSV
 abbrev pub rows_request : List Row → Request
 rows_request rows = rows_by (export_in rows) (separator_in (first_of (codes "separator") rows))
-    (unit_in (first_of (codes "unit") rows)) (conditions_in (named (codes "only") rows))
-    (conditions_in (named (codes "drop") rows)) rows
+    (unit_in (first_of (codes "unit") rows))
+    (fold_in (has_value (codes "zone") rows) (first_of (codes "fold") rows))
+    (conditions_in (named (codes "only") rows)) (conditions_in (named (codes "drop") rows)) rows
 
 -- the rows of an agency's CSV, if the words do not say twice how it is read
 abbrev pub export_request : List Row → Request
@@ -160,7 +177,9 @@ table_request rows =
     else (if has_value (codes "validators") rows then usage_error wrong.NoColumnsForValidators
     else (if has_value (codes "unit") rows then usage_error wrong.NoColumnsForUnit
     else (if has_value (codes "drop") rows || (has_value (codes "count") rows
-    || is_given (codes "token-hash") rows) then usage_error wrong.NoColumnsForOthers
+    || (is_given (codes "token-hash") rows || (has_value (codes "token-key") rows
+    || (has_value (codes "zone") rows || has_value (codes "fold") rows))))
+    then usage_error wrong.NoColumnsForOthers
     else encode (encoded_file rows))))
 
 -- the rows of an agency's CSV, or a tap table

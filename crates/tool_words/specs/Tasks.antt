@@ -37,6 +37,9 @@ rows_words_of words = record {
   without = map condition_of words.columns.without.items;
   count = text_in words.columns.count;
   devices = text_in words.devices;
+  key = text_in words.key;
+  zone = text_in words.zone;
+  fold = words.fold;
   refused = text_in words.refused;
 }
 

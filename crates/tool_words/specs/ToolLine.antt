@@ -29,14 +29,15 @@ abbrev pub words_rule : Text → Rule
 words_rule name = positional_rule name Append
 
 -- `encode [--columns NAMES] [--from EXPORT] [--validators DEVICES] [--only COLUMN=VALUE]..
--- [--drop COLUMN=VALUE].. [--count COLUMN] [--token-hash] [--separator S] [--unit UNIT]
--- [--refused OUT] [FILE]`
+-- [--drop COLUMN=VALUE].. [--count COLUMN] [--token-hash] [--token-key KEY] [--separator S]
+-- [--unit UNIT] [--zone ZONE] [--fold FOLD] [--refused OUT] [FILE]`
 abbrev pub encode_rules : List Rule
 encode_rules = option_rule (codes "columns") ∷ option_rule (codes "from")
     ∷ option_rule (codes "validators") ∷ repeated_rule (codes "only") ∷ repeated_rule (codes "drop")
     ∷ option_rule (codes "count") ∷ flag_rule (codes "token-hash")
-    ∷ option_rule (codes "separator") ∷ option_rule (codes "unit") ∷ option_rule (codes "refused")
-    ∷ word_rule (codes "FILE") ∷ []
+    ∷ option_rule (codes "token-key") ∷ option_rule (codes "separator")
+    ∷ option_rule (codes "unit") ∷ option_rule (codes "zone") ∷ option_rule (codes "fold")
+    ∷ option_rule (codes "refused") ∷ word_rule (codes "FILE") ∷ []
 
 -- `decode [--files-from LIST [-0]] [FILE]..`
 abbrev pub decode_rules : List Rule

@@ -17,9 +17,10 @@ usage_error_text wrong.Export = codes "error: encode --from is littlepay or tide
 usage_error_text wrong.Separator =
     codes "error: --separator is one byte, not a quote, or tab"
 usage_error_text wrong.NoColumnsForOthers =
-    codes "error: --drop, --count and --token-hash need --columns or --from"
+    codes "error: --drop, --count, --token-hash, --token-key, --zone, --fold need --columns"
 usage_error_text wrong.NoColumnsForUnit = codes "error: --unit needs --columns"
 usage_error_text wrong.Unit = codes "error: --unit is s, ms or us"
+usage_error_text wrong.Fold = codes "error: --fold is first or second, beside --zone"
 usage_error_text wrong.Condition = codes "error: --only needs COLUMN=VALUE"
 usage_error_text wrong.DropCondition = codes "error: --drop needs COLUMN=VALUE"
 usage_error_text wrong.NotOneUpload = codes "error: --good-part needs one FILE"

@@ -45,7 +45,15 @@ seconds, --unit ms as milliseconds of any year, --unit us as microseconds.
 
 With --validators the column of validators has the names of devices. DEVICES is
 CSV with the header device,validator and a row for each device, which gives it
-its number. A row of another device is no tap.";
+its number. A row of another device is no tap.
+
+With --token-key any text is a token: the first 16 bytes of its HMAC-SHA-256.
+The key is the bytes of the file KEY, without a line feed at its end, 1 to
+65536. Keep it: other keys make other tokens. Whoever has it can try numbers.
+
+With --zone times without an offset are of this zone: a name as
+America/New_York, of the system's zone files, or a POSIX rule. A time that
+clocks show twice is refused without --fold, and one that they skip always.";
 
 const ENCODE_HELP: &str = "The tap table [default: standard input, as -]";
 
@@ -60,6 +68,12 @@ const DROP_HELP: &str = "Leave out rows with this value";
 const COUNT_HELP: &str = "Refuse a row unless it has 1 rider in this column";
 
 const HASH_HELP: &str = "The token is half of the SHA-256 of its field";
+
+const KEY_HELP: &str = "The token is a code of any text, by the file KEY";
+
+const ZONE_HELP: &str = "The zone of local times, by name or POSIX rule";
+
+const FOLD_HELP: &str = "Which time is meant of two: first or second";
 
 const VALIDATORS_HELP: &str = "A file with the validator of each device";
 
@@ -91,11 +105,14 @@ pub(crate) fn encode_command<'a>(alloc: Global, is_whole: bool) -> Result<Comman
         ),
         Row::One(Takes::Value("count", "COLUMN", COUNT_HELP), Need::Never),
         Row::One(Takes::Flag("token-hash", HASH_HELP), Need::Never),
+        Row::One(Takes::Value("token-key", "KEY", KEY_HELP), Need::Never),
         Row::One(
             Takes::Value("separator", "SEPARATOR", SEPARATOR_HELP),
             Need::Never,
         ),
         Row::One(Takes::Value("unit", "UNIT", UNIT_HELP), Need::Never),
+        Row::One(Takes::Value("zone", "ZONE", ZONE_HELP), Need::Never),
+        Row::One(Takes::Value("fold", "FOLD", FOLD_HELP), Need::Never),
         Row::One(Takes::Value("refused", "OUT", REFUSED_HELP), Need::Never),
         Row::One(Takes::Word("FILE", ENCODE_HELP), Need::Never),
     ];

@@ -2,11 +2,11 @@
 ghost use Rattle.std.specs.Prelude.{◌≡◌, ◌++◌, IfOk, codes, filter_map, map, option_map};
 ghost use Rattle.std.specs.Option.{option_or, option_to_list};
 ghost use Rattle.clap.specs.Words.{first_of, found_of, rows_of};
-ghost use Rattle.tool_words.specs.Request.{encoded_file, export_in, has_devices_twice};
+ghost use Rattle.tool_words.specs.Request.{encoded_file, export_in, has_table_twice};
 ghost use Rattle.tool_words.specs.Request.{rows_request, wrong_export};
 ghost use Rattle.tool_words.specs.Columns.{between_commas, columns_among, columns_in};
 ghost use Rattle.tool_words.specs.Columns.{conditions_in, export_named, export_of, littlepay};
-ghost use Rattle.tool_words.specs.Columns.{name_given, only_name, parts_of, separator_in};
+ghost use Rattle.tool_words.specs.Columns.{fold_in, name_given, only_name, parts_of, separator_in};
 ghost use Rattle.tool_words.specs.Columns.{separator_of, tides, unit_in};
 ghost use Rattle.tool_words.specs.Tasks.{request_of, condition_of, text_in, texts_of};
 ghost use Rattle.tool_words.specs.inside.Columns.{export_by};
@@ -17,7 +17,7 @@ use crate::usage_error::UsageError;
 use clap::ArgMatches;
 use program_manners::{flag_in, names_in};
 use std::alloc::{AllocError, Global};
-use tap_rows::{Columns, Condition, Separator, Unit};
+use tap_rows::{Columns, Condition, Fold, Separator, Unit};
 
 /// How a kind of export is read.
 #[derive(Clone, Copy)]
@@ -226,6 +226,24 @@ fn unit_in(word: Option<&str>) -> Option<Unit>
     }
 }
 
+fn fold_in(has_zone: bool, word: Option<&str>) -> Option<Fold>
+    ensures { result ≡ fold_in has_zone (text_in word.entry) }
+{
+    let Some(word) = word else {
+        return Some(Fold::Unsaid);
+    };
+    if !has_zone {
+        return None;
+    }
+    if word == "first" {
+        return Some(Fold::First);
+    }
+    if word == "second" {
+        return Some(Fold::Second);
+    }
+    None
+}
+
 fn conditions_in<'a>(
     alloc: Global,
     words: &[&'a str],
@@ -249,10 +267,16 @@ pub(crate) fn encoded_file<'a>(matches: &ArgMatches<'a>) -> &'a str
     value_in(matches, "FILE").unwrap_or("-")
 }
 
-fn has_devices_twice(matches: &ArgMatches<'_>) -> bool
-    ensures { result ≡ has_devices_twice (rows_of (found_of matches.now)) }
+fn has_table_twice(matches: &ArgMatches<'_>) -> bool
+    ensures { result ≡ has_table_twice (rows_of (found_of matches.now)) }
 {
-    is_input(encoded_file(matches)) && is_input_given(value_in(matches, "validators"))
+    let is_rows = is_input(encoded_file(matches));
+    let is_key = is_input_given(value_in(matches, "token-key"));
+    if is_input_given(value_in(matches, "validators")) {
+        is_rows || is_key
+    } else {
+        is_rows && is_key
+    }
 }
 
 fn with_one<'a>(
@@ -298,13 +322,16 @@ pub(crate) fn rows_task<'a>(alloc: Global, matches: &ArgMatches<'a>) -> Result<T
     let Some(unit) = unit_in(value_in(matches, "unit")) else {
         return Ok(Task::UsageError(UsageError::Unit));
     };
+    let Some(fold) = fold_in(has_value(matches, "zone"), value_in(matches, "fold")) else {
+        return Ok(Task::UsageError(UsageError::Fold));
+    };
     let Some(only) = only else {
         return Ok(Task::UsageError(UsageError::Condition));
     };
     let Some(without) = without else {
         return Ok(Task::UsageError(UsageError::DropCondition));
     };
-    if has_devices_twice(matches) {
+    if has_table_twice(matches) {
         return Ok(Task::UsageError(UsageError::InputTwice));
     }
     let columns = Columns {
@@ -321,6 +348,9 @@ pub(crate) fn rows_task<'a>(alloc: Global, matches: &ArgMatches<'a>) -> Result<T
     let words = RowsWords {
         columns,
         devices: value_in(matches, "validators"),
+        key: value_in(matches, "token-key"),
+        zone: value_in(matches, "zone"),
+        fold,
         refused: value_in(matches, "refused"),
     };
     Ok(Task::EncodeRows(encoded_file(matches), words))

@@ -5,7 +5,7 @@ use crate::later_table::LaterTable;
 use crate::usage_error::UsageError;
 use jiff::Timestamp;
 use program_manners::WrongWord;
-use tap_rows::Columns;
+use tap_rows::{Columns, Fold};
 
 /// How an agency's CSV is read, and what is done with the rows that are not taps.
 #[derive(Drop)]
@@ -13,6 +13,11 @@ pub struct RowsWords<'a> {
     pub columns: Columns<'a>,
     /// The file of devices and their validators; none if the rows have the validators' numbers.
     pub devices: Option<&'a str>,
+    /// The file of the key under which any text is a token, if there is one.
+    pub key: Option<&'a str>,
+    /// The zone of local times, by its name or its rule; none if they are refused.
+    pub zone: Option<&'a str>,
+    pub fold: Fold,
     /// The file of the rows that are not taps; none if the first of them ends the encoding.
     pub refused: Option<&'a str>,
 }

@@ -22,6 +22,8 @@ pub enum UsageError {
     Export,
     /// `--unit` is none.
     Unit,
+    /// `--fold` is none, or there is no `--zone`.
+    Fold,
     /// `--columns` does not name each column once.
     Columns,
     /// `--separator` is none.
@@ -73,10 +75,11 @@ impl fmt::Display for UsageError {
                 f.write_str("error: --separator is one byte, not a quote, or tab")
             }
             UsageError::NoColumnsForOthers => f.write_str(
-                "error: --drop, --count and --token-hash need --columns or --from",
+                "error: --drop, --count, --token-hash, --token-key, --zone, --fold need --columns",
             ),
             UsageError::NoColumnsForUnit => f.write_str("error: --unit needs --columns"),
             UsageError::Unit => f.write_str("error: --unit is s, ms or us"),
+            UsageError::Fold => f.write_str("error: --fold is first or second, beside --zone"),
             UsageError::Condition => f.write_str("error: --only needs COLUMN=VALUE"),
             UsageError::DropCondition => f.write_str("error: --drop needs COLUMN=VALUE"),
             UsageError::NotOneUpload => f.write_str("error: --good-part needs one FILE"),

@@ -52,7 +52,13 @@ fn table_rows_task<'a>(matches: &ArgMatches<'a>) -> Task<'a>
     if has_value(matches, "unit") {
         return Task::UsageError(UsageError::NoColumnsForUnit);
     }
-    if has_value(matches, "drop") || has_value(matches, "count") || flag_in(matches, "token-hash") {
+    if has_value(matches, "drop")
+        || has_value(matches, "count")
+        || flag_in(matches, "token-hash")
+        || has_value(matches, "token-key")
+        || has_value(matches, "zone")
+        || has_value(matches, "fold")
+    {
         return Task::UsageError(UsageError::NoColumnsForOthers);
     }
     Task::Encode(encoded_file(matches))

@@ -1,6 +1,8 @@
 //! What of an agency's CSV is encoded.
 
+use crate::agency::key::TokenKey;
 use crate::devices::DeviceTable;
+use jiff_tz::TimeZone;
 
 /// What is between two fields: one byte, and none of a quote, a line feed and a carriage return.
 #[derive(Clone, Copy, Debug, PartialEq, Eq)]
@@ -16,6 +18,22 @@ pub enum Unit {
     Seconds,
     Milliseconds,
     Microseconds,
+}
+
+/// Which of two moments a local time is that a clock shows twice, as it is set back.
+#[derive(Clone, Copy, Debug, PartialEq, Eq)]
+pub enum Fold {
+    /// Nobody said it: the row is refused.
+    Unsaid,
+    First,
+    Second,
+}
+
+/// The clock of local times: those without an offset.
+#[derive(Clone, Copy, Debug)]
+pub struct LocalClock<'a> {
+    pub zone: TimeZone<'a>,
+    pub fold: Fold,
 }
 
 /// What a row's field is compared with.
@@ -45,9 +63,13 @@ pub struct Columns<'a> {
 }
 
 /// How an agency's CSV is read.
-#[derive(Clone, Copy, Debug)]
+#[derive(Clone, Copy)]
 pub struct Choice<'a> {
     pub columns: &'a Columns<'a>,
     /// The devices whose names are in the column of validators; none if it has their numbers.
     pub devices: Option<&'a DeviceTable>,
+    /// The key under which any text is a token; none if tokens are read, or are hashes.
+    pub key: Option<&'a TokenKey>,
+    /// The clock of local times; none if they are refused.
+    pub clock: Option<LocalClock<'a>>,
 }

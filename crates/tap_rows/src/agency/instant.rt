@@ -1,18 +1,26 @@
-//! The moment that a field of an agency's row gives: a number, or RFC 3339 with an offset.
+//! The moment that a field of an agency's row gives: a number, or RFC 3339, also of a zone.
 
 ghost use Rattle.std.specs.Prelude.{◌≡◌, ◌<◌, ◌≤◌, ◌+◌, ◌++◌, ◌^◌, Bool, IfOk, IfSome, length};
-ghost use Rattle.std.specs.Prelude.{option_map};
-ghost use Rattle.jiff_fmt.specs.Temporal.{parse_timestamp};
+ghost use Rattle.std.specs.Prelude.{◌-ℤ◌, [], option_map};
+ghost use Rattle.jiff_core.specs.DateTime.{civil_nanos};
+ghost use Rattle.jiff_core.specs.Timestamp.{nanos_of_seconds};
+ghost use Rattle.jiff_fmt.specs.Temporal.{parse_datetime, parse_timestamp};
 ghost use Rattle.tap_rows.specs.AgencyMoments.{clock_moment, earliest_ms, has_clock, has_shift};
-ghost use Rattle.tap_rows.specs.AgencyMoments.{instant_in, instant_ms, is_fraction, moment_in};
-ghost use Rattle.tap_rows.specs.AgencyMoments.{moment_of, offset_in, plain_ms, scaled, whole_ms};
+ghost use Rattle.tap_rows.specs.AgencyMoments.{instant_in, instant_ms, instant_text, is_fraction};
+ghost use Rattle.tap_rows.specs.AgencyMoments.{local_moment};
+ghost use Rattle.tap_rows.specs.AgencyMoments.{moment_by, moment_in, moment_of, offset_in};
+ghost use Rattle.tap_rows.specs.AgencyMoments.{plain_ms, scaled, whole_ms, written_moment};
+ghost use Rattle.tap_rows.specs.LocalTimes.{written_of};
 ghost use Rattle.tap_views.specs.Layout.{moment_limit};
 
-use crate::agency::choice::Unit;
+use crate::agency::choice::{LocalClock, Unit};
+use crate::agency::local::offset_at;
 use crate::agency::numbers::{decimal_in, digits_len, fraction_len, thousandths_in};
 use crate::agency::reading::Reason;
 use arrayvec::ArrayVec;
-use jiff_fmt::temporal::parse_timestamp;
+use jiff_core::Offset;
+use jiff_core::civil::DateTime;
+use jiff_fmt::temporal::{parse_datetime, parse_timestamp};
 use tap_views::MOMENT_LIMIT_MS;
 
 /// 2000-01-01T00:00Z.
@@ -137,16 +145,83 @@ fn offset_moment(unit: Unit, text: &[u8], offset: &[u8]) -> Result<u64, Reason>
     moment_of(unit, joined_ms(&text[..19], fraction, offset))
 }
 
-#[tactic(auto, using(crate::proofs::AgencyMomentLemmas::with_offset))]
-fn clock_moment(unit: Unit, text: &[u8]) -> Result<u64, Reason>
+fn nanos_at(time: DateTime, offset: Offset) -> i128
+    ensures { result ≡ civil_nanos time -ℤ nanos_of_seconds offset.seconds }
+{
+    time.to_nanosecond() - offset.to_nanosecond()
+}
+
+fn moment_by(
+    unit: Unit,
+    time: DateTime,
+    offset: Result<Offset, Reason>,
+) -> Result<u64, Reason>
+    ensures moment { result ≡ moment_by unit (written_of time) offset }
+    ensures early { IfOk result (λ moment. moment < moment_limit) }
+{
+    match offset {
+        Ok(offset) => moment_of(unit, whole_ms(nanos_at(time, offset))),
+        Err(reason) => Err(reason),
+    }
+}
+
+fn written_moment(unit: Unit, clock: LocalClock<'_>, text: &[u8]) -> Result<u64, Reason>
+    ensures moment { result ≡ written_moment unit clock.entry (parse_datetime text.now) }
+    ensures early { IfOk result (λ moment. moment < moment_limit) }
+{
+    match parse_datetime(text) {
+        Ok(time) => moment_by(unit, time, offset_at(clock, time)),
+        Err(_) => Err(Reason::Moment),
+    }
+}
+
+fn joined_moment(
+    unit: Unit,
+    clock: LocalClock<'_>,
+    first: &[u8],
+    second: &[u8],
+) -> Result<u64, Reason>
+    requires { length first.now + length second.now ≤ 29 }
+    ensures moment { result
+        ≡ written_moment unit clock.entry (parse_datetime (first.now ++ (second.now ++ []))) }
+    ensures early { IfOk result (λ moment. moment < moment_limit) }
+{
+    let text = joined(first, second, b"");
+    written_moment(unit, clock, &text)
+}
+
+fn zone_moment(unit: Unit, clock: LocalClock<'_>, text: &[u8]) -> Result<u64, Reason>
     requires { 19 ≤ length text.now }
-    ensures moment { result ≡ clock_moment unit text.now }
+    ensures moment { result
+        ≡ written_moment unit clock.entry (parse_datetime (instant_text text.now [])) }
+    ensures early { IfOk result (λ moment. moment < moment_limit) }
+{
+    let after = &text[19..];
+    let fraction = &after[..fraction_len(after).min(4)];
+    joined_moment(unit, clock, &text[..19], fraction)
+}
+
+fn local_moment(unit: Unit, clock: Option<LocalClock<'_>>, text: &[u8]) -> Result<u64, Reason>
+    requires { 19 ≤ length text.now }
+    ensures moment { result ≡ local_moment unit clock.entry text.now }
+    ensures early { IfOk result (λ moment. moment < moment_limit) }
+{
+    match clock {
+        None => Err(Reason::LocalTime),
+        Some(clock) => zone_moment(unit, clock, text),
+    }
+}
+
+#[tactic(auto, using(crate::proofs::AgencyMomentLemmas::with_offset))]
+fn clock_moment(unit: Unit, clock: Option<LocalClock<'_>>, text: &[u8]) -> Result<u64, Reason>
+    requires { 19 ≤ length text.now }
+    ensures moment { result ≡ clock_moment unit clock.entry text.now }
     ensures early { IfOk result (λ moment. moment < moment_limit) }
 {
     let after = &text[19..];
     let rest = &after[fraction_len(after)..];
     if rest.is_empty() {
-        return Err(Reason::LocalTime);
+        return local_moment(unit, clock, text);
     }
     match offset_in(rest) {
         Some(offset) => offset_moment(unit, text, &offset),
@@ -186,12 +261,16 @@ fn plain_ms(unit: Unit, text: &[u8]) -> Option<u64>
     }
 }
 
-pub(crate) fn moment_in(unit: Unit, text: &[u8]) -> Result<u64, Reason>
-    ensures moment { result ≡ moment_in unit text.now }
+pub(crate) fn moment_in(
+    unit: Unit,
+    clock: Option<LocalClock<'_>>,
+    text: &[u8],
+) -> Result<u64, Reason>
+    ensures moment { result ≡ moment_in unit clock.entry text.now }
     ensures early { IfOk result (λ moment. moment < moment_limit) }
 {
     if has_clock(text) {
-        clock_moment(unit, text)
+        clock_moment(unit, clock, text)
     } else {
         moment_of(unit, plain_ms(unit, text))
     }

@@ -42,39 +42,59 @@ fn push_number(note: &mut String, number: usize) -> Result<(), AllocError> {
     note.push_str(digits.format(number))
 }
 
-fn push_value(note: &mut String, column: &str, field: &[u8]) -> Result<(), AllocError> {
+/// A column of a row. Under a key no value of the column of tokens is shown.
+#[derive(Clone, Copy)]
+struct Cell<'a> {
+    row: &'a ByteRecord,
+    is_secret: bool,
+    column: &'a str,
+    position: usize,
+}
+
+fn push_value(note: &mut String, cell: Cell<'_>) -> Result<(), AllocError> {
     note.push_str(": ")?;
-    push_text(note, column)?;
+    push_text(note, cell.column)?;
+    if cell.is_secret {
+        return note.push_str(", which is not shown under --token-key");
+    }
     note.push_str(" is ")?;
-    push_field(note, field)
+    push_field(note, field_in(cell.row, cell.position))
 }
 
 fn push_refusal(
     note: &mut String,
-    columns: &Columns<'_>,
+    choice: &Choice<'_>,
     positions: &Positions<'_>,
     row: &ByteRecord,
     reason: Reason,
 ) -> Result<(), AllocError> {
-    match reason {
+    let columns = choice.columns;
+    let (column, position) = match reason {
         Reason::Fields => {
             note.push_str(": ")?;
             push_number(note, row.len())?;
             note.push_str(", and the head has ")?;
-            push_number(note, positions.width)
+            return push_number(note, positions.width);
         }
-        Reason::Token => push_value(note, columns.token, field_in(row, positions.token)),
-        Reason::Validator | Reason::Device => {
-            push_value(note, columns.validator, field_in(row, positions.validator))
-        }
-        Reason::LocalTime | Reason::Early | Reason::Moment => {
-            push_value(note, columns.moment, field_in(row, positions.moment))
-        }
+        Reason::Token => (columns.token, positions.token),
+        Reason::Validator | Reason::Device => (columns.validator, positions.validator),
+        Reason::LocalTime
+        | Reason::Skipped
+        | Reason::Twice
+        | Reason::Early
+        | Reason::Moment => (columns.moment, positions.moment),
         Reason::Riders => match (columns.count, positions.count) {
-            (Some(name), Some(position)) => push_value(note, name, field_in(row, position)),
-            _ => Ok(()),
+            (Some(name), Some(position)) => (name, position),
+            _ => return Ok(()),
         },
-    }
+    };
+    let cell = Cell {
+        row,
+        is_secret: choice.key.is_some() && position == positions.token,
+        column,
+        position,
+    };
+    push_value(note, cell)
 }
 
 /// Notes the first row that is refused, as far as memory allows.
@@ -87,7 +107,7 @@ pub(crate) fn note_reading(
 ) {
     if let Reading::Refused(reason) = reading {
         if note.is_empty() {
-            let _noted = push_refusal(note, choice.columns, positions, row, *reason);
+            let _noted = push_refusal(note, choice, positions, row, *reason);
         }
     }
 }
@@ -151,8 +171,17 @@ fn nearest<'a>(
     }
 }
 
-fn push_columns(note: &mut String, head: &ByteRecord) -> Result<(), AllocError> {
+/// Under a key no names are shown: without a header the first row has a card's number.
+fn push_columns(
+    note: &mut String,
+    choice: &Choice<'_>,
+    head: &ByteRecord,
+) -> Result<(), AllocError> {
     note.push_str(": there are ")?;
+    if choice.key.is_some() {
+        push_number(note, head.len())?;
+        return note.push_str(", which are not shown under --token-key");
+    }
     for position in 0..head.len() {
         if position > 0 {
             note.push_str(", ")?;
@@ -168,6 +197,7 @@ fn push_columns(note: &mut String, head: &ByteRecord) -> Result<(), AllocError> 
 fn push_head(
     alloc: Global,
     note: &mut String,
+    choice: &Choice<'_>,
     head: &ByteRecord,
     name: &str,
 ) -> Result<(), AllocError> {
@@ -180,7 +210,7 @@ fn push_head(
             return note.push_str(": it is there more than once");
         }
     }
-    push_columns(note, head)?;
+    push_columns(note, choice, head)?;
     if let Some(column) = nearest(alloc, head, name)? {
         note.push_str("; is ")?;
         push_text(note, column)?;
@@ -198,6 +228,6 @@ pub(crate) fn note_fault(
     fault: &AgencyFault,
 ) {
     if let AgencyFault::Column(wanted) = fault {
-        let _noted = push_head(alloc, note, head, column_of(choice.columns, *wanted));
+        let _noted = push_head(alloc, note, choice, head, column_of(choice.columns, *wanted));
     }
 }

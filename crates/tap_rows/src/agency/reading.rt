@@ -7,8 +7,9 @@ ghost use Rattle.sha2.specs.Sha256.{sha256};
 ghost use Rattle.uuid.specs.Text.{parsed};
 ghost use Rattle.tap_rows.specs.Agencies as Spec;
 ghost use Rattle.tap_rows.specs.AgencyRows.{IsParseOf, device_named, field, is_kept, is_one_rider};
-ghost use Rattle.tap_rows.specs.AgencyRows.{kept_reading, passes, passes_one, reading_by};
-ghost use Rattle.tap_rows.specs.AgencyRows.{tap_from, token_in, validator_in, validator_numbered};
+ghost use Rattle.tap_rows.specs.AgencyRows.{hashed, kept_reading, keyed, passes, passes_one};
+ghost use Rattle.tap_rows.specs.AgencyRows.{reading_by, tap_from, token_in, validator_in};
+ghost use Rattle.tap_rows.specs.AgencyRows.{validator_numbered};
 ghost use Rattle.tap_rows.specs.Numbers.{whole_number_in};
 ghost use Rattle.tap_rows.specs.Devices.{devices_of};
 ghost use Rattle.tap_rows.specs.inside.Positions.{ArePositions, layout_of, test_of};
@@ -16,6 +17,7 @@ ghost use Rattle.tap_views.specs.Layout.{moment_limit};
 
 use crate::agency::choice::Choice;
 use crate::agency::instant::moment_in;
+use crate::agency::key::TokenKey;
 use crate::agency::numbers::whole_number_in;
 use crate::agency::positions::{Positions, Test};
 use crate::devices::DeviceTable;
@@ -35,8 +37,12 @@ pub enum Reason {
     Validator,
     /// Devices are named, and none has the validator's field as its name.
     Device,
-    /// The moment's field is a time without an offset.
+    /// The moment's field is a time without an offset, and there is no clock of local times.
     LocalTime,
+    /// The moment's field is a time that the clock skips, as it is set forward.
+    Skipped,
+    /// The moment's field is a time that the clock shows twice, and nobody said which is meant.
+    Twice,
     /// The moment's field gives a moment before 2000-01-01T00:00Z, and no unit was said.
     Early,
     /// The moment's field gives no moment below 2100-01-01T00:00Z.
@@ -131,16 +137,36 @@ fn parsed(text: &[u8]) -> Option<[u8; 16]>
     }
 }
 
-fn token_in(has_hashes: bool, text: &[u8]) -> Option<[u8; 16]>
-    ensures { result ≡ token_in has_hashes text.now }
+fn hashed(text: &[u8]) -> Option<[u8; 16]>
+    ensures { result ≡ hashed text.now }
 {
-    if !has_hashes {
-        return parsed(text);
-    }
     if text.is_empty() {
         None
     } else {
         Some(hash_of(text))
+    }
+}
+
+fn keyed(key: &TokenKey, text: &[u8]) -> Option<[u8; 16]>
+    ensures { result ≡ keyed key.now.block text.now }
+{
+    if text.is_empty() {
+        None
+    } else {
+        Some(key.token_of(text))
+    }
+}
+
+fn token_in(key: Option<&TokenKey>, has_hashes: bool, text: &[u8]) -> Option<[u8; 16]>
+    ensures { result ≡ token_in key.entry has_hashes text.now }
+{
+    match key {
+        Some(key) => keyed(key, text),
+        None => if has_hashes {
+            hashed(text)
+        } else {
+            parsed(text)
+        },
     }
 }
 
@@ -220,9 +246,11 @@ fn kept_reading(choice: &Choice<'_>, positions: &Positions<'_>, row: &ByteRecord
     if !is_one_rider(positions.count, row) {
         return Reading::Refused(Reason::Riders);
     }
-    let token = token_in(choice.columns.has_hashes, field_in(row, positions.token));
+    let text = field_in(row, positions.token);
+    let token = token_in(choice.key, choice.columns.has_hashes, text);
     let validator = validator_in(choice.devices, field_in(row, positions.validator));
-    let moment = moment_in(choice.columns.unit, field_in(row, positions.moment));
+    let text = field_in(row, positions.moment);
+    let moment = moment_in(choice.columns.unit, choice.clock, text);
     tap_from(token, validator, moment)
 }
 

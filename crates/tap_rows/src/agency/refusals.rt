@@ -20,6 +20,8 @@ fn word_of(reason: Reason) -> &'static str
         Reason::Validator => "validator",
         Reason::Device => "device",
         Reason::LocalTime => "local time",
+        Reason::Skipped => "skipped time",
+        Reason::Twice => "time twice",
         Reason::Early => "before 2000",
         Reason::Moment => "moment",
         Reason::Riders => "riders",

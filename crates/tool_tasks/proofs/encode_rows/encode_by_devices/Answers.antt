@@ -38,8 +38,8 @@ returns-in-Ok-read_devices-clause-done g c =
           (devices_of c.in-Ok-read_devices.devices)) c.deref.ensures.value
           c.in-Ok-read_devices.ensures.table,
     ) in
-    IfOk-weaker c.encode_table.result _ _
-    (λ status ends. ends old loads c.in-Ok.ensures.loaded of) c.encode_table.ensures.done
+    IfOk-weaker c.encode_by_key.result _ _
+    (λ status ends. ends old loads c.in-Ok.ensures.loaded of) c.encode_by_key.ensures.done
 
 pub returns-in-Ok-read_devices-clause-halted : goal.returns-in-Ok-read_devices-clause-halted
 returns-in-Ok-read_devices-clause-halted g c =
@@ -56,8 +56,8 @@ returns-in-Ok-read_devices-clause-halted g c =
           (devices_of c.in-Ok-read_devices.devices)) c.deref.ensures.value
           c.in-Ok-read_devices.ensures.table,
     ) in
-    IfErr-weaker c.encode_table.result _ _
-    (λ halt ends. ends old loads c.in-Ok.ensures.loaded of) c.encode_table.ensures.halted
+    IfErr-weaker c.encode_by_key.result _ _
+    (λ halt ends. ends old loads c.in-Ok.ensures.loaded of) c.encode_by_key.ensures.halted
 
 pub returns-in-Err-refuse_devices-clause-halted : goal.returns-in-Err-refuse_devices-clause-halted
 returns-in-Err-refuse_devices-clause-halted g c =

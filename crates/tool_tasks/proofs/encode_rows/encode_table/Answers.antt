@@ -1,6 +1,5 @@
-use Rattle.std.proofs.Common.{◌∷◌, ◌++◌, [], option_map, refl}
+use Rattle.std.proofs.Common.{◌∷◌, ◌++◌, [], refl}
 use Rattle.std.proofs.lemmas.Result.{IfErr-weaker, IfOk-weaker}
-use Rattle.tap_rows.specs.Devices.{devices_of}
 use Rattle.tool_tasks.proofs.Encoding.{no_memory, not_loaded, rows_named, rows_right}
 use Rattle.tool_tasks.proofs.Encoding.{word_loaded_after}
 use Rattle.tool_tasks.proofs.Preparing.{done_after, halted_after_loads}
@@ -42,9 +41,8 @@ returns-clause-done g c =
     (EncodesRows words word) start mid (run c.carry_out.new.world)
     (before ++ load_of word table ∷ []) (answer_of prepared) (files_of prepared) status
     (word_loaded_after word start (run c.args.world.now) mid before _ table was c.file_of.ensures
-    c.in-Ok.ensures.loaded) (rows_right words word table c.deref.result.now before
-    (option_map (λ d. devices_of d.now) c.args.devices) answered.0 (answer_of prepared)
-    (files_of prepared) status prepared.status of answered.1 answered.2 c.deref.ensures.value d.0)
+    c.in-Ok.ensures.loaded) (rows_right words word table c.deref.result.now before c.args.choice.now (answer_of prepared)
+    (files_of prepared) status prepared.status of answered c.deref.ensures.value d.0)
     d.1) c.carry_out.ensures.done
 
 pub returns-clause-halted : goal.returns-clause-halted
@@ -60,9 +58,8 @@ returns-clause-halted g c =
     (EncodesRows words word) (names_of words word) start mid (run c.carry_out.new.world)
     (before ++ load_of word table ∷ []) (answer_of prepared) (files_of prepared) prepared.status
     halt.why (word_loaded_after word start (run c.args.world.now) mid before _ table was
-    c.file_of.ensures c.in-Ok.ensures.loaded) (rows_right words word table c.deref.result.now before
-    (option_map (λ d. devices_of d.now) c.args.devices) answered.0 (answer_of prepared)
-    (files_of prepared) prepared.status prepared.status of answered.1 answered.2
+    c.file_of.ensures c.in-Ok.ensures.loaded) (rows_right words word table c.deref.result.now before c.args.choice.now (answer_of prepared)
+    (files_of prepared) prepared.status prepared.status of answered
     c.deref.ensures.value refl) h) (c.carry_out.ensures.halted (names_of words word)
-    (rows_named words word answered.0 c.deref.result.now (answer_of prepared) (file_in prepared)
-    prepared.status answered.2))
+    (rows_named words word c.args.choice.now c.deref.result.now (answer_of prepared) (file_in prepared)
+    prepared.status answered))
