@@ -16,7 +16,8 @@ use Rattle.jiff_tz.specs.declared.posix.TimeZone.{TimeZone as Rule}
 use Rattle.jiff_tz.specs.declared.timezone.TimeZone.{TimeZone}
 use Rattle.jiff_tz.specs.declared.timezone.TimeZone.TheVariants as zones
 use Rattle.tap_rows.specs.LocalTimes.{clock_nanos, clock_seconds, offsets_by, offsets_in_zone}
-use Rattle.tap_rows.specs.LocalTimes.{rule_offsets, written_of}
+use Rattle.tap_rows.specs.LocalTimes.{rule_offsets}
+use Rattle.tap_rows.specs.inside.WrittenTimes.{written_of}
 
 by_rule : (standard : Offset) (dst : Option Dst) (time : DateTime)
     → ambiguous_at_by standard dst time ≡ offsets_by standard dst (written_of time)

@@ -17,13 +17,9 @@ block_of key = with_zeros (if nat_lt 64 (length key) then sha256 key else key)
 abbrev pub masked : ℕ → List ℕ → List ℕ
 masked mask block = map (λ byte. bit_xor byte mask) block
 
--- the code of a text under the key of this block
+-- the code of a text under the key of this block: its HMAC-SHA-256
 abbrev pub code_by : List ℕ → List ℕ → List ℕ
 code_by block text = sha256 (masked 0x5c block ++ sha256 (masked 0x36 block ++ text))
-
--- HMAC-SHA-256 of a text under a key
-abbrev pub hmac : List ℕ → List ℕ → List ℕ
-hmac key text = code_by (block_of key) text
 
 -- the key in a file: its bytes, without one line feed at the end
 abbrev pub key_in : List ℕ → List ℕ

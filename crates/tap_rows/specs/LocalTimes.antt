@@ -3,8 +3,7 @@ use Rattle.std.specs.Prelude.{◌+ℤ◌, ◌*ℤ◌, ◌+◌, ◌-◌, ◌*◌,
 use Rattle.std.specs.Prelude.{if◌then◌else◌, pos}
 use Rattle.jiff_core.specs.Calendar.{days_from_civil}
 use Rattle.jiff_core.specs.declared.Offset.{Offset}
-use Rattle.jiff_core.specs.declared.civil.datetime.DateTime.{DateTime}
-use Rattle.jiff_fmt.specs.Temporal.{DateParts, TimeParts, date_parts, time_parts}
+use Rattle.jiff_fmt.specs.Temporal.{DateParts, TimeParts}
 use Rattle.jiff_tz.specs.PosixRule.{ambiguous_by, match_some, rule_nanos}
 use Rattle.jiff_tz.specs.Tzif.{civil_count_at, is_inside, offsets_in, rule_after, transition_at}
 use Rattle.jiff_tz.specs.Tzif.{type_after}
@@ -25,9 +24,6 @@ use Rattle.tap_rows.specs.declared.agency.reading.Reason.TheVariants as why
 -- a date and a time of day, as a text writes them
 abbrev pub Written : Type 0
 Written = DateParts × TimeParts
-
-abbrev pub written_of : DateTime → Written
-written_of time = (date_parts time.date, time_parts time.time)
 
 -- the number of its day: 0 for 1970-01-01
 abbrev pub day_of : Written → ℤ

@@ -5,3 +5,4 @@ pub mod Growing
 pub mod Positions
 pub mod RecordReaders
 pub mod TapTables
+pub mod WrittenTimes

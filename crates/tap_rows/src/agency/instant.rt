@@ -10,7 +10,7 @@ ghost use Rattle.tap_rows.specs.AgencyMoments.{instant_in, instant_ms, instant_t
 ghost use Rattle.tap_rows.specs.AgencyMoments.{local_moment};
 ghost use Rattle.tap_rows.specs.AgencyMoments.{moment_by, moment_in, moment_of, offset_in};
 ghost use Rattle.tap_rows.specs.AgencyMoments.{plain_ms, scaled, whole_ms, written_moment};
-ghost use Rattle.tap_rows.specs.LocalTimes.{written_of};
+ghost use Rattle.tap_rows.specs.inside.WrittenTimes.{written_of};
 ghost use Rattle.tap_views.specs.Layout.{moment_limit};
 
 use crate::agency::choice::{LocalClock, Unit};

@@ -1,7 +1,8 @@
 //! The offset of a local time: a date and a clock without an offset, in a time zone.
 
 ghost use Rattle.std.specs.Prelude.{◌≡◌};
-ghost use Rattle.tap_rows.specs.LocalTimes.{offset_at, offset_by, written_of};
+ghost use Rattle.tap_rows.specs.LocalTimes.{offset_at, offset_by};
+ghost use Rattle.tap_rows.specs.inside.WrittenTimes.{written_of};
 
 use crate::agency::choice::{Fold, LocalClock};
 use crate::agency::reading::Reason;

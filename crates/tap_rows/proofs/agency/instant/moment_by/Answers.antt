@@ -4,7 +4,8 @@ use Rattle.std.specs.Int.{w128}
 use Rattle.std.proofs.lemmas.Int.{to_z-of_z}
 use Rattle.jiff_core.specs.Timestamp.{nanos_of_seconds}
 use Rattle.tap_rows.specs.AgencyMoments.{moment_by, moment_of, whole_ms}
-use Rattle.tap_rows.specs.LocalTimes.{clock_nanos, written_of}
+use Rattle.tap_rows.specs.LocalTimes.{clock_nanos}
+use Rattle.tap_rows.specs.inside.WrittenTimes.{written_of}
 use Rattle.tap_rows.proofs.LocalLemmas.{nanos_written}
 use Rattle.tap_rows.proofs.agency.instant.moment_by.Goals as goal
 
