@@ -2,7 +2,7 @@
 use Rattle.std.proofs.Common.{◌≡◌, ◌∙◌, ◌⊎◌, ◌∷◌, ◌++◌, ◌≤◌, ℕ, Bool, Err, IfOk, List, [], None, Ok}
 use Rattle.std.proofs.Common.{Option, Result, Some}
 use Rattle.std.proofs.Common.{ap, arith, false, if◌then◌else◌, inl, inr, refl, subst, sym, true}
-use Rattle.std.specs.Prelude.{◌==◌, codes, slice_get, unwrap_or}
+use Rattle.std.specs.Prelude.{◌==◌, codes, option_map, slice_get, unwrap_or}
 use Rattle.frame.specs.Ends.{Answer}
 use Rattle.frame.specs.Making.{EndsMaking, IsDoneMaking, IsHaltedMaking}
 use Rattle.frame.specs.declared.stop.Stop.{Stop}
@@ -24,6 +24,7 @@ use Rattle.tool_tasks.specs.EncodeRows.{EncodesRows, EncodesText, IsChoice}
 use Rattle.tool_tasks.specs.EncodeRows.{IsRowsAnswer, IsRowsUpload, IsSummaryLine}
 use Rattle.tool_tasks.specs.EncodeRows.{IsWrongDevices, names_of}
 use Rattle.tool_tasks.specs.EncodeRows.{refused_files, rows_status, word_in}
+use Rattle.tool_tasks.specs.EncodeTables.{zone_file}
 use Rattle.tool_tasks.specs.Fault.{wrong_line}
 use Rattle.tool_tasks.specs.Names.{file_named}
 use Rattle.tool_tasks.specs.WrongTables.{devices_text}
@@ -97,7 +98,9 @@ pub rows_named : (words : RowsWords) (word : List ℕ) (choice : Choice) (text :
     → IsRowsAnswer words word choice text answer (files_in file) status
     → IsNamedIn (names_of words word) file
 rows_named words word choice text answer file status (inl upload) =
-    refused_named word (unwrap_or (word_in words.devices) word) (word_in words.refused) _
+    refused_named word (unwrap_or (word_in words.devices) word) (word_in words.refused)
+    (unwrap_or (word_in words.key) word
+    ∷ unwrap_or (option_map zone_file (word_in words.zone)) word ∷ [])
     upload.rows file upload.made
 rows_named words word choice text answer file status (inr wrong) =
     none_named (names_of words word) file wrong.3.1

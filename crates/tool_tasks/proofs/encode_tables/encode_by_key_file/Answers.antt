@@ -49,8 +49,8 @@ returns-in-Ok-of_file-clause-halted g c =
     (keyed words (option_map (λ d. devices_of d.now) c.args.devices) _ (load_of name text ∷ [])
     (named_key words name text _ c.requires is)) halted) c.encode_by_zone.ensures.halted
 
-pub returns-in-Err-of_file-clause-done : goal.returns-in-Err-of_file-clause-done
-returns-in-Err-of_file-clause-done g c =
+pub returns-clause-done : goal.returns-clause-done
+returns-clause-done g c =
     let run = g.W.Inputs.run in
     let words = c.args.words.now in
     let name = c.args.name.now in
@@ -63,8 +63,8 @@ returns-in-Err-of_file-clause-done g c =
     (key_right words c.args.word.now name text (option_map (λ d. devices_of d.now) c.args.devices)
     wrong c.requires is) d.0 d.1) c.refuse.ensures.done
 
-pub returns-in-Err-of_file-clause-halted : goal.returns-in-Err-of_file-clause-halted
-returns-in-Err-of_file-clause-halted g c =
+pub returns-clause-halted : goal.returns-clause-halted
+returns-clause-halted g c =
     let run = g.W.Inputs.run in
     let words = c.args.words.now in
     let word = c.args.word.now in

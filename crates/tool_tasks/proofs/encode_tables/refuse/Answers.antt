@@ -16,8 +16,8 @@ returns-in-Err-clause-halted g c = λ names.
     subst (λ (why : Stop). HaltsPart names [] [] why run run) (sym c.of.ensures)
     (part_none names [] [] NoMemory run run tt refl)
 
-pub returns-clause-done : goal.returns-clause-done
-returns-clause-done g c =
+pub returns-in-Ok-clause-done : goal.returns-in-Ok-clause-done
+returns-in-Ok-clause-done g c =
     let old = g.W.Inputs.run c.args.world.now in
     let refused = c.in-Ok.ensures in
     IfOk-weaker c.carry_out.result _ _ (λ status d. (
@@ -26,8 +26,8 @@ returns-clause-done g c =
           ∙ ap (λ (fs : List Named). with_flushed (did_making old [] _ fs)) refused.1,
     )) c.carry_out.ensures.done
 
-pub returns-clause-halted : goal.returns-clause-halted
-returns-clause-halted g c = λ names.
+pub returns-in-Ok-clause-halted : goal.returns-in-Ok-clause-halted
+returns-in-Ok-clause-halted g c = λ names.
     let old = g.W.Inputs.run c.args.world.now in
     let new = g.W.Inputs.run c.carry_out.new.world in
     let refused = c.in-Ok.ensures in

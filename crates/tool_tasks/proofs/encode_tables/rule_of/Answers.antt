@@ -9,5 +9,5 @@ returns-in-Ok c = sym c.in-Ok.ensures.value ∙ ap read_whole c.as_bytes.ensures
 
 pub returns-in-Err : goal.returns-in-Err
 returns-in-Err c = sym (no_rule (read_whole c.args.word.now) (λ some.
-    c.in-Err.ensures.succeeds.1 (subst (λ (text : List ℕ). IsSome (read_whole text))
-    (sym c.as_bytes.ensures.value) some)))
+    absurd (cc (c.in-Err.ensures.succeeds.1 (subst (λ (text : List ℕ). IsSome (read_whole text))
+    (sym c.as_bytes.ensures.value) some)))))
