@@ -80,14 +80,14 @@ impl Shape {
         Ok(())
     }
 
-    /// Appends what follows the last line, after which no line follows.
+    /// Appends what follows the last line, if there was a line. No line follows.
     pub(crate) fn finish(&mut self, out: &mut Vec<u8>) -> Result<(), AllocError> {
-        if self.is_ended {
+        if self.is_ended || self.started == 0 {
             return Ok(());
         }
         self.is_ended = true;
         if !self.is_json {
-            return self.begin_table(out);
+            return Ok(());
         }
         self.begin_parts(usize::MAX, out)?;
         self.end_part(out)?;
