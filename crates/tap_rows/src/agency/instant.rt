@@ -151,11 +151,7 @@ fn nanos_at(time: DateTime, offset: Offset) -> i128
     time.to_nanosecond() - offset.to_nanosecond()
 }
 
-fn moment_by(
-    unit: Unit,
-    time: DateTime,
-    offset: Result<Offset, Reason>,
-) -> Result<u64, Reason>
+fn moment_by(unit: Unit, time: DateTime, offset: Result<Offset, Reason>) -> Result<u64, Reason>
     ensures moment { result ≡ moment_by unit (written_of time) offset }
     ensures early { IfOk result (λ moment. moment < moment_limit) }
 {

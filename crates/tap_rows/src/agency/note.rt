@@ -78,11 +78,10 @@ fn push_refusal(
         }
         Reason::Token => (columns.token, positions.token),
         Reason::Validator | Reason::Device => (columns.validator, positions.validator),
-        Reason::LocalTime
-        | Reason::Skipped
-        | Reason::Twice
-        | Reason::Early
-        | Reason::Moment => (columns.moment, positions.moment),
+        Reason::LocalTime | Reason::Skipped | Reason::Twice | Reason::Early | Reason::Moment => (
+            columns.moment,
+            positions.moment,
+        ),
         Reason::Riders => match (columns.count, positions.count) {
             (Some(name), Some(position)) => (name, position),
             _ => return Ok(()),
@@ -228,6 +227,12 @@ pub(crate) fn note_fault(
     fault: &AgencyFault,
 ) {
     if let AgencyFault::Column(wanted) = fault {
-        let _noted = push_head(alloc, note, choice, head, column_of(choice.columns, *wanted));
+        let _noted = push_head(
+            alloc,
+            note,
+            choice,
+            head,
+            column_of(choice.columns, *wanted),
+        );
     }
 }

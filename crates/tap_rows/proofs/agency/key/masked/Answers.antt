@@ -22,9 +22,11 @@ all mask out block i short here done =
     sym (take_all i out short) ∙ (done ∙ ap (masked mask) (take_all i block here))
 
 pub loop-index-preserved : goal.loop-index-preserved
-loop-index-preserved c =
-    (more c.args.mask c.loop-index.out c.args.block.now c.loop-index.index (omega arith)
-    (omega arith) c.loop-index.invariant.0, omega (arith, length-set {A = ℕ}))
+loop-index-preserved c = (
+  more c.args.mask c.loop-index.out c.args.block.now c.loop-index.index (omega arith)
+      (omega arith) c.loop-index.invariant.0,
+  omega (arith, length-set {A = ℕ}),
+)
 
 pub returns : goal.returns
 returns c = all c.args.mask c.loop-index.out c.args.block.now c.loop-index.index (omega arith)
