@@ -18,18 +18,22 @@ returns-in-Ok-End-clause-read c = λ whole can.
 
 pub returns-in_default-clause-read : goal.returns-in_default-clause-read
 returns-in_default-clause-read c = λ whole can.
-    let (shown, short) = rw c.in-Ok-Whole.field-0-is at (c.in-Ok-Whole.ensures.next whole can) in
-    (refl, rows_form c.args.position.1 (row_in c.args.before.now) (left c.args.from.now whole)
-    c.read_line.new.line.items _ shown short
-    (ap row_of_line (sym c.deref.ensures.value) ∙ c.in_default.ensures))
+    let (shown, short) = rw c.in-Ok-Whole.field-0-is at (c.in-Ok-Whole.ensures.next whole can) in (
+      refl,
+      rows_form c.args.position.1 (row_in c.args.before.now) (left c.args.from.now whole)
+          c.read_line.new.line.items _ shown short
+          (ap row_of_line (sym c.deref.ensures.value) ∙ c.in_default.ensures),
+    )
 
 pub returns-then-does_decrease-clause-read : goal.returns-then-does_decrease-clause-read
 returns-then-does_decrease-clause-read c = λ whole can.
-    let (shown, short) = rw c.in-Ok-Whole.field-0-is at (c.in-Ok-Whole.ensures.next whole can) in
-    (refl, rows_order c.args.position.1 (row_in c.args.before.now) (left c.args.from.now whole)
-    c.read_line.new.line.items _ (row_of c.in_ok-row.row) shown short
-    (ap row_of_line (sym c.deref.ensures.value) ∙ c.in-Some.ensures
-    ∙ ap Some (sym c.in_ok-row.ensures)) (sym c.does_decrease.ensures ∙ c.if-does_decrease.true))
+    let (shown, short) = rw c.in-Ok-Whole.field-0-is at (c.in-Ok-Whole.ensures.next whole can) in (
+      refl,
+      rows_order c.args.position.1 (row_in c.args.before.now) (left c.args.from.now whole)
+          c.read_line.new.line.items _ (row_of c.in_ok-row.row) shown short
+          (ap row_of_line (sym c.deref.ensures.value) ∙ c.in-Some.ensures
+          ∙ ap Some (sym c.in_ok-row.ensures)) (sym c.does_decrease.ensures ∙ c.if-does_decrease.true),
+    )
 
 pub returns-clause-read : goal.returns-clause-read
 returns-clause-read c = λ whole can.

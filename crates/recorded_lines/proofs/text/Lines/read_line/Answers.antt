@@ -11,7 +11,7 @@ pub loop-init : goal.loop-init
 loop-init c = at_line c.args.self.now c.args.self.now c.clear.new.self.items refl c.clear.ensures.items
 
 pub returns-in_default-clause-follows : goal.returns-in_default-clause-follows
-returns-in_default-clause-follows c = 
+returns-in_default-clause-follows c =
     follows_same c.args.self.now c.loop.self c.take_line.new.self c.loop.invariant.follows
     c.take_line.ensures.stream
 
@@ -19,7 +19,7 @@ pub returns-in_default-clause-unread : goal.returns-in_default-clause-unread
 returns-in_default-clause-unread c = λ is. absurd (cc)
 
 pub returns-then-len-gt-MAX_LINE_BYTES-clause-follows : goal.returns-then-len-gt-MAX_LINE_BYTES-clause-follows
-returns-then-len-gt-MAX_LINE_BYTES-clause-follows c = 
+returns-then-len-gt-MAX_LINE_BYTES-clause-follows c =
     follows_same c.args.self.now c.loop.self c.take_line.new.self c.loop.invariant.follows
     c.take_line.ensures.stream
 
@@ -34,7 +34,7 @@ pub returns-then-len-gt-MAX_LINE_BYTES-clause-ended : goal.returns-then-len-gt-M
 returns-then-len-gt-MAX_LINE_BYTES-clause-ended c = λ is. absurd (cc)
 
 pub returns-then-is_whole-clause-follows : goal.returns-then-is_whole-clause-follows
-returns-then-is_whole-clause-follows c = 
+returns-then-is_whole-clause-follows c =
     follows_same c.args.self.now c.loop.self c.take_line.new.self c.loop.invariant.follows
     c.take_line.ensures.stream
 
@@ -44,7 +44,7 @@ returns-then-is_whole-clause-next c = λ whole can.
       line_whole c.args.self.now c.loop.self c.take_line.new.self c.loop.line.items
           c.take_line.new.line.items c.loop.invariant c.take_line.ensures.stream
           (subst (HasTaken (pending c.loop.self) (pending c.take_line.new.self)
-    c.loop.line.items c.take_line.new.line.items) c.if-is_whole.true c.in-Ok.ensures.taken) whole can,
+          c.loop.line.items c.take_line.new.line.items) c.if-is_whole.true c.in-Ok.ensures.taken) whole can,
       short,
     )
 
@@ -56,7 +56,7 @@ read_more-requires c = (subst (HasTaken (pending c.loop.self) (pending c.take_li
     c.loop.line.items c.take_line.new.line.items) c.if-is_whole.false c.in-Ok.ensures.taken).1
 
 pub returns-then-is_empty-clause-follows : goal.returns-then-is_empty-clause-follows
-returns-then-is_empty-clause-follows c = 
+returns-then-is_empty-clause-follows c =
     follows_on c.args.self.now c.take_line.new.self c.read_more.new.self
     (follows_same c.args.self.now c.loop.self c.take_line.new.self c.loop.invariant.follows
     c.take_line.ensures.stream) c.read_more.ensures.follows
@@ -77,7 +77,7 @@ pub returns-then-is_empty-clause-ended : goal.returns-then-is_empty-clause-ended
 returns-then-is_empty-clause-ended c = λ is. c.in-Ok-false.ensures.ended c.in-Ok-false.field-0-test
 
 pub returns-in-Ok-false-clause-follows : goal.returns-in-Ok-false-clause-follows
-returns-in-Ok-false-clause-follows c = 
+returns-in-Ok-false-clause-follows c =
     follows_on c.args.self.now c.take_line.new.self c.read_more.new.self
     (follows_same c.args.self.now c.loop.self c.take_line.new.self c.loop.invariant.follows
     c.take_line.ensures.stream) c.read_more.ensures.follows
@@ -88,11 +88,11 @@ returns-in-Ok-false-clause-next c = λ whole can.
     let short : nat_lt 1024 (length c.take_line.new.line.items) ≡ false = grind (arith, nat_tests) in (
       line_last c.args.self.now c.read_more.new.self c.take_line.new.line.items
           (line_on c.args.self.now c.take_line.new.self c.read_more.new.self
-    c.take_line.new.line.items (line_more c.args.self.now c.loop.self c.take_line.new.self
-    c.loop.line.items c.take_line.new.line.items c.loop.invariant c.take_line.ensures.stream
-    (subst (HasTaken (pending c.loop.self) (pending c.take_line.new.self)
-    c.loop.line.items c.take_line.new.line.items) c.if-is_whole.false c.in-Ok.ensures.taken)) c.read_more.ensures.follows
-    c.in-Ok-false.ensures.left)
+          c.take_line.new.line.items (line_more c.args.self.now c.loop.self c.take_line.new.self
+          c.loop.line.items c.take_line.new.line.items c.loop.invariant c.take_line.ensures.stream
+          (subst (HasTaken (pending c.loop.self) (pending c.take_line.new.self)
+          c.loop.line.items c.take_line.new.line.items) c.if-is_whole.false c.in-Ok.ensures.taken)) c.read_more.ensures.follows
+          c.in-Ok-false.ensures.left)
           (c.in-Ok-false.ensures.ended c.in-Ok-false.field-0-test) some whole can,
       short,
     )
@@ -101,7 +101,7 @@ pub returns-in-Ok-false-clause-ended : goal.returns-in-Ok-false-clause-ended
 returns-in-Ok-false-clause-ended c = λ is. absurd (cc)
 
 pub returns-in-Err-clause-follows : goal.returns-in-Err-clause-follows
-returns-in-Err-clause-follows c = 
+returns-in-Err-clause-follows c =
     follows_on c.args.self.now c.take_line.new.self c.read_more.new.self
     (follows_same c.args.self.now c.loop.self c.take_line.new.self c.loop.invariant.follows
     c.take_line.ensures.stream) c.read_more.ensures.follows
