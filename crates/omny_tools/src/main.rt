@@ -11,6 +11,7 @@ mod placed;
 mod progress;
 mod quotes;
 mod run;
+mod streams;
 mod texts;
 
 use program_manners::{Complaints, Escaping, take_list, unread_words, words_of};

@@ -6,6 +6,7 @@ use crate::manner::{Manner, manner_of};
 use crate::output::collect;
 use crate::placed::FilesByName;
 use crate::progress::{Progress, Watching};
+use crate::streams::Pieces;
 use crate::texts::Texts;
 use jiff::Timestamp;
 use program_manners::{Complaints, Output};
@@ -99,6 +100,7 @@ pub(crate) fn run<R: Threads + Sync, E: Write>(
         words,
         &mut source,
         &FilesByName::new(rt),
+        &mut Pieces::new(rt),
         &mut sink,
         &mut Output::new(written),
         err,

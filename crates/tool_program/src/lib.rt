@@ -10,5 +10,5 @@ mod program;
 pub use merge::merge_over;
 pub use program::main_over;
 pub use tool_tasks::{
-    Counted, Fault, MakeFault, Name, NewFault, PlacedFiles, Shown, Sink, Source, say,
+    Counted, Fault, MakeFault, Name, NewFault, PlacedFiles, Shown, Sink, Source, Streams, say,
 };

@@ -1,6 +1,7 @@
 mod Informing
 pub mod KnownBytes
 mod Loading
+pub mod Corrected
 pub mod Decoding
 pub mod Encoded
 pub mod EncodedRows

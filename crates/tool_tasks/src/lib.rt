@@ -23,6 +23,7 @@
 //! | `upload_tokens` | `uploads --tokens` |
 //! | `valid_prefix` | `uploads --good-part` |
 //! | `look` | `uploads --look`: what each upload has, and what is found in them |
+//! | `streams` | files that are read in pieces |
 //! | `corrections` | `corrections` |
 //! | `table` | `table` |
 //! | `refused_text` | why a text is none of a fare table, in words |
@@ -48,6 +49,7 @@ mod sink;
 mod sort;
 mod source;
 mod stops;
+mod streams;
 mod table;
 mod upload_tokens;
 mod uploads;
@@ -69,6 +71,7 @@ pub use placed::PlacedFiles;
 pub use sink::{MakeFault, NewFault, Sink};
 pub use sort::sort_over;
 pub use source::{Shown, Source, open_all};
+pub use streams::Streams;
 pub use table::table_over;
 pub use uploads::uploads_over;
 pub use valid_prefix::valid_prefix_over;
