@@ -83,6 +83,7 @@ test:
 	@scripts/version
 	@tests/program_cases
 	@tests/tool_manners
+	@tests/text_forms
 	@tests/settled_week
 
 wrong:

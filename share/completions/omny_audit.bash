@@ -2,8 +2,8 @@
 
 _omny_audit() {
     local word=${COMP_WORDS[COMP_CWORD]} before=${COMP_WORDS[COMP_CWORD - 1]} given ending=csv
-    local options=(--all --live --table --uploads --report --made-by --files-from -0 --null -h --help
-        -V --version)
+    local options=(--all --live --table --uploads --report --made-by --format --files-from -0 --null
+        -h --help -V --version)
     # bash splits a word at `=`, so that `--table=F` is the words `--table`, `=` and `F`
     if [[ $word == = ]]; then
         word=
@@ -22,6 +22,8 @@ _omny_audit() {
     done
     if [[ $word == -* && $before != -- ]]; then
         mapfile -t COMPREPLY < <(compgen -W "${options[*]}" -- "$word")
+    elif [[ $before == --format ]]; then
+        mapfile -t COMPREPLY < <(compgen -W 'text json csv' -- "$word")
     elif [[ $before == --files-from || $before == --made-by ]]; then
         compopt -o filenames 2> /dev/null
         mapfile -t COMPREPLY < <(compgen -f -- "$word")

@@ -23,6 +23,7 @@ complete -c omny_audit -l files-from -r -F -d 'Take the uploads that a list name
 complete -c omny_audit -s 0 -l null -d 'The names of the list end with NUL'
 complete -c omny_audit -l report -x -k -d 'The report of the ledger' -a '(__omny_audit_files .txt)'
 complete -c omny_audit -l made-by -r -F -d 'The file of what made the text'
+complete -c omny_audit -l format -x -d 'The form of what is printed' -a 'text json csv'
 complete -c omny_audit -s h -l help -d 'Print help'
 complete -c omny_audit -s V -l version -d 'Print the version'
 complete -c omny_audit -n $uploads -k -a '(__omny_audit_files .tap)'

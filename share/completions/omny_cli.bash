@@ -4,7 +4,8 @@ _omny_cli() {
     local word=${COMP_WORDS[COMP_CWORD]} before=${COMP_WORDS[COMP_CWORD - 1]} given
     local options=(
         --table --settle --live --sorted --list --ledger --workers --shards --token --explain
-        --json --traced --tokens --made-by --files-from -0 --null -h --help -V --version
+        --json --traced --tokens --made-by --format --files-from -0 --null -h --help -V
+        --version
     )
     # bash splits a word at `=`, so that `--table=F` is the words `--table`, `=` and `F`
     if [[ $word == = ]]; then
@@ -22,6 +23,7 @@ _omny_cli() {
     --workers) mapfile -t COMPREPLY < <(compgen -W "$(seq -s ' ' 16)" -- "$word") ;;
     --shards) mapfile -t COMPREPLY < <(compgen -W '1 2 4 8 16 32 64' -- "$word") ;;
     --token | --tokens) ;;
+    --format) mapfile -t COMPREPLY < <(compgen -W 'text json csv' -- "$word") ;;
     --files-from | --made-by)
         compopt -o filenames 2> /dev/null
         mapfile -t COMPREPLY < <(compgen -f -- "$word")

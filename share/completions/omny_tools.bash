@@ -25,7 +25,7 @@ _omny_tools() {
         ending=csv
         ;;
     corrections) words='--tokens' ending=csv ;;
-    uploads) words='--good-part --tokens --look --within --from --until --table --list' ;;
+    uploads) words='--good-part --tokens --look --within --from --until --table --list --format' ;;
     table)
         words='--strict --riders --from --sql --table'
         [[ ${COMP_WORDS[*]:1:COMP_CWORD - 1} == *.toml* ]] || ending=toml
@@ -48,6 +48,10 @@ _omny_tools() {
     case $before in
     --from | --until | --within | --parts | --columns | --only | --drop | --count | --separator | --unit) return ;;
     --good-part | --refused | --files-from) ending='*' ;;
+    --format)
+        mapfile -t COMPREPLY < <(compgen -W 'text json csv' -- "$word")
+        return
+        ;;
     esac
     if [[ $word == -* && $before != -- ]]; then
         mapfile -t COMPREPLY < <(compgen -W "$words -h --help" -- "$word")

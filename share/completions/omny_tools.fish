@@ -49,6 +49,7 @@ complete -c omny_tools -n $uploads -l until -x -d 'Look for taps at this moment 
 complete -c omny_tools -n $uploads -l table -x -k -d 'Look for validators that have no tap on a day' \
     -a '(__omny_tools_files .toml)'
 complete -c omny_tools -n $uploads -l list -d 'Write all that is found as CSV'
+complete -c omny_tools -n $uploads -l format -x -a 'text json csv' -d 'The form of what is printed'
 complete -c omny_tools -n '__fish_seen_subcommand_from corrections' -l tokens \
     -d "Write the sums of each token's corrections"
 set -l table '__fish_seen_subcommand_from table'

@@ -70,6 +70,10 @@ tokens_option = option_rule (codes "tokens")
 abbrev pub made_by_option : Rule
 made_by_option = option_rule (codes "made-by")
 
+-- `--format FORM`
+abbrev pub format_option : Rule
+format_option = option_rule (codes "format")
+
 -- `FILE`, as often as wanted
 abbrev pub file_argument : Rule
 file_argument = positional_rule (codes "FILE") Append
@@ -77,11 +81,11 @@ file_argument = positional_rule (codes "FILE") Append
 -- the program's options, without its files
 abbrev pub app_of_options : App
 app_of_options =
-    with_rule (with_rule (with_rule (with_rule (with_rule (with_rule (with_rule (with_rule
+    with_rule (with_rule (with_rule (with_rule (with_rule (with_rule (with_rule (with_rule (with_rule
     (with_rule (with_rule (with_rule (with_rule (with_rule (with_rule (with_rule (with_rule
     (named_app (codes "omny_cli")) table_option) settle_flag) live_flag) sorted_flag) list_flag)
     workers_option) shards_option) token_option) ledger_flag) explain_flag) json_flag)
-    traced_flag) tokens_option) made_by_option) list_option) null_flag
+    traced_flag) tokens_option) made_by_option) format_option) list_option) null_flag
 
 -- all words that the program takes
 unfoldable pub program : App

@@ -3,7 +3,7 @@ ghost use Rattle.std.specs.Prelude.{◌≡◌, ◌≤◌, ◌^◌, ◌<◌, ℕ,
 ghost use Rattle.clap.specs.Words.{FailsBy, app_of, fault_of, found_of, matches_of, rows_of};
 ghost use Rattle.clap.specs.Words.{with_rule};
 ghost use Rattle.fare_program.specs.Options.{explain_flag, file_argument, json_flag, ledger_flag};
-ghost use Rattle.fare_program.specs.Options.{form_of, made_by_option, traced_flag};
+ghost use Rattle.fare_program.specs.Options.{form_of, format_option, made_by_option, traced_flag};
 ghost use Rattle.fare_program.specs.Options.{request_by, is_given, number_of, program, tokens_option};
 ghost use Rattle.fare_program.specs.inside.Options.{request_of};
 ghost use Rattle.fare_program.specs.inside.Options.{HasNumber};
@@ -35,6 +35,7 @@ More examples:
   omny_cli --table table.toml --settle --ledger --traced a.tap b.tap
   omny_cli --table old.toml --table new.toml@2026-01-04 --settle a.tap b.tap
   omny_cli --table table.toml --settle --made-by bill.made a.tap > bill.txt
+  omny_cli --table table.toml --settle --format json a.tap b.tap > bill.json
   find week -name '*.tap' -print0 |
     omny_cli --table table.toml --settle --files-from - -0
   omny_cli a.tap
@@ -71,6 +72,8 @@ joins such parts. One thread makes a part.
 With --made-by FILE the run makes FILE, which must not exist, after its text is
 written: the program's version and arguments, the size and SHA-256 of each file
 that was read, and of the text. `omny_audit --made-by FILE` checks them.
+With --format json or csv a report or a statement is one JSON object, or one
+table of CSV, of the same values.
 Amounts are cents. Of a file with a layout fault the batches before it count,
 and its line names the fault: `upload 1 refused 2 at 64 L5` in a report,
 `1 refused 64 L5` in a listing. On a terminal a hint follows a fault.
@@ -111,6 +114,8 @@ const TOKENS_HELP: &str = "With --sorted: charge only tokens FROM..BELOW";
 
 const MADE_BY_HELP: &str = "Make FILE of what made the text: sizes and SHA-256";
 
+const FORMAT_HELP: &str = "Print it as text, json or csv [default: text]";
+
 const FILE_HELP: &str = "Uploads, at most 64 MiB each [default: standard input, as -]";
 
 /// The command line, as clap reads it.
@@ -141,9 +146,9 @@ fn command<'a>(alloc: Global) -> Result<Command<'a>, AllocError>
 /// list of files and the files.
 fn with_texts<'a>(alloc: Global, command: Command<'a>) -> Result<Command<'a>, AllocError>
     ensures { IfOk result (λ more. app_of more ≡ with_rule (with_rule (with_rule (with_rule
-        (with_rule (with_rule (with_rule (with_rule (with_rule (app_of command.entry) ledger_flag)
-        explain_flag) json_flag) traced_flag) tokens_option) made_by_option) list_option) null_flag)
-        file_argument) }
+        (with_rule (with_rule (with_rule (with_rule (with_rule (with_rule (app_of command.entry)
+        ledger_flag) explain_flag) json_flag) traced_flag) tokens_option) made_by_option)
+        format_option) list_option) null_flag) file_argument) }
 {
     let ledger = flag_arg(alloc, "ledger", LEDGER_HELP);
     let explain = flag_arg(alloc, "explain", EXPLAIN_HELP);
@@ -151,6 +156,7 @@ fn with_texts<'a>(alloc: Global, command: Command<'a>) -> Result<Command<'a>, Al
     let traced = flag_arg(alloc, "traced", TRACED_HELP);
     let tokens = option_arg(alloc, "tokens", "RANGE", TOKENS_HELP);
     let made_by = option_arg(alloc, "made-by", "FILE", MADE_BY_HELP);
+    let format = option_arg(alloc, "format", "FORM", FORMAT_HELP);
     let file = positional_arg(alloc, "FILE", ArgAction::Append, FILE_HELP);
     let command = command
         .arg(ledger)?
@@ -158,7 +164,8 @@ fn with_texts<'a>(alloc: Global, command: Command<'a>) -> Result<Command<'a>, Al
         .arg(json)?
         .arg(traced)?
         .arg(tokens)?
-        .arg(made_by)?;
+        .arg(made_by)?
+        .arg(format)?;
     add_list_args(alloc, command)?.arg(file)
 }
 

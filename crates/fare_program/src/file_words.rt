@@ -1,10 +1,48 @@
-//! The files that the words name.
+//! The files that the words name, and what they say of the form of the text.
 
 use crate::command_line::matched;
+use clap::ArgMatches;
 use clap::error::ErrorKind;
-use program_manners::{TableWord, names_in};
+use program_manners::{TableWord, flag_in, names_in};
 use std::alloc::Global;
 use tap_views::NoMemory;
+
+/// What the words say of the form of the text.
+#[derive(Clone, Copy, Debug)]
+pub struct FormatWords<'a> {
+    /// The form, if it is named.
+    pub form: Option<&'a str>,
+    pub has_table: bool,
+    /// Whether the text is a statement.
+    pub has_token: bool,
+    /// The first option of those beside which no form can be named.
+    pub other: Option<&'static str>,
+}
+
+fn other_of(matches: &ArgMatches<'_>) -> Option<&'static str> {
+    for name in ["list", "ledger", "json"] {
+        if flag_in(matches, name) {
+            return Some(name);
+        }
+    }
+    for name in ["tokens", "made-by"] {
+        if matches.get_str(name).is_some() {
+            return Some(name);
+        }
+    }
+    None
+}
+
+impl<'a> FormatWords<'a> {
+    fn of(matches: &ArgMatches<'a>, has_table: bool) -> FormatWords<'a> {
+        FormatWords {
+            form: matches.get_str("format"),
+            has_table,
+            has_token: matches.get_str("token").is_some(),
+            other: other_of(matches),
+        }
+    }
+}
 
 /// The files that the words name. Words that are not a command line name none.
 #[derive(Drop)]
@@ -15,6 +53,7 @@ pub struct FileWords<'a> {
     pub uploads: Vec<&'a str>,
     /// The file that is to say what made the text.
     pub made_by: Option<&'a str>,
+    pub format: FormatWords<'a>,
 }
 
 impl<'a> FileWords<'a> {
@@ -26,10 +65,12 @@ impl<'a> FileWords<'a> {
                 for word in &names_in(alloc, &matches, "table")? {
                     tables.push(TableWord::of(word).name)?;
                 }
+                let has_table = !tables.is_empty();
                 Ok(FileWords {
                     tables,
                     uploads: names_in(alloc, &matches, "FILE")?,
                     made_by: matches.get_str("made-by"),
+                    format: FormatWords::of(&matches, has_table),
                 })
             }
             Err(error) if error.kind() == ErrorKind::OutOfMemory => Err(NoMemory),
@@ -37,6 +78,12 @@ impl<'a> FileWords<'a> {
                 tables,
                 uploads: Vec::new(alloc),
                 made_by: None,
+                format: FormatWords {
+                    form: None,
+                    has_table: false,
+                    has_token: false,
+                    other: None,
+                },
             }),
         }
     }

@@ -30,7 +30,7 @@ mod traced;
 mod uploads;
 
 pub use file_sources::{Amount, Disk, Host, Source, prefetch_files};
-pub use file_words::FileWords;
+pub use file_words::{FileWords, FormatWords};
 pub use listing::{ListCounts, Listing, Word};
 pub use named_list::list_words;
 pub use note::Note;

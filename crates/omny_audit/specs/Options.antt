@@ -34,6 +34,10 @@ report_option = option_rule (codes "report")
 abbrev pub made_by_option : Rule
 made_by_option = option_rule (codes "made-by")
 
+-- `--format FORM`
+abbrev pub format_option : Rule
+format_option = option_rule (codes "format")
+
 -- `LEDGER`
 abbrev pub ledger_argument : Rule
 ledger_argument = positional_rule (codes "LEDGER") Set
@@ -42,8 +46,9 @@ ledger_argument = positional_rule (codes "LEDGER") Set
 unfoldable pub audit_program : App
 audit_program =
     with_rule (with_rule (with_rule (with_rule (with_rule (with_rule (with_rule (with_rule (with_rule
-    (named_app (codes "omny_audit")) required_table_option) all_flag) live_flag) uploads_option)
-    report_option) made_by_option) list_option) null_flag) ledger_argument
+    (with_rule (named_app (codes "omny_audit")) required_table_option) all_flag) live_flag)
+    uploads_option) report_option) made_by_option) format_option) list_option) null_flag)
+    ledger_argument
 
 -- the words after the program's name are a command line of the program
 abbrev pub ParsesForAudit : List Text → Type 0

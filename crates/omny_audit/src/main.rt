@@ -24,6 +24,7 @@ use program_manners::{Complaints, Escaping, Output, WriteEnd, take_list, unread_
 use std::io;
 use std::io::{IsTerminal, Write};
 use std::process::ExitCode;
+use text_forms::{FINDINGS, Form, Shaped};
 use world::{Stream, System};
 
 /// The words, with the names of the list that they name. On an error it was reported, and the error
@@ -98,10 +99,33 @@ fn report_hint(rt: &HostRuntime, words: &[String], said: &Said, error: Option<io
     }
 }
 
+/// The form of the findings that the words name; else the line of a usage error.
+fn form_of(rt: &HostRuntime, words: &[String]) -> Result<Form, &'static str> {
+    let Ok(options) = Options::read(rt.alloc(), words) else {
+        return Ok(Form::Text);
+    };
+    match Form::of(options.format.unwrap_or("text")) {
+        None => Err("fault: --format is text, json or csv"),
+        Some(form) if form != Form::Text && options.made_by.is_some() => {
+            Err("fault: --format cannot be used with --made-by")
+        }
+        Some(form) => Ok(form),
+    }
+}
+
 /// Runs the words, of which the list's names are arguments, and returns the status.
-fn run(rt: &HostRuntime, words: &[String], err: Escaping<io::Stderr>) -> u8 {
+fn run(rt: &HostRuntime, words: &[String], mut err: Escaping<io::Stderr>) -> u8 {
+    let form = match form_of(rt, words) {
+        Ok(form) => form,
+        Err(line) => {
+            Complaints::new(&mut err).report_line(line);
+            err.finish();
+            return 2;
+        }
+    };
     note_input(rt, words);
-    let mut out = Unwritten::new(rt.stdout());
+    let out = Shaped::new(rt.alloc(), rt.stdout(), FINDINGS, form);
+    let mut out = Unwritten::new(out);
     let mut err = Overheard::new(err);
     let mut status = main_over(
         rt,

@@ -28,7 +28,8 @@ faults, each as often as there, in any order. With --report the report must be
 that of its sums, and of the uploads. With --all it goes on after the first
 wrong line. Of a traced ledger the classes are checked too, and with --uploads
 the places of the taps. With --made-by the text and its files must be those of
-FILE, which `omny_cli --made-by FILE` made.";
+FILE, which `omny_cli --made-by FILE` made. With --format json or csv each line
+that is printed is an object of JSON, or a row of CSV.";
 
 const NOTES: &str = "Examples:
   omny_audit --table table.toml ledger.csv
@@ -134,6 +135,8 @@ pub(crate) struct Options<'a> {
     pub(crate) ledger: Option<&'a str>,
     /// The file that says what the ledger or the report was made by; none requests no such check.
     pub(crate) made_by: Option<&'a str>,
+    /// The form of the findings, if it is named.
+    pub(crate) format: Option<&'a str>,
 }
 
 const TABLE_HELP: &str = "Fare table; again as G@2026-01-04: from that day on";
@@ -147,6 +150,8 @@ const UPLOADS_HELP: &str = "Compare their taps; the list ends at an option or --
 const REPORT_HELP: &str = "Check this report of the ledger, too";
 
 const MADE_BY_HELP: &str = "Compare with this file of `omny_cli --made-by`";
+
+const FORMAT_HELP: &str = "Print them as text, json or csv [default: text]";
 
 const LEDGER_HELP: &str = "A ledger of any length [default: standard input, as -]";
 
@@ -166,6 +171,7 @@ fn command<'a>(alloc: Global) -> Result<Command<'a>, AllocError>
     let uploads = files_arg(alloc, "uploads", UPLOADS_HELP);
     let report = option_arg(alloc, "report", "REPORT", REPORT_HELP);
     let made_by = option_arg(alloc, "made-by", "FILE", MADE_BY_HELP);
+    let format = option_arg(alloc, "format", "FORM", FORMAT_HELP);
     let ledger = positional_arg(alloc, "LEDGER", ArgAction::Set, LEDGER_HELP);
     let command = new_command(alloc, "omny_audit", ABOUT, NOTES)
         .arg(table)?
@@ -173,7 +179,8 @@ fn command<'a>(alloc: Global) -> Result<Command<'a>, AllocError>
         .arg(live)?
         .arg(uploads)?
         .arg(report)?
-        .arg(made_by)?;
+        .arg(made_by)?
+        .arg(format)?;
     add_list_args(alloc, command)?.arg(ledger)
 }
 
@@ -233,6 +240,7 @@ impl<'a> Options<'a> {
             report: matches.get_str("report"),
             ledger: ledger_in(matches.get_str("LEDGER")),
             made_by: matches.get_str("made-by"),
+            format: matches.get_str("format"),
         })
     }
 }

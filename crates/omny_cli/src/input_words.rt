@@ -6,13 +6,14 @@ use std::alloc::{AllocError, Global};
 pub(crate) const INPUT_FILE: &str = "/dev/stdin";
 
 /// Options whose value is not read as a file of the run.
-const OTHER_OPTIONS: [&str; 6] = [
+const OTHER_OPTIONS: [&str; 7] = [
     "--token",
     "--tokens",
     "--workers",
     "--shards",
     "--files-from",
     "--made-by",
+    "--format",
 ];
 
 fn is_other_option(word: &str) -> bool {

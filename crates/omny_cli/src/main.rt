@@ -1,15 +1,17 @@
 //! The program: `fare_program` over the words, the files, the standard input and the outputs of the
 //! system. The names of a list become words. After the run notes on the standard error say what one
 //! should know of its text. On a terminal a line says what a long run does, and another what to do
-//! about a fault.
+//! about a fault. The text may be written in another form.
 #![tactic(auto)]
 
 mod beside;
+mod forms;
 mod input_words;
 mod made_by;
 mod system;
 
 use fare_program::{Complaints, FileWords, Host, Note, Output, list_words, unread_words, words_of};
+use forms::form_of;
 use hints::{Named, Overheard, Said, damaged, hint_on_fault};
 use input_words::{INPUT_FILE, with_input_file};
 use program_manners::{Escaping, WriteEnd, take_list};
@@ -24,6 +26,7 @@ use std::sync::Wait;
 use std::thread::Threads;
 use std::time::Clock;
 use system::run_system;
+use text_forms::{Form, REPORT, STATEMENT, Shaped};
 use world::Recorded;
 
 const INPUT_TWICE: &str = "error: - can be named only once";
@@ -110,12 +113,13 @@ fn writes_to_file(rt: &HostRuntime) -> bool {
     }
 }
 
-/// Runs the words, of which these name files, and returns the status.
+/// Runs the words, of which these name files, in this form, and returns the status.
 fn run<R: Threads + Wait + Clock + RandomSource + Sync + AllocGlobal>(
     handles: &R,
     rt: &HostRuntime,
     words: &[String],
     files: &FileWords<'_>,
+    form: Form,
 ) -> u8 {
     if let Some(name) = files.made_by
         && !made_by::is_new(rt, name)
@@ -126,7 +130,12 @@ fn run<R: Threads + Wait + Clock + RandomSource + Sync + AllocGlobal>(
     let ticker = ticker_for(rt, words, sums);
     let err = Recorded::new(Overheard::new(Escaping::new(rt.stderr())));
     let mut err = Complaints::new(Hushing::new(handles, &ticker, err, false));
-    let out = Recorded::new(rt.stdout());
+    let layout = if files.format.has_token {
+        STATEMENT
+    } else {
+        REPORT
+    };
+    let out = Recorded::new(Shaped::new(rt.alloc(), rt.stdout(), layout, form));
     let mut out = Output::new(Hushing::of_text(handles, &ticker, out, writes_to_file(rt)));
     let status = run_system(
         handles,
@@ -175,5 +184,11 @@ fn main(rt: HostRuntime) -> ExitCode {
         Complaints::new(rt.stderr()).report_line(INPUT_TWICE);
         return ExitCode::from(2);
     }
-    ExitCode::from(run(&rt, &rt, &words, &files))
+    match form_of(&files.format) {
+        Ok(form) => ExitCode::from(run(&rt, &rt, &words, &files, form)),
+        Err(wrong) => {
+            Complaints::new(rt.stderr()).report_line(wrong);
+            ExitCode::from(2)
+        }
+    }
 }

@@ -17,18 +17,19 @@ use std::random::RandomSource;
 use std::sync::Wait;
 use std::thread::Threads;
 use std::time::Clock;
+use text_forms::Shaped;
 use world::Recorded;
 
 /// Runs the whole program over the system's files, standard input and outputs, of which nothing was
-/// read or written yet. What was loaded and written is what the system calls tell. What was
-/// reported went to the standard error with its control characters escaped.
+/// read or written yet. What was loaded and written is what the system calls tell: the text was
+/// given to what writes its form. What was reported went to the standard error with its control characters escaped.
 pub fn run_system<R: Threads + Wait + Clock + RandomSource + Sync + AllocGlobal, E: Write + Drop>(
     rt: &R,
     system: &HostRuntime,
     words: &[String],
     ticker: &Ticker,
     source: &mut Watched<'_, R, Host<'_, HostRuntime>>,
-    out: &mut Output<Hushing<'_, R, Recorded<Stdout>>>,
+    out: &mut Output<Hushing<'_, R, Recorded<Shaped<Stdout>>>>,
     err: &mut Complaints<Hushing<'_, R, Recorded<E>>>,
 ) -> u8
     requires unread { source.old.from.loads.trace ≡ no_calls }

@@ -1,13 +1,14 @@
 //! The system, for what the frame runs.
 
 use crate::progress::Progress;
+use crate::whole::read_whole;
 use std::fmt::Display;
 use std::fs::File;
 use std::io;
 use std::io::Write;
 use tool_program::Counted;
 use world::{
-    Fault, Inputs, LoadFault, Loaded, MakeFault, NewFile, System, Trace, World, WriteFault,
+    Fault, Inputs, LoadFault, Loaded, MakeFault, NewFile, Stream, System, Trace, World, WriteFault,
 };
 
 /// The system. It shows how much is read and written, and takes that away before anything else is
@@ -78,6 +79,26 @@ impl<W, E> Counted for Framed<'_, W, E> {
     fn end_count(&mut self) {
         self.counts.end();
     }
+
+    fn load_whole(&mut self, name: Option<&str>) -> Result<Vec<u8>, LoadFault> {
+        let mut stream = Stream::new();
+        let read = read_whole(self.rt, name, &mut self.counts, &mut stream);
+        self.counts.end();
+        match read {
+            Ok(bytes) => {
+                self.system.join(stream.into_trace());
+                Ok(bytes)
+            }
+            Err(why) => match why {
+                // the calls are dropped
+                LoadFault::NoMemory => Err(why),
+                LoadFault::Unread | LoadFault::TooLong => {
+                    self.system.join(stream.into_trace());
+                    Err(why)
+                }
+            },
+        }
+    }
 }
 
 impl<W: Write, E: Write> World for Framed<'_, W, E> {
@@ -88,7 +109,7 @@ impl<W: Write, E: Write> World for Framed<'_, W, E> {
         match self.system.write(piece) {
             Ok(()) => {
                 self.done = self.done.saturating_add(piece.len() as u64);
-                self.progress.report_bytes(self.done, None, "written");
+                self.progress.report_bytes(self.done, "written");
                 Ok(())
             }
             Err(why) => {

@@ -7,22 +7,17 @@ use std::io::{ErrorKind, Read};
 /// How many bytes a line has at most, with its line feed. A ledger's line has 255.
 const LINE_BYTES: usize = 1_024;
 
-/// A reader that fails at a line that is too long, if lines are to be short: memory is bounded.
+/// A reader that fails at a line that is too long: memory is bounded.
 #[derive(Drop)]
 pub(crate) struct Lines<R: Read + Drop> {
     from: R,
-    are_short: bool,
     /// How many bytes of the last line were read.
     length: usize,
 }
 
 impl<R: Read + Drop> Lines<R> {
-    pub(crate) fn new(from: R, are_short: bool) -> Lines<R> {
-        Lines {
-            from,
-            are_short,
-            length: 0,
-        }
+    pub(crate) fn new(from: R) -> Lines<R> {
+        Lines { from, length: 0 }
     }
 
     /// Reads these bytes, if no line of them is too long.
@@ -44,8 +39,7 @@ impl<R: Read + Drop> Lines<R> {
 impl<R: Read + Drop> Read for Lines<R> {
     fn read(&mut self, buf: &mut [u8]) -> io::Result<usize> {
         let count = self.from.read(buf)?;
-        if self.are_short
-            && let Some(bytes) = buf.get(..count)
+        if let Some(bytes) = buf.get(..count)
             && !self.takes(bytes)
         {
             return Err(io::Error::from(ErrorKind::InvalidData));

@@ -2,17 +2,16 @@
 //! have.
 #![tactic(auto)]
 
-mod files_made;
 mod framed;
 mod lines;
 mod manner;
 mod output;
 mod placed;
 mod progress;
-mod quotes;
 mod run;
 mod streams;
 mod texts;
+mod whole;
 
 use program_manners::{Complaints, Escaping, take_list, unread_words, words_of};
 use run::run;

@@ -1,15 +1,18 @@
-//! What the words request of the system: what is refused before anything is read or made, and how a
-//! CSV is read.
+//! What the words request of the system: what is refused before anything is read or made, and in
+//! which form is written what uploads have.
 
 use std::fs;
 use std::io::IsTerminal;
 use std::os::unix::fs::MetadataExt;
-use tool_words::{SortingWords, Task, read};
+use text_forms::Form;
+use tool_words::{SortingWords, Task, named_format, read};
 use world::folder_of;
 
 /// An upload is not written to a terminal.
 const TO_TERMINAL: &str =
     "error: standard output is a terminal: write the upload to a file, as > day.tap";
+
+const NO_FORM: &str = "error: --format is text, json or csv";
 
 /// The ends are not made in place of the taps, or of an upload that is read.
 const ENDS_IN_PLACE: &str = "error: --ends names OUT or an upload";
@@ -54,24 +57,20 @@ fn has_ends_in_place(rt: &HostRuntime, words: &SortingWords<'_>) -> bool {
     false
 }
 
-#[derive(Clone, Copy)]
-pub(crate) enum Manner {
-    Refused(&'static str),
-    /// An agency's CSV is read, with this byte between two fields.
-    Rows(u8),
-    Other,
-}
-
-pub(crate) fn manner_of(rt: &HostRuntime, words: &[String]) -> Manner {
+/// The form in which what the words request is written; else why it is refused.
+pub(crate) fn form_of(rt: &HostRuntime, words: &[String]) -> Result<Form, &'static str> {
     let Ok(task) = read(rt.alloc(), words) else {
-        return Manner::Other;
+        return Ok(Form::Text);
     };
     match &task {
-        Task::Encode(_) | Task::EncodeRows(..) if rt.stdout().is_terminal() => {
-            Manner::Refused(TO_TERMINAL)
+        Task::Encode(_) | Task::EncodeRows(..) if rt.stdout().is_terminal() => Err(TO_TERMINAL),
+        Task::Sort(words) if has_ends_in_place(rt, words) => Err(ENDS_IN_PLACE),
+        Task::Uploads(..) | Task::ValidPrefix(_) | Task::Look(..) => {
+            match Form::of(named_format(rt.alloc(), words).unwrap_or("text")) {
+                Some(form) => Ok(form),
+                None => Err(NO_FORM),
+            }
         }
-        Task::Sort(words) if has_ends_in_place(rt, words) => Manner::Refused(ENDS_IN_PLACE),
-        Task::EncodeRows(_, words) => Manner::Rows(words.columns.separator.byte),
-        _ => Manner::Other,
+        _ => Ok(Form::Text),
     }
 }

@@ -3,7 +3,7 @@
 use program_manners::{PACE_MS, QUIET_MS, TerminalLine};
 use std::fmt::Display;
 use std::io;
-use std::io::{IsTerminal, Read, Write};
+use std::io::{IsTerminal, Write};
 use std::time::Instant;
 
 /// A MiB in bytes.
@@ -83,64 +83,13 @@ impl<'r> Progress<'r> {
         self.show(format_args!("{done} of {all} {things}"));
     }
 
-    /// Shows how many bytes are done, of all if their number is known.
-    pub(crate) fn report_bytes(&mut self, done: u64, all: Option<u64>, verb: &str) {
+    pub(crate) fn report_bytes(&mut self, done: u64, verb: &str) {
         let done = done / MIB;
-        match all {
-            Some(all) => {
-                let all = all / MIB;
-                self.show(format_args!("{done} of {all} MiB {verb}"));
-            }
-            None => self.show(format_args!("{done} MiB {verb}")),
-        }
+        self.show(format_args!("{done} MiB {verb}"));
     }
 
     pub(crate) fn end(&mut self) {
         self.line.clear();
-    }
-}
-
-/// A reader that shows how far it was read.
-#[derive(Drop)]
-pub(crate) struct Watched<'r, R: Read + Drop> {
-    from: R,
-    progress: Progress<'r>,
-    done: u64,
-    /// How many there are, if that is known.
-    all: Option<u64>,
-    verb: &'static str,
-}
-
-impl<'r, R: Read + Drop> Watched<'r, R> {
-    pub(crate) fn new(
-        from: R,
-        progress: Progress<'r>,
-        all: Option<u64>,
-        verb: &'static str,
-    ) -> Watched<'r, R> {
-        Watched {
-            from,
-            progress,
-            done: 0,
-            all,
-            verb,
-        }
-    }
-
-    pub(crate) fn end(&mut self) {
-        self.progress.end();
-    }
-}
-
-impl<'r, R: Read + Drop> Read for Watched<'r, R> {
-    fn read(&mut self, buf: &mut [u8]) -> io::Result<usize> {
-        self.progress.report_bytes(self.done, self.all, self.verb);
-        let count = self.from.read(buf)?;
-        self.done = self.done.saturating_add(count as u64);
-        if count == 0 {
-            self.progress.end();
-        }
-        Ok(count)
     }
 }
 
@@ -167,7 +116,7 @@ impl<'r, W: Write + Drop> Write for Watching<'r, W> {
         match self.to.write(bytes) {
             Ok(count) => {
                 self.done = self.done.saturating_add(count as u64);
-                self.progress.report_bytes(self.done, None, "written");
+                self.progress.report_bytes(self.done, "written");
                 Ok(count)
             }
             Err(error) => {

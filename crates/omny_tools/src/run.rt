@@ -1,9 +1,8 @@
 //! The whole program over the system, from the words to the status.
 
-use crate::files_made::FilesMade;
 use crate::framed::Framed;
-use crate::manner::{Manner, manner_of};
-use crate::output::collect;
+use crate::manner::form_of;
+use crate::output::{WRITE_BYTES, collect};
 use crate::placed::FilesByName;
 use crate::progress::{Progress, Watching};
 use crate::streams::Pieces;
@@ -15,6 +14,7 @@ use std::io;
 use std::io::Write;
 use std::marker::Sync;
 use std::thread::Threads;
+use text_forms::{Shaped, UPLOADS};
 use tool_program::{Fault, main_over, say};
 use world::Recorded;
 
@@ -26,6 +26,9 @@ struct Shows {
     counts: bool,
     /// Whether it is shown how much of the text is written. Then reports or ledgers are read.
     text: bool,
+    /// Whether what is written goes out at once: no file is made, and nothing more is said, if an
+    /// upload or corrections cannot be written.
+    at_once: bool,
 }
 
 impl Shows {
@@ -38,18 +41,9 @@ impl Shows {
         Shows {
             counts: name == "uploads" || name == "table" || name == "sort",
             text: name == "merge" || name == "corrections",
+            at_once: name == "encode" || name == "corrections",
         }
     }
-}
-
-fn texts_of<'r>(rt: &'r HostRuntime, manner: Manner, shows: Shows) -> Texts<'r> {
-    if let Manner::Rows(separator) = manner {
-        return Texts::of_rows(rt, separator);
-    }
-    if shows.text {
-        return Texts::of_others(rt);
-    }
-    Texts::new(rt)
 }
 
 /// The whole program over the system: reads the words, the program's name first, does what they
@@ -60,11 +54,13 @@ pub(crate) fn run<R: Threads + Sync, E: Write>(
     words: &[String],
     err: &mut Complaints<E>,
 ) -> u8 {
-    let manner = manner_of(rt, words);
-    if let Manner::Refused(line) = manner {
-        err.report_line(line);
-        return 2;
-    }
+    let form = match form_of(rt, words) {
+        Ok(form) => form,
+        Err(line) => {
+            err.report_line(line);
+            return 2;
+        }
+    };
     let shows = Shows::of(words);
     let (progress, framed_progress) = if shows.text {
         (Progress::beside_text(rt), Progress::beside_text(rt))
@@ -76,16 +72,17 @@ pub(crate) fn run<R: Threads + Sync, E: Write>(
         return 1;
     };
     let written = Recorded::new(Watching::new(io::writer(rt), progress));
-    let Ok(written) = collect(rt, written) else {
+    let Ok(written) = collect(rt, written, WRITE_BYTES) else {
         say(err, &Fault::NoMemory);
         return 1;
     };
-    let Ok(framed_out) = collect(rt, io::writer(rt)) else {
+    let framed_out = Shaped::new(rt.alloc(), io::writer(rt), UPLOADS, form);
+    let collected = if shows.at_once { 0 } else { WRITE_BYTES };
+    let Ok(framed_out) = collect(rt, framed_out, collected) else {
         say(err, &Fault::NoMemory);
         return 1;
     };
-    let mut source = texts_of(rt, manner, shows);
-    let mut sink = FilesMade::new(rt);
+    let mut source = Texts::new(rt);
     let counts = if shows.counts {
         Progress::new(rt)
     } else {
@@ -101,7 +98,6 @@ pub(crate) fn run<R: Threads + Sync, E: Write>(
         &mut source,
         &FilesByName::new(rt),
         &mut Pieces::new(rt),
-        &mut sink,
         &mut Output::new(written),
         err,
         &mut framed,

@@ -93,11 +93,6 @@ pub tests_fault : (is_only : Bool) (choice : Choice) (conditions : List Conditio
     → IsTestsFault is_only conditions head f → IsHeadFault choice head f
 tests_fault is_only choice conditions head (fault.Column which) lacks is =
     subst (IsWanting choice head) (sym is.1) (lacks is.0 is.2)
-tests_fault is_only choice conditions head (fault.Row number reason) lacks is = is
-tests_fault is_only choice conditions head fault.Changed lacks is = is
-tests_fault is_only choice conditions head fault.Unread lacks is = is
-tests_fault is_only choice conditions head fault.Write lacks is = is
-tests_fault is_only choice conditions head fault.RefusedWrite lacks is = is
 tests_fault is_only choice conditions head fault.NoMemory lacks is = is
 
 -- ---- the positions, as the head gives them

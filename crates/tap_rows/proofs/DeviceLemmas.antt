@@ -1,6 +1,6 @@
 -- The devices of a table, and the rows that give them.
 use Rattle.std.proofs.Common.{◌≡◌, ℕ, ◌+◌, Bool, true, false, cond, List, [], ◌∷◌, ◌++◌, length}
-use Rattle.std.proofs.Common.{Option, None, Some, inl, refl, sym, ap, subst, ◌∙◌, arith}
+use Rattle.std.proofs.Common.{Bor, Option, None, Some, inl, refl, sym, ap, subst, ◌∙◌, arith}
 use Rattle.std.proofs.Common.{length-append, eqb-true}
 use Rattle.std.specs.Prelude.{map, codes, is_some, nat_eq, ◌||◌}
 use Rattle.std.specs.Cmp.Lexicographic.{nat_list_eq_equiv}
@@ -109,11 +109,11 @@ no_record separator text (s, left, (same, all), none) head =
     absurd (cc (head, empty))
 
 -- a first record that is another has it not either
-pub other_head : {R : Type 0} (remaining : R → Option (List ℕ)) (separator : Separator)
-    (text : List ℕ) (head : List (List ℕ)) (reader : Reader R)
-    → HasConsumed remaining separator text (head ∷ []) reader → ¬ (head ≡ device_head)
+pub other_head : (separator : Separator)
+    (text : List ℕ) (head : List (List ℕ)) (reader : Reader (Bor (List ℕ)))
+    → HasConsumed separator text (head ∷ []) reader → ¬ (head ≡ device_head)
     → ¬ (HasDeviceHead separator text)
-other_head remaining separator text head reader consumed other is =
+other_head separator text head reader consumed other is =
     other (head_is separator text head [] reader.state consumed.left consumed.reached ∙ is)
 
 pub has_head : (separator : Separator) (text : List ℕ) (devices : List Device)
@@ -122,31 +122,31 @@ has_head separator text devices are = let (s, left, reached, none) = are.records
     sym (head_is separator text device_head are.rows s left reached)
 
 -- ---- from row to row
-pub devices_first : {R : Type 0} (remaining : R → Option (List ℕ)) (separator : Separator)
-    (text : List ℕ) (head : List (List ℕ)) (reader : Reader R) (devices : List Device)
-    → HasConsumed remaining separator text (head ∷ []) reader → head ≡ device_head → devices ≡ []
-    → HasDevices remaining separator text 0 reader devices
+pub devices_first : (separator : Separator)
+    (text : List ℕ) (head : List (List ℕ)) (reader : Reader (Bor (List ℕ))) (devices : List Device)
+    → HasConsumed separator text (head ∷ []) reader → head ≡ device_head → devices ≡ []
+    → HasDevices separator text 0 reader devices
 unfolding IsDistinct
-devices_first remaining separator text head reader devices consumed is none =
-    subst (HasDevices remaining separator text 0 reader) (sym none) (record {
+devices_first separator text head reader devices consumed is none =
+    subst (HasDevices separator text 0 reader) (sym none) (record {
       rows = [];
-      consumed = subst (λ h. HasConsumed remaining separator text (h ∷ []) reader) is consumed;
+      consumed = subst (λ h. HasConsumed separator text (h ∷ []) reader) is consumed;
       each = tt;
       once = tt;
       number = refl;
     })
 
-pub devices_more : {R : Type 0} (remaining : R → Option (List ℕ)) (separator : Separator)
-    (text : List ℕ) (count : ℕ) (reader after : Reader R) (old new : List Device)
+pub devices_more : (separator : Separator)
+    (text : List ℕ) (count : ℕ) (reader after : Reader (Bor (List ℕ))) (old new : List Device)
     (row : List (List ℕ)) (device : Device)
-    → HasDevices remaining separator text count reader old
-    → ((rows : List (List (List ℕ))) → HasConsumed remaining separator text rows reader
-    → HasConsumed remaining separator text (rows ++ row ∷ []) after)
+    → HasDevices separator text count reader old
+    → ((rows : List (List (List ℕ))) → HasConsumed separator text rows reader
+    → HasConsumed separator text (rows ++ row ∷ []) after)
     → IsDeviceRow row device → validator_of old device.0 ≡ None → new ≡ old ++ device ∷ []
-    → HasDevices remaining separator text (count + 1) after new
-devices_more remaining separator text count reader after old new row device has consumed is none
+    → HasDevices separator text (count + 1) after new
+devices_more separator text count reader after old new row device has consumed is none
     more =
-    subst (HasDevices remaining separator text (count + 1) after) (sym more) (record {
+    subst (HasDevices separator text (count + 1) after) (sym more) (record {
       rows = has.rows ++ row ∷ [];
       consumed = consumed (device_head ∷ has.rows) has.consumed;
       each = zip_more IsDeviceRow has.rows old row device has.each is;
@@ -157,17 +157,18 @@ devices_more remaining separator text count reader after old new row device has 
     })
 
 -- a row that was not added is the first that is wrong
-pub row_fault : {R : Type 0} (remaining : R → Option (List ℕ)) (separator : Separator)
-    (text : List ℕ) (count number : ℕ) (reader after : Reader R) (devices : List Device)
+pub row_fault : (separator : Separator)
+    (text : List ℕ) (count number : ℕ) (reader after : Reader (Bor (List ℕ)))
+    (devices : List Device)
     (row : List (List ℕ)) (f : DevicesFault)
-    → HasDevices remaining separator text count reader devices
-    → ((rows : List (List (List ℕ))) → HasConsumed remaining separator text rows reader
-    → HasConsumed remaining separator text (rows ++ row ∷ []) after)
+    → HasDevices separator text count reader devices
+    → ((rows : List (List (List ℕ))) → HasConsumed separator text rows reader
+    → HasConsumed separator text (rows ++ row ∷ []) after)
     → number ≡ count + 2 → IsRowFault devices number row f → IsFaultBy separator text f
-row_fault remaining separator text count number reader after devices row fault.Head has consumed
+row_fault separator text count number reader after devices row fault.Head has consumed
     position
     is = absurd is
-row_fault remaining separator text count number reader after devices row (fault.Row at why) has
+row_fault separator text count number reader after devices row (fault.Row at why) has
     consumed
     position is =
     let there = consumed (device_head ∷ has.rows) has.consumed in
@@ -181,7 +182,7 @@ row_fault remaining separator text count number reader after devices row (fault.
       number_is = omega (arith, is.0, position, has.number);
       is_wrong = is.1;
     }
-row_fault remaining separator text count number reader after devices row fault.NoMemory has consumed
+row_fault separator text count number reader after devices row fault.NoMemory has consumed
     position is = tt
 
 -- ---- the separator

@@ -1,16 +1,14 @@
-pub mod AgencyStartedLemmas
 mod AgencyLemmas
 pub mod AgencyMomentLemmas
 mod NumberLemmas
 mod AgencyRowLemmas
-pub mod StartedLemmas
 mod DeviceLemmas
 mod FieldLemmas
 mod GoingLemmas
+mod GrowingLemmas
 pub mod MomentLemmas
 mod OneDeviceTable
 mod UniqueParse
-mod OneSummary
 mod RowLemmas
 mod TableLemmas
 pub mod UtcLemmas

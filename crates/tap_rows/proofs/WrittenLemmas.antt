@@ -1,5 +1,6 @@
 -- The table that is written is read as the taps that it was written for.
-use Rattle.std.proofs.Common.{inl, ◌≡◌, ℕ, zero, suc, ◌+◌, ◌-◌, ◌<◌, ◌≤◌, ◌^◌, List, [], ◌∷◌, ◌++◌}
+use Rattle.std.proofs.Common.{All, inl, inr, ◌≡◌, ℕ, zero, suc, ◌+◌, ◌-◌, ◌<◌, ◌≤◌, ◌^◌, List, []}
+use Rattle.std.proofs.Common.{◌∷◌, ◌++◌}
 use Rattle.std.proofs.Common.{length, take, refl, sym, ap, subst, ◌∙◌, arith, append_assoc}
 use Rattle.std.proofs.Common.{length-append, true, false, Bool, ◌==◌, ◌&&◌}
 use Rattle.std.specs.Prelude.{codes, slice_index, slice_index_or, nat_lt, IsOk, if◌then◌else◌}
@@ -8,7 +9,7 @@ use Rattle.std.specs.Fmt.{decimal}
 use Rattle.std.specs.Str.Parse.{AllDigits}
 use Rattle.std.specs.Io.BufRead.{first_line, take_through, drop_through, ends_with_byte, strip_last}
 use Rattle.std.proofs.lemmas.Bool.{lt-ltb, ltb-true, and_parts}
-use Rattle.std.proofs.lemmas.Bool.Decides.{nat_tests}
+use Rattle.std.proofs.lemmas.Bool.Decides.{eqb_tells, nat_tests}
 use Rattle.std.proofs.lemmas.Fmt.{decimal_is_IsNumeral}
 use Rattle.std.proofs.lemmas.Str.Parse.{digit_from_value}
 use Rattle.std.proofs.Math.Seq.{get_or-append_seam}
@@ -65,18 +66,42 @@ hex_high (x ∷ text) digits = (
 is_not : (x y : ℕ) → y < x → (x == y) ≡ false
 is_not x y less = grind (arith, nat_tests)
 
+-- no byte is a line feed
+abbrev HasNoFeed : List ℕ → Type 0
+HasNoFeed text = All (λ byte. ¬ (byte ≡ 10)) text
+
+no_feed_after : (x : ℕ) (text : List ℕ) → HasNoFeed (x ∷ text) → HasNoFeed text
+no_feed_after x text none = λ k d within. none (suc k) d (omega (arith, within))
+
+first_is_not : (x : ℕ) (text : List ℕ) → HasNoFeed (x ∷ text) → (x == 10) ≡ false
+first_is_not x text none = elim (eqb_tells x 10) [
+  | inl same ↦ absurd (none 0 0 (omega arith) same.1)
+  | inr other ↦ other.0
+]
+
 -- up to and with the line feed
-taken : (line rest : List ℕ) → IsUnbroken line
+taken : (line rest : List ℕ) → HasNoFeed line
     → take_through 10 (line ++ 10 ∷ rest) ≡ line ++ 10 ∷ []
-taken [] rest unbroken = refl
-taken (x ∷ line) rest unbroken = let other = is_not x 10 (omega (arith, unbroken.0)) in
-    rw other (ap (λ bytes. x ∷ bytes) (taken line rest unbroken.1))
+taken [] rest none = refl
+taken (x ∷ line) rest none = let other = first_is_not x line none in
+    rw other (ap (λ bytes. x ∷ bytes) (taken line rest (no_feed_after x line none)))
 
 -- behind the line feed
-pub dropped : (line rest : List ℕ) → IsUnbroken line → drop_through 10 (line ++ 10 ∷ rest) ≡ rest
-dropped [] rest unbroken = refl
-dropped (x ∷ line) rest unbroken = let other = is_not x 10 (omega (arith, unbroken.0)) in
-    rw other (dropped line rest unbroken.1)
+pub dropped : (line rest : List ℕ) → HasNoFeed line → drop_through 10 (line ++ 10 ∷ rest) ≡ rest
+dropped [] rest none = refl
+dropped (x ∷ line) rest none = let other = first_is_not x line none in
+    rw other (dropped line rest (no_feed_after x line none))
+
+-- a text without a line feed
+all_taken : (text : List ℕ) → HasNoFeed text → take_through 10 text ≡ text
+all_taken [] none = refl
+all_taken (x ∷ text) none = let other = first_is_not x text none in
+    rw other (ap (λ bytes. x ∷ bytes) (all_taken text (no_feed_after x text none)))
+
+pub all_dropped : (text : List ℕ) → HasNoFeed text → drop_through 10 text ≡ []
+all_dropped [] none = refl
+all_dropped (x ∷ text) none = let other = first_is_not x text none in
+    rw other (all_dropped text (no_feed_after x text none))
 
 -- a line without its end
 abbrev trimmed : List ℕ → List ℕ
@@ -122,17 +147,51 @@ no_return (x ∷ line) unbroken =
     let other = is_not (slice_index (x ∷ line) (length (x ∷ line) - 1)) 13 last in
     rw other (and-false (nat_lt 0 (length (x ∷ line))))
 
-strip_none : (line : List ℕ) → ends_with_byte 13 line ≡ false → strip_last 13 line ≡ line
-strip_none line none = rw none refl
+strip_none : (byte : ℕ) (line : List ℕ) → ends_with_byte byte line ≡ false
+    → strip_last byte line ≡ line
+strip_none byte line none = rw none refl
 
 -- the line without its end
-pub first : (line rest : List ℕ) → IsUnbroken line → first_line (line ++ 10 ∷ rest) ≡ line
-first line rest unbroken =
+pub first_line_of : (line rest : List ℕ) → HasNoFeed line
+    → first_line (line ++ 10 ∷ rest) ≡ strip_last 13 line
+first_line_of line rest none =
     let ends = ends_so line in
     let whole : trimmed (line ++ 10 ∷ []) ≡ strip_last 13 (strip_last 10 (line ++ 10 ∷ [])) =
     rw ends refl in
-    ap trimmed (taken line rest unbroken) ∙ whole ∙ ap (strip_last 13) (no_feed line)
-    ∙ strip_none line (no_return line unbroken)
+    ap trimmed (taken line rest none) ∙ whole ∙ ap (strip_last 13) (no_feed line)
+
+no_feed_more : (x : ℕ) (line : List ℕ) → 13 < x → HasNoFeed line → (k d : ℕ)
+    → k < length (x ∷ line) → ¬ (slice_index_or (x ∷ line) k d ≡ 10)
+no_feed_more x line above none zero d within = λ same. absurd (omega (arith, same, above))
+no_feed_more x line above none (suc k) d within = none k d (omega (arith, within))
+
+unbroken_no_feed : (line : List ℕ) → IsUnbroken line → HasNoFeed line
+unbroken_no_feed [] unbroken = λ k d within. absurd (omega (arith, within))
+unbroken_no_feed (x ∷ line) unbroken =
+    no_feed_more x line unbroken.0 (unbroken_no_feed line unbroken.1)
+
+pub first : (line rest : List ℕ) → IsUnbroken line → first_line (line ++ 10 ∷ rest) ≡ line
+first line rest unbroken = first_line_of line rest (unbroken_no_feed line unbroken)
+    ∙ strip_none 13 line (no_return line unbroken)
+
+-- no line feed stands last
+no_end : (text : List ℕ) → HasNoFeed text → ends_with_byte 10 text ≡ false
+no_end [] none = refl
+no_end (x ∷ text) none =
+    let last = none (length (x ∷ text) - 1) 0 (omega arith) in
+    let other : (slice_index (x ∷ text) (length (x ∷ text) - 1) == 10) ≡ false =
+    elim (eqb_tells (slice_index (x ∷ text) (length (x ∷ text) - 1)) 10) [
+      | inl same ↦ absurd (last same.1)
+      | inr differs ↦ differs.0
+    ] in
+    rw other (and-false (nat_lt 0 (length (x ∷ text))))
+
+-- a text without a line feed is its first line
+pub only_line : (text : List ℕ) → HasNoFeed text → first_line text ≡ text
+only_line text none =
+    let ends = no_end text none in
+    let whole : trimmed text ≡ strip_last 10 text = rw ends refl in
+    ap trimmed (all_taken text none) ∙ whole ∙ strip_none 10 text ends
 
 -- whether each byte is above this one
 abbrev all_above : ℕ → List ℕ → Bool
@@ -241,7 +300,8 @@ rows_back (tap ∷ taps) are =
     let line : first_line (rows_text (tap ∷ taps)) ≡ line_of tap =
     ap first_line spelled ∙ first (line_of tap) (rows_text taps) unbroken in
     let rest : drop_through 10 (rows_text (tap ∷ taps)) ≡ rows_text taps =
-    ap (drop_through 10) spelled ∙ dropped (line_of tap) (rows_text taps) unbroken in (
+    ap (drop_through 10) spelled
+    ∙ dropped (line_of tap) (rows_text taps) (unbroken_no_feed (line_of tap) unbroken) in (
       subst (λ text. IsTapRow text tap) (sym line) (row_back tap are.0),
       subst (λ text. BeginsWithRows text taps []) (sym rest) (rows_back taps are.1),
     )
@@ -270,5 +330,6 @@ table_back taps are =
     record {
       head_line = subst IsHead (sym (first head (rows_text taps) unbroken)) head_back;
       rows = subst (λ text. BeginsWithRows text taps [])
-          (sym (dropped head (rows_text taps) unbroken)) (rows_back taps are);
+          (sym (dropped head (rows_text taps) (unbroken_no_feed head unbroken)))
+          (rows_back taps are);
     }

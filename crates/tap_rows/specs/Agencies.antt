@@ -1,17 +1,14 @@
 -- An agency's CSV as a whole: what its rows are read as, the upload of their taps, the rows that
 -- are refused, and their summary.
-use Rattle.std.specs.Prelude.{◌≡◌, ◌⊎◌, ℕ, ◌+◌, List, [], ◌∷◌, ◌++◌, Option, Some, None, length}
+use Rattle.std.specs.Prelude.{◌≡◌, ℕ, ◌+◌, List, [], ◌∷◌, ◌++◌, Option, Some, None, length}
 use Rattle.std.specs.Prelude.{codes, slice_get, IsSomeAnd, flat_map, map}
 use Rattle.std.specs.Fmt.{decimal}
-use Rattle.std.specs.Io.KnownBytes.{Appends, Keeps}
 use Rattle.std.specs.List.{AllZip, sum_by}
-use Rattle.fare_texts.specs.WrittenOut.{Begins}
 use Rattle.tap_views.specs.declared.encoder.TapFields.{TapFields}
 use Rattle.tap_views.specs.Facts.{IsSpan}
 use Rattle.tap_views.specs.Files.{IsFileOf}
 use Rattle.tap_rows.specs.AgencyRows.{IsColumn, IsParseOf}
-use Rattle.tap_rows.specs.AgencyTexts.{BeginsWith, HasRecords, first_record, record_text}
-use Rattle.tap_rows.specs.AgencyTexts.{separator_byte}
+use Rattle.tap_rows.specs.AgencyTexts.{HasRecords, first_record, record_text, separator_byte}
 use Rattle.tap_rows.specs.declared.agency.choice.Choice.{Choice}
 use Rattle.tap_rows.specs.declared.agency.choice.Condition.{Condition}
 use Rattle.tap_rows.specs.declared.agency.choice.Separator.{Separator}
@@ -141,45 +138,18 @@ pub record IsSummary (rows : List (List (List ℕ))) (readings : List Reading) (
   pub first_refused : summary.first_refused ≡ first_refusal (refusals rows readings)
   pub moments : IsSpan (map (λ tap. tap.moment) (taps_in readings)) summary.span
 
--- the text is read whole. After the old bytes an upload was written with no fault, of exactly the
--- taps of the rows that are kept, in their order; and after other old bytes the refused rows
-pub record IsRowsEncoded (choice : Choice) (text : List ℕ)
-    (old new old_refused new_refused : Option (List ℕ)) (summary : Summary) : Type 0 where
-  pub head : List (List ℕ)
-  pub rows : List (List (List ℕ))
-  pub readings : List Reading
-  pub is_read : IsRead choice text head rows readings
-  pub file : List ℕ
-  pub upload : IsFileOf file (taps_in readings)
-  pub written : Appends old new file
-  pub refused : Appends old_refused new_refused
-      (refusals_text choice.columns.now.separator head (refusals rows readings))
-  pub summary_is : IsSummary rows readings summary
-
--- what was written after the old bytes is a prefix of an upload with no fault, of the first of
--- these taps
-pub record AreStarted (taps : List TapFields) (old new : Option (List ℕ)) : Type 0 where
-  pub done : List TapFields
-  pub later : List TapFields
-  pub all : taps ≡ done ++ later
-  pub file : List ℕ
-  pub upload : IsFileOf file done
-  pub started : Begins old new file
-
--- the text begins with a head and these rows, and a prefix of an upload was written, of the
--- first taps of the rows that are kept
-pub record BeginsUpload (choice : Choice) (text : List ℕ) (old new : Option (List ℕ))
+-- the text is read whole. The file is an upload with no fault, of exactly the taps of the rows that
+-- are kept, in their order; and these are the refused rows, as they are written
+pub record IsRowsEncoded (choice : Choice) (text file refused : List ℕ) (summary : Summary)
     : Type 0 where
   pub head : List (List ℕ)
   pub rows : List (List (List ℕ))
   pub readings : List Reading
-  pub records : BeginsWith choice.columns.now.separator text (head ∷ rows)
-  pub each : AllZip (IsParseOf choice head) rows readings
-  pub started : AreStarted (taps_in readings) old new
-
--- after the old bytes nothing was written, or a prefix of an upload of the text's first taps
-abbrev pub IsUploadStarted : Choice → List ℕ → Option (List ℕ) → Option (List ℕ) → Type 0
-IsUploadStarted choice text old new = Keeps old new ⊎ BeginsUpload choice text old new
+  pub is_read : IsRead choice text head rows readings
+  pub upload : IsFileOf file (taps_in readings)
+  pub refused_are : refused
+      ≡ refusals_text choice.columns.now.separator head (refusals rows readings)
+  pub summary_is : IsSummary rows readings summary
 
 -- the row of this number is the first that is refused, for this reason
 pub record IsFirstRefused (choice : Choice) (text : List ℕ) (number : ℕ) (reason : Reason)
@@ -190,34 +160,8 @@ pub record IsFirstRefused (choice : Choice) (text : List ℕ) (number : ℕ) (re
   pub is_read : IsRead choice text head rows readings
   pub first : first_refusal (refusals rows readings) ≡ Some (number, reason)
 
--- what a fault says of the text; that a read, a write or a growth of memory failed says nothing of
--- it
+-- what a fault says of the text; that an allocation failed says nothing of it
 abbrev pub IsAgencyFault : Choice → List ℕ → AgencyFault → Type 0
 IsAgencyFault choice text (fault.Column wanted) =
     IsWanting choice (first_record choice.columns.now.separator text) wanted
-IsAgencyFault choice text (fault.Row number reason) = IsFirstRefused choice text number reason
-IsAgencyFault choice text fault.Changed = ⊥
-IsAgencyFault choice text fault.Unread = Unit {0}
-IsAgencyFault choice text fault.Write = Unit {0}
-IsAgencyFault choice text fault.RefusedWrite = Unit {0}
 IsAgencyFault choice text fault.NoMemory = Unit {0}
-
--- the fault is one of the text
-abbrev pub IsOfRows : AgencyFault → Type 0
-IsOfRows (fault.Column wanted) = Unit {0}
-IsOfRows (fault.Row number reason) = Unit {0}
-IsOfRows fault.Changed = ⊥
-IsOfRows fault.Unread = ⊥
-IsOfRows fault.Write = ⊥
-IsOfRows fault.RefusedWrite = ⊥
-IsOfRows fault.NoMemory = ⊥
-
--- the fault may end an encoding that reads the text once and goes on after a refused row
-abbrev pub MayEndOnce : AgencyFault → Type 0
-MayEndOnce (fault.Column wanted) = Unit {0}
-MayEndOnce (fault.Row number reason) = ⊥
-MayEndOnce fault.Changed = ⊥
-MayEndOnce fault.Unread = Unit {0}
-MayEndOnce fault.Write = Unit {0}
-MayEndOnce fault.RefusedWrite = Unit {0}
-MayEndOnce fault.NoMemory = Unit {0}

@@ -1,17 +1,14 @@
 -- A tap table as CSV: a header line, and then a line for each tap. A line ends with a line feed,
 -- or with carriage return and line feed; the last may lack its end.
-use Rattle.std.specs.Prelude.{◌≡◌, ℕ, ◌+◌, List, [], ◌∷◌, ◌++◌, length, codes, Option}
+use Rattle.std.specs.Prelude.{◌≡◌, ℕ, ◌+◌, List, [], ◌∷◌, ◌++◌, length, codes}
 use Rattle.std.specs.Io.BufRead.{first_line, drop_through}
-use Rattle.std.specs.Io.KnownBytes.{Appends}
-use Rattle.fare_texts.specs.WrittenOut.{Begins}
 use Rattle.tap_views.specs.declared.encoder.TapFields.{TapFields}
 use Rattle.tap_views.specs.Files.{IsFileOf}
 use Rattle.tap_rows.specs.Fields.{AreFields, FieldRepresents}
 use Rattle.tap_rows.specs.Rows.{IsTapRow, IsNoTapRow, rows_text}
 use Rattle.tap_rows.specs.declared.column.Column.{Column}
 use Rattle.tap_rows.specs.declared.fault.RowsFault.{RowsFault}
-use Rattle.tap_rows.specs.declared.fault.RowsFault.TheVariants.{Head, Row, Unread, Changed, Write}
-use Rattle.tap_rows.specs.declared.fault.RowsFault.TheVariants.{NoMemory}
+use Rattle.tap_rows.specs.declared.fault.RowsFault.TheVariants.{Head, NoMemory, Row}
 
 -- the line is a header line: its three fields represent the names of the columns
 pub record IsHead (line : List ℕ) : Type 0 where
@@ -48,53 +45,17 @@ pub record IsBadRow (text : List ℕ) (number : ℕ) (column : Column) : Type 0 
   pub number_is : number ≡ length before + 2
   pub wrong : IsNoTapRow (first_line rest) column
 
--- what a fault says of the tap table; that a read, a write or a growth of memory failed says
--- nothing of it
+-- what a fault says of the tap table; that an allocation failed says nothing of it
 abbrev pub IsRowsFault : List ℕ → RowsFault → Type 0
 IsRowsFault text Head = ¬ (IsHead (first_line text))
 IsRowsFault text (Row number column) = IsBadRow text number column
-IsRowsFault text Changed = ⊥
-IsRowsFault text Unread = Unit {0}
-IsRowsFault text Write = Unit {0}
 IsRowsFault text NoMemory = Unit {0}
 
--- the fault is one of the tap table
-abbrev pub IsOfTapTable : RowsFault → Type 0
-IsOfTapTable Head = Unit {0}
-IsOfTapTable (Row number column) = Unit {0}
-IsOfTapTable Changed = ⊥
-IsOfTapTable Unread = ⊥
-IsOfTapTable Write = ⊥
-IsOfTapTable NoMemory = ⊥
-
--- the fault is that a write failed, or that an allocation failed
-abbrev pub IsOfOutput : RowsFault → Type 0
-IsOfOutput Head = ⊥
-IsOfOutput (Row number column) = ⊥
-IsOfOutput Changed = ⊥
-IsOfOutput Unread = ⊥
-IsOfOutput Write = Unit {0}
-IsOfOutput NoMemory = Unit {0}
-
--- what was written after the old bytes is an upload with no fault, of exactly the taps of the tap
--- table, in their order
-pub record IsEncoded (text : List ℕ) (old new : Option (List ℕ)) (count : ℕ) : Type 0 where
+-- the file is an upload with no fault, of exactly the taps of the tap table, in their order
+pub record IsEncoded (text file : List ℕ) : Type 0 where
   pub taps : List TapFields
   pub tap_table : IsTapTable text taps
-  pub number : length taps ≡ count
-  pub file : List ℕ
   pub upload : IsFileOf file taps
-  pub written : Appends old new file
-
--- what was written after the old bytes is a prefix of an upload with no fault, of the taps of
--- the first rows of the text, in their order
-pub record IsPartlyWritten (text : List ℕ) (old new : Option (List ℕ)) : Type 0 where
-  pub taps : List TapFields
-  pub rest : List ℕ
-  pub rows : BeginsWithRows (drop_through 10 text) taps rest
-  pub file : List ℕ
-  pub upload : IsFileOf file taps
-  pub started : Begins old new file
 
 -- the tap table that is written for these taps
 abbrev pub tap_table_text : List TapFields → List ℕ

@@ -1,5 +1,5 @@
-//! The rows of an agency's own CSV, written as an upload: the columns are found by their names, and
-//! the rows are selected by their values.
+//! The rows of an agency's own CSV, as an upload: the columns are found by their names, and the
+//! rows are selected by their values.
 
 mod choice;
 mod fault;
@@ -11,7 +11,6 @@ mod reading;
 mod records;
 mod refusals;
 mod summary;
-mod waiting;
 mod writing;
 
 pub use choice::{Choice, Columns, Condition, Separator, Unit};
@@ -21,4 +20,4 @@ pub(crate) use reading::field_in;
 pub use reading::{Reading, Reason};
 pub(crate) use records::{next_record, records_of};
 pub use summary::Summary;
-pub use writing::{encode_rows, encode_some_rows};
+pub use writing::{EncodedRows, encode_rows};

@@ -1,15 +1,17 @@
 //! The fields of a line, and the values that they represent.
 
 ghost use Rattle.std.specs.Prelude.{◌≡◌, ◌++◌, ◌∷◌, ◌↔◌, ℕ, List};
-ghost use Rattle.std.specs.Prelude.{IsTrue, MatchOption};
-ghost use Rattle.tap_rows.specs.Fields.{AreFields, HasNoComma, FieldRepresents};
+ghost use Rattle.std.specs.Prelude.{All, IsTrue, MatchOption};
+ghost use Rattle.tap_rows.specs.Fields.{AreFields, FieldRepresents};
 
-fn split_at_comma(line: &[u8]) -> Option<(&[u8], &[u8])>
-    ensures { MatchOption result (HasNoComma line.now)
-        (λ (field, rest). HasNoComma field.now × (line.now ≡ field.now ++ 44 ∷ rest.now)) }
+/// What is before the first such byte, and what is after it.
+pub(crate) fn split_at(text: &[u8], wanted: u8) -> Option<(&[u8], &[u8])>
+    ensures { MatchOption result (All (λ byte. ¬ (byte ≡ wanted)) text.now)
+        (λ (before, after). All (λ byte. ¬ (byte ≡ wanted)) before.now
+        × (text.now ≡ before.now ++ wanted ∷ after.now)) }
 {
-    let at = line.iter().position(|byte| *byte == b',')?;
-    Some((&line[..at], &line[at + 1..]))
+    let at = text.iter().position(|byte| *byte == wanted)?;
+    Some((&text[..at], &text[at + 1..]))
 }
 
 pub(crate) fn three_fields(line: &[u8]) -> Option<(&[u8], &[u8], &[u8])>
@@ -17,10 +19,10 @@ pub(crate) fn three_fields(line: &[u8]) -> Option<(&[u8], &[u8], &[u8])>
         → ¬ (AreFields line.now first second third))
         (λ (first, second, third). AreFields line.now first.now second.now third.now) }
 {
-    let Some((first, rest)) = split_at_comma(line) else {
+    let Some((first, rest)) = split_at(line, b',') else {
         return None;
     };
-    let Some((second, third)) = split_at_comma(rest) else {
+    let Some((second, third)) = split_at(rest, b',') else {
         return None;
     };
     if third.contains(&b',') {

@@ -6,6 +6,7 @@ mod column;
 mod devices;
 mod fault;
 mod field;
+mod growing;
 mod into_table;
 mod into_upload;
 pub mod laws;
@@ -14,11 +15,11 @@ mod read;
 mod row;
 
 pub use agency::{
-    AgencyFault, Choice, Columns, Condition, Reading, Reason, Separator, Summary, Unit, Wanted,
-    encode_rows, encode_some_rows,
+    AgencyFault, Choice, Columns, Condition, EncodedRows, Reading, Reason, Separator, Summary,
+    Unit, Wanted, encode_rows,
 };
 pub use column::Column;
 pub use devices::{DeviceTable, DevicesFault, WrongDevice, read_devices};
 pub use fault::RowsFault;
-pub use into_table::{decode, write_head};
+pub use into_table::{decode, push_head};
 pub use into_upload::encode;

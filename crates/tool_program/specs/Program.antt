@@ -10,37 +10,27 @@ use Rattle.program_manners.specs.declared.output.WriteEnd.{WriteEnd}
 use Rattle.tool_program.specs.Merge.{AbortsMerge, MergesParts}
 use Rattle.tool_tasks.specs.Corrections.{EndsCorrecting}
 use Rattle.tool_tasks.specs.Decode.{IsTapTableOf}
-use Rattle.tool_tasks.specs.Encode.{EncodesTable, AbortsEncode}
-use Rattle.tool_tasks.specs.EncodeRows.{EncodesWith, AbortsRows}
-use Rattle.tool_tasks.specs.Fault.{IsFaultNoted, IsFaultReported}
+use Rattle.tool_tasks.specs.Encode.{EncodesTable}
+use Rattle.tool_tasks.specs.EncodeRows.{EncodesRows, names_of as rows_names}
+use Rattle.tool_tasks.specs.Fault.{IsFaultReported}
 use Rattle.tool_tasks.specs.Informs.{EndsInforming}
 use Rattle.tool_tasks.specs.ValidPrefix.{HasValidPrefix}
 use Rattle.tool_tasks.specs.MergeSorted.{MergesOrRefuses}
-use Rattle.tool_tasks.specs.Sink.{Made}
 use Rattle.tool_tasks.specs.Sort.{Sorts, names_of}
-use Rattle.tool_tasks.specs.declared.encode_rows.RowsOutcome.{RowsOutcome}
-use Rattle.tool_tasks.specs.declared.encode_rows.RowsOutcome.TheVariants as outcomes
 use Rattle.tool_tasks.specs.declared.fault.Fault.{Fault}
-use Rattle.tool_tasks.specs.declared.sink.NewFault.{NewFault}
-use Rattle.tool_words.specs.Request.{Request, RowsRequest, corrections, decode, encode}
+use Rattle.tool_words.specs.Request.{Request, corrections, decode, encode}
 use Rattle.tool_words.specs.Request.{encode_rows, valid_prefix, merge, usage_error, shows, sort}
 use Rattle.tool_words.specs.UsageErrors.{usage_error_text}
 use Rattle.tool_words.specs.Tasks.{rows_words_of}
 use Rattle.tool_words.specs.declared.task.RowsWords.{RowsWords}
 
 -- What is known of a run, before it and behind it: what the source loaded and last refused, what
--- the files have that are read at any offset, what the sink made and last could not begin or make,
--- what was written, and what was said.
+-- the files have that are read at any offset, what was written, and what was said.
 pub record Run : Type 0 where
   pub loaded : Option (List Loaded)
   pub loaded' : Option (List Loaded)
   pub refused : Option (Option (List ℕ) × LoadFault)
   pub bytes_under : List ℕ → Option (List ℕ)
-  pub made : Option (List Made)
-  pub made' : Option (List Made)
-  -- the new file that was last not begun, and why
-  pub unstarted : Option (List ℕ × NewFault)
-  pub unmade : Option (List ℕ)
   pub out : Option (List ℕ)
   pub out' : Option (List ℕ)
   -- why a write to it failed last
@@ -56,17 +46,9 @@ pub record Run : Type 0 where
 abbrev pub IfKept : Run → Type 0 → Type 0
 IfKept run Fact = (kept : List Loaded) → run.loaded ≡ Some kept → Fact
 
--- the rows of an agency's CSV were encoded, and this came of them
-abbrev pub EncodesSo : RowsOutcome → List ℕ → RowsRequest → Run → Type 0
-EncodesSo outcome word request run = IfKept run ((words : RowsWords)
-    × (rows_words_of words ≡ request)
-    × EncodesWith outcome words word run.loaded run.loaded' run.made run.made' run.out run.out'
-    run.said run.said' run.unsaid)
-
 -- nothing was done but in the world of the frame
 abbrev pub IsIdle : Run → Type 0 → Type 0
-IsIdle run Silent = (run.loaded' ≡ run.loaded) × (run.made' ≡ run.made) × (run.out' ≡ run.out)
-    × Silent
+IsIdle run Silent = (run.loaded' ≡ run.loaded) × (run.out' ≡ run.out) × Silent
 
 -- What is run over the world ends so in it. Anything else does nothing there. Files that are read in
 -- pieces are read by these calls, which follow those before, and `placed` is what is known of files
@@ -75,6 +57,11 @@ abbrev pub IsFramed : (before after : List Calls) → (placed : List ℕ → Opt
     → WorldRun → WorldRun → ℕ → Type 0
 IsFramed before after placed (corrections ledgers) old new status =
     EndsCorrecting ledgers before after old new status
+IsFramed before after placed (encode word) old new status =
+    EndsMaking (EncodesTable word) (word ∷ []) old new status
+IsFramed before after placed (encode_rows word request) old new status = (words : RowsWords)
+    × (rows_words_of words ≡ request)
+    × EndsMaking (EncodesRows words word) (rows_names words word) old new status
 IsFramed before after placed (decode words) old new status = Ends (IsTapTableOf words) words old new status
 IsFramed before after placed (valid_prefix request) old new status =
     EndsMaking (HasValidPrefix request) (request.upload ∷ request.out ∷ []) old new status
@@ -87,11 +74,8 @@ IsFramed before after placed request old new status = new ≡ old
 -- What is asked for was done, with status 0. Of a source that keeps what it loads. `Silent` says
 -- that nothing was said. Of what only informs nothing is promised.
 abbrev pub IsDone : Request → Run → Type 0 → Type 0
-IsDone (encode word) run Silent =
-    IfKept run (EncodesTable word run.loaded run.loaded' run.out run.out')
-    × (run.is_flushed ≡ true) × Silent
-IsDone (encode_rows word request) run Silent =
-    EncodesSo outcomes.Whole word request run × (run.is_flushed ≡ true)
+IsDone (encode word) run Silent = IsIdle run Silent
+IsDone (encode_rows word request) run Silent = IsIdle run Silent
 IsDone (decode words) run Silent = IsIdle run Silent
 IsDone (valid_prefix request) run Silent = IsIdle run Silent
 IsDone (sort request) run Silent = IsIdle run Silent
@@ -105,8 +89,7 @@ IsDone shows run Silent = ⊤
 -- It was done, with status 3: an upload has a layout fault, which `sort` reports, or rows were
 -- refused.
 abbrev pub IsPartlyDone : Request → Run → Type 0
-IsPartlyDone (encode_rows word request) run =
-    EncodesSo outcomes.SomeRefused word request run × (run.is_flushed ≡ true)
+IsPartlyDone (encode_rows word request) run = IsIdle run ⊤
 IsPartlyDone (sort request) run = IsIdle run ⊤
 IsPartlyDone request run = ⊥
 
@@ -114,20 +97,10 @@ IsPartlyDone request run = ⊥
 abbrev pub Faults : Run → (Fault → Type 0) → Type 0
 Faults run Why = (fault : Fault) × IsFaultReported fault run.said run.said' run.unsaid × Why fault
 
--- the same, with a note after the line of the fault
-abbrev pub FaultsNoted : Run → (Fault → Type 0) → Type 0
-FaultsNoted run Why = (fault : Fault) × (note : List ℕ)
-    × IsFaultNoted fault note run.said run.said' run.unsaid × Why fault
-
--- With status 1 the right fault was reported, or the text has the layout fault of an upload, or no
--- row is a tap.
+-- With status 1 the right fault of parts was reported, or what was asked for was done in the world.
 abbrev pub IsAborted : Request → Run → Type 0 → Type 0
-IsAborted (encode word) run Silent = Faults run (λ fault. IfKept run
-    (AbortsEncode word run.loaded run.loaded' run.refused run.end fault run.out run.out'))
-IsAborted (encode_rows word request) run Silent = EncodesSo outcomes.NoTap word request run
-    ⊎ FaultsNoted run (λ fault. (words : RowsWords)
-    × (rows_words_of words ≡ request) × IfKept run (AbortsRows words word run.loaded run.loaded'
-    run.refused run.made run.made' run.unstarted run.unmade run.end fault run.out run.out'))
+IsAborted (encode word) run Silent = IsIdle run Silent
+IsAborted (encode_rows word request) run Silent = IsIdle run Silent
 IsAborted (decode words) run Silent = IsIdle run Silent
 IsAborted (valid_prefix request) run Silent = IsIdle run Silent
 IsAborted (sort request) run Silent = IsIdle run Silent
@@ -144,24 +117,18 @@ usage_error_line request = None
 
 -- a run of these fields, in their order
 abbrev pub run_of : Option (List Loaded) → Option (List Loaded)
-    → Option (Option (List ℕ) × LoadFault) → (List ℕ → Option (List ℕ)) → Option (List Made)
-    → Option (List Made) → Option (List ℕ × NewFault) → Option (List ℕ) → Option (List ℕ)
+    → Option (Option (List ℕ) × LoadFault) → (List ℕ → Option (List ℕ)) → Option (List ℕ)
     → Option (List ℕ) → Option WriteEnd → Bool → Option (List ℕ) → Option (List ℕ) → Bool → Run
-run_of loaded loaded' refused bytes_under made made' unstarted unmade out out' end is_flushed said
-    said' unsaid = record {
-      loaded = loaded;
-      loaded' = loaded';
-      refused = refused;
-      bytes_under = bytes_under;
-      made = made;
-      made' = made';
-      unstarted = unstarted;
-      unmade = unmade;
-      out = out;
-      out' = out';
-      end = end;
-      is_flushed = is_flushed;
-      said = said;
-      said' = said';
-      unsaid = unsaid;
-    }
+run_of loaded loaded' refused bytes_under out out' end is_flushed said said' unsaid = record {
+  loaded = loaded;
+  loaded' = loaded';
+  refused = refused;
+  bytes_under = bytes_under;
+  out = out;
+  out' = out';
+  end = end;
+  is_flushed = is_flushed;
+  said = said;
+  said' = said';
+  unsaid = unsaid;
+}

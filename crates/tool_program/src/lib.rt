@@ -9,6 +9,4 @@ mod program;
 
 pub use merge::merge_over;
 pub use program::main_over;
-pub use tool_tasks::{
-    Counted, Fault, MakeFault, Name, NewFault, PlacedFiles, Shown, Sink, Source, Streams, say,
-};
+pub use tool_tasks::{Counted, Fault, PlacedFiles, Source, Streams, say};

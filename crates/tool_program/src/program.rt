@@ -21,7 +21,7 @@ use std::io::Write;
 use std::marker::Sync;
 use std::thread::Threads;
 use tool_tasks::{
-    Counted, Escaped, Fault, PlacedFiles, Sink, Source, Streams, bounds_over, corrections_over,
+    Counted, Escaped, Fault, PlacedFiles, Source, Streams, bounds_over, corrections_over,
     decode_over, encode_over, encode_rows_over, look_over, merge_sorted_over, say, sort_over,
     table_over, uploads_over, valid_prefix_over,
 };
@@ -61,7 +61,6 @@ fn task_over<
     S: Source,
     D: PlacedFiles,
     F: Streams,
-    K: Sink,
     W: Write,
     E: Write,
     X: World + Counted,
@@ -74,7 +73,6 @@ fn task_over<
     source: &mut S,
     files: &D,
     streams: &mut F,
-    sink: &mut K,
     out: &mut Output<W>,
     err: &mut Complaints<E>,
     world: &mut X,
@@ -83,19 +81,16 @@ fn task_over<
     ensures framed { IsFramed (F.readings streams.old) (F.readings streams.new) (D.bytes_under files.now)
         (request_of task.entry) (X.run world.old) (X.run world.new) result }
     ensures done { result ≡ 0 → IsDone (request_of task.entry) (run_of (S.loaded source.old)
-        (S.loaded source.new) (S.refused source.new) (D.bytes_under files.now) (K.made sink.old)
-        (K.made sink.new) (K.unstarted sink.new) (K.failed sink.new) (W.contents out.old.writer)
-        (W.contents out.new.writer) out.new.end out.new.is_flushed (E.contents err.old.writer)
+        (S.loaded source.new) (S.refused source.new) (D.bytes_under files.now)
+        (W.contents out.old.writer) (W.contents out.new.writer) out.new.end out.new.is_flushed (E.contents err.old.writer)
         (E.contents err.new.writer) err.new.failed) (err.new ≡ err.old) }
     ensures partly { result ≡ 3 → IsPartlyDone (request_of task.entry) (run_of (S.loaded source.old)
-        (S.loaded source.new) (S.refused source.new) (D.bytes_under files.now) (K.made sink.old)
-        (K.made sink.new) (K.unstarted sink.new) (K.failed sink.new) (W.contents out.old.writer)
-        (W.contents out.new.writer) out.new.end out.new.is_flushed (E.contents err.old.writer)
+        (S.loaded source.new) (S.refused source.new) (D.bytes_under files.now)
+        (W.contents out.old.writer) (W.contents out.new.writer) out.new.end out.new.is_flushed (E.contents err.old.writer)
         (E.contents err.new.writer) err.new.failed) }
     ensures aborted { result ≡ 1 → IsAborted (request_of task.entry) (run_of (S.loaded source.old)
-        (S.loaded source.new) (S.refused source.new) (D.bytes_under files.now) (K.made sink.old)
-        (K.made sink.new) (K.unstarted sink.new) (K.failed sink.new) (W.contents out.old.writer)
-        (W.contents out.new.writer) out.new.end out.new.is_flushed (E.contents err.old.writer)
+        (S.loaded source.new) (S.refused source.new) (D.bytes_under files.now)
+        (W.contents out.old.writer) (W.contents out.new.writer) out.new.end out.new.is_flushed (E.contents err.old.writer)
         (E.contents err.new.writer) err.new.failed) (err.new ≡ err.old) }
     ensures misused { (line : List ℕ) → usage_error_line (request_of task.entry) ≡ Some line
         → ((result ≡ 2) × LineWritten (E.contents err.old.writer) (E.contents err.new.writer)
@@ -104,18 +99,16 @@ fn task_over<
     ensures right { result ≡ 2 → (request_of task.entry ≡ shows)
         ⊎ ((line : List ℕ) × (usage_error_line (request_of task.entry) ≡ Some line)) }
     ensures untouched { result ≡ 2 → (out.new ≡ out.old)
-        × (S.loaded source.new ≡ S.loaded source.old) × (K.made sink.new ≡ K.made sink.old) }
+        × (S.loaded source.new ≡ S.loaded source.old) }
     ensures status { result ≤ 3 }
 {
     match task {
-        Task::Encode(word) => encode_over(alloc, word, source, out, err),
-        Task::EncodeRows(word, words) => {
-            encode_rows_over(alloc, seed, &words, word, source, sink, out, err)
-        }
+        Task::Encode(word) => encode_over(alloc, word, world),
+        Task::EncodeRows(word, words) => encode_rows_over(alloc, seed, &words, word, world),
         Task::Decode(words) => decode_over(alloc, words, world),
         Task::Uploads(words, has_tokens) => uploads_over(alloc, words, has_tokens, world),
         Task::ValidPrefix(words) => valid_prefix_over(alloc, &words, world),
-        Task::Look(words, names) => look_over(threads, alloc, &words, &names, world),
+        Task::Look(words, names) => look_over(alloc, &words, &names, world),
         Task::Table(question) => table_over(alloc, &question, moment, world),
         Task::Sort(words) if words.is_merge => merge_sorted_over(alloc, &words, files, world),
         Task::Sort(words) => sort_over(threads, alloc, &words, world),
@@ -129,9 +122,8 @@ fn task_over<
 }
 
 /// The whole program: reads the words, of which the first is the program's name, and does what they
-/// ask for. `encode` and `merge` read from the source, make files in the sink and write to `out` and
-/// `err`, and all else reads, writes and makes files in `world`. Files that are merged are read at
-/// any offset. `seed` is random, so that no file can choose names of devices that are found slowly.
+/// ask for. `merge` reads from the source and writes to `out` and `err`, and all else reads, writes
+/// and makes files in `world`. Files that are merged are read at any offset. `seed` is random, so that no file can choose names of devices that are found slowly.
 /// `table` prints the changes of clocks after `moment`, unless the words name another one. Gives
 /// the status: 0 if all is well, 1 after a fault or if no row is a tap, 2 if the words are no
 /// command line, 3 if an upload has a layout fault or rows were refused, and yet all is written.
@@ -140,7 +132,6 @@ pub fn main_over<
     S: Source,
     D: PlacedFiles,
     F: Streams,
-    K: Sink,
     W: Write,
     E: Write,
     X: World + Counted,
@@ -153,13 +144,11 @@ pub fn main_over<
     source: &mut S,
     files: &D,
     streams: &mut F,
-    sink: &mut K,
     out: &mut Output<W>,
     err: &mut Complaints<E>,
     world: &mut X,
 ) -> u8
-    // What is run over the world ends as it says. Only being out of memory, while the words are read,
-    // may come before it. Anything else does nothing in the world.
+    // What is run over the world ends as it says, unless an allocation fails before.
     ensures framed { Parses (map string_bytes words.now)
         → IsFramed (F.readings streams.old) (F.readings streams.new) (D.bytes_under files.now) (request_by (map string_bytes words.now))
         (X.run world.old) (X.run world.new) result
@@ -169,9 +158,8 @@ pub fn main_over<
     // With status 0 what the words ask for was done.
     ensures done { Parses (map string_bytes words.now) → result ≡ 0
         → IsDone (request_by (map string_bytes words.now)) (run_of (S.loaded source.old)
-        (S.loaded source.new) (S.refused source.new) (D.bytes_under files.now) (K.made sink.old)
-        (K.made sink.new) (K.unstarted sink.new) (K.failed sink.new) (W.contents out.old.writer)
-        (W.contents out.new.writer) out.new.end out.new.is_flushed (E.contents err.old.writer)
+        (S.loaded source.new) (S.refused source.new) (D.bytes_under files.now)
+        (W.contents out.old.writer) (W.contents out.new.writer) out.new.end out.new.is_flushed (E.contents err.old.writer)
         (E.contents err.new.writer) err.new.failed) (err.new ≡ err.old) }
 
     // Words that are no command line end well only if they ask for help or the version. Nothing is
@@ -182,18 +170,16 @@ pub fn main_over<
     // With status 3 it was done, and an upload has a layout fault or rows were refused.
     ensures partly { Parses (map string_bytes words.now) → result ≡ 3
         → IsPartlyDone (request_by (map string_bytes words.now)) (run_of (S.loaded source.old)
-        (S.loaded source.new) (S.refused source.new) (D.bytes_under files.now) (K.made sink.old)
-        (K.made sink.new) (K.unstarted sink.new) (K.failed sink.new) (W.contents out.old.writer)
-        (W.contents out.new.writer) out.new.end out.new.is_flushed (E.contents err.old.writer)
+        (S.loaded source.new) (S.refused source.new) (D.bytes_under files.now)
+        (W.contents out.old.writer) (W.contents out.new.writer) out.new.end out.new.is_flushed (E.contents err.old.writer)
         (E.contents err.new.writer) err.new.failed) }
 
-    // With status 1 the right fault was reported, or the text has the layout fault of an upload, or
-    // no row is a tap. Only being out of memory, while the words are read, may come before it.
+    // With status 1 the right fault of parts was reported, or what was asked for was done in the
+    // world. Only being out of memory, while the words are read, may come before it.
     ensures aborted { Parses (map string_bytes words.now) → result ≡ 1
         → IsAborted (request_by (map string_bytes words.now)) (run_of (S.loaded source.old)
-        (S.loaded source.new) (S.refused source.new) (D.bytes_under files.now) (K.made sink.old)
-        (K.made sink.new) (K.unstarted sink.new) (K.failed sink.new) (W.contents out.old.writer)
-        (W.contents out.new.writer) out.new.end out.new.is_flushed (E.contents err.old.writer)
+        (S.loaded source.new) (S.refused source.new) (D.bytes_under files.now)
+        (W.contents out.old.writer) (W.contents out.new.writer) out.new.end out.new.is_flushed (E.contents err.old.writer)
         (E.contents err.new.writer) err.new.failed) (err.new ≡ err.old)
         ⊎ IsFaultReported NoMemory
         (E.contents err.old.writer) (E.contents err.new.writer) err.new.failed }
@@ -218,14 +204,14 @@ pub fn main_over<
         ⊎ ((request_by (map string_bytes words.now) ≡ shows)
         ⊎ ((line : List ℕ) × (usage_error_line (request_by (map string_bytes words.now)) ≡ Some line))) }
 
-    // A mistake in the words loads nothing, makes nothing and writes nothing to `out`.
+    // A mistake in the words loads nothing and writes nothing to `out`.
     ensures untouched { result ≡ 2 → (out.new ≡ out.old)
-        × (S.loaded source.new ≡ S.loaded source.old) × (K.made sink.new ≡ K.made sink.old) }
+        × (S.loaded source.new ≡ S.loaded source.old) }
     ensures status { result ≤ 3 }
 {
     match read(alloc, words) {
         Ok(task) => task_over(
-            threads, alloc, seed, moment, task, source, files, streams, sink, out, err, world,
+            threads, alloc, seed, moment, task, source, files, streams, out, err, world,
         ),
         Err(error) => show(alloc, &error, out, err),
     }

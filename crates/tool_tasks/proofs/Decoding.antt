@@ -3,7 +3,6 @@ use Rattle.std.proofs.Common.{◌≡◌, ◌<◌, ◌≤◌, ◌∙◌, ◌+◌,
 use Rattle.std.proofs.Common.{None, Option, Some, suc, zero, ap, append-nil, append_assoc, arith, flat_map, if◌then◌else◌}
 use Rattle.std.proofs.Common.{inl, inr, length, map, refl, subst, sym}
 use Rattle.std.specs.Prelude.{◌&&◌, is_none, slice_get}
-use Rattle.std.specs.Io.KnownBytes.{Appends}
 use Rattle.std.proofs.lemmas.List.{map-append}
 use Rattle.std.proofs.lemmas.List.Concat.{flat_map-append}
 use Rattle.frame.specs.Ends.{Answer, Ends, IsStarted, did}
@@ -247,7 +246,7 @@ pub rows_given : (task after : Decoding) (shown : List (Bor (List ℕ))) (start 
     → old ≡ did start loads a → mid ≡ old → shown ≡ task.words.items
     → slice_get (map (λ w. w.now) task.words.items) task.done ≡ Some word
     → LoadsAt (map (λ w. w.now) shown) task.done mid new bytes → read ≡ bytes
-    → ((text : List ℕ) × IsDecoded read text found × Appends (Some before) (Some piece) text)
+    → ((text : List ℕ) × IsDecoded read text found × (piece ≡ before ++ text))
     → before ≡ [] → found ≡ fault → after.words ≡ task.words → after.done ≡ task.done + 1
     → after.succeeded ≡ (task.succeeded && is_none fault)
     → ((d : List Decoded) → text_at after.stage d ≡ tap_table_of d)

@@ -3,12 +3,11 @@ pub mod KnownBytes
 mod Loading
 pub mod Corrected
 pub mod Decoding
-pub mod Encoded
-pub mod EncodedRows
+mod Encoding
 pub mod Faults
-pub mod FilesMade
 pub mod Making
 pub mod MergedUploads
 pub mod Opened
+mod Preparing
 pub mod Sorting
 pub mod ValidPrefixes

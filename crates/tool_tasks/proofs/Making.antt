@@ -31,7 +31,7 @@ use Rattle.tool_tasks.specs.inside.Sort.{HaltsLoading, HaltsMade, HaltsMaking, L
 use Rattle.tool_tasks.specs.inside.Sort.{with_files}
 
 -- ---- nothing was given or made
-did_loads : (old : Run) (loads : List Load) → with_loads old loads ≡ did_making old loads no_answer []
+pub did_loads : (old : Run) (loads : List Load) → with_loads old loads ≡ did_making old loads no_answer []
 did_loads old loads = rw (append-nil old.written, append-nil old.said, append-nil old.made) refl
 
 -- it was stopped after these loads
@@ -214,7 +214,7 @@ halts_unread out ends words n d why old mid new loads within is refused =
       all = subst (λ r. Leaves names (Unread (n + 2) why) r new) is both.0;
     }
 
-did_after : (old : Run) (first more : List Load) (a : Answer) (files : List Named)
+pub did_after : (old : Run) (first more : List Load) (a : Answer) (files : List Named)
     → did_making (with_loads old first) more a files ≡ did_making old (first ++ more) a files
 did_after old first more a files =
     ap (λ xs. record (did_making old first a files) { loads = xs })

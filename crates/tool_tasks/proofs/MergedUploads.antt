@@ -1,7 +1,8 @@
 -- Sorted uploads that are merged, and those that are refused.
-use Rattle.std.proofs.Common.{◌≡◌, ◌∙◌, ◌++◌, ℕ, List, [], ◌∷◌, Option, Some, ap, codes, inl, inr}
-use Rattle.std.proofs.Common.{length, map, refl, subst, suc, sym, zero}
+use Rattle.std.proofs.Common.{◌≡◌, ◌≤◌, ◌∙◌, ◌++◌, ℕ, List, [], ◌∷◌, Option, Some, ap, arith, codes}
+use Rattle.std.proofs.Common.{inl, inr, length, map, refl, subst, suc, sym, zero}
 use Rattle.std.specs.Prelude.{slice_get}
+use Rattle.frame.specs.Making.{IsDoneMaking}
 use Rattle.program_manners.specs.Refusals.{IsOneOf}
 use Rattle.tap_views.specs.declared.upload_end.UploadEnd.{UploadEnd}
 use Rattle.tap_views.specs.declared.upload_end.UploadEnd.TheVariants.{Posted}
@@ -21,6 +22,7 @@ use Rattle.tool_tasks.specs.declared.fault.Fault.{Fault}
 use Rattle.tool_tasks.specs.declared.fault.Fault.TheVariants.{Layout, NoMemory, OutOfOrder}
 use Rattle.tool_tasks.specs.declared.fault.Fault.TheVariants.{TooManyOpen, Unread}
 use Rattle.tool_tasks.specs.inside.Sort.{IsFileFault, IsOpenFault, IsUnopened}
+use Rattle.world.specs.Run.{Run}
 
 -- the ends of uploads by the numbers of their taps
 posted_lists : (lists : List (List TapFields))
@@ -128,3 +130,8 @@ whole_file uploads numbers ends empty written bytes merged ended is_empty is =
     let file : merged.written.file ≡ bytes = cc in
     subst (λ b. IsMergeOf uploads ends b) file
     (merge_of uploads numbers ends empty written merged ended)
+
+pub merge_status : (request : SortRequest) (known : List (Option (List ℕ))) (old new : Run)
+    (status : ℕ) → IsDoneMaking (MergesOrRefuses request known) old new status → status ≤ 1
+merge_status request known old new status done =
+    elim done.right.1 [ inl made ↦ omega arith | inr refused ↦ omega arith ]

@@ -1,15 +1,11 @@
 -- What `encode` of an agency's own CSV does: of the word of its file, and of the words that say how
 -- it is read.
-use Rattle.std.specs.Prelude.{◌≡◌, ◌⊎◌, ⊤, ◌+◌, ℕ, List, [], ◌∷◌, ◌++◌, Bool, Option, None, Some}
-use Rattle.std.specs.Prelude.{◌==◌, IfSome, if◌then◌else◌, codes, decimal, option_map, slice_get}
+use Rattle.std.specs.Prelude.{◌≡◌, ◌⊎◌, ⊤, ◌+◌, ◌==◌, ℕ, List, [], ◌∷◌, ◌++◌, Option, None, Some}
+use Rattle.std.specs.Prelude.{IfSome, if◌then◌else◌, codes, decimal, option_map, slice_get}
+use Rattle.std.specs.Prelude.{unwrap_or}
 use Rattle.std.specs.Borrow.{Bor}
-use Rattle.std.specs.Io.KnownBytes.{Keeps}
-use Rattle.program_manners.specs.LineWritten.{LineWritten}
-use Rattle.program_manners.specs.Loads.{Loaded}
-use Rattle.world.specs.declared.faults.LoadFault.{LoadFault}
-use Rattle.program_manners.specs.declared.output.WriteEnd.{WriteEnd}
-use Rattle.program_manners.specs.declared.output.WriteEnd.TheVariants as writes
-use Rattle.tap_rows.specs.Agencies.{IsFirstRefused, IsRowsEncoded, IsUploadStarted, IsWanting}
+use Rattle.frame.specs.Ends.{Answer}
+use Rattle.tap_rows.specs.Agencies.{IsFirstRefused, IsRowsEncoded, IsWanting}
 use Rattle.tap_rows.specs.AgencyTexts.{first_record}
 use Rattle.tap_rows.specs.Devices.{AreDevices, Device, IsDevicesFault, devices_of}
 use Rattle.tap_rows.specs.declared.agency.choice.Choice.{Choice}
@@ -20,31 +16,26 @@ use Rattle.tap_rows.specs.declared.agency.fault.Wanted.{Wanted}
 use Rattle.tap_rows.specs.declared.agency.fault.Wanted.TheVariants as wanted
 use Rattle.tap_rows.specs.declared.agency.summary.Summary.{Summary}
 use Rattle.tap_rows.specs.declared.devices.fault.DevicesFault.TheVariants as devices
-use Rattle.tool_tasks.specs.Encode.{ReadsTwice}
-use Rattle.tool_tasks.specs.Fault.{IsRefusal}
-use Rattle.tool_tasks.specs.Sink.{IsNewName, IsNotMade, Made, Makes, RefusesNew}
-use Rattle.tool_tasks.specs.Source.{HasOpened}
+use Rattle.tool_tasks.specs.Encode.{Refuses, load_of}
+use Rattle.tool_tasks.specs.Fault.{wrong_line}
+use Rattle.tool_tasks.specs.Names.{file_named}
 use Rattle.tool_tasks.specs.Uploads.{IsMomentOrDash}
-use Rattle.tool_words.specs.declared.task.RowsWords.{RowsWords}
-use Rattle.tool_tasks.specs.declared.encode_rows.RowsOutcome.{RowsOutcome}
-use Rattle.tool_tasks.specs.declared.encode_rows.RowsOutcome.TheVariants as outcomes
-use Rattle.tool_tasks.specs.declared.fault.Fault.{Fault}
-use Rattle.tool_tasks.specs.declared.fault.Fault.TheVariants.{Closed, Devices, Exists, NoMemory}
-use Rattle.tool_tasks.specs.declared.fault.Fault.TheVariants.{Rows, SomeChanged, Unmade, Unread}
-use Rattle.tool_tasks.specs.declared.fault.Fault.TheVariants.{Write}
-use Rattle.tool_tasks.specs.declared.sink.NewFault.{NewFault}
-use Rattle.tool_tasks.specs.declared.sink.NewFault.TheVariants as newly
+use Rattle.tool_tasks.specs.WrongTables.{devices_text, rows_text}
+use Rattle.tool_tasks.specs.declared.wrong_tables.WrongDevices.{WrongDevices}
 use Rattle.tool_tasks.specs.declared.wrong_tables.WrongDevices.TheVariants as wrong_devices
+use Rattle.tool_tasks.specs.declared.wrong_tables.WrongRows.{WrongRows}
 use Rattle.tool_tasks.specs.declared.wrong_tables.WrongRows.TheVariants as wrong_rows
+use Rattle.tool_words.specs.declared.task.RowsWords.{RowsWords}
+use Rattle.world.specs.Run.{Load, Named}
 
 -- the word, if there is one
 abbrev pub word_in : Option (Bor (List ℕ)) → Option (List ℕ)
 word_in word = option_map (λ w. w.now) word
 
--- the words that there are
-abbrev pub words_in : Option (List ℕ) → List (List ℕ)
-words_in None = []
-words_in (Some word) = word ∷ []
+-- the files that the words name: the CSV, the device table, and the file of the refused rows
+abbrev pub names_of : RowsWords → List ℕ → List (List ℕ)
+names_of words word =
+    word ∷ unwrap_or (word_in words.devices) word ∷ unwrap_or (word_in words.refused) word ∷ []
 
 -- ---- how the rows are read
 -- the choice is that of the words, of rows that have the names of these devices if there are such
@@ -53,26 +44,13 @@ pub record IsChoice (words : RowsWords) (devices : Option (List Device)) (choice
   pub columns : choice.columns.now ≡ words.columns
   pub table : option_map (λ table. devices_of table.now) choice.devices ≡ devices
 
--- beside rows with this separator, the texts are that of the device table, if there is one
-abbrev pub AreDeviceTexts : Separator → List (List ℕ) → Option (List Device) → Type 0
-AreDeviceTexts separator [] None = ⊤
-AreDeviceTexts separator (text ∷ []) (Some devices) = AreDevices separator text devices
-AreDeviceTexts separator texts devices = ⊥
-
--- the device table was loaded, if the words name one
-pub record HasDevices (words : RowsWords) (loaded loaded' : Option (List Loaded))
-    (devices : Option (List Device)) : Type 0 where
-  pub texts : List (List ℕ)
-  pub opened : HasOpened (words_in (word_in words.devices)) loaded loaded' texts
-  pub are : AreDeviceTexts words.columns.separator texts devices
-
--- The text was read under the name of the word: once if the refused rows have a file, and else
--- twice, so that what was read again may be another one.
-abbrev pub ReadsText : Option (List ℕ) → List ℕ → Option (List Loaded) → Option (List Loaded)
-    → List ℕ → List ℕ → Type 0
-ReadsText None word loaded loaded' text again = ReadsTwice word loaded loaded' text again
-ReadsText (Some refused) word loaded loaded' text again =
-    HasOpened (word ∷ []) loaded loaded' (text ∷ []) × (again ≡ text)
+-- The device table, if it has a word, was read to its end beside rows with this separator, and has
+-- these devices.
+abbrev pub AreDeviceLoads : Option (List ℕ) → Separator → List Load → Option (List Device) → Type 0
+AreDeviceLoads None separator loads None = loads ≡ []
+AreDeviceLoads (Some word) separator loads (Some devices) =
+    (text : List ℕ) × (loads ≡ load_of word text ∷ []) × AreDevices separator text devices
+AreDeviceLoads word separator loads devices = ⊥
 
 -- ---- all is well
 -- the beginning of a summary's line
@@ -91,64 +69,30 @@ pub record IsSummaryLine (summary : Summary) (line : List ℕ) : Type 0 where
   pub is_last : IsMomentOrDash (option_map (λ span. span.last) summary.span) last
   pub shown : line ≡ rows_counts summary ++ (first ++ (codes " last " ++ last))
 
--- what came of the rows of a summary
-abbrev pub rows_outcome : Summary → RowsOutcome
-rows_outcome summary = if summary.taps == 0 then outcomes.NoTap
-    else (if summary.refused == 0 then outcomes.Whole else outcomes.SomeRefused)
-
--- the line of the summary was reported, unless a write of it failed
-pub record IsSummaryReported (summary : Summary) (said said' : Option (List ℕ)) (failed : Bool)
-    : Type 0 where
-  pub line : List ℕ
-  pub is_line : IsSummaryLine summary line
-  pub written : LineWritten said said' failed line
+-- the status: whether a row is a tap, and none is refused
+abbrev pub rows_status : Summary → ℕ
+rows_status summary = if summary.taps == 0 then 1 else (if summary.refused == 0 then 0 else 3)
 
 -- the file of the refused rows, if it has a name
-abbrev pub refused_files : Option (List ℕ) → List ℕ → List Made
-refused_files None bytes = []
-refused_files (Some name) bytes = record { name = name; bytes = bytes } ∷ []
+abbrev pub refused_files : Option (List ℕ) → List ℕ → List Named
+refused_files None rows = []
+refused_files (Some name) rows = record { name = name; bytes = rows } ∷ []
 
--- no file had the name of that of the refused rows, if it has one
-abbrev pub IsNewFile : Option (List ℕ) → Option (List Made) → Type 0
-IsNewFile None made = ⊤
-IsNewFile (Some name) made = IsNewName made name
-
--- The text was read, and what was written is, whole, the upload of the rows that are kept, as they
--- were when they were read last. The file of the refused rows was made, if it has a name; if it has
--- none, no row is refused.
-pub record EncodesText (refused : Option (List ℕ)) (word : List ℕ) (choice : Choice)
-    (loaded loaded' : Option (List Loaded)) (made made' : Option (List Made))
-    (out out' : Option (List ℕ)) (summary : Summary) : Type 0 where
-  pub text : List ℕ
-  pub again : List ℕ
-  pub reads : ReadsText refused word loaded loaded' text again
-  pub refusals : List ℕ
-  pub encoded : IsRowsEncoded choice again out out' (Some []) (Some refusals) summary
-  pub is_new : IsNewFile refused made
-  pub files : Makes made made' (refused_files refused refusals)
+-- What is written is the upload of exactly the rows that are kept, the file of the refused rows is
+-- made, if it has a name, and the summary is noted. If it has none, no row is refused.
+pub record IsRowsUpload (refused : Option (List ℕ)) (choice : Choice) (text : List ℕ)
+    (answer : Answer) (files : List Named) (status : ℕ) : Type 0 where
+  pub rows : List ℕ
+  pub summary : Summary
+  pub encoded : IsRowsEncoded choice text answer.text rows summary
+  pub line : List ℕ
+  pub is_line : IsSummaryLine summary line
+  pub noted : answer.note ≡ line ++ codes "\n"
+  pub made : files ≡ refused_files refused rows
   pub whole : refused ≡ None → summary.first_refused ≡ None
+  pub status_is : status ≡ rows_status summary
 
--- the device table was loaded, if the words name one, and then the text was encoded
-pub record EncodesRows (words : RowsWords) (word : List ℕ)
-    (loaded loaded' : Option (List Loaded)) (made made' : Option (List Made))
-    (out out' : Option (List ℕ)) (summary : Summary) : Type 0 where
-  pub devices : Option (List Device)
-  pub choice : Choice
-  pub is_choice : IsChoice words devices choice
-  pub between : Option (List Loaded)
-  pub of_devices : HasDevices words loaded between devices
-  pub encodes : EncodesText (word_in words.refused) word choice between loaded' made made' out out'
-      summary
-
--- the rows were encoded, the line of their summary was reported, and this came of them
-abbrev pub EncodesWith : RowsOutcome → RowsWords → List ℕ → Option (List Loaded)
-    → Option (List Loaded) → Option (List Made) → Option (List Made) → Option (List ℕ)
-    → Option (List ℕ) → Option (List ℕ) → Option (List ℕ) → Bool → Type 0
-EncodesWith outcome words word loaded loaded' made made' out out' said said' failed =
-    (summary : Summary) × EncodesRows words word loaded loaded' made made' out out' summary
-    × IsSummaryReported summary said said' failed × (rows_outcome summary ≡ outcome)
-
--- ---- a fault
+-- ---- a wrong file
 -- the name is that of the column of the condition at this position
 abbrev pub IsConditionName : List Condition → ℕ → List ℕ → Type 0
 IsConditionName conditions position name =
@@ -165,118 +109,56 @@ IsColumnName columns (wanted.Without position) name =
     IsConditionName columns.without.items position name
 IsColumnName columns wanted.Count name = IfSome columns.count (λ count. name ≡ count.now)
 
--- the head of the text lacks a column of this name, which the words ask for
-abbrev pub LacksColumn : RowsWords → Choice → List ℕ → List ℕ → Type 0
-LacksColumn words choice text name = (column : Wanted) × IsColumnName words.columns column name
+-- What is wrong with the text, of which no upload is written: its head, or its first row that is
+-- refused if the refused rows have no file. Nothing is promised of a quote that nothing closes.
+abbrev pub IsWrongRows : RowsWords → Choice → List ℕ → WrongRows → Type 0
+IsWrongRows words choice text (wrong_rows.Column name) =
+    (column : Wanted) × IsColumnName words.columns column name.now
     × IsWanting choice (first_record choice.columns.now.separator text) column
+IsWrongRows words choice text (wrong_rows.Row number why) =
+    (word_in words.refused ≡ None) × IsFirstRefused choice text number why
+IsWrongRows words choice text (wrong_rows.Quote number) = ⊤
 
--- The fault is the right one of a text that was read under this word: of its head, or of its first
--- row that is refused, nothing was written. A row is refused, and the text is said to have changed,
--- only if the refused rows have no file; and it changed. A write failed as the writer remembers it,
--- or one to the file of the refused rows did: `Failed`. A read may fail, and memory may be refused,
--- at any time.
-abbrev pub IsRightRowsFault : RowsWords → Option (List ℕ) → List ℕ → Choice → List ℕ → List ℕ
-    → Option WriteEnd → Type 0 → Fault → Option (List ℕ) → Option (List ℕ) → Type 0
-IsRightRowsFault words refused word choice text again end Failed
-    (Rows named (wrong_rows.Column name)) out out' =
-    (named.now ≡ word) × LacksColumn words choice text name.now × Keeps out out'
-IsRightRowsFault words refused word choice text again end Failed
-    (Rows named (wrong_rows.Row number why)) out out' =
-    (named.now ≡ word) × (refused ≡ None) × IsFirstRefused choice text number why × Keeps out out'
-IsRightRowsFault words refused word choice text again end Failed SomeChanged out out' =
-    (refused ≡ None) × (¬ (text ≡ again))
-IsRightRowsFault words refused word choice text again end Failed (Unread named) out out' =
-    named.now ≡ word
-IsRightRowsFault words refused word choice text again end Failed Write out out' =
-    (end ≡ Some writes.Refused) ⊎ Failed
-IsRightRowsFault words refused word choice text again end Failed Closed out out' =
-    end ≡ Some writes.Closed
-IsRightRowsFault words refused word choice text again end Failed NoMemory out out' = ⊤
-IsRightRowsFault words refused word choice text again end Failed fault out out' = ⊥
+-- what is wrong with a device table beside rows with this separator
+abbrev pub IsWrongDevices : Separator → List ℕ → WrongDevices → Type 0
+IsWrongDevices separator text wrong_devices.Head = IsDevicesFault separator text devices.Head
+IsWrongDevices separator text (wrong_devices.Row number why) =
+    IsDevicesFault separator text (devices.Row number why)
 
--- The fault is the right one of a text that was read under this word. What was written is a
--- beginning of an upload of its first taps, as they were when they were read last.
-pub record FailsRows (words : RowsWords) (refused : Option (List ℕ)) (word : List ℕ)
-    (choice : Choice) (text again : List ℕ) (end : Option WriteEnd) (Failed : Type 0)
-    (fault : Fault) (out out' : Option (List ℕ)) : Type 0 where
-  pub right : IsRightRowsFault words refused word choice text again end Failed fault out out'
-  pub started : IsUploadStarted choice again out out'
+-- ---- THE rule
+-- it is the upload of the rows; or the text is wrong: its line is noted, with more after it
+abbrev pub IsRowsAnswer : RowsWords → List ℕ → Choice → List ℕ → Answer → List Named → ℕ → Type 0
+IsRowsAnswer words word choice text answer files status =
+    IsRowsUpload (word_in words.refused) choice text answer files status
+    ⊎ ((wrong : WrongRows) × IsWrongRows words choice text wrong × (more : List ℕ)
+    × Refuses (wrong_line word (rows_text wrong)) more answer files status)
 
--- the file of the refused rows, which has this name, could not be made
-abbrev pub IsRefusedUnmade : Option (List ℕ) → Option (List ℕ) → Type 0
-IsRefusedUnmade None failed = ⊥
-IsRefusedUnmade (Some name) failed = IsNotMade failed name
-
--- the text was read, and the encoding was broken off
-pub record FailsTextWrite (words : RowsWords) (refused : Option (List ℕ)) (word : List ℕ)
-    (choice : Choice) (loaded loaded' : Option (List Loaded)) (failed : Option (List ℕ))
-    (end : Option WriteEnd) (fault : Fault) (out out' : Option (List ℕ)) : Type 0 where
-  pub text : List ℕ
-  pub again : List ℕ
-  pub reads : ReadsText refused word loaded loaded' text again
-  pub stops : FailsRows words refused word choice text again end (IsRefusedUnmade refused failed)
-      fault out out'
-
--- the sink did not begin the file of the refused rows, which the fault names, for its reason
-abbrev pub IsNotStarted : Option (List ℕ) → Option (List ℕ × NewFault) → Fault → Type 0
-IsNotStarted (Some name) unstarted (Exists named) =
-    (named.now ≡ name) × RefusesNew unstarted name newly.Exists
-IsNotStarted (Some name) unstarted (Unmade named) =
-    (named.now ≡ name) × RefusesNew unstarted name newly.Unmade
-IsNotStarted refused unstarted fault = ⊥
-
--- The file of the refused rows was not begun, or the text was not opened, or memory was refused
--- before, and nothing was written; or the text was read, and the encoding was broken off.
-abbrev pub AbortsText : RowsWords → Option (List ℕ) → List ℕ → Choice → Option (List Loaded)
-    → Option (List Loaded) → Option (Option (List ℕ) × LoadFault) → Option (List ℕ × NewFault)
-    → Option (List ℕ) → Option WriteEnd → Fault → Option (List ℕ) → Option (List ℕ) → Type 0
-AbortsText words refused word choice loaded loaded' unread unstarted failed end fault out out' =
-    ((IsRefusal unread (word ∷ []) fault ⊎ IsNotStarted refused unstarted fault) × Keeps out out')
-    ⊎ FailsTextWrite words refused word choice loaded loaded' failed end fault out out'
-
--- the text is no device table beside rows with this separator, as the fault of this word reports
-abbrev pub IsDevicesFaultOf : List ℕ → Separator → List ℕ → Fault → Type 0
-IsDevicesFaultOf word separator text (Devices named wrong_devices.Head) =
-    (named.now ≡ word) × IsDevicesFault separator text devices.Head
-IsDevicesFaultOf word separator text (Devices named (wrong_devices.Row number why)) =
-    (named.now ≡ word) × IsDevicesFault separator text (devices.Row number why)
-IsDevicesFaultOf word separator text fault = ⊥
-
--- the file that the word names was loaded, and is no device table
-pub record RefusesDevices (word : List ℕ) (separator : Separator)
-    (loaded loaded' : Option (List Loaded)) (fault : Fault) : Type 0 where
-  pub text : List ℕ
-  pub opened : HasOpened (word ∷ []) loaded loaded' (text ∷ [])
-  pub wrong : IsDevicesFaultOf word separator text fault
-
--- there is no device table: it was not loaded, or memory was refused; or it is none
-abbrev pub FailsDevices : Option (List ℕ) → Separator → Option (List Loaded)
-    → Option (List Loaded) → Option (Option (List ℕ) × LoadFault) → Fault → Type 0
-FailsDevices None separator loaded loaded' unread fault = ⊥
-FailsDevices (Some word) separator loaded loaded' unread fault =
-    IsRefusal unread (word ∷ []) fault ⊎ RefusesDevices word separator loaded loaded' fault
-
--- the device table was loaded, if the words name one, and then the encoding was given up
-pub record AbortsAfterDevices (words : RowsWords) (word : List ℕ)
-    (loaded loaded' : Option (List Loaded)) (unread : Option (Option (List ℕ) × LoadFault))
-    (unstarted : Option (List ℕ × NewFault)) (failed : Option (List ℕ)) (end : Option WriteEnd)
-    (fault : Fault) (out out' : Option (List ℕ)) : Type 0 where
+-- the device table was loaded, if the words name one, the CSV was read to its end, and this is the
+-- answer
+pub record EncodesText (words : RowsWords) (word : List ℕ) (loads : List Load) (answer : Answer)
+    (files : List Named) (status : ℕ) : Type 0 where
+  pub before : List Load
   pub devices : Option (List Device)
+  pub of_devices : AreDeviceLoads (word_in words.devices) words.columns.separator before devices
   pub choice : Choice
   pub is_choice : IsChoice words devices choice
-  pub between : Option (List Loaded)
-  pub of_devices : HasDevices words loaded between devices
-  pub aborts : AbortsText words (word_in words.refused) word choice between loaded' unread
-      unstarted failed end fault out out'
+  pub text : List ℕ
+  pub loaded : loads ≡ before ++ load_of word text ∷ []
+  pub answered : IsRowsAnswer words word choice text answer files status
 
--- The encoding was given up: there is no device table, and nothing was written; or behind it. No
--- file was made.
-abbrev pub AbortsRows : RowsWords → List ℕ → Option (List Loaded) → Option (List Loaded)
-    → Option (Option (List ℕ) × LoadFault) → Option (List Made) → Option (List Made)
-    → Option (List ℕ × NewFault) → Option (List ℕ) → Option WriteEnd → Fault → Option (List ℕ)
-    → Option (List ℕ) → Type 0
-AbortsRows words word loaded loaded' unread made made' unstarted failed end fault out out' =
-    (made' ≡ made)
-    × ((FailsDevices (word_in words.devices) words.columns.separator loaded loaded' unread fault
-    × Keeps out out')
-    ⊎ AbortsAfterDevices words word loaded loaded' unread unstarted failed end fault out out')
+-- the words name a device table, its file was loaded, and it is none
+pub record RefusesDevices (words : RowsWords) (loads : List Load) (answer : Answer)
+    (files : List Named) (status : ℕ) : Type 0 where
+  pub name : List ℕ
+  pub named : word_in words.devices ≡ Some name
+  pub text : List ℕ
+  pub loaded : loads ≡ load_of name text ∷ []
+  pub wrong : WrongDevices
+  pub is_wrong : IsWrongDevices words.columns.separator text wrong
+  pub answered : Refuses (wrong_line name (devices_text wrong)) [] answer files status
+
+-- THE rule of `encode` of an agency's own CSV
+abbrev pub EncodesRows : RowsWords → List ℕ → List Load → Answer → List Named → ℕ → Type 0
+EncodesRows words word loads answer files status =
+    EncodesText words word loads answer files status
+    ⊎ RefusesDevices words loads answer files status

@@ -15,7 +15,7 @@ use Rattle.tool_tasks.specs.Names.{called, file_named}
 use Rattle.tool_tasks.specs.WrongTables.{devices_text, fare_table_text, rows_text}
 use Rattle.tool_tasks.specs.WrongTables.{tap_table_text}
 use Rattle.tool_tasks.specs.declared.fault.Fault.{Fault}
-use Rattle.tool_tasks.specs.declared.fault.Fault.TheVariants.{Changed, Closed, Devices, Exists}
+use Rattle.tool_tasks.specs.declared.fault.Fault.TheVariants.{Closed, Devices, Exists}
 use Rattle.tool_tasks.specs.declared.fault.Fault.TheVariants.{FareTable}
 use Rattle.tool_tasks.specs.declared.fault.Fault.TheVariants.{Layout, Line, NoMemory, OutOfOrder}
 use Rattle.tool_tasks.specs.declared.fault.Fault.TheVariants.{Rows, SomeChanged, SomeUnread}
@@ -35,6 +35,10 @@ abbrev pub layout_text : List ℕ → ℕ → LayoutFault → List ℕ
 layout_text word offset fault = codes "fault: " ++ (called word ++ (codes " at "
     ++ (decimal offset ++ (codes ": " ++ (cause_text fault ++ (codes "; " ++ remedy_text fault))))))
 
+-- the line of what is wrong with the file that the word names
+abbrev pub wrong_line : (word what : List ℕ) → List ℕ
+wrong_line word what = codes "fault: " ++ (called word ++ (codes " " ++ what))
+
 -- the line of a fault
 abbrev pub fault_text : Fault → List ℕ
 fault_text (Unread word) = codes "fault: cannot read " ++ called word.now
@@ -47,16 +51,11 @@ fault_text (Unmade word) = codes "fault: cannot make " ++ called word.now
 fault_text (Layout word offset wrong) = layout_text word.now offset wrong
 fault_text (OutOfOrder word tap) = codes "fault: " ++ (called word.now ++ (codes ": tap "
     ++ (decimal tap ++ codes " is out of order")))
-fault_text (TapTable word wrong) =
-    codes "fault: " ++ (called word.now ++ (codes " " ++ tap_table_text wrong))
-fault_text (Rows word wrong) =
-    codes "fault: " ++ (called word.now ++ (codes " " ++ rows_text wrong))
-fault_text (Devices word wrong) =
-    codes "fault: " ++ (called word.now ++ (codes " " ++ devices_text wrong))
+fault_text (TapTable word wrong) = wrong_line word.now (tap_table_text wrong)
+fault_text (Rows word wrong) = wrong_line word.now (rows_text wrong)
+fault_text (Devices word wrong) = wrong_line word.now (devices_text wrong)
 fault_text (FareTable word fault) =
     codes "fault: " ++ (called word.now ++ (codes ": " ++ fare_table_text fault))
-fault_text (Changed word) = codes "fault: " ++ (called word.now
-    ++ codes " changed while it was read")
 fault_text SomeChanged = codes "fault: a file changed while it was read"
 fault_text (Line word number why) = codes "fault: " ++ (called word.now ++ (codes " line "
     ++ (decimal number ++ (codes ": " ++ wrong_text why))))
@@ -76,11 +75,6 @@ is_quiet _ = false
 abbrev pub IsFaultReported : Fault → Option (List ℕ) → Option (List ℕ) → Bool → Type 0
 IsFaultReported fault said said' failed = MatchBool (is_quiet fault) (said' ≡ said)
     (LineWritten said said' failed (fault_text fault))
-
--- the same, with this note after the text of the fault
-abbrev pub IsFaultNoted : Fault → List ℕ → Option (List ℕ) → Option (List ℕ) → Bool → Type 0
-IsFaultNoted fault note said said' failed = MatchBool (is_quiet fault) (said' ≡ said)
-    (LineWritten said said' failed (fault_text fault ++ note))
 
 -- The source refused the file of one of these words, which the fault names, for its reason; or
 -- an allocation failed.

@@ -8,7 +8,6 @@ pub mod Informs
 pub mod Layout
 pub mod MergeSorted
 pub mod Names
-pub mod Sink
 pub mod Sort
 pub mod Source
 pub mod Uploads

@@ -48,6 +48,8 @@ rows_text (rows.Column column) =
     codes "row 1: there is not one column " ++ escaped column.now
 rows_text (rows.Row number why) =
     codes "row " ++ (decimal number ++ (codes ": " ++ reason_text why))
+rows_text (rows.Quote number) =
+    codes "line " ++ (decimal number ++ codes ": a quote is not closed")
 
 -- what is wrong with a row of a device table
 abbrev pub device_text : WrongDevice → List ℕ

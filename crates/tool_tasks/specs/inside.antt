@@ -2,10 +2,8 @@
 pub mod Corrections
 pub mod Decode
 pub mod Decoded
-pub mod EncodeRows
-pub mod Fault
 pub mod Informs
 pub mod Loads
-pub mod Sink
+pub mod Prepared
 pub mod Sort
 pub mod ValidPrefix

@@ -1,5 +1,6 @@
 //! `decode`.
-ghost use Rattle.std.specs.Prelude.{◌≡◌, ◌<◌, ◌≤◌, ◌+◌, ◌++◌, [], ℕ, List, OnOk, codes, if◌then◌else◌};
+ghost use Rattle.std.specs.Prelude.{◌≡◌, ◌<◌, ◌≤◌, ◌+◌, ◌++◌, [], ℕ, List, OnOk, codes};
+ghost use Rattle.std.specs.Prelude.{if◌then◌else◌};
 ghost use Rattle.std.specs.Prelude.{length, map};
 ghost use Rattle.frame.specs.Ends.{Answer, Ends, did};
 ghost use Rattle.frame.specs.Tasks.{Goes};
@@ -73,12 +74,7 @@ struct Decoding<'a> {
 
 impl<'a> Decoding<'a> {
     /// The piece is the rows of the next upload before its first layout fault.
-    fn put_rows<I: Counted>(
-        &mut self,
-        alloc: Global,
-        files: &mut I,
-        piece: &mut Vec<u8>,
-    ) -> Result<Step, Stop>
+    fn put_rows<I: Counted>(&mut self, files: &mut I, piece: &mut Vec<u8>) -> Result<Step, Stop>
         requires empty { piece.old.items ≡ [] }
         requires stage { self.old.stage ≡ DecodeStage.Rows }
         ensures words { self.new.words ≡ self.old.words }
@@ -98,7 +94,7 @@ impl<'a> Decoding<'a> {
                 files.show_count(number, self.words.len());
                 match load_at(files, &self.words, number) {
                     Err(why) => Err(why),
-                    Ok(upload) => match tap_rows::decode(alloc, &upload, piece) {
+                    Ok(upload) => match tap_rows::decode(&upload, piece) {
                         Ok(None) => {
                             self.done = next_of(number, &self.words);
                             Ok(Step::More(For::Text))
@@ -109,7 +105,7 @@ impl<'a> Decoding<'a> {
                             self.stage = DecodeStage::Note(word, offset, fault);
                             Ok(Step::More(For::Text))
                         }
-                        Err(_) => Err(Stop::NoMemory),
+                        Err(AllocError) => Err(Stop::NoMemory),
                     },
                 }
             }
@@ -140,14 +136,14 @@ impl<'a, I: Counted> Task<I> for Decoding<'a> {
 
     fn next(&mut self, alloc: Global, files: &mut I, piece: &mut Vec<u8>) -> Result<Step, Stop> {
         match self.stage {
-            DecodeStage::Head => match tap_rows::write_head(piece) {
+            DecodeStage::Head => match tap_rows::push_head(piece) {
                 Ok(()) => {
                     self.stage = DecodeStage::Rows;
                     Ok(Step::More(For::Text))
                 }
-                Err(_) => Err(Stop::NoMemory),
+                Err(AllocError) => Err(Stop::NoMemory),
             },
-            DecodeStage::Rows => self.put_rows(alloc, files, piece),
+            DecodeStage::Rows => self.put_rows(files, piece),
             DecodeStage::Note(word, offset, fault) => {
                 match note_layout(alloc, word, offset, fault, piece) {
                     Ok(()) => {

@@ -1,10 +1,10 @@
 //! Why a subcommand is given up, and the line that says so.
 ghost use Rattle.std.specs.Prelude.{◌≡◌, ◌≢◌, ◌⊎◌, ℕ, Err, IfErr, IfOk, List, None, Ok, OnErr};
-ghost use Rattle.std.specs.Prelude.{◌++◌, OnOk, Option, Some, false, true};
+ghost use Rattle.std.specs.Prelude.{OnOk, Option, Some, false, true};
 ghost use Rattle.std.specs.Io.KnownBytes.{Keeps};
 ghost use Rattle.program_manners.specs.Refusals.{IsOneOf, Refuses};
 ghost use Rattle.world.specs.declared.faults.LoadFault.{LoadFault as ALoadFault};
-ghost use Rattle.tool_tasks.specs.Fault.{IsFaultNoted, IsFaultReported, IsRefusal, failed_as};
+ghost use Rattle.tool_tasks.specs.Fault.{IsFaultReported, IsRefusal, failed_as};
 ghost use Rattle.tool_tasks.specs.Fault.{fault_text, is_quiet, wrong_text};
 ghost use Rattle.tool_tasks.specs.Names.{file_named};
 
@@ -47,8 +47,6 @@ pub enum Fault<'a> {
     Devices(&'a str, WrongDevices),
     /// The file is no fare table.
     FareTable(&'a str, TableFault),
-    /// The file was another one when it was read again.
-    Changed(&'a str),
     /// A file was another one when it was read again.
     SomeChanged,
     /// The line of this number, from 1, in this text of a part, is wrong.
@@ -170,7 +168,6 @@ impl fmt::Display for Fault<'_> {
                 let why = WrongFareTable(*fault);
                 write!(f, "fault: {}: {why}", Name(word))
             }
-            Fault::Changed(word) => write!(f, "fault: {} changed while it was read", Name(word)),
             Fault::SomeChanged => f.write_str("fault: a file changed while it was read"),
             Fault::Line(word, number, wrong) => {
                 write!(
@@ -202,29 +199,6 @@ pub fn say<E: Write>(err: &mut Complaints<E>, fault: &Fault<'_>)
     if !fault.is_quiet() {
         err.report_line(*fault);
     }
-}
-
-/// The line of a fault with a note after it.
-#[derive(Clone, Copy)]
-struct Noted<'a>(&'a Fault<'a>, &'a str);
-
-impl fmt::Display for Noted<'_> {
-    ghost output = { λ noted. Some (fault_text noted.0.now ++ noted.1.now) };
-
-    fn fmt<W: fmt::Write>(&self, f: &mut fmt::Formatter<W>) -> fmt::Result {
-        write!(f, "{}{}", self.0, self.1)
-    }
-}
-
-/// Writes the line of a fault, with the note after it, unless the reader of the text is gone.
-pub(crate) fn say_noted<E: Write>(err: &mut Complaints<E>, fault: &Fault<'_>, note: &str)
-    ensures { IsFaultNoted fault.now note.now (E.contents err.old.writer)
-        (E.contents err.new.writer) err.new.failed }
-{
-    if fault.is_quiet() {
-        return;
-    }
-    err.report_line(Noted(fault, note));
 }
 
 /// Lets all that was written go out.

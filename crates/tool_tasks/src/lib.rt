@@ -5,10 +5,11 @@
 //! | module | what it does |
 //! |---|---|
 //! | `names` | words that name files, as they are opened and shown |
-//! | `source` | where texts come from |
+//! | `source` | where the texts of parts come from |
 //! | `loads`, `counted` | files that a task loads, and what is shown of them |
 //! | `informs` | what only informs, as a task |
-//! | `sink` | where files are made |
+//! | `prepared` | what is written, made and noted of what `encode` reads |
+//! | `quotes` | a quote of a CSV that nothing closes |
 //! | `fault` | why a subcommand is given up, and the line that says so |
 //! | `stops` | fault lines of what stops a task from outside |
 //! | `layout`, `wrong_tables` | what is wrong with an upload, or with a table, in words |
@@ -44,8 +45,9 @@ mod look;
 mod merge_sorted;
 mod names;
 mod placed;
+mod prepared;
+mod quotes;
 mod refused_text;
-mod sink;
 mod sort;
 mod source;
 mod stops;
@@ -68,9 +70,8 @@ pub use look::look_over;
 pub use merge_sorted::merge_sorted_over;
 pub use names::{Escaped, Name, word_at};
 pub use placed::PlacedFiles;
-pub use sink::{MakeFault, NewFault, Sink};
 pub use sort::sort_over;
-pub use source::{Shown, Source, open_all};
+pub use source::{Source, open_all};
 pub use streams::Streams;
 pub use table::table_over;
 pub use uploads::uploads_over;

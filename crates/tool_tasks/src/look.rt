@@ -11,8 +11,6 @@ use crate::uploads::upload_text;
 use fare_table::{FareTable, ReadFareTable, TableFault};
 use frame::For;
 use std::alloc::{AllocError, Global};
-use std::marker::Sync;
-use std::thread::Threads;
 use tap_views::{MOMENT_LIMIT_MS, MomentSpan, NoMemory, TapFields, facts_of};
 use tool_words::LookWords;
 use upload_checks::{InactiveDays, find_inactive_days, look};
@@ -21,9 +19,6 @@ use world::World;
 mod counts;
 mod found_texts;
 mod rows;
-
-/// How many threads order taps.
-const WORKERS: u32 = 4;
 
 fn read_table<'a>(alloc: Global, word: &'a str, text: &[u8]) -> Result<FareTable, Fault<'a>> {
     match FareTable::read(alloc, text) {
@@ -38,7 +33,7 @@ fn inactive_of(
     alloc: Global,
     words: &LookWords<'_>,
     table: &Option<FareTable>,
-    lists: &[Vec<TapFields>],
+    taps: &[TapFields],
 ) -> Result<Option<InactiveDays>, NoMemory> {
     let Some(table) = table else {
         return Ok(None);
@@ -48,7 +43,7 @@ fn inactive_of(
         last: words.last.unwrap_or(u64::MAX).min(MOMENT_LIMIT_MS - 1),
     };
     let every_day = words.first.is_some() && words.last.is_some();
-    let silent = find_inactive_days(alloc, table.first(), days, every_day, lists)?;
+    let silent = find_inactive_days(alloc, table.first(), days, every_day, taps)?;
     Ok(Some(silent))
 }
 
@@ -70,8 +65,7 @@ fn files_of<'a>(
 
 /// All taps are in memory.
 #[derive(Drop)]
-struct Look<'w, 'a, R> {
-    threads: &'w R,
+struct Look<'w, 'a> {
     words: &'w LookWords<'a>,
     names: &'w [&'a str],
     table: Option<FareTable>,
@@ -81,7 +75,7 @@ struct Look<'w, 'a, R> {
     is_given: bool,
 }
 
-impl<'a, R: Threads + Sync> Look<'_, 'a, R> {
+impl<'a> Look<'_, 'a> {
     /// The lines of the upload, or its layout fault if what is found is listed.
     fn push_upload(
         &mut self,
@@ -106,7 +100,7 @@ impl<'a, R: Threads + Sync> Look<'_, 'a, R> {
     }
 }
 
-impl<'a, R: Threads + Sync> Informs<'a> for Look<'_, 'a, R> {
+impl<'a> Informs<'a> for Look<'_, 'a> {
     fn wants_file(&self) -> bool {
         true
     }
@@ -141,8 +135,8 @@ impl<'a, R: Threads + Sync> Informs<'a> for Look<'_, 'a, R> {
             last: words.last.unwrap_or(u64::MAX),
         };
         let uploads = self.uploads.as_slice();
-        let found = look(self.threads, alloc, uploads, words.within, span, WORKERS)?;
-        let silent = inactive_of(alloc, words, &self.table, found.lists.as_slice())?;
+        let found = look(alloc, uploads, words.within, span)?;
+        let silent = inactive_of(alloc, words, &self.table, &found.taps)?;
         if words.has_list {
             push_table(alloc, self.names, &found, &silent, piece)?;
         } else {
@@ -157,8 +151,7 @@ impl<'a, R: Threads + Sync> Informs<'a> for Look<'_, 'a, R> {
 /// Writes what the uploads have, and how much is found in them; or if requested, the list of all
 /// that is found, with the layout faults as notes. The status is 0 if all is written and no upload
 /// has a layout fault, else 1.
-pub fn look_over<R: Threads + Sync, W: World + Counted>(
-    threads: &R,
+pub fn look_over<W: World + Counted>(
     alloc: Global,
     words: &LookWords<'_>,
     names: &[&str],
@@ -170,7 +163,6 @@ pub fn look_over<R: Threads + Sync, W: World + Counted>(
     let files = files_of(alloc, words, names);
     let others = if words.table.is_some() { 1 } else { 0 };
     let task = Look {
-        threads,
         words,
         names,
         table: None,

@@ -156,15 +156,17 @@ fn merge<D: PlacedFiles, W: World>(
                 Err(Stop::NoMemory)
             }
         },
-        Err(None) => Err(Stop::Unmade(0, world.fail(words.out, file))),
-        Err(Some(Fault::NoMemory)) => {
-            world.discard(file);
-            Err(Stop::NoMemory)
-        }
-        Err(Some(fault)) => {
-            world.discard(file);
-            refuse(alloc, fault, world)
-        }
+        Err(why) => match why {
+            None => Err(Stop::Unmade(0, world.fail(words.out, file))),
+            Some(Fault::NoMemory) => {
+                world.discard(file);
+                Err(Stop::NoMemory)
+            }
+            Some(fault) => {
+                world.discard(file);
+                refuse(alloc, fault, world)
+            }
+        },
     }
 }
 
@@ -172,6 +174,7 @@ fn merge<D: PlacedFiles, W: World>(
 /// canonical order, and before it that of a line for each upload, if it has a name. The uploads are
 /// read at any offset. A fault is reported. Gives the status: 0 if the files are made, 1 after a
 /// fault.
+#[tactic(auto, using(crate::proofs::MergedUploads::merge_status))]
 pub fn merge_sorted_over<D: PlacedFiles, W: World>(
     alloc: Global,
     words: &SortingWords<'_>,

@@ -1,7 +1,7 @@
 //! Where texts come from.
 ghost use Rattle.std.specs.Prelude.{◌≡◌, ◌++◌, ℕ, List, IfErr, IfOk, Some, map};
 ghost use Rattle.report_texts.specs.Texts.{AreLeft};
-ghost use Rattle.program_manners.specs.Loads.{Loaded, LoadsOne, OpensOne};
+ghost use Rattle.program_manners.specs.Loads.{Loaded, OpensOne};
 ghost use Rattle.program_manners.specs.Refusals.{IsOneOf};
 ghost use Rattle.tool_tasks.specs.Fault.{IsRefusal};
 ghost use Rattle.tool_tasks.specs.Names.{file_named};
@@ -13,19 +13,10 @@ use program_manners::LoadFault;
 use std::alloc::Global;
 use std::io::BufRead;
 
-/// What whoever watches a run is shown of a text while it is read.
-#[derive(Clone, Copy, Debug)]
-pub struct Shown {
-    /// How many bytes it has.
-    pub bytes: u64,
-    /// What is done with them, as `checked`.
-    pub verb: &'static str,
-}
-
 /// Where texts come from. A file has a name, and standard input has none.
 pub trait Source {
     ghost use Rattle.std.specs.Prelude.{◌≡◌, ℕ, List, IfErr, IfOk, Option, None, option_map};
-    ghost use Rattle.program_manners.specs.Loads.{Loaded, LoadsOne, OpensOne};
+    ghost use Rattle.program_manners.specs.Loads.{Loaded, OpensOne};
     ghost use Rattle.program_manners.specs.Refusals.{Refuses};
     ghost use Rattle.world.specs.declared.faults.LoadFault.{LoadFault as AFault};
 
@@ -45,40 +36,9 @@ pub trait Source {
             (option_map (λ n. n.now) name.entry) (Self.Text.remaining text)) }
         ensures fault { IfErr result (λ fault. Refuses (refused self.new)
             (option_map (λ n. n.now) name.entry) fault) };
-
-    /// As `open`, and whoever watches the run may be shown how much of it was read.
-    fn open_shown(&mut self, name: Option<&str>, shown: Shown) -> Result<Self::Text, LoadFault>
-        ensures reported { IfOk result (λ text. OpensOne (loaded self.old) (loaded self.new)
-            (option_map (λ n. n.now) name.entry) (Self.Text.remaining text)) }
-        ensures fault { IfErr result (λ fault. Refuses (refused self.new)
-            (option_map (λ n. n.now) name.entry) fault) };
-
-    /// Takes away what is shown of a text.
-    fn end_shown(&mut self, text: &mut Self::Text)
-        ensures loaded { loaded self.new ≡ loaded self.old }
-        ensures refused { refused self.new ≡ refused self.old };
-
-    /// All bytes of the file of this name, or of standard input, however many. No clause says what
-    /// a fault leaves loaded.
-    fn load_any(&mut self, alloc: Global, name: Option<&str>) -> Result<Vec<u8>, LoadFault>
-        ensures reported { IfOk result (λ bytes. LoadsOne (loaded self.old) (loaded self.new)
-            (option_map (λ n. n.now) name.entry) bytes.items) }
-        ensures fault { IfErr result (λ fault. Refuses (refused self.new)
-            (option_map (λ n. n.now) name.entry) fault) };
-
-    /// All bytes of the file of this name, or of standard input. More than 64 MiB are refused. No
-    /// clause says what a fault leaves loaded.
-    fn load(&mut self, alloc: Global, name: Option<&str>) -> Result<Vec<u8>, LoadFault>
-        ensures reported { IfOk result (λ bytes. LoadsOne (loaded self.old) (loaded self.new)
-            (option_map (λ n. n.now) name.entry) bytes.items) }
-        ensures fault { IfErr result (λ fault. Refuses (refused self.new)
-            (option_map (λ n. n.now) name.entry) fault) };
-
-    /// The number of bytes, if the same ones can be read twice: not of standard input or a pipe.
-    fn plain_bytes(&self, name: Option<&str>) -> Option<u64>;
 }
 
-pub(crate) fn open_text<'a, S: Source>(source: &mut S, word: &'a str) -> Result<S::Text, Fault<'a>>
+fn open_text<'a, S: Source>(source: &mut S, word: &'a str) -> Result<S::Text, Fault<'a>>
     ensures reported { IfOk result (λ text. OpensOne (S.loaded source.old) (S.loaded source.new)
         (file_named word.entry.now) (S.Text.remaining text)) }
     ensures refusal { IfErr result (λ fault. (words : List (List ℕ))
@@ -86,55 +46,6 @@ pub(crate) fn open_text<'a, S: Source>(source: &mut S, word: &'a str) -> Result<
 {
     match source.open(file_of(word)) {
         Ok(text) => Ok(text),
-        Err(fault) => Err(Fault::of_load(word, fault)),
-    }
-}
-
-/// How much of it was read may be shown.
-pub(crate) fn open_text_shown<'a, S: Source>(
-    source: &mut S,
-    word: &'a str,
-    shown: Shown,
-) -> Result<S::Text, Fault<'a>>
-    ensures reported { IfOk result (λ text. OpensOne (S.loaded source.old) (S.loaded source.new)
-        (file_named word.entry.now) (S.Text.remaining text)) }
-    ensures refusal { IfErr result (λ fault. (words : List (List ℕ))
-        → IsOneOf word.entry.now words → IsRefusal (S.refused source.new) words fault) }
-{
-    match source.open_shown(file_of(word), shown) {
-        Ok(text) => Ok(text),
-        Err(fault) => Err(Fault::of_load(word, fault)),
-    }
-}
-
-pub(crate) fn load_text<'a, S: Source>(
-    alloc: Global,
-    source: &mut S,
-    word: &'a str,
-) -> Result<Vec<u8>, Fault<'a>>
-    ensures reported { IfOk result (λ bytes. LoadsOne (S.loaded source.old) (S.loaded source.new)
-        (file_named word.entry.now) bytes.items) }
-    ensures refusal { IfErr result (λ fault. (words : List (List ℕ))
-        → IsOneOf word.entry.now words → IsRefusal (S.refused source.new) words fault) }
-{
-    match source.load_any(alloc, file_of(word)) {
-        Ok(bytes) => Ok(bytes),
-        Err(fault) => Err(Fault::of_load(word, fault)),
-    }
-}
-
-pub(crate) fn load_upload<'a, S: Source>(
-    alloc: Global,
-    source: &mut S,
-    word: &'a str,
-) -> Result<Vec<u8>, Fault<'a>>
-    ensures reported { IfOk result (λ bytes. LoadsOne (S.loaded source.old) (S.loaded source.new)
-        (file_named word.entry.now) bytes.items) }
-    ensures refusal { IfErr result (λ fault. (words : List (List ℕ))
-        → IsOneOf word.entry.now words → IsRefusal (S.refused source.new) words fault) }
-{
-    match source.load(alloc, file_of(word)) {
-        Ok(bytes) => Ok(bytes),
         Err(fault) => Err(Fault::of_load(word, fault)),
     }
 }

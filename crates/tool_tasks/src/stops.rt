@@ -29,3 +29,38 @@ pub(crate) fn fault_at<'a>(why: Stop, word: Option<&'a str>) -> Fault<'a> {
 pub(crate) fn fault_of<'a>(why: Stop, words: &[&'a str]) -> Fault<'a> {
     fault_at(why, word_at(words, number_in(why)))
 }
+
+/// What stopped a run, and the line that says so.
+#[derive(Drop)]
+pub(crate) struct Halt<'a> {
+    pub(crate) why: Stop,
+    pub(crate) line: Fault<'a>,
+}
+
+impl<'a> Halt<'a> {
+    ghost use Rattle.std.specs.Prelude.{◌≡◌};
+
+    /// Of a file, this is its word.
+    pub(crate) fn of(why: Stop, word: Option<&'a str>) -> Halt<'a>
+        ensures { result.why ≡ why }
+    {
+        Halt {
+            why,
+            line: fault_at(why, word),
+        }
+    }
+
+    /// The line of a new file that was begun and not made is that of a write.
+    pub(crate) fn unfinished(number: usize, why: MakeFault) -> Halt<'a>
+        ensures { result.why ≡ Stop.Unmade number why }
+    {
+        let line = match why {
+            MakeFault::NoMemory => Fault::NoMemory,
+            MakeFault::Exists | MakeFault::Unmade => Fault::Write,
+        };
+        Halt {
+            why: Stop::Unmade(number, why),
+            line,
+        }
+    }
+}

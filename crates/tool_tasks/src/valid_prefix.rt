@@ -10,7 +10,7 @@ ghost use Rattle.tool_tasks.specs.inside.ValidPrefix.{HaltsMaking, IsUnmadeAt};
 
 use crate::fault::Fault;
 use crate::loads::load_word;
-use crate::stops::fault_of;
+use crate::stops::Halt;
 use crate::upload_tokens::{add_tokens, no_tokens, tokens_text};
 use crate::uploads::upload_text;
 use fare_texts::write_bytes;
@@ -18,25 +18,7 @@ use frame::{Stop, report};
 use std::alloc::Global;
 use tap_views::{Facts, facts_of, valid_prefix};
 use tool_words::ValidPrefixWords;
-use world::{MakeFault, World};
-
-/// What stopped it, and the line that says so.
-#[derive(Drop)]
-struct Halt<'a> {
-    why: Stop,
-    line: Fault<'a>,
-}
-
-impl<'a> Halt<'a> {
-    fn of(why: Stop, words: &ValidPrefixWords<'a>) -> Halt<'a>
-        ensures { result.why ≡ why }
-    {
-        Halt {
-            why,
-            line: fault_of(why, &[words.upload, words.out]),
-        }
-    }
-}
+use world::World;
 
 fn lines_of<'a>(
     alloc: Global,
@@ -63,20 +45,6 @@ fn status_of(facts: &Facts) -> u8
     }
 }
 
-/// The line of a new file that was begun and not made is that of a write.
-fn unfinished<'a>(why: MakeFault) -> Halt<'a>
-    ensures { result.why ≡ Stop.Unmade 1 why }
-{
-    let line = match why {
-        MakeFault::NoMemory => Fault::NoMemory,
-        MakeFault::Exists | MakeFault::Unmade => Fault::Write,
-    };
-    Halt {
-        why: Stop::Unmade(1, why),
-        line,
-    }
-}
-
 fn make<'a, W: World>(
     words: &ValidPrefixWords<'a>,
     bytes: &[u8],
@@ -88,15 +56,15 @@ fn make<'a, W: World>(
         halt.why (W.run world.old) (W.run world.new)) }
 {
     match world.begin(words.out, true) {
-        Err(why) => Err(Halt::of(Stop::Unmade(1, why), words)),
+        Err(why) => Err(Halt::of(Stop::Unmade(1, why), Some(words.out))),
         Ok(file) => {
             let mut file = file;
             match write_bytes(bytes, &mut file) {
                 Ok(()) => match world.finish(words.out, file) {
                     Ok(()) => Ok(()),
-                    Err(why) => Err(unfinished(why)),
+                    Err(why) => Err(Halt::unfinished(1, why)),
                 },
-                Err(_) => Err(unfinished(world.fail(words.out, file))),
+                Err(_) => Err(Halt::unfinished(1, world.fail(words.out, file))),
             }
         }
     }
@@ -117,11 +85,11 @@ fn list_and_make<'a, W: World>(
         (W.run world.new)) }
 {
     match world.write(text) {
-        Err(why) => Err(Halt::of(Stop::Unwritten(why), words)),
+        Err(why) => Err(Halt::of(Stop::Unwritten(why), None)),
         Ok(()) => match make(words, bytes, world) {
             Err(halt) => Err(halt),
             Ok(()) => match world.flush() {
-                Err(why) => Err(Halt::of(Stop::Unwritten(why), words)),
+                Err(why) => Err(Halt::of(Stop::Unwritten(why), None)),
                 Ok(()) => Ok(()),
             },
         },
@@ -171,7 +139,7 @@ fn load_and_keep<'a, W: World>(
         halt.why) }
 {
     match load_word(world, words.upload) {
-        Err(why) => Err(Halt::of(Stop::Unread(0, why), words)),
+        Err(why) => Err(Halt::of(Stop::Unread(0, why), Some(words.upload))),
         Ok(upload) => match keep(alloc, words, &upload, world) {
             Err(halt) => Err(halt),
             Ok(status) => Ok(status),

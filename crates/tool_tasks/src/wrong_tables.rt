@@ -42,13 +42,15 @@ impl fmt::Display for WrongTapTable {
     }
 }
 
-/// What is wrong with an agency's CSV. Its `Display` begins with the row.
+/// What is wrong with an agency's CSV. Its `Display` begins with the row or the line.
 #[derive(Clone, Copy, Debug, PartialEq, Eq)]
 pub enum WrongRows<'a> {
     /// The head has not one column of this name.
     Column(&'a str),
     /// The row of this number is not a tap, for this reason. The head is row 1.
     Row(u64, Reason),
+    /// Nothing closes the quote in the line of this number, from 1.
+    Quote(u64),
 }
 
 fn reason_text(reason: Reason) -> &'static str
@@ -79,6 +81,7 @@ impl fmt::Display for WrongRows<'_> {
                 let why = reason_text(*reason);
                 write!(f, "row {number}: {why}")
             }
+            WrongRows::Quote(number) => write!(f, "line {number}: a quote is not closed"),
         }
     }
 }

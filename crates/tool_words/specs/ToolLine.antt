@@ -43,12 +43,13 @@ abbrev pub decode_rules : List Rule
 decode_rules = list_option ∷ null_flag ∷ words_rule (codes "FILE") ∷ []
 
 -- `uploads [--good-part OUT] [--tokens] [--look] [--within S] [--from MOMENT] [--until MOMENT]
--- [--table F] [--list] [--files-from LIST [-0]] FILE..`
+-- [--table F] [--list] [--format FORM] [--files-from LIST [-0]] FILE..`
 abbrev pub uploads_rules : List Rule
 uploads_rules = option_rule (codes "good-part") ∷ flag_rule (codes "tokens")
     ∷ flag_rule (codes "look") ∷ range_rule (codes "within") (pos 0) (pos 4294967)
     ∷ option_rule (codes "from") ∷ option_rule (codes "until") ∷ option_rule (codes "table")
-    ∷ flag_rule (codes "list") ∷ list_option ∷ null_flag ∷ words_rule (codes "FILE") ∷ []
+    ∷ flag_rule (codes "list") ∷ option_rule (codes "format") ∷ list_option ∷ null_flag
+    ∷ words_rule (codes "FILE") ∷ []
 
 -- `table [--strict] [--riders] [--from MOMENT] [--sql] [--table G@YYYY-MM-DD].. F [UPLOAD]..`
 abbrev pub table_rules : List Rule
@@ -114,11 +115,13 @@ looks rows = is_given (codes "look") rows || (is_given (codes "list") rows
     || (has_value (codes "within") rows || (has_value (codes "from") rows
     || (has_value (codes "until") rows || has_value (codes "table") rows))))
 
--- `uploads` without files, with a look beside `--good-part`, or with `--list` beside `--tokens`
+-- `uploads` without files, with a look beside `--good-part`, or with `--list` beside `--tokens` or
+-- `--format`
 abbrev pub breaks_uploads : List Row → Bool
 breaks_uploads rows = lacks_files (codes "FILE") rows
     || ((has_value (codes "good-part") rows && looks rows)
-    || (is_given (codes "list") rows && is_given (codes "tokens") rows))
+    || (is_given (codes "list") rows
+    && (is_given (codes "tokens") rows || has_value (codes "format") rows)))
 
 -- `table` with `--sql` beside `--riders` or `--from`
 abbrev pub breaks_table : List Row → Bool

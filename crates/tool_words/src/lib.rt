@@ -31,5 +31,6 @@ pub use task::{
     BoundsWords, CorrectionsWords, LookWords, RowsWords, SortingWords, TableQuestion, Task,
     ValidPrefixWords,
 };
+pub use uploads_words::named_format;
 pub use usage_error::UsageError;
 pub use words::read;

@@ -25,13 +25,14 @@ pub(crate) fn looks(matches: &ArgMatches<'_>) -> bool
         || has_value(matches, "table")
 }
 
-/// `uploads` has no files, a look beside `--good-part`, or `--list` beside `--tokens`.
+/// `uploads` has no files, a look beside `--good-part`, or `--list` beside `--tokens` or `--format`.
 fn breaks_uploads(matches: &ArgMatches<'_>) -> bool
     ensures { result ≡ breaks_uploads (rows_of (found_of matches.now)) }
 {
     lacks_files(matches, "FILE")
         || (has_value(matches, "good-part") && looks(matches))
-        || (flag_in(matches, "list") && flag_in(matches, "tokens"))
+        || (flag_in(matches, "list")
+            && (flag_in(matches, "tokens") || has_value(matches, "format")))
 }
 
 /// `table` has `--sql` beside `--riders` or `--from`.

@@ -30,6 +30,7 @@ const NOTES: &str = "Examples:
   omny_tools uploads monday.tap tuesday.tap
   omny_tools uploads --good-part whole.tap damaged.tap
   omny_tools uploads --look --within 60 --table table.toml week/*.tap
+  omny_tools uploads --look --format json week/*.tap
   omny_tools uploads --list --from 2026-03-02T00:00:00Z week/*.tap
 
 Exit status:
@@ -56,9 +57,11 @@ const TABLE_HELP: &str = "Look for inactive validators; - is standard input";
 
 const LIST_HELP: &str = "Write all that is found as CSV, and nothing else";
 
+const FORMAT_HELP: &str = "Print lines as text, json or csv [default: text]";
+
 /// `uploads [--good-part OUT] [--tokens] [LOOK]... [--files-from LIST [-0]] FILE...`, where LOOK is
 /// `--look`, `--within S`, `--from MOMENT`, `--until MOMENT`, `--table F` or `--list`. A look goes
-/// without `--good-part`.
+/// without `--good-part`, and `--list` without `--format FORM`.
 pub(crate) fn uploads_command<'a>(alloc: Global, is_whole: bool) -> Result<Command<'a>, AllocError>
     ensures { is_whole ≡ false → IfOk result
         (λ command. app_of command ≡ leaf (codes "uploads") uploads_rules) }
@@ -88,8 +91,9 @@ pub(crate) fn uploads_command<'a>(alloc: Global, is_whole: bool) -> Result<Comma
         ),
         Row::One(
             Takes::Flag("list", LIST_HELP),
-            Need::Apart(&["good-part", "tokens"]),
+            Need::Apart(&["good-part", "tokens", "format"]),
         ),
+        Row::One(Takes::Value("format", "FORM", FORMAT_HELP), Need::Never),
         Row::List,
         Row::One(Takes::Words("FILE", UPLOADS_HELP), Need::WithoutList),
     ];

@@ -81,20 +81,18 @@ pub fn find_inactive_days(
     table: &Tariff,
     span: MomentSpan,
     every_day: bool,
-    lists: &[Vec<TapFields>],
+    taps: &[TapFields],
 ) -> Result<InactiveDays, NoMemory> {
     let mut tapped = TappedDays {
         days: BTreeSet::new(alloc),
         visits: BTreeSet::new(alloc),
     };
-    for list in lists {
-        for tap in list {
-            let is_within = span.first <= tap.moment && tap.moment <= span.last;
-            if is_within && table.mode_of(tap.validator).is_some() {
-                let day = tap.moment / DAY_MS;
-                tapped.days.insert(day)?;
-                tapped.visits.insert((day, tap.validator))?;
-            }
+    for tap in taps {
+        let is_within = span.first <= tap.moment && tap.moment <= span.last;
+        if is_within && table.mode_of(tap.validator).is_some() {
+            let day = tap.moment / DAY_MS;
+            tapped.days.insert(day)?;
+            tapped.visits.insert((day, tap.validator))?;
         }
     }
     if every_day {

@@ -12,25 +12,23 @@ pub struct NearDuplicate {
     pub earlier: u64,
 }
 
-/// Of taps in canonical order, which lie in lists.
+/// Of taps in canonical order.
 pub(crate) fn near_duplicates(
     alloc: Global,
-    lists: &[Vec<TapFields>],
+    taps: &[TapFields],
     within: u64,
 ) -> Result<Vec<NearDuplicate>, AllocError> {
     let mut found = Vec::new(alloc);
     let mut token = [0; 16];
     let mut moments: BTreeMap<u32, u64> = BTreeMap::new(alloc);
-    for list in lists {
-        for tap in list {
-            if tap.token != token {
-                token = tap.token;
-                moments.clear();
-            }
-            if let Some(earlier) = moments.insert(tap.validator, tap.moment)? {
-                if tap.moment.saturating_sub(earlier) <= within {
-                    found.push(NearDuplicate { tap: *tap, earlier })?;
-                }
+    for tap in taps {
+        if tap.token != token {
+            token = tap.token;
+            moments.clear();
+        }
+        if let Some(earlier) = moments.insert(tap.validator, tap.moment)? {
+            if tap.moment.saturating_sub(earlier) <= within {
+                found.push(NearDuplicate { tap: *tap, earlier })?;
             }
         }
     }

@@ -120,4 +120,13 @@ impl Stream {
         piece.truncate(count);
         Ok(())
     }
+
+    /// The calls, to be joined to those of a run.
+    pub fn into_trace(self) -> Trace
+        ensures { result ≡ self.trace }
+    {
+        let Stream { from, trace } = self;
+        let _ = from;
+        trace
+    }
 }

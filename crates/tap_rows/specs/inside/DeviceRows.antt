@@ -1,5 +1,6 @@
 -- How far a device table is read: what private functions alone cite.
-use Rattle.std.specs.Prelude.{◌≡◌, ℕ, List, ◌∷◌, Option, Some, codes, length}
+use Rattle.std.specs.Prelude.{◌≡◌, ℕ, List, ◌∷◌, Some, codes, length}
+use Rattle.std.specs.Borrow.{Bor}
 use Rattle.std.specs.List.{AllZip, IsDistinct}
 use Rattle.std.specs.Map.{keys_of}
 use Rattle.std.specs.Str.{bytes_eq}
@@ -36,10 +37,10 @@ IsFaultBy separator text (fault.Row number why) = IsFirstWrong separator text nu
 IsFaultBy separator text fault.NoMemory = Unit {0}
 
 -- `count` rows are read from a device table, and give these devices their validators
-pub record HasDevices {R : Type 0} (remaining : R → Option (List ℕ)) (separator : Separator)
-    (text : List ℕ) (count : ℕ) (reader : Reader R) (devices : List Device) : Type 0 where
+pub record HasDevices (separator : Separator) (text : List ℕ) (count : ℕ)
+    (reader : Reader (Bor (List ℕ))) (devices : List Device) : Type 0 where
   pub rows : List (List (List ℕ))
-  pub consumed : HasConsumed remaining separator text (device_head ∷ rows) reader
+  pub consumed : HasConsumed separator text (device_head ∷ rows) reader
   pub each : AllZip IsDeviceRow rows devices
   pub once : IsDistinct bytes_eq (keys_of devices)
   pub number : length rows ≡ count

@@ -59,19 +59,9 @@ wanted_at false position = wanted.Without position
 abbrev pub IsTestsFault : Bool → List Condition → List (List ℕ) → AgencyFault → Type 0
 IsTestsFault is_only conditions head (fault.Column which) = (position : ℕ)
     × (which ≡ wanted_at is_only position) × LacksColumnAt head conditions position
-IsTestsFault is_only conditions head (fault.Row number reason) = ⊥
-IsTestsFault is_only conditions head fault.Changed = ⊥
-IsTestsFault is_only conditions head fault.Unread = ⊥
-IsTestsFault is_only conditions head fault.Write = ⊥
-IsTestsFault is_only conditions head fault.RefusedWrite = ⊥
 IsTestsFault is_only conditions head fault.NoMemory = Unit {0}
 
 -- why the positions were not found
 abbrev pub IsHeadFault : Choice → List (List ℕ) → AgencyFault → Type 0
 IsHeadFault choice head (fault.Column wanted) = IsWanting choice head wanted
-IsHeadFault choice head (fault.Row number reason) = ⊥
-IsHeadFault choice head fault.Changed = ⊥
-IsHeadFault choice head fault.Unread = ⊥
-IsHeadFault choice head fault.Write = ⊥
-IsHeadFault choice head fault.RefusedWrite = ⊥
 IsHeadFault choice head fault.NoMemory = Unit {0}

@@ -1,5 +1,6 @@
 -- How far a reader of records has come: what private functions alone cite.
-use Rattle.std.specs.Prelude.{◌≡◌, ℕ, List, Option, Some}
+use Rattle.std.specs.Prelude.{◌≡◌, ℕ, List, Some}
+use Rattle.std.specs.Borrow.{Bor}
 use Rattle.csv.specs.Reading.{Reached, Ready, source_of, strip_bom}
 use Rattle.csv.specs.declared.parser.State.TheVariants.{StartRecord}
 use Rattle.csv.specs.declared.reader.Reader.{Reader}
@@ -8,11 +9,11 @@ use Rattle.tap_rows.specs.AgencyTexts.{config_of}
 use Rattle.tap_rows.specs.declared.agency.choice.Separator.{Separator}
 
 -- the reader of this text has come over these records
-pub record HasConsumed {R : Type 0} (remaining : R → Option (List ℕ)) (separator : Separator)
-    (text : List ℕ) (rows : List (List (List ℕ))) (reader : Reader R) : Type 0 where
+pub record HasConsumed (separator : Separator) (text : List ℕ) (rows : List (List (List ℕ)))
+    (reader : Reader (Bor (List ℕ))) : Type 0 where
   pub left : List ℕ
   pub config : reader.config ≡ config_of separator
   pub trims : reader.trim ≡ trim.None
   pub ready : Ready reader
-  pub source : source_of remaining reader ≡ Some left
+  pub source : source_of (λ s. Some s.now) reader ≡ Some left
   pub reached : Reached (config_of separator) StartRecord (strip_bom text) rows reader.state left

@@ -1,6 +1,5 @@
 //! Why an agency's CSV is not turned into an upload.
 
-use crate::agency::reading::Reason;
 use std::alloc::{AllocError, AllocFailed};
 
 /// A column that a choice names.
@@ -16,20 +15,11 @@ pub enum Wanted {
     Count,
 }
 
-/// Why an agency's CSV is not turned into an upload. The head is row 1.
+/// Why an agency's CSV is not turned into an upload.
 #[derive(Clone, Copy, Debug, PartialEq, Eq)]
 pub enum AgencyFault {
     /// The head lacks this column, or has it twice.
     Column(Wanted),
-    /// A row that is kept is not a tap.
-    Row { number: u64, reason: Reason },
-    Unread,
-    /// The text was another one when it was read again.
-    Changed,
-    /// A write of the upload failed.
-    Write,
-    /// A write of the refused rows failed.
-    RefusedWrite,
     NoMemory,
 }
 

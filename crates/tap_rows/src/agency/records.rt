@@ -1,20 +1,16 @@
 //! The records of a CSV text, one after the other.
 
-ghost use Rattle.std.specs.Prelude.{◌≡◌, ◌∷◌, ◌++◌, [], ℕ, List, Some, true, false, IfErr, IfOk};
+ghost use Rattle.std.specs.Prelude.{◌≡◌, ◌∷◌, ◌++◌, [], ℕ, List, true, false, IfOk};
 ghost use Rattle.csv.specs.Records.{fields_of};
 ghost use Rattle.tap_rows.specs.AgencyTexts.{HasRecords};
-ghost use Rattle.tap_rows.specs.inside.Goings.{IsOfSystem};
 ghost use Rattle.tap_rows.specs.inside.RecordReaders.{HasConsumed};
 
 use crate::agency::choice::Separator;
-use crate::agency::fault::AgencyFault;
-use csv::{ByteRecord, ErrorKind, Reader, ReaderBuilder};
-use std::alloc::Global;
-use std::io::Read;
+use csv::{ByteRecord, Reader, ReaderBuilder};
+use std::alloc::{AllocError, Global};
 
-pub(crate) fn records_of<R: Read>(alloc: Global, separator: Separator, text: R) -> Reader<R>
-    ensures { (bytes : List ℕ) → R.remaining text ≡ Some bytes
-        → HasConsumed R.remaining separator bytes [] result }
+pub(crate) fn records_of(alloc: Global, separator: Separator, text: &[u8]) -> Reader<&[u8]>
+    ensures { HasConsumed separator text.now [] result }
 {
     ReaderBuilder::new()
         .has_headers(false)
@@ -23,23 +19,20 @@ pub(crate) fn records_of<R: Read>(alloc: Global, separator: Separator, text: R) 
         .from_reader(alloc, text)
 }
 
-pub(crate) fn next_record<R: Read>(
-    reader: &mut Reader<R>,
+/// A slice is read without a fault, so that only an allocation can fail.
+pub(crate) fn next_record(
+    reader: &mut Reader<&[u8]>,
     row: &mut ByteRecord,
-) -> Result<bool, AgencyFault>
+) -> Result<bool, AllocError>
     ensures more { IfOk result (λ found. found ≡ true → (separator : Separator) (bytes : List ℕ)
-        (rows : List (List (List ℕ))) → HasConsumed R.remaining separator bytes rows reader.old
-        → HasConsumed R.remaining separator bytes (rows ++ fields_of row.new ∷ []) reader.new) }
+        (rows : List (List (List ℕ))) → HasConsumed separator bytes rows reader.old
+        → HasConsumed separator bytes (rows ++ fields_of row.new ∷ []) reader.new) }
     ensures none { IfOk result (λ found. found ≡ false → (separator : Separator) (bytes : List ℕ)
-        (rows : List (List (List ℕ))) → HasConsumed R.remaining separator bytes rows reader.old
+        (rows : List (List (List ℕ))) → HasConsumed separator bytes rows reader.old
         → HasRecords separator bytes rows) }
-    ensures fault { IfErr result IsOfSystem }
 {
     match reader.read_byte_record(row) {
         Ok(found) => Ok(found),
-        Err(error) => match error.kind() {
-            ErrorKind::OutOfMemory => Err(AgencyFault::NoMemory),
-            _ => Err(AgencyFault::Unread),
-        },
+        Err(_error) => Err(AllocError),
     }
 }

@@ -1,19 +1,15 @@
 //! The rows that are not taps, as they are written.
 
-ghost use Rattle.std.specs.Prelude.{◌≡◌, ◌∷◌, ◌++◌, IfErr, IfOk, OnOk};
+ghost use Rattle.std.specs.Prelude.{◌≡◌, ◌∷◌, ◌++◌, IfOk, OnOk};
 ghost use Rattle.csv.specs.Records.{fields_of};
-ghost use Rattle.std.specs.Io.KnownBytes.{Appends};
 ghost use Rattle.tap_rows.specs.Agencies.{reason_word, refusal_text, refusals_head};
 ghost use Rattle.tap_rows.specs.AgencyTexts.{record_text, separator_byte};
-ghost use Rattle.tap_rows.specs.inside.Goings.{IsOfSystem};
 
 use crate::agency::choice::Separator;
-use crate::agency::fault::AgencyFault;
 use crate::agency::reading::Reason;
 use csv::{ByteRecord, WriterBuilder};
 use itoa::Buffer;
-use std::alloc::Global;
-use std::io::Write;
+use std::alloc::{AllocError, Global};
 
 fn word_of(reason: Reason) -> &'static str
     ensures { result.now ≡ reason_word reason }
@@ -30,81 +26,71 @@ fn word_of(reason: Reason) -> &'static str
     }
 }
 
-fn text_of(alloc: Global, separator: Separator, row: &ByteRecord) -> Result<Vec<u8>, AgencyFault>
-    ensures text { IfOk result (λ text. text.items ≡ record_text separator (fields_of row.now)) }
-    ensures fault { IfErr result IsOfSystem }
+fn text_of(alloc: Global, separator: Separator, row: &ByteRecord) -> Result<Vec<u8>, AllocError>
+    ensures { IfOk result (λ text. text.items ≡ record_text separator (fields_of row.now)) }
 {
     let mut writer = WriterBuilder::new()
         .delimiter(separator.byte)
         .from_writer(Vec::new(alloc));
     if writer.write_byte_record(row).is_err() {
-        return Err(AgencyFault::NoMemory);
+        return Err(AllocError);
     }
     match writer.into_inner() {
         Ok(text) => Ok(text),
-        Err(_) => Err(AgencyFault::NoMemory),
+        Err(_) => Err(AllocError),
     }
 }
 
-fn put<X: Write>(
+fn push(
     alloc: Global,
     separator: Separator,
     first: &str,
     second: &str,
     row: &ByteRecord,
-    out: &mut X,
-) -> Result<(), AgencyFault>
-    ensures text { OnOk result (Appends (X.contents out.old) (X.contents out.new)
-        (first.now ++ separator_byte separator ∷ (second.now ++ separator_byte separator
+    text: &mut Vec<u8>,
+) -> Result<(), AllocError>
+    ensures { OnOk result (text.new.items ≡ text.old.items
+        ++ (first.now ++ separator_byte separator ∷ (second.now ++ separator_byte separator
         ∷ record_text separator (fields_of row.now)))) }
-    ensures fault { IfErr result IsOfSystem }
 {
-    let text = text_of(alloc, separator, row)?;
-    let mut line = Vec::new(alloc);
-    line.extend_from_slice(first.as_bytes())?;
-    line.push(separator.byte)?;
-    line.extend_from_slice(second.as_bytes())?;
-    line.push(separator.byte)?;
-    line.extend_from_slice(&text)?;
-    match out.write_all(&line) {
-        Ok(()) => Ok(()),
-        Err(_) => Err(AgencyFault::RefusedWrite),
-    }
+    let fields = text_of(alloc, separator, row)?;
+    text.extend_from_slice(first.as_bytes())?;
+    text.push(separator.byte)?;
+    text.extend_from_slice(second.as_bytes())?;
+    text.push(separator.byte)?;
+    text.extend_from_slice(&fields)
 }
 
-pub(crate) fn write_refusals_head<X: Write>(
+pub(crate) fn push_refusals_head(
     alloc: Global,
     separator: Separator,
     head: &ByteRecord,
-    out: &mut X,
-) -> Result<(), AgencyFault>
-    ensures text { OnOk result (Appends (X.contents out.old) (X.contents out.new)
-        (refusals_head separator (fields_of head.now))) }
-    ensures fault { IfErr result IsOfSystem }
+    text: &mut Vec<u8>,
+) -> Result<(), AllocError>
+    ensures { OnOk result (text.new.items
+        ≡ text.old.items ++ refusals_head separator (fields_of head.now)) }
 {
-    put(alloc, separator, "row", "reason", head, out)
+    push(alloc, separator, "row", "reason", head, text)
 }
 
-pub(crate) fn write_refusal<X: Write>(
+pub(crate) fn push_refusal(
     alloc: Global,
     separator: Separator,
     number: u64,
     reason: Reason,
     row: &ByteRecord,
-    out: &mut X,
-) -> Result<(), AgencyFault>
-    ensures text { OnOk result (Appends (X.contents out.old) (X.contents out.new)
-        (refusal_text separator
-        (record { number = number; reason = reason; row = fields_of row.now }))) }
-    ensures fault { IfErr result IsOfSystem }
+    text: &mut Vec<u8>,
+) -> Result<(), AllocError>
+    ensures { OnOk result (text.new.items ≡ text.old.items ++ refusal_text separator
+        (record { number = number; reason = reason; row = fields_of row.now })) }
 {
     let mut digits = Buffer::new();
-    put(
+    push(
         alloc,
         separator,
         digits.format(number),
         word_of(reason),
         row,
-        out,
+        text,
     )
 }

@@ -1,17 +1,11 @@
-//! The rows of an agency's CSV, written as an upload.
+//! The rows of an agency's CSV, as an upload.
 
-ghost use Rattle.std.specs.Prelude.{◌≡◌, ◌<◌, ◌++◌, ℕ, List, None, Option, All, IfErr, IfOk};
-ghost use Rattle.std.specs.Prelude.{IfSome, IsErrOf, IsSome, OnErr, OnOk, true};
-ghost use Rattle.std.specs.Prelude.{flat_map};
-ghost use Rattle.std.specs.Io.KnownBytes.{Appends};
+ghost use Rattle.std.specs.Prelude.{◌≡◌, ◌<◌, ◌++◌, List, All, IfErr, IfOk, OnOk, flat_map};
 ghost use Rattle.csv.specs.Records.{fields_of};
-ghost use Rattle.tap_rows.specs.Agencies.{AreStarted, IsAgencyFault, IsOfRows, IsRowsEncoded};
-ghost use Rattle.tap_rows.specs.Agencies.{IsUploadStarted, MayEndOnce, refusal_of, refusal_text};
+ghost use Rattle.tap_rows.specs.Agencies.{IsAgencyFault, IsRowsEncoded, refusal_of, refusal_text};
 ghost use Rattle.tap_rows.specs.Agencies.{tap_of};
-ghost use Rattle.tap_rows.specs.inside.Goings.{IsOfSystem};
+ghost use Rattle.tap_rows.specs.inside.Growing.{IsGrown};
 ghost use Rattle.tap_rows.specs.inside.Positions.{ArePositions, IsHeadFault};
-ghost use Rattle.tap_rows.specs.inside.WaitingTaps.{AreWritten};
-ghost use Rattle.tap_views.specs.Encoding.{AreEncodable};
 ghost use Rattle.tap_views.specs.Layout.{moment_limit};
 ghost use Rattle.tap_views.specs.declared.encoder.TapFields.{TapFields};
 
@@ -21,45 +15,42 @@ use crate::agency::note::{note_fault, note_reading};
 use crate::agency::positions::{Positions, positions_of};
 use crate::agency::reading::{Reading, reading_of};
 use crate::agency::records::{next_record, records_of};
-use crate::agency::refusals::{write_refusal, write_refusals_head};
+use crate::agency::refusals::{push_refusal, push_refusals_head};
 use crate::agency::summary::{Summary, with_row};
-use crate::agency::waiting::{add_tap, write_waiting};
+use crate::growing::Growing;
 use csv::ByteRecord;
-use std::alloc::Global;
-use std::io::{Read, Write, sink};
-use tap_views::{MAX_TAPS, TapFields};
+use std::alloc::{AllocError, Global};
 
-fn put_row<W: Write, X: Write>(
+/// What an agency's CSV is turned into.
+#[derive(Drop)]
+pub struct EncodedRows {
+    /// The upload of the rows that are taps, in `TAP1` batches of 4,096.
+    pub upload: Vec<u8>,
+    /// The rows that are not, after the head, each with its number and the reason.
+    pub refused: Vec<u8>,
+    pub summary: Summary,
+}
+
+fn put_row(
     alloc: Global,
     separator: Separator,
     number: u64,
     row: &ByteRecord,
     reading: &Reading,
-    waiting: &mut Vec<TapFields>,
-    out: &mut W,
-    refused: &mut X,
-) -> Result<(), AgencyFault>
-    requires waiting { AreEncodable (λ tap. tap.moment) waiting.old.items }
+    growing: &mut Growing,
+    refused: &mut Vec<u8>,
+) -> Result<(), AllocError>
+    requires grown { (taps : List TapFields) × IsGrown growing.old taps }
     requires early { All (λ tap. tap.moment < moment_limit) (tap_of reading.now) }
-    ensures waiting { OnOk result (AreEncodable (λ tap. tap.moment) waiting.new.items) }
-    ensures taps { OnOk result ((old : Option (List ℕ)) (taps : List TapFields)
-        → AreWritten old (W.contents out.old) waiting.old.items taps
-        → AreWritten old (W.contents out.new) waiting.new.items (taps ++ tap_of reading.now)) }
-    ensures refused { OnOk result ((old : Option (List ℕ)) (text : List ℕ)
-        → Appends old (X.contents refused.old) text
-        → Appends old (X.contents refused.new) (text ++ flat_map (refusal_text separator)
-        (refusal_of number (fields_of row.now) reading.now))) }
-    ensures started { OnErr result ((old : Option (List ℕ)) (taps : List TapFields)
-        → AreWritten old (W.contents out.old) waiting.old.items taps
-        → AreStarted taps old (W.contents out.new)) }
-    ensures fault { IfErr result IsOfSystem }
+    ensures taps { OnOk result ((taps : List TapFields) → IsGrown growing.old taps
+        → IsGrown growing.new (taps ++ tap_of reading.now)) }
+    ensures refused { OnOk result (refused.new.items ≡ refused.old.items ++ flat_map
+        (refusal_text separator) (refusal_of number (fields_of row.now) reading.now)) }
 {
     match reading {
-        Reading::Tap(tap) => add_tap(alloc, waiting, *tap, out),
+        Reading::Tap(tap) => growing.push(*tap),
         Reading::LeftOut => Ok(()),
-        Reading::Refused(reason) => {
-            write_refusal(alloc, separator, number, *reason, row, refused)
-        }
+        Reading::Refused(reason) => push_refusal(alloc, separator, number, *reason, row, refused),
     }
 }
 
@@ -81,114 +72,54 @@ fn noted_positions<'a>(
     }
 }
 
-/// Writes the upload of the rows that a choice keeps, in `TAP1` batches of 4,096 taps, and the rows
-/// that are not taps to `refused`. Nothing is written if the head lacks a column, and a prefix
-/// after another error. `note` gets what is wrong with the head, or with the first refused row.
-pub fn encode_some_rows<R: Read + Drop, W: Write, X: Write>(
+/// The upload of the rows that a choice keeps, the rows that are not taps, and the summary. `note`
+/// gets what is wrong with the head, or with the first refused row.
+pub fn encode_rows(
     alloc: Global,
     choice: &Choice<'_>,
-    text: R,
-    out: &mut W,
-    refused: &mut X,
+    text: &[u8],
     note: &mut String,
-) -> Result<Summary, AgencyFault>
-    ensures upload { IfOk result (λ summary. IfSome (R.remaining text)
-        (λ bytes. IsRowsEncoded choice.now bytes (W.contents out.old) (W.contents out.new)
-        (X.contents refused.old) (X.contents refused.new) summary)) }
-    ensures fault { IfErr result
-        (λ fault. IfSome (R.remaining text) (λ bytes. IsAgencyFault choice.now bytes fault)) }
-    ensures nothing { IfErr result
-        (λ fault. IsOfRows fault → (out.new ≡ out.old) × (refused.new ≡ refused.old)) }
-    ensures started { OnErr result (IfSome (R.remaining text)
-        (λ bytes. IsUploadStarted choice.now bytes (W.contents out.old) (W.contents out.new))) }
-    ensures once { IfErr result MayEndOnce }
+) -> Result<EncodedRows, AgencyFault>
+    ensures encoded { IfOk result (λ encoded. IsRowsEncoded choice.now text.now
+        encoded.upload.items encoded.refused.items encoded.summary) }
+    ensures fault { IfErr result (IsAgencyFault choice.now text.now) }
 {
-    let mut reader = records_of(alloc, choice.columns.separator, text);
+    let separator = choice.columns.separator;
+    let mut reader = records_of(alloc, separator, text);
     let mut row = ByteRecord::new(alloc);
     let has_head = next_record(&mut reader, &mut row)?;
     if !has_head {
         return Err(AgencyFault::Column(Wanted::Token));
     }
     let positions = noted_positions(alloc, choice, &row, note)?;
-    write_refusals_head(alloc, choice.columns.separator, &row, refused)?;
-    let mut waiting = Vec::with_capacity(alloc, MAX_TAPS)?;
+    let mut refused = Vec::new(alloc);
+    push_refusals_head(alloc, separator, &row, &mut refused)?;
+    let mut growing = Growing::new(alloc)?;
     let mut summary = Summary::new();
     for count in 0..u64::MAX - 2 {
         let has_row = next_record(&mut reader, &mut row)?;
         if !has_row {
-            write_waiting(alloc, &mut waiting, out)?;
-            return Ok(summary);
+            let upload = growing.finish()?;
+            return Ok(EncodedRows {
+                upload,
+                refused,
+                summary,
+            });
         }
         let reading = reading_of(choice, &positions, &row);
         note_reading(note, choice, &positions, &row, &reading);
         let number = count + 2;
         put_row(
             alloc,
-            choice.columns.separator,
+            separator,
             number,
             &row,
             &reading,
-            &mut waiting,
-            out,
-            refused,
+            &mut growing,
+            &mut refused,
         )?;
         summary = with_row(summary, number, &reading);
     }
-    Err(AgencyFault::Unread)
-}
-
-fn is_same(summary: &Summary, found: &Summary) -> bool
-    ensures same { result ≡ true → summary.now ≡ found.now }
-    ensures yes { summary.now ≡ found.now → result ≡ true }
-{
-    *summary == *found
-}
-
-/// The text had no fault when it was read first: its rows have changed.
-fn when_read_again(fault: AgencyFault) -> AgencyFault
-    ensures changed { IsOfRows fault → result ≡ AgencyFault.Changed }
-    ensures other { (¬ (IsOfRows fault)) → result ≡ fault }
-    ensures none { ¬ (IsOfRows result) }
-{
-    match fault {
-        AgencyFault::Column(_) | AgencyFault::Row { .. } => AgencyFault::Changed,
-        fault => fault,
-    }
-}
-
-/// Writes the upload of the rows that a choice keeps, if each is a tap. The text is read twice, so
-/// that nothing is written if a row is refused, and a prefix after another error. `note` gets what
-/// is wrong with the head, or with that row.
-pub fn encode_rows<R: Read + Drop, S: Read + Drop, W: Write>(
-    alloc: Global,
-    choice: &Choice<'_>,
-    text: R,
-    again: S,
-    out: &mut W,
-    note: &mut String,
-) -> Result<Summary, AgencyFault>
-    ensures upload { IfOk result (λ summary. IfSome (S.remaining again)
-        (λ bytes. IsRowsEncoded choice.now bytes (W.contents out.old) (W.contents out.new)
-        None None summary)) }
-    ensures whole { IfOk result (λ summary. summary.first_refused ≡ None) }
-    ensures refused { IfErr result (λ fault. IsOfRows fault
-        → IfSome (R.remaining text) (λ bytes. IsAgencyFault choice.now bytes fault)) }
-    ensures nothing { IfErr result (λ fault. IsOfRows fault → out.new ≡ out.old) }
-    ensures started { OnErr result (IfSome (S.remaining again)
-        (λ bytes. IsUploadStarted choice.now bytes (W.contents out.old) (W.contents out.new))) }
-    ensures same { IsErrOf result AgencyFault.Changed → IsSome (R.remaining text)
-        → R.remaining text ≡ S.remaining again → ⊥ }
-{
-    let found = encode_some_rows(alloc, choice, text, &mut sink(), &mut sink(), note)?;
-    if let Some((number, reason)) = found.first_refused {
-        return Err(AgencyFault::Row { number, reason });
-    }
-    match encode_some_rows(alloc, choice, again, out, &mut sink(), note) {
-        Ok(summary) => if is_same(&summary, &found) {
-            Ok(summary)
-        } else {
-            Err(AgencyFault::Changed)
-        },
-        Err(fault) => Err(when_read_again(fault)),
-    }
+    // no slice has so many rows
+    Err(AgencyFault::NoMemory)
 }

@@ -29,10 +29,7 @@ fn read_by(
 {
     let mut reader = records_of(alloc, separator, text);
     let mut row = ByteRecord::new(alloc);
-    // A slice is read without a fault, so that only an allocation can fail.
-    let Ok(has_head) = next_record(&mut reader, &mut row) else {
-        return Err(DevicesFault::NoMemory);
-    };
+    let has_head = next_record(&mut reader, &mut row)?;
     if !has_head {
         return Err(DevicesFault::Head);
     }
@@ -41,9 +38,7 @@ fn read_by(
     }
     let mut table = DeviceTable::new(alloc, seed);
     for count in 0..u64::MAX - 2 {
-        let Ok(has_row) = next_record(&mut reader, &mut row) else {
-            return Err(DevicesFault::NoMemory);
-        };
+        let has_row = next_record(&mut reader, &mut row)?;
         if !has_row {
             return Ok(table);
         }

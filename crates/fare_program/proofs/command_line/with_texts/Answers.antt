@@ -16,10 +16,12 @@ returns c =
     ∙ ap₂ with_rule three c.flag_arg-traced.ensures.rule in
     let five = c.in_ok-arg-5.ensures.shape c.option_arg-tokens.ensures.local
     ∙ ap₂ with_rule four c.option_arg-tokens.ensures.rule in
-    let six = c.in_ok-command.ensures.shape c.option_arg-made_by.ensures.local
+    let six = c.in_ok-arg-6.ensures.shape c.option_arg-made_by.ensures.local
     ∙ ap₂ with_rule five c.option_arg-made_by.ensures.rule in
-    let seven = c.in_ok-add_list_args.ensures
-    ∙ ap (λ (a : App). with_rule (with_rule a list_option) null_flag) six in
-    IfOk-weaker c.arg-7.result _ _
+    let seven = c.in_ok-command.ensures.shape c.option_arg-format.ensures.local
+    ∙ ap₂ with_rule six c.option_arg-format.ensures.rule in
+    let eight = c.in_ok-add_list_args.ensures
+    ∙ ap (λ (a : App). with_rule (with_rule a list_option) null_flag) seven in
+    IfOk-weaker c.arg-8.result _ _
     (λ command adds. adds.shape c.positional_arg-file.ensures.local
-    ∙ ap₂ with_rule seven c.positional_arg-file.ensures.rule) c.arg-7.ensures
+    ∙ ap₂ with_rule eight c.positional_arg-file.ensures.rule) c.arg-8.ensures

@@ -18,10 +18,12 @@ returns c =
     ∙ ap₂ with_rule live c.files_arg-uploads.ensures.rule in
     let four = c.in_ok-arg-5.ensures.shape c.option_arg-report.ensures.local
     ∙ ap₂ with_rule three c.option_arg-report.ensures.rule in
-    let made = c.in_ok-command.ensures.shape c.option_arg-made_by.ensures.local
+    let made = c.in_ok-arg-6.ensures.shape c.option_arg-made_by.ensures.local
     ∙ ap₂ with_rule four c.option_arg-made_by.ensures.rule in
+    let format = c.in_ok-command.ensures.shape c.option_arg-format.ensures.local
+    ∙ ap₂ with_rule made c.option_arg-format.ensures.rule in
     let five = c.in_ok-add_list_args.ensures
-    ∙ ap (λ (a : App). with_rule (with_rule a list_option) null_flag) made in
-    IfOk-weaker c.arg-7.result _ _
+    ∙ ap (λ (a : App). with_rule (with_rule a list_option) null_flag) format in
+    IfOk-weaker c.arg-8.result _ _
     (λ command adds. adds.shape c.positional_arg-ledger.ensures.local
-    ∙ ap₂ with_rule five c.positional_arg-ledger.ensures.rule) c.arg-7.ensures
+    ∙ ap₂ with_rule five c.positional_arg-ledger.ensures.rule) c.arg-8.ensures

@@ -1,35 +1,46 @@
-use Rattle.std.proofs.Common.{◌≡◌}
-use Rattle.std.proofs.lemmas.Option.{IfSome_then}
-use Rattle.std.proofs.lemmas.Result.{err_from_is_err_and}
-use Rattle.tap_rows.proofs.StartedLemmas.{started_encoded, started_known}
-use Rattle.tap_rows.proofs.TableLemmas.{same_count, no_change}
-use Rattle.tap_rows.specs.declared.fault.RowsFault.TheVariants.{Changed}
+use Rattle.std.proofs.Common.{◌≡◌, ◌∙◌, ◌==◌, ◌+◌, [], true, length, refl, subst, sym}
+use Rattle.std.proofs.lemmas.Bool.{eqb-true}
+use Rattle.std.proofs.lemmas.List.{nil_from_length}
+use Rattle.std.specs.Io.BufRead.{drop_through}
+use Rattle.tap_rows.specs.Rows.{IsNoTapRow, IsTapRow}
+use Rattle.tap_rows.specs.TapTables.{BeginsWithRows, IsHead}
+use Rattle.tap_rows.specs.inside.TapTables.{HasEncoded}
+use Rattle.tap_rows.proofs.TableLemmas.{encoded_bad, encoded_row}
 use Rattle.tap_rows.proofs.into_upload.encode.Goals as goal
 
-pub returns-else-written-count-clause-same : goal.returns-else-written-count-clause-same
-returns-else-written-count-clause-same g c = λ changed some same.
-    c.if-written-count.false
-    (same_count (g.R.Read.remaining c.args.table.now) (g.S.Read.remaining c.args.again.now)
-    (g.W.Write.contents c.args.out.now) (g.W.Write.contents c.write_taps.new.out)
-    c.in_ok-count.count c.in-Ok.written some same c.in_ok-count.ensures.table
-    c.in-Ok.ensures.upload)
+pub returns-then-is_empty-clause-upload : goal.returns-then-is_empty-clause-upload
+returns-then-is_empty-clause-upload c =
+    let has = c.loop-number.invariant in
+    let none : c.loop-number.left.now ≡ [] = nil_from_length c.loop-number.left.now
+    (eqb-true _ 0 (sym c.is_empty.ensures ∙ c.if-is_empty.true)) in
+    record {
+      taps = has.taps;
+      tap_table = record {
+        head_line = subst IsHead c.split_line.ensures.line
+            (c.is_head.ensures.0 c.if-not-is_head.false);
+        rows = subst (λ left. BeginsWithRows (drop_through 10 c.args.table.now) has.taps left) none
+            has.rows;
+      };
+      upload = c.in_ok-finish.ensures has.taps has.grown;
+    }
 
-pub returns-in-Err-clause-same : goal.returns-in-Err-clause-same
-returns-in-Err-clause-same g c = λ changed some same.
-    let is : c.when_read_again.result ≡ Changed = cc in
-    no_change (g.R.Read.remaining c.args.table.now) (g.S.Read.remaining c.args.again.now)
-    c.in_ok-count.count c.in-Err.fault c.when_read_again.result
-    c.when_read_again.ensures.changed c.when_read_again.ensures.other is some same
-    c.in_ok-count.ensures.table c.in-Err.ensures.refused
+pub returns-in-Err-clause-fault : goal.returns-in-Err-clause-fault
+returns-in-Err-clause-fault c =
+    let left = c.loop-number.left.now in
+    encoded_bad c.args.table.now left c.loop-number.number c.loop-number.growing c.in-Err.column
+    (subst IsHead c.split_line.ensures.line (c.is_head.ensures.0 c.if-not-is_head.false))
+    c.loop-number.invariant
+    (λ none. let is : (length left == 0) ≡ true = rw none refl in
+    absurd (cc (c.is_empty.ensures, c.if-is_empty.false, is)))
+    (subst (λ line. IsNoTapRow line c.in-Err.column) c.split_line-in-loop-number.ensures.line
+    c.in-Err.ensures.wrong)
 
-pub returns-in_err-count-clause-started : goal.returns-in_err-count-clause-started
-returns-in_err-count-clause-started g c =
-    let p = err_from_is_err_and c.from_residual.result c.from_residual.ensures.1 in
-    rw p.1
-    (started_known (g.S.Read.remaining c.args.again.now) (g.W.Write.contents c.args.out.now))
-
-pub returns-else-written-count-clause-started : goal.returns-else-written-count-clause-started
-returns-else-written-count-clause-started g c =
-    IfSome_then (g.S.Read.remaining c.args.again.now) c.in-Ok.ensures.upload (λ text encoded.
-    started_encoded text (g.W.Write.contents c.args.out.now)
-    (g.W.Write.contents c.write_taps.new.out) c.in-Ok.written encoded)
+pub loop-number-preserved : goal.loop-number-preserved
+loop-number-preserved c =
+    let split = c.split_line-in-loop-number.ensures in
+    subst (λ rest. HasEncoded c.args.table.now rest (c.loop-number.number + 1) c.push.new.self)
+    (sym split.rest)
+    (encoded_row c.args.table.now c.loop-number.left.now c.loop-number.number c.loop-number.growing
+    c.push.new.self c.in-Ok.tap c.loop-number.invariant
+    (subst (λ line. IsTapRow line c.in-Ok.tap) split.line c.in-Ok.ensures.row)
+    c.in_ok-push-in-Ok.ensures)

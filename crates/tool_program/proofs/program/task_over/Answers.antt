@@ -1,4 +1,4 @@
-use Rattle.std.proofs.Common.{◌≡◌, ◌∙◌, Bor, List, None, ap, arith, false, inl, inr, map, refl}
+use Rattle.std.proofs.Common.{◌∙◌, Bor, List, ap, inl, inr, map, refl}
 use Rattle.std.proofs.Common.{subst, sym, ℕ}
 use Rattle.program_manners.specs.LineWritten.{LineWritten}
 use Rattle.tool_words.specs.UsageErrors.{usage_error_text}
@@ -20,28 +20,9 @@ returns-in-Merge-clause-aborted g c = λ one.
           c.deref-in-Merge.ensures.value (gives kept keeps)),
     )
 
-pub returns-in-EncodeRows-clause-done : goal.returns-in-EncodeRows-clause-done
-returns-in-EncodeRows-clause-done g c = λ zero. rw c.in-EncodeRows.is (
-  (λ kept keeps.
-      (c.in-EncodeRows.words, refl, c.encode_rows_over.ensures.done kept keeps zero)),
-  c.encode_rows_over.ensures.flushed (λ one. absurd (omega (arith, zero, one))),
-)
-
-pub returns-in-EncodeRows-clause-partly : goal.returns-in-EncodeRows-clause-partly
-returns-in-EncodeRows-clause-partly g c = λ three. rw c.in-EncodeRows.is (
-  (λ kept keeps.
-      (c.in-EncodeRows.words, refl, c.encode_rows_over.ensures.partly kept keeps three)),
-  c.encode_rows_over.ensures.flushed (λ one. absurd (omega (arith, three, one))),
-)
-
-pub returns-in-EncodeRows-clause-aborted : goal.returns-in-EncodeRows-clause-aborted
-returns-in-EncodeRows-clause-aborted g c = λ one. rw c.in-EncodeRows.is (
-    elim (c.encode_rows_over.ensures.faults one) [
-      | inl empty ↦ inl (λ kept keeps. (c.in-EncodeRows.words, refl, empty kept keeps))
-      | inr stopped ↦ inr (
-          stopped.0, stopped.1, stopped.2, (c.in-EncodeRows.words, refl, stopped.3))
-    ]
-    )
+pub returns-in-EncodeRows-clause-framed : goal.returns-in-EncodeRows-clause-framed
+returns-in-EncodeRows-clause-framed g c =
+    rw c.in-EncodeRows.is (c.in-EncodeRows.words, refl, c.encode_rows_over.ensures.ends)
 
 pub returns-in-UsageError-clause-misused : goal.returns-in-UsageError-clause-misused
 returns-in-UsageError-clause-misused g c = λ line is.

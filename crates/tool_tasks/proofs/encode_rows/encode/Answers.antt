@@ -1,57 +1,21 @@
-use Rattle.std.proofs.Common.{inl, inr, refl}
-use Rattle.std.proofs.KnownBytes.{Keeps-refl}
-use Rattle.std.proofs.lemmas.Result.{IfOk-weaker, err_from_is_err_and}
-use Rattle.tool_tasks.specs.EncodeRows.{words_in, word_in}
-use Rattle.tool_tasks.proofs.EncodedRows.{choice_of, if_err_both}
-use Rattle.tool_tasks.proofs.Opened.{still_kept}
+use Rattle.std.proofs.Common.{◌≡◌, [], None, refl, sym}
+use Rattle.std.proofs.lemmas.Result.{IfErr-weaker, IfOk-weaker}
+use Rattle.world.proofs.Laws.{no_loads}
+use Rattle.tool_tasks.specs.EncodeRows.{AreDeviceLoads, word_in}
 use Rattle.tool_tasks.proofs.encode_rows.encode.Goals as goal
 
-pub returns-in_err-devices-clause-stops : goal.returns-in_err-devices-clause-stops
-returns-in_err-devices-clause-stops g c =
-    let p = err_from_is_err_and c.from_residual.result c.from_residual.ensures.1 in
-    rw (p.1, p.2) (λ kept is. (
-      refl,
-      inl (c.in_err-devices.ensures.stops, Keeps-refl (g.W.Write.contents c.args.out.now.writer)),
-    ))
+pub returns-in-None-clause-done : goal.returns-in-None-clause-done
+returns-in-None-clause-done g c =
+    let old = g.W.Inputs.run c.args.world.now in
+    let of : AreDeviceLoads (word_in c.args.words.now.devices) c.args.words.now.columns.separator []
+    None = rw c.in-None.is refl in
+    IfOk-weaker c.encode_table.result _ _ (λ status ends. ends old [] (sym (no_loads old)) of)
+    c.encode_table.ensures.done
 
-pub returns-clause-done : goal.returns-clause-done
-returns-clause-done g c =
-    IfOk-weaker c.encode_text.result _ _ (λ line done kept is.
-    let words = c.args.words.now in
-    let has = c.in_ok-devices.ensures.table in
-    let now = still_kept (words_in (word_in words.devices)) kept
-    (g.S.Source.loaded c.args.source.now) (g.S.Source.loaded c.devices_in.new.source) has.texts is
-    has.opened in
-    let all = done now.0 now.1 in (
-      all.0,
-      all.1,
-      record {
-        devices = _;
-        choice = c.choice-choice.result;
-        is_choice = choice_of words c.in_ok-devices.devices c.as_ref.result c.choice-choice.result
-            c.as_ref.ensures.value c.choice-choice.ensures;
-        between = g.S.Source.loaded c.devices_in.new.source;
-        of_devices = has;
-        encodes = all.2;
-      },
-    )) c.encode_text.ensures.done
-
-pub returns-clause-stops : goal.returns-clause-stops
-returns-clause-stops g c =
-    if_err_both c.encode_text.result _ _ _ (λ fault made stops kept is.
-    let words = c.args.words.now in
-    let has = c.in_ok-devices.ensures.table in
-    let now = still_kept (words_in (word_in words.devices)) kept
-    (g.S.Source.loaded c.args.source.now) (g.S.Source.loaded c.devices_in.new.source) has.texts is
-    has.opened in (
-      made,
-      inr (record {
-        devices = _;
-        choice = c.choice-choice.result;
-        is_choice = choice_of words c.in_ok-devices.devices c.as_ref.result c.choice-choice.result
-            c.as_ref.ensures.value c.choice-choice.ensures;
-        between = g.S.Source.loaded c.devices_in.new.source;
-        of_devices = has;
-        aborts = stops now.0 now.1;
-      }),
-    )) c.encode_text.ensures.kept c.encode_text.ensures.stops
+pub returns-in-None-clause-halted : goal.returns-in-None-clause-halted
+returns-in-None-clause-halted g c =
+    let old = g.W.Inputs.run c.args.world.now in
+    let of : AreDeviceLoads (word_in c.args.words.now.devices) c.args.words.now.columns.separator []
+    None = rw c.in-None.is refl in
+    IfErr-weaker c.encode_table.result _ _ (λ halt ends. ends old [] (sym (no_loads old)) of)
+    c.encode_table.ensures.halted

@@ -25,8 +25,8 @@ returns-in-Ok-merged-clause-halted g c =
     halts_at_once _ (names_of (sorting_of c.args.words.now)) _ _ NoMemory tt
     (c.discard.ensures ∙ c.in-Ok.ensures.unchanged)
 
-pub returns-in-Err-None-clause-halted : goal.returns-in-Err-None-clause-halted
-returns-in-Err-None-clause-halted g c =
+pub returns-in-None-clause-halted : goal.returns-in-None-clause-halted
+returns-in-None-clause-halted g c =
     let out = c.args.words.now.out.now in
     halts_at_once _ (names_of (sorting_of c.args.words.now)) _ _ (Unmade 0 c.fail.result)
     (omega arith) (
@@ -36,10 +36,10 @@ returns-in-Err-None-clause-halted g c =
           c.fail.result) c.in-Ok.ensures.unchanged c.fail.ensures,
     )
 
-pub returns-in-Err-Some-NoMemory-clause-halted : goal.returns-in-Err-Some-NoMemory-clause-halted
-returns-in-Err-Some-NoMemory-clause-halted g c =
+pub returns-in-Some-NoMemory-clause-halted : goal.returns-in-Some-NoMemory-clause-halted
+returns-in-Some-NoMemory-clause-halted g c =
     halts_at_once _ (names_of (sorting_of c.args.words.now)) _ _ NoMemory tt
-    (c.discard-in-Err-Some-NoMemory.ensures ∙ c.in-Ok.ensures.unchanged)
+    (c.discard-in-Some-NoMemory.ensures ∙ c.in-Ok.ensures.unchanged)
 
 pub returns-in-Ok-lines_of-clause-done : goal.returns-in-Ok-lines_of-clause-done
 returns-in-Ok-lines_of-clause-done g c =
@@ -105,16 +105,16 @@ returns g c =
     let request = sorting_of c.args.words.now in
     let under = g.D.PlacedFiles.bytes_under c.args.disk.now in
     let known = map under request.uploads in
-    let fault = c.in-Err-Some.fault in
+    let fault = c.in-Some.fault in
     let note = fault_text fault ++ codes "\n" in
-    let mid = g.W.Inputs.run c.discard-in-Err-Some.new.self in
+    let mid = g.W.Inputs.run c.discard-in-Some.new.self in
     let new = g.W.Inputs.run c.refuse.new.world in
-    let same = c.discard-in-Err-Some.ensures ∙ c.in-Ok.ensures.unchanged in
+    let same = c.discard-in-Some.ensures ∙ c.in-Ok.ensures.unchanged in
     let words = c.deref.result.now in
     let right = subst (λ (ws : List (Bor (List ℕ))). IsRightFileFault (map (λ w. w.now) ws)
     (map under (map (λ w. w.now) ws)) fault) c.deref.ensures.value
     (subst (λ o. IfSome o (IsRightFileFault (map (λ w. w.now) words)
-    (map under (map (λ w. w.now) words)))) c.in-Err-Some.field-0-is c.in-Err-Some.ensures.fault) in
+    (map under (map (λ w. w.now) words)))) c.in-Some.is c.in-Err-merged.ensures.fault) in
     record {
       done = IfOk-weaker c.refuse.result _ _ (λ status d.
           subst (λ (r : Run). IsDoneMaking (MergesOrRefuses request known) r new status) same

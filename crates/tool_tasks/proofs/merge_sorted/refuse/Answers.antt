@@ -10,7 +10,7 @@ returns-in-Err-clause-halted g c = λ names.
     halts_none names [] (fault_text c.args.fault ++ codes "\n") NoMemory
     (g.W.Inputs.run c.args.world.now) (g.W.Inputs.run c.args.world.now) tt refl
 
-pub returns-clause-halted : goal.returns-in-Err-flush-clause-halted
+pub returns-clause-halted : goal.returns-clause-halted
 returns-clause-halted g c = λ names.
     let old = g.W.Inputs.run c.args.world.now in
     let note = fault_text c.args.fault ++ codes "\n" in

@@ -1,14 +1,13 @@
-use Rattle.std.proofs.Common.{◌∙◌, sym, refl, ap, inr}
-use Rattle.std.specs.Prelude.{option_map}
+use Rattle.std.proofs.Common.{◌∙◌, sym, refl, inr}
 use Rattle.csv.specs.Reading.{Reached, strip_bom}
 use Rattle.tap_rows.proofs.agency.records.records_of.Goals as goal
 
 pub returns : goal.returns
 unfolding Reached
-returns g c = λ bytes known.
+returns c =
     let fr = c.from_reader.ensures in
     record {
-      left = strip_bom bytes;
+      left = strip_bom c.args.text.now;
       config = rw (
         c.delimiter.ensures,
         c.flexible.ensures,
@@ -23,6 +22,6 @@ returns g c = λ bytes known.
                 fr.has_headers,
             fr.headers,
           ));
-      source = fr.source ∙ ap (option_map strip_bom) known;
+      source = fr.source;
       reached = (sym fr.state, refl);
     }

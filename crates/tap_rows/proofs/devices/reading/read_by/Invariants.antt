@@ -1,9 +1,8 @@
-use Rattle.std.proofs.Common.{List, ℕ, Some, Bor}
 use Rattle.tap_rows.specs.Devices.{devices_of}
 use Rattle.tap_rows.specs.inside.DeviceRows.{HasDevices}
 use Rattle.tap_rows.proofs.devices.reading.read_by.Given as goal
 
 abbrev pub invariant-loop-count : goal.invariant-loop-count
 invariant-loop-count l =
-    HasDevices (λ (s : Bor (List ℕ)). Some s.now) l.fn.separator l.fn.text l.count l.reader
+    HasDevices l.fn.separator l.fn.text l.count l.reader
     (devices_of l.table)

@@ -50,7 +50,7 @@ returns-in-Ok-None-clause-given g c = λ start loads a given is.
     rows_given task _ c.deref-in-Some.result.now start (g.I.Inputs.run c.args.files.now)
     (g.I.Inputs.run c.show_count.new.self) (g.I.Inputs.run c.load_at.new.files) loads a
     c.in-Some.word.now c.in-Ok.upload.items c.deref-in-Ok.result.now c.args.piece.now.items
-    c.decode.new.out.items c.in-Ok-None.field-0 None given c.requires.stage is c.show_count.ensures
+    c.decode.new.text.items c.in-Ok-None.field-0 None given c.requires.stage is c.show_count.ensures
     c.deref-in-Some.ensures.value
     (looked task.words.items c.deref.result.now task.done (Some c.in-Some.word.now)
     c.in-Some.ensures c.deref.ensures.value) c.in-Ok.ensures.loaded c.deref-in-Ok.ensures.value
@@ -66,7 +66,7 @@ returns-in-Ok-Some-clause-given g c = λ start loads a given is.
     rows_given task _ c.deref-in-Some.result.now start (g.I.Inputs.run c.args.files.now)
     (g.I.Inputs.run c.show_count.new.self) (g.I.Inputs.run c.load_at.new.files) loads a
     c.in-Some.word.now c.in-Ok.upload.items c.deref-in-Ok.result.now c.args.piece.now.items
-    c.decode.new.out.items c.in-Ok-Some.field-0 (Some (c.in-Ok-Some.offset, c.in-Ok-Some.fault))
+    c.decode.new.text.items c.in-Ok-Some.field-0 (Some (c.in-Ok-Some.offset, c.in-Ok-Some.fault))
     given c.requires.stage is c.show_count.ensures c.deref-in-Some.ensures.value
     (looked task.words.items c.deref.result.now task.done (Some c.in-Some.word.now)
     c.in-Some.ensures c.deref.ensures.value) c.in-Ok.ensures.loaded c.deref-in-Ok.ensures.value
@@ -76,7 +76,7 @@ returns-in-Ok-Some-clause-given g c = λ start loads a given is.
 
 pub returns-clause-given : goal.returns-clause-given
 returns-clause-given g c = λ start loads a given is.
-    let task = c.args.self.now in let (text, fault, decoded, begins) = c.in-Err-decode.ensures.started in
+    let task = c.args.self.now in let (text, fault, decoded) = c.in-Err-decode.ensures.has_rows in
     rows_stop task c.deref-in-Some.result.now start (g.I.Inputs.run c.args.files.now)
     (g.I.Inputs.run c.show_count.new.self) (g.I.Inputs.run c.load_at.new.files) loads a
     c.in-Some.word.now c.in-Ok.upload.items c.deref-in-Ok.result.now text fault given
