@@ -7,19 +7,20 @@ use Rattle.frame.specs.declared.stop.Stop.{Stop}
 use Rattle.frame.specs.declared.stop.Stop.TheVariants.{NoMemory, Unmade, Unread, Unwritten}
 use Rattle.ledger_changes.specs.Given.{HasBegun, HasGiven, IsAllGiven, IsBegun, IsFaultOf}
 use Rattle.ledger_changes.specs.Given.{IsGivenAfter, new_calls, old_calls}
-use Rattle.ledger_changes.specs.Tokens.{corrections_of}
+use Rattle.ledger_changes.specs.Tokens.{corrections_of, head_of}
 use Rattle.ledger_changes.specs.declared.changes.Corrections.{Corrections}
 use Rattle.ledger_changes.specs.declared.fault.Bill.TheVariants.{New, Old}
 use Rattle.ledger_changes.specs.declared.fault.CorrectionsFault.{CorrectionsFault}
 use Rattle.ledger_changes.specs.declared.fault.CorrectionsFault.TheVariants as fault
 use Rattle.ledger_changes.proofs.Walking.{begun}
-use Rattle.recorded_lines.specs.Texts.{CanBe}
+use Rattle.recorded_lines.specs.Texts.{CanBe, Follows, calls_of}
+use Rattle.recorded_lines.specs.declared.text.Lines.{Lines}
 use Rattle.world.specs.Run.{Calls, Run, with_cut, with_flushed, with_said, with_written}
 use Rattle.world.specs.Writes.{IsCut}
 use Rattle.world.specs.declared.faults.WriteFault.{WriteFault}
-use Rattle.tool_tasks.specs.Corrections.{AreRead, IsCalled, IsStopped}
+use Rattle.tool_tasks.specs.Corrections.{AreRead, IsCalled, IsPart, IsStopped}
 use Rattle.tool_tasks.specs.Names.{file_named}
-use Rattle.tool_tasks.specs.inside.Corrections.{IsHalt, IsStopBy, IsUnopenedAt, halt_of}
+use Rattle.tool_tasks.specs.inside.Corrections.{IsHalt, IsStopBy, IsUnopenedAt, Stopped, halt_of}
 use Rattle.tool_words.specs.Request.{CorrectionsRequest}
 
 pub written_none : (r : Run) → r ≡ with_written r []
@@ -42,11 +43,12 @@ cut_on r now next text piece why is cut =
     (written_on r now (with_written now cut.front) text cut.front is refl)
 
 -- what was written and said
-pub flushed_said : (r now next : Run) (text note : List ℕ) → now ≡ with_written r text
-    → next ≡ with_said (with_flushed now) note
+pub flushed_said : (r now next : Run) (text said note : List ℕ) → now ≡ with_written r text
+    → said ≡ note → next ≡ with_said (with_flushed now) said
     → next ≡ with_flushed (did r [] (record { text = text; note = note }))
-flushed_said r now next text note is more =
-    more ∙ ap (λ (x : Run). with_said (with_flushed x) note) is
+flushed_said r now next text said note is same more =
+    more ∙ ap (λ (t : List ℕ). with_said (with_flushed now) t) same
+    ∙ ap (λ (x : Run). with_said (with_flushed x) note) is
     ∙ ap (λ l. record (with_flushed (with_said (with_written r text) note)) { loads = l })
     (sym (append-nil r.loads))
 
@@ -97,6 +99,11 @@ after_begun c by_token None text has =
     begun c by_token text (old_calls c) (new_calls c) has (λ whole can. can) (λ whole can. can)
 after_begun c by_token (Some removed) text all =
     all_begun by_token (old_calls c) (new_calls c) text removed all
+
+-- the head line was given
+pub given_head : (c : Corrections) (is by_token : Bool) → is ≡ by_token
+    → HasGiven c is (head_of is) → HasGiven c by_token (head_of by_token)
+given_head c is by_token same has = subst (λ (b : Bool). HasGiven c b (head_of b)) same has
 
 -- ---- a fault of a ledger
 pub halt_faulted : (fault : CorrectionsFault) (old new : Calls) (before after : Run)
@@ -169,3 +176,76 @@ called_unopened request calls number name failed (Unread at why) is has (same, u
 called_unopened request calls number name failed (Unwritten why) is has no_such = absurd no_such
 called_unopened request calls number name failed (Unmade at why) is has no_such = absurd no_such
 called_unopened request calls number name failed NoMemory is has none = tt
+
+pub not_opened : (request : CorrectionsRequest) (before after calls : List Calls) (number : ℕ)
+    (name : List ℕ) (failed : Calls) (why : Stop) (run : Run) → after ≡ before ++ calls
+    → slice_get (request.old ∷ request.new ∷ []) number ≡ Some name → Contains calls failed
+    → IsUnopenedAt number (file_named name) failed why → Stopped request before after run run why
+not_opened request before after calls number name failed why run all is has unopened = record {
+  calls = calls;
+  all = all;
+  event = called_unopened request calls number name failed why is has unopened;
+  text = [];
+  part = inl refl;
+  stopped = by why unopened;
+}
+  where
+    same : run ≡ did run [] (record { text = []; note = [] })
+    same = written_none run ∙ did_written run []
+
+    by : (w : Stop) → IsUnopenedAt number (file_named name) failed w
+        → IsStopped w (did run [] (record { text = []; note = [] })) run
+    by (Unread at cause) it = same
+    by (Unwritten cause) no_such = absurd no_such
+    by (Unmade at cause) no_such = absurd no_such
+    by NoMemory it = same
+
+pub not_both : (r0 r1 r2 r3 : List Calls) (a b : Calls) → r1 ≡ r0 → r2 ≡ r1 ++ a ∷ []
+    → r3 ≡ r2 ++ b ∷ [] → r3 ≡ r0 ++ a ∷ b ∷ []
+not_both r0 r1 r2 r3 a b first second third =
+    third ∙ ap (λ (l : List Calls). l ++ b ∷ []) second ∙ append_assoc r1 (a ∷ []) (b ∷ [])
+    ∙ ap (λ (l : List Calls). l ++ a ∷ b ∷ []) first
+
+-- both were opened, read on and closed
+pub both_read : (request : CorrectionsRequest) (r0 r1 r2 r3 r4 : List Calls) (o n : Lines)
+    (c c' : Corrections) (texts : Lines × Lines) → r1 ≡ r0 → r2 ≡ r1
+    → texts ≡ (c'.old.from, c'.new.from) → r3 ≡ r2 ++ calls_of texts.0 ∷ []
+    → r4 ≡ r3 ++ calls_of texts.1 ∷ [] → (calls_of o).reading.name ≡ file_named request.old
+    → (calls_of n).reading.name ≡ file_named request.new → c.old.from ≡ o → c.new.from ≡ n
+    → Follows c.old.from c'.old.from × Follows c.new.from c'.new.from
+    → AreRead request r0 r4 (old_calls c') (new_calls c')
+both_read request r0 r1 r2 r3 r4 o n c c' texts first second are third fourth is_o is_n at_o at_n
+    (old, new) =
+    are_read request r0 r1 r2 r3 r4 (old_calls c) (new_calls c) (old_calls c') (new_calls c') first
+    second (third ∙ ap (λ (t : Lines × Lines). r2 ++ calls_of t.0 ∷ []) are)
+    (fourth ∙ ap (λ (t : Lines × Lines). r3 ++ calls_of t.1 ∷ []) are)
+    (ap (λ (l : Lines). (calls_of l).reading.name) at_o ∙ is_o)
+    (ap (λ (l : Lines). (calls_of l).reading.name) at_n ∙ is_n) old.name new.name
+
+pub part_of : (request : CorrectionsRequest) (before after : List Calls) (old new : Calls)
+    (text : List ℕ) → AreRead request before after old new
+    → (text ≡ []) ⊎ HasBegun request.is_by_token text old new → IsPart request before after text
+part_of request before after old new text read (inl none) = inl none
+part_of request before after old new text read (inr has) = inr (old, new, read, has)
+
+pub stops : (request : CorrectionsRequest) (before after : List Calls) (old new : Calls) (why : Stop)
+    (run run' : Run) (text : List ℕ) → AreRead request before after old new
+    → (text ≡ []) ⊎ HasBegun request.is_by_token text old new
+    → IsStopBy why old new (with_written run text) run' → Stopped request before after run run' why
+stops request before after old new why run run' text read part is = record {
+  calls = old ∷ new ∷ [];
+  all = read.all;
+  event = called_by request before after old new why (with_written run text) run' read is;
+  text = text;
+  part = part_of request before after old new text read part;
+  stopped = stopped_by why old new (with_written run text) run' run text refl is;
+}
+
+-- what was written is not flushed
+pub not_flushed : (why : Stop) (old new : Calls) (run run' run'' : Run) (text : List ℕ)
+    → run' ≡ with_written run text
+    → (fault : WriteFault) × (why ≡ Unwritten fault) × (run'' ≡ with_cut run' fault)
+    → IsStopBy why old new (with_written run text) run''
+not_flushed why old new run run' run'' text is (fault, same, cut) =
+    subst (λ (w : Stop). IsStopBy w old new (with_written run text) run'') (sym same)
+    (cut ∙ ap (λ (x : Run). with_cut x fault) is)
