@@ -1,10 +1,13 @@
-use Rattle.std.proofs.Common.{◌∙◌, ◌∷◌, [], arith, inl, inr, refl}
+use Rattle.std.proofs.Common.{◌∙◌, ◌∷◌, [], arith, inl, inr, refl, subst}
 use Rattle.std.proofs.lemmas.Result.{IfErr-weaker, IfOk-weaker}
 use Rattle.frame.specs.declared.stop.Stop.TheVariants.{NoMemory}
 use Rattle.ledger_changes.specs.Given.{new_calls, old_calls}
 use Rattle.recorded_lines.specs.Texts.{calls_of}
 use Rattle.tool_words.specs.Tasks.{corrections_of}
 use Rattle.tool_tasks.specs.Corrections.{removed_note, wrong_note}
+use Rattle.tool_tasks.specs.declared.corrections.Halt.{Halt}
+use Rattle.tool_tasks.specs.inside.Corrections.{IsHalt}
+use Rattle.world.specs.Run.{with_written}
 use Rattle.tool_tasks.proofs.Corrected.{all_begun, both_read, flushed_said, not_both, not_flushed}
 use Rattle.tool_tasks.proofs.Corrected.{not_opened, part_of, stops}
 use Rattle.tool_tasks.proofs.corrections.correct.Goals as goal
@@ -94,7 +97,9 @@ returns-in-Ok-wrong_line-clause-done g c =
     c.in-Ok.ensures.unchanged c.in-Ok-open.ensures.unchanged c.into_texts-old.ensures
     c.close-2.ensures c.close-3.ensures c.in-Ok.ensures.named c.in-Ok-open.ensures.named
     c.new-corrections.ensures.old c.new-corrections.ensures.new c.write_all-written.ensures.follow in
-    let (text, part, is, first) = c.in-Err-Wrong.ensures-1.halted in
+    let (text, part, halt) = c.in-Err-Wrong.ensures-1.halted in
+    let (is, first) = subst (λ (h : Halt). IsHalt h old new (with_written run text) run')
+    c.in-Err-Wrong.field-0-is halt in
     IfOk-weaker c.finish-in-Ok-wrong_line.result _ _ (λ status end. inr (record {
       old = old;
       new = new;
@@ -123,7 +128,9 @@ returns-in-Ok-wrong_line-clause-halted g c =
     c.in-Ok.ensures.unchanged c.in-Ok-open.ensures.unchanged c.into_texts-old.ensures
     c.close-2.ensures c.close-3.ensures c.in-Ok.ensures.named c.in-Ok-open.ensures.named
     c.new-corrections.ensures.old c.new-corrections.ensures.new c.write_all-written.ensures.follow in
-    let (text, part, is, first) = c.in-Err-Wrong.ensures-1.halted in
+    let (text, part, halt) = c.in-Err-Wrong.ensures-1.halted in
+    let (is, first) = subst (λ (h : Halt). IsHalt h old new (with_written run text) run')
+    c.in-Err-Wrong.field-0-is halt in
     IfErr-weaker c.finish-in-Ok-wrong_line.result _ _ (λ why cut. stops request _ _ old new why run _
     text read part (not_flushed why old new run run' _ text is cut))
     c.finish-in-Ok-wrong_line.ensures.halted
@@ -140,7 +147,9 @@ returns-in-Err-wrong_line-clause-halted g c =
     c.in-Ok.ensures.unchanged c.in-Ok-open.ensures.unchanged c.into_texts-old.ensures
     c.close-2.ensures c.close-3.ensures c.in-Ok.ensures.named c.in-Ok-open.ensures.named
     c.new-corrections.ensures.old c.new-corrections.ensures.new c.write_all-written.ensures.follow in
-    let (text, part, is, first) = c.in-Err-Wrong.ensures-1.halted in
+    let (text, part, halt) = c.in-Err-Wrong.ensures-1.halted in
+    let (is, first) = subst (λ (h : Halt). IsHalt h old new (with_written run text) run')
+    c.in-Err-Wrong.field-0-is halt in
     stops request _ _ old new NoMemory run run' text read part is
 
 pub returns-in-Err-Stopped-clause-halted : goal.returns-in-Err-Stopped-clause-halted
@@ -155,5 +164,7 @@ returns-in-Err-Stopped-clause-halted g c =
     c.in-Ok.ensures.unchanged c.in-Ok-open.ensures.unchanged c.into_texts-old.ensures
     c.close-2.ensures c.close-3.ensures c.in-Ok.ensures.named c.in-Ok-open.ensures.named
     c.new-corrections.ensures.old c.new-corrections.ensures.new c.write_all-written.ensures.follow in
-    let (text, part, stop) = c.in-Err-Stopped.ensures-1.halted in
+    let (text, part, halt) = c.in-Err-Stopped.ensures-1.halted in
+    let stop = subst (λ (h : Halt). IsHalt h old new (with_written run text) run')
+    c.in-Err-Stopped.field-0-is halt in
     stops request _ _ old new c.in-Err-Stopped.why run run' text read part stop
