@@ -199,11 +199,13 @@ fn correct<F: Streams, W: World>(
             Ok(note) => finish(&note, 0, world),
             Err(AllocError) => Err(Stop::NoMemory),
         },
-        Err(Halt::Wrong(bill, number, why)) => match wrong_line(alloc, words, bill, number, why) {
-            Ok(note) => finish(&note, 1, world),
-            Err(AllocError) => Err(Stop::NoMemory),
+        Err(halt) => match halt {
+            Halt::Wrong(bill, number, why) => match wrong_line(alloc, words, bill, number, why) {
+                Ok(note) => finish(&note, 1, world),
+                Err(AllocError) => Err(Stop::NoMemory),
+            },
+            Halt::Stopped(why) => Err(why),
         },
-        Err(Halt::Stopped(why)) => Err(why),
     }
 }
 

@@ -97,21 +97,21 @@ returns-in-Ok-wrong_line-clause-done g c =
     c.in-Ok.ensures.unchanged c.in-Ok-open.ensures.unchanged c.into_texts-old.ensures
     c.close-2.ensures c.close-3.ensures c.in-Ok.ensures.named c.in-Ok-open.ensures.named
     c.new-corrections.ensures.old c.new-corrections.ensures.new c.write_all-written.ensures.follow in
-    let (text, part, halt) = c.in-Err-Wrong.ensures-1.halted in
+    let (text, part, halt) = c.in-Err-written.ensures.halted in
     let (is, first) = subst (λ (h : Halt). IsHalt h old new (with_written run text) run')
-    c.in-Err-Wrong.field-0-is halt in
+    c.in-Wrong.is halt in
     IfOk-weaker c.finish-in-Ok-wrong_line.result _ _ (λ status end. inr (record {
       old = old;
       new = new;
       read = read;
-      bill = c.in-Err-Wrong.bill;
-      number = c.in-Err-Wrong.number;
-      why = c.in-Err-Wrong.why;
+      bill = c.in-Wrong.bill;
+      number = c.in-Wrong.number;
+      why = c.in-Wrong.why;
       first = first;
       text = text;
       part = part_of request _ _ old new text read part;
       all = flushed_said run run' _ text c.deref-in-Ok-wrong_line.result.now
-          (wrong_note request c.in-Err-Wrong.bill c.in-Err-Wrong.number c.in-Err-Wrong.why) is
+          (wrong_note request c.in-Wrong.bill c.in-Wrong.number c.in-Wrong.why) is
           (c.deref-in-Ok-wrong_line.ensures.value ∙ c.in-Ok-wrong_line.ensures) end.1;
       failed = end.0;
     })) c.finish-in-Ok-wrong_line.ensures.done
@@ -128,9 +128,9 @@ returns-in-Ok-wrong_line-clause-halted g c =
     c.in-Ok.ensures.unchanged c.in-Ok-open.ensures.unchanged c.into_texts-old.ensures
     c.close-2.ensures c.close-3.ensures c.in-Ok.ensures.named c.in-Ok-open.ensures.named
     c.new-corrections.ensures.old c.new-corrections.ensures.new c.write_all-written.ensures.follow in
-    let (text, part, halt) = c.in-Err-Wrong.ensures-1.halted in
+    let (text, part, halt) = c.in-Err-written.ensures.halted in
     let (is, first) = subst (λ (h : Halt). IsHalt h old new (with_written run text) run')
-    c.in-Err-Wrong.field-0-is halt in
+    c.in-Wrong.is halt in
     IfErr-weaker c.finish-in-Ok-wrong_line.result _ _ (λ why cut. stops request _ _ old new why run _
     text read part (not_flushed why old new run run' _ text is cut))
     c.finish-in-Ok-wrong_line.ensures.halted
@@ -147,13 +147,13 @@ returns-in-Err-wrong_line-clause-halted g c =
     c.in-Ok.ensures.unchanged c.in-Ok-open.ensures.unchanged c.into_texts-old.ensures
     c.close-2.ensures c.close-3.ensures c.in-Ok.ensures.named c.in-Ok-open.ensures.named
     c.new-corrections.ensures.old c.new-corrections.ensures.new c.write_all-written.ensures.follow in
-    let (text, part, halt) = c.in-Err-Wrong.ensures-1.halted in
+    let (text, part, halt) = c.in-Err-written.ensures.halted in
     let (is, first) = subst (λ (h : Halt). IsHalt h old new (with_written run text) run')
-    c.in-Err-Wrong.field-0-is halt in
+    c.in-Wrong.is halt in
     stops request _ _ old new NoMemory run run' text read part is
 
-pub returns-in-Err-Stopped-clause-halted : goal.returns-in-Err-Stopped-clause-halted
-returns-in-Err-Stopped-clause-halted g c =
+pub returns-in-Stopped-clause-halted : goal.returns-in-Stopped-clause-halted
+returns-in-Stopped-clause-halted g c =
     let request = corrections_of c.args.words.now in
     let old = old_calls c.write_all-written.new.corrections in
     let new = new_calls c.write_all-written.new.corrections in
@@ -164,7 +164,7 @@ returns-in-Err-Stopped-clause-halted g c =
     c.in-Ok.ensures.unchanged c.in-Ok-open.ensures.unchanged c.into_texts-old.ensures
     c.close-2.ensures c.close-3.ensures c.in-Ok.ensures.named c.in-Ok-open.ensures.named
     c.new-corrections.ensures.old c.new-corrections.ensures.new c.write_all-written.ensures.follow in
-    let (text, part, halt) = c.in-Err-Stopped.ensures-1.halted in
+    let (text, part, halt) = c.in-Err-written.ensures.halted in
     let stop = subst (λ (h : Halt). IsHalt h old new (with_written run text) run')
-    c.in-Err-Stopped.field-0-is halt in
-    stops request _ _ old new c.in-Err-Stopped.why run run' text read part stop
+    c.in-Stopped.is halt in
+    stops request _ _ old new c.in-Stopped.why run run' text read part stop
