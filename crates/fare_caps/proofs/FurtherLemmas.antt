@@ -23,6 +23,7 @@ use Rattle.fare_caps.specs.Caps.{CapRules, counted, each_window, left, no_window
 use Rattle.fare_caps.specs.Caps.{opened, opened_until, window_cap}
 use Rattle.fare_caps.specs.Charges.{cap_cents, cap_paid, least_from, lesser, lowered}
 use Rattle.fare_caps.specs.Represents.{HasRoom, IsFurther, KeepsStates, cap_windows}
+use Rattle.fare_caps.specs.Represents.{no_further}
 use Rattle.fare_caps.specs.declared.ride_cap.RideCap.{RideCap}
 use Rattle.fare_caps.specs.declared.cap_charge.CapCharge.{CapCharge}
 use Rattle.fare_caps.specs.declared.cap_charge.CapLeft.{CapLeft}
@@ -340,17 +341,6 @@ rides fares token moment mode further after states charge is bounds room costs c
     }
 
 -- ---- the first ride
--- what is kept before the first ride
-abbrev pub nothing : Further
-nothing = record {
-  window = no_window;
-  first = no_window;
-  second = no_window;
-  third = no_window;
-  rides = 0;
-  paid = 0;
-}
-
 none-three : (caps : List CapRules) → length caps ≤ 3
     → take (length caps) (no_window ∷ no_window ∷ no_window ∷ []) ≡ map (λ cap. no_window) caps
 none-three [] few = refl
@@ -359,7 +349,7 @@ none-three (x ∷ y ∷ []) few = refl
 none-three (x ∷ y ∷ z ∷ []) few = refl
 none-three (x ∷ y ∷ z ∷ u ∷ more) few = absurd (omega (arith, few))
 
-room-nothing : HasRoom nothing
+room-nothing : HasRoom no_further
 unfolding no_window
 room-nothing = record {
   paid = omega arith;
@@ -370,8 +360,8 @@ room-nothing = record {
   third = omega arith;
 }
 
-further-nothing : (rules : TokenRules) (caps : List CapRules)
-    → IsFurther (caps_count fares) nothing (no_rides (record { rules = rules; caps = caps }))
+further-nothing : (rules : TokenRules) (caps : List CapRules) → length caps ≤ 3
+    → IsFurther (length caps) no_further (no_rides (record { rules = rules; caps = caps }))
 unfolding no_rides
 further-nothing rules caps few = record {
   rides = omega arith;
@@ -382,7 +372,7 @@ further-nothing rules caps few = record {
 }
 
 pub keeps-nothing : (rules : TokenRules) (caps : List CapRules) → length caps ≤ 3
-    → KeepsStates caps nothing (states (record { rules = rules; caps = caps }) [])
+    → KeepsStates caps no_further (states (record { rules = rules; caps = caps }) [])
 unfolding states after_rides taken.rides taken.trips live live_after blocks_by
 keeps-nothing rules [] few = tt
 keeps-nothing rules (cap ∷ caps) few = further-nothing rules (cap ∷ caps) few

@@ -7,7 +7,7 @@ ghost use Rattle.account_rule.specs.declared.tap.TapIn.{TapIn};
 ghost use Rattle.fare_caps.specs.CapMeanings.{capped_rules_of};
 ghost use Rattle.fare_caps.specs.CappedReplies.{capped_reason, capped_reply, capped_window};
 ghost use Rattle.fare_caps.specs.CappedReplies.{replied_by};
-ghost use Rattle.fare_caps.specs.Represents.{Represents, RepresentsSome};
+ghost use Rattle.fare_caps.specs.Represents.{Represents, RepresentsSome, no_further};
 ghost use Rattle.fare_caps.specs.inside.Seen.{ride_seen, uncapped};
 
 use crate::cap_charge::CapCharge;
@@ -20,9 +20,10 @@ use tariffs::{Clock, FareTable, Mode};
 /// `Account` costs, and answers as that does.
 #[derive(Clone, Copy, Debug, PartialEq, Eq)]
 pub struct CappedAccount {
-    account: Account,
+    /// What it stores whatever the table: without caps that is all.
+    pub account: Account,
     /// Says nothing if the table has no caps.
-    further: Further,
+    pub further: Further,
 }
 
 impl CappedAccount {
@@ -32,6 +33,7 @@ impl CappedAccount {
             → Represents (capped_rules_of fares token) result [] }
         ensures some { (fares : Fares) (token : List ℕ)
             → RepresentsSome (capped_rules_of fares token) result }
+        ensures further { result.further ≡ no_further }
     {
         CappedAccount {
             account: Account::fresh(),

@@ -6,9 +6,8 @@ ghost use Rattle.tariffs.specs.Terms.{AreBoundedTerms};
 ghost use Rattle.tariffs.specs.Until.{window_end_in};
 ghost use Rattle.tariffs.specs.WindowSpan.{IsBoundedSpan};
 ghost use Rattle.account_rule.specs.Windows as rule;
-ghost use Rattle.fare_caps.specs.Caps.{no_window};
 ghost use Rattle.fare_caps.specs.Charges.{cap_cents, cap_paid};
-ghost use Rattle.fare_caps.specs.Represents.{HasRoom};
+ghost use Rattle.fare_caps.specs.Represents.{HasRoom, no_further};
 ghost use Rattle.fare_caps.specs.inside.Further as spec;
 
 use crate::cap_charge::{CapCharge, CapLeft, lesser, lowered};
@@ -20,9 +19,10 @@ use tariffs::{CapTerms, Clock, Mode, Tariff, Terms, WindowSpan};
 /// The highest ride limit of a table's classes. Rides are counted up to it.
 const MAX_RIDES: u16 = 60_000;
 
-/// The numbers of the last window of `window`, and the last windows of the caps.
+/// What an account stores if its table has caps: the numbers of the last window of `window`, and the
+/// last windows of the caps.
 #[derive(Clone, Copy, Debug, PartialEq, Eq)]
-pub(crate) struct Further {
+pub struct Further {
     pub(crate) window: CapWindow,
     pub(crate) first: CapWindow,
     pub(crate) second: CapWindow,
@@ -41,15 +41,9 @@ struct RideCaps {
 }
 
 impl Further {
-    pub(crate) fn none() -> Self
-        ensures { result ≡ record {
-          window = no_window;
-          first = no_window;
-          second = no_window;
-          third = no_window;
-          rides = 0;
-          paid = 0;
-        } }
+    /// What is stored before the first ride.
+    pub fn none() -> Self
+        ensures { result ≡ no_further }
     {
         Further {
             window: CapWindow::none(),

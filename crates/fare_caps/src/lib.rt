@@ -15,3 +15,4 @@ pub use cap_charge::CapCharge;
 pub use cap_window::CapWindow;
 pub use capped_account::CappedAccount;
 pub use capped_reason::CappedReason;
+pub use further::Further;

@@ -97,11 +97,7 @@ sound c =
     ∙ sym (ap (λ (b : Book). b.shard) view))
     c.of-token.ensures.fits
     c.mode_of-mode.ensures.mode
-    c.in_ok-position.ensures.reply
-    c.in_ok-position.ensures.kept
-    c.in_ok-position.ensures.counted
-    c.in_ok-position.ensures.counting
-    c.in_ok-position.ensures.others
+    c.in_ok-position.ensures.steps
 
 pub invariant_of-self-2 : goal.invariant_of-self-2
 invariant_of-self-2 c = record {
