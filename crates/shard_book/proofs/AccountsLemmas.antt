@@ -10,13 +10,16 @@ use Rattle.indexmap.proofs.CallerLemmas.{insert_entry-new, updates-with_value_at
 use Rattle.account_rule.specs.declared.tap.TapIn.{TapIn}
 use Rattle.tariffs.specs.Fares.{Fares}
 use Rattle.account_rule.specs.declared.reply.Reply.{Reply}
+use Rattle.account_rule.specs.Represents as plain
+use Rattle.account_rule.specs.TokenRules.{rules_of}
 use Rattle.fare_caps.specs.CapMeanings.{capped_rules_of}
 use Rattle.fare_caps.specs.Represents.{Represents, no_further}
 use Rattle.fare_caps.specs.declared.further.Further.{Further}
 use Rattle.shard_book.specs.declared.accounts.Accounts.{Accounts}
 use Rattle.shard_book.specs.declared.accounts.KeptAccount.{KeptAccount}
 use Rattle.shard_book.specs.inside.Accounts.{IsKept, IsKeptOrFresh, HasPositionFor, IsPosition}
-use Rattle.shard_book.specs.inside.Accounts.{HasKept, IsCounting, StaysKept, Steps, StillRepresents}
+use Rattle.shard_book.specs.inside.Accounts.{HasKept, IsCounting, StaysKept, Steps, StillKept}
+use Rattle.shard_book.specs.inside.Accounts.{StillRepresents}
 use Rattle.shard_book.specs.inside.Accounts.{capped_of, counted, further_at, kept_at}
 use Rattle.histories.specs.Counts.{sums_of_counts}
 use Rattle.shard_book.specs.inside.Packed.{KeepPositions, tokens_of}
@@ -254,11 +257,76 @@ pub kept-from : (table : Fares) (old mid : Accounts) (token : Token) (position :
 kept-from table old mid token position made further (taps, kept) =
     (taps, opened-kept table old mid token position taps made further kept)
 
--- all that is kept stayed
-pub stays-from : (old mid new : Accounts)
-    → ((other : Token) → StaysKept old mid other) → ((other : Token) → StaysKept mid new other)
-    → (other : Token) → StaysKept old new other
-stays-from old mid new one two other = record {
-  kept = (two other).kept ∙ (one other).kept;
-  further = (two other).further ∙ (one other).further;
+-- what was there stands on, and an account that was opened stands for no taps
+still-made : (old : Option KeptAccount) (here : KeptAccount) → IsKeptOrFresh old here
+    → StillRepresents old (Some here)
+still-made None here is = record {
+  kept = λ fares token further taps empty. rw (empty.0, empty.1) (is.0 fares token);
+  sums = is.1;
 }
+still-made (Some old) here is = on-same (ap (λ (k : KeptAccount). Some k) is)
+
+-- after a look-up
+pub still-opened : (old mid : Accounts) (token : Token) (position : ℕ)
+    → HasPositionFor old mid token position
+    → mid.further ≡ old.further
+    → ((other : Token) → token_eq token other ≡ false → kept_at mid other ≡ kept_at old other)
+    → (other : Token) → StillKept old mid other
+still-opened old mid token position made further others other = record {
+  still = ⊎_elim
+      (λ (same : token_eq token other ≡ true).
+      let is : token ≡ other = same_token token other same in
+      subst (λ (t : Token). StillRepresents (kept_at old t) (kept_at mid t)) is
+      (rw made.now (still-made (kept_at old token) made.kept made.is)))
+      (λ (apart : token_eq token other ≡ false). on-same (others other apart))
+      (cases_Bool (token_eq token other));
+  further = further-same old mid other further;
+}
+
+-- and if nothing was written then
+pub still-from : (old mid new : Accounts) → ((other : Token) → StillKept old mid other)
+    → ((other : Token) → StaysKept mid new other) → (other : Token) → StillKept old new other
+still-from old mid new one two other =
+    let still = one other in
+    let stays = two other in
+    record {
+      still = rw stays.kept still.still;
+      further = stays.further ∙ still.further;
+    }
+
+-- the same of accounts that stayed
+pub stays-still : (old new : Accounts) → ((other : Token) → kept_at new other ≡ kept_at old other)
+    → new.further ≡ old.further → (other : Token) → StillKept old new other
+stays-still old new same further other = record {
+  still = on-same (same other);
+  further = further-same old new other further;
+}
+
+-- what stands at a token's place is what is kept of it
+pub account-at : (accounts : Accounts) (token : Token) (position : ℕ) (here : KeptAccount)
+    {there : Token} → IsPosition accounts token position
+    → slice_get accounts.map.entries position ≡ Some (there, here)
+    → kept_at accounts token ≡ Some here
+account-at accounts token position here is at =
+    is.is ∙ ap (λ (o : Option (Token × KeptAccount)). Some (kept_in o here)) (sym is.at ∙ at)
+
+-- which stands for the token's taps without caps
+pub kept-plain : (table : Fares) (accounts : Accounts) (token : Token) (position : ℕ)
+    (here : KeptAccount) (taps : List TapIn) {there : Token} → IsPosition accounts token position
+    → slice_get accounts.map.entries position ≡ Some (there, here)
+    → HasKept table accounts token taps
+    → plain.Represents (rules_of table (bytes_of token)) here.account taps
+unfolding capped_rules_of
+kept-plain table accounts token position here taps is at kept =
+    (rw (account-at accounts token position here is at) at kept).account
+
+-- or, with what is stored beside it, with caps
+pub kept-capped : (table : Fares) (accounts : Accounts) (token : Token) (position : ℕ)
+    (taps : List TapIn) (is : IsPosition accounts token position)
+    → HasKept table accounts token taps
+    → Represents (capped_rules_of table (bytes_of token))
+    (capped_of is.kept (further_at accounts token)) taps
+kept-capped table accounts token position taps is kept = rw is.is at kept
+
+pub same-kept : {one other : KeptAccount} → Some one ≡ Some other → one ≡ other
+same-kept same = cc

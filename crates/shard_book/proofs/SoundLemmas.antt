@@ -15,7 +15,7 @@ use Rattle.shard_book.specs.declared.accounts.KeptAccount.{KeptAccount}
 use Rattle.histories.specs.declared.entry.Entry.{Entry}
 use Rattle.tap_views.specs.declared.token.Token.{Token}
 use Rattle.shard_book.specs.inside.Accounts.{further_at, kept_at, IsCounting, HasKept}
-use Rattle.shard_book.specs.inside.Accounts.{StaysKept, Steps, StillRepresents, counted}
+use Rattle.shard_book.specs.inside.Accounts.{StaysKept, Steps, StillKept, StillRepresents, counted}
 use Rattle.histories.specs.Entry.{own, tap_of, taps_of, reply_of}
 use Rattle.histories.specs.History.{IsReplied}
 use Rattle.shard_book.specs.inside.Sound.{IsBook, IsSound, AreKept}
@@ -23,7 +23,6 @@ use Rattle.tap_views.specs.Token.{Fits, bytes_of, token_eq}
 use Rattle.histories.specs.Sums.{sums_of_replies, add_sums}
 use Rattle.shard_book.specs.declared.packed.PackedEntry.{PackedEntry}
 use Rattle.shard_book.specs.inside.Packed.{KeepPositions, history_of, tokens_of}
-use Rattle.shard_book.proofs.AccountsLemmas.{on-same}
 use Rattle.shard_book.proofs.CountingLemmas.{counted-same, counted-push, counted-none}
 use Rattle.histories.proofs.Histories.{legal-none, legal-push, tap_of-post}
 use Rattle.shard_book.proofs.KeptLemmas.{kept-push}
@@ -141,15 +140,15 @@ book-on {table} {shard} {shards} {accounts} {after} {packed} {next} same keep ot
       placed = placed-kept (tokens_of accounts) (tokens_of after) packed next same book.placed keep;
     }
 
--- likewise if all that is kept stayed
-pub book-same : {table : Fares} {shard shards : ℕ} {accounts after : Accounts}
+-- likewise of all that is kept
+pub book-still : {table : Fares} {shard shards : ℕ} {accounts after : Accounts}
     {packed next : List PackedEntry} → next ≡ packed
     → KeepPositions (tokens_of accounts) (tokens_of after)
-    → ((other : Token) → StaysKept accounts after other)
+    → ((other : Token) → StillKept accounts after other)
     → (IsCounting after → IsCounting accounts) → IsBook table shard shards accounts packed
     → IsBook table shard shards after next
-book-same same keep others counting book =
-    book-on same keep (λ other. on-same (others other).kept) (λ other. (others other).further)
+book-still same keep others counting book =
+    book-on same keep (λ other. (others other).still) (λ other. (others other).further)
     counting book
 
 -- what a new book is made of are the parts of a book

@@ -10,13 +10,12 @@ ghost use Rattle.fare_caps.specs.Represents.{Represents, no_further};
 ghost use Rattle.tariffs.specs.Fares.{Fares};
 ghost use Rattle.shard_book.specs.inside.Accounts.{further_at, kept_at, pairs_of, HasKept, IsKept};
 ghost use Rattle.shard_book.specs.inside.Accounts.{HasPositionFor, IsPosition, StaysKept, Steps};
-ghost use Rattle.shard_book.specs.inside.Accounts.{capped_of};
+ghost use Rattle.shard_book.specs.inside.Accounts.{IsCounting, StillKept, capped_of};
 ghost use Rattle.shard_book.specs.declared.accounts.KeptAccount.{KeptAccount};
 ghost use Rattle.shard_book.specs.inside.Counting.{AreCounted, AreSummed};
 ghost use Rattle.shard_book.specs.inside.Packed.{HasToken, KeepPositions, tokens_of};
 ghost use Rattle.histories.specs.Counts.{token_counts};
 ghost use Rattle.histories.specs.declared.entry.Entry.{Entry};
-ghost use Rattle.histories.specs.Sums.{sums_of_replies, add_sums};
 ghost use Rattle.tap_views.specs.Token.{bytes_of, token_eq};
 ghost use Rattle.tap_views.specs.declared.token.Token.{Token};
 
@@ -185,17 +184,17 @@ impl Accounts {
         requires kept { (taps : List TapIn) × HasKept table.now self.old token taps }
 
         ensures steps { IfOk result (λ done. Steps table.now token tap self.old self.new done.1) }
-        ensures counting { self.new.counting ≡ true → self.old.counting ≡ true }
+        ensures counting { IsCounting self.new → IsCounting self.old }
         ensures position { IfOk result (λ done. slice_get (tokens_of self.new) done.0 ≡ Some token) }
         ensures positions { KeepPositions (tokens_of self.old) (tokens_of self.new) }
-        ensures err { OnErr result ((other : Token) → StaysKept self.old self.new other) }
+        ensures err { OnErr result ((other : Token) → StillKept self.old self.new other) }
     {
         let position = self.position(token, known)?;
-        let reply = if table.has_caps() {
-            self.capped_step(table, clock, token, bytes, tap, position)?
-        } else {
-            self.plain_step(table, clock, token, bytes, tap, position)
-        };
+        if table.has_caps() {
+            let reply = self.capped_step(table, clock, token, bytes, tap, position)?;
+            return Ok((position, reply));
+        }
+        let reply = self.plain_step(table, clock, token, bytes, tap, position);
         Ok((position, reply))
     }
 
@@ -247,7 +246,7 @@ impl Accounts {
         requires early { tap.moment < 4_102_444_800_000 }
         requires kept { (taps : List TapIn) × HasKept table.now self.old token taps }
         ensures steps { IfOk result (Steps table.now token tap self.old self.new) }
-        ensures counting { self.new.counting ≡ true → self.old.counting ≡ true }
+        ensures counting { IsCounting self.new → IsCounting self.old }
         ensures tokens { tokens_of self.new ≡ tokens_of self.old }
         ensures err { OnErr result ((other : Token) → StaysKept self.old self.new other) }
     {

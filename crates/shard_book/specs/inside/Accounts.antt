@@ -83,6 +83,11 @@ pub record StillRepresents (old new : Option KeptAccount) : Type 0 where
       → IsKept (capped_rules_of fares token) new further taps
   pub sums : counted new ≡ counted old
 
+-- what is stored of the token stands for what it stood for
+pub record StillKept (old new : Accounts) (token : Token) : Type 0 where
+  pub still : StillRepresents (kept_at old token) (kept_at new token)
+  pub further : further_at new token ≡ further_at old token
+
 -- one tap of the token was posted: the reply, and what is kept, are the rule's
 pub record Steps (table : Fares) (token : Token) (tap : TapIn) (old new : Accounts) (reply : Reply)
     : Type 0 where

@@ -1,10 +1,18 @@
 -- The step is taken on what stands at the token's place.
-use Rattle.std.proofs.Common.{◌≡◌, List, ap, slice_get, Some, sym, ◌∙◌}
+use Rattle.std.proofs.Common.{◌≡◌, List, ap, slice_get, ◌∙◌}
+use Rattle.tap_views.proofs.Choices.{OnErr_any}
 use Rattle.tap_views.specs.declared.token.Token.{Token}
-use Rattle.shard_book.proofs.AccountsLemmas.{further-same, kept-from, stays-from, steps-from}
-use Rattle.shard_book.proofs.AccountsLemmas.{there-of}
+use Rattle.shard_book.proofs.AccountsLemmas.{kept-from, stays-still, steps-from, still-from}
+use Rattle.shard_book.proofs.AccountsLemmas.{still-opened, there-of}
 use Rattle.shard_book.proofs.PackedLemmas.{keep_same, keep_then, token-at}
 use Rattle.shard_book.proofs.accounts.Accounts.step.Goals as goal
+
+pub returns-in_err-position-clause-err : goal.returns-in_err-position-clause-err
+returns-in_err-position-clause-err c =
+    OnErr_any _ _ (stays-still c.args.self.now c.position.new.self c.in_err-position.ensures.err
+    c.in_err-position.ensures.further)
+
+-- the table has caps
 
 pub capped_step-requires-clause-there : goal.capped_step-requires-clause-there
 capped_step-requires-clause-there c = there-of c.in_ok-position.ensures.made
@@ -12,14 +20,64 @@ capped_step-requires-clause-there c = there-of c.in_ok-position.ensures.made
 pub capped_step-requires-clause-kept : goal.capped_step-requires-clause-kept
 capped_step-requires-clause-kept c =
     kept-from c.args.table.now c.args.self.now c.position.new.self c.args.token
-    c.in_ok-position.position c.in_ok-position.ensures.made c.position.ensures.further
+    c.in_ok-position.position c.in_ok-position.ensures.made c.in_ok-position.ensures.further
     c.requires.kept
 
-pub plain_step-requires-clause-there : goal.plain_step-requires-clause-there
-plain_step-requires-clause-there c = there-of c.in_ok-position.ensures.made
+pub returns-in_err-reply-clause-err : goal.returns-in_err-reply-clause-err
+returns-in_err-reply-clause-err c =
+    OnErr_any _ _ (still-from c.args.self.now c.position.new.self c.capped_step.new.self
+    (still-opened c.args.self.now c.position.new.self c.args.token c.in_ok-position.position
+    c.in_ok-position.ensures.made c.in_ok-position.ensures.further c.in_ok-position.ensures.others)
+    c.in_err-reply.ensures.err)
 
-pub plain_step-requires-clause-kept : goal.plain_step-requires-clause-kept
-plain_step-requires-clause-kept c =
+pub returns-in_err-reply-clause-positions : goal.returns-in_err-reply-clause-positions
+returns-in_err-reply-clause-positions c =
+    keep_then c.in_ok-position.ensures.positions (keep_same c.in_err-reply.ensures.tokens)
+
+pub returns-then-has_caps-clause-steps : goal.returns-then-has_caps-clause-steps
+returns-then-has_caps-clause-steps c =
+    steps-from c.args.table.now c.args.token c.args.tap c.args.self.now c.position.new.self
+    c.capped_step.new.self c.in_ok-reply.reply c.in_ok-position.position
+    c.in_ok-position.ensures.made c.in_ok-position.ensures.further
+    c.in_ok-position.ensures.counting c.in_ok-position.ensures.others c.in_ok-reply.ensures.steps
+
+pub returns-then-has_caps-clause-position : goal.returns-then-has_caps-clause-position
+returns-then-has_caps-clause-position c =
+    ap (λ (tokens : List Token). slice_get tokens c.in_ok-position.position)
+    c.in_ok-reply.ensures.tokens
+    ∙ token-at c.position.new.self.map.entries c.in_ok-position.position c.args.token _
+    c.in_ok-position.ensures.made.at
+
+pub returns-then-has_caps-clause-positions : goal.returns-then-has_caps-clause-positions
+returns-then-has_caps-clause-positions c =
+    keep_then c.in_ok-position.ensures.positions (keep_same c.in_ok-reply.ensures.tokens)
+
+-- it has none
+
+pub plain_step-reply-requires-clause-there : goal.plain_step-reply-requires-clause-there
+plain_step-reply-requires-clause-there c = there-of c.in_ok-position.ensures.made
+
+pub plain_step-reply-requires-clause-kept : goal.plain_step-reply-requires-clause-kept
+plain_step-reply-requires-clause-kept c =
     kept-from c.args.table.now c.args.self.now c.position.new.self c.args.token
-    c.in_ok-position.position c.in_ok-position.ensures.made c.position.ensures.further
+    c.in_ok-position.position c.in_ok-position.ensures.made c.in_ok-position.ensures.further
     c.requires.kept
+
+pub returns-clause-steps : goal.returns-clause-steps
+returns-clause-steps c =
+    steps-from c.args.table.now c.args.token c.args.tap c.args.self.now c.position.new.self
+    c.plain_step-reply.new.self c.plain_step-reply.result c.in_ok-position.position
+    c.in_ok-position.ensures.made c.in_ok-position.ensures.further
+    c.in_ok-position.ensures.counting c.in_ok-position.ensures.others
+    c.plain_step-reply.ensures.steps
+
+pub returns-clause-position : goal.returns-clause-position
+returns-clause-position c =
+    ap (λ (tokens : List Token). slice_get tokens c.in_ok-position.position)
+    c.plain_step-reply.ensures.tokens
+    ∙ token-at c.position.new.self.map.entries c.in_ok-position.position c.args.token _
+    c.in_ok-position.ensures.made.at
+
+pub returns-clause-positions : goal.returns-clause-positions
+returns-clause-positions c =
+    keep_then c.in_ok-position.ensures.positions (keep_same c.plain_step-reply.ensures.tokens)
