@@ -1,5 +1,5 @@
 -- Caps change no answer but those to rides, which stay paid or capped.
-use Rattle.std.proofs.Common.{◌≡◌, ℕ, List, Option, Some, None, refl, sym, ap, ◌∙◌}
+use Rattle.std.proofs.Common.{◌≡◌, ◌≤◌, ℕ, List, Option, Some, None, arith, refl, sym, ap, ◌∙◌}
 use Rattle.tariffs.specs.declared.mode.Mode.{Mode}
 use Rattle.account_rule.specs.declared.reason.Reason.{Reason}
 use Rattle.account_rule.specs.declared.reason.Reason.TheVariants as reason
@@ -12,15 +12,18 @@ use Rattle.account_rule.specs.Taps.{live_at}
 use Rattle.account_rule.specs.Windows.{charge, paid_by, windows}
 use Rattle.account_rule.proofs.ReasonLemmas.{reply-follows}
 use Rattle.fare_caps.specs.Caps.{CappedRules}
-use Rattle.fare_caps.specs.CapStates.{CapStates, at_ride, ride_charge, states}
+use Rattle.tariffs.specs.Terms.{AreBoundedTerms}
+use Rattle.fare_caps.specs.CapStates.{CapStates, at_ride, charge_at, ride_charge, states}
 use Rattle.fare_caps.specs.CappedReplies.{capped_reason, capped_reply, replied_by, ride_on, shown}
 use Rattle.fare_caps.specs.CappedReplies.{shown_charge, shown_reason, under_caps}
 use Rattle.fare_caps.specs.declared.cap_charge.CapCharge.{CapCharge}
 use Rattle.fare_caps.specs.declared.cap_charge.CapCharge.TheVariants.{ByWindow, CapCut, CapReached}
 use Rattle.fare_caps.specs.declared.capped_reason.CappedReason.{CappedReason}
 use Rattle.fare_caps.specs.declared.capped_reason.CappedReason.TheVariants as capped
-use Rattle.fare_caps.specs.Charges.{cap_paid}
+use Rattle.fare_caps.specs.Charges.{cap_paid, least_from}
 use Rattle.fare_caps.specs.Laws.{without_caps}
+use Rattle.fare_caps.proofs.BillLemmas.{free-cents, reply-cents}
+use Rattle.fare_caps.proofs.LoweredLemmas.{lowered-few}
 use Rattle.fare_caps.proofs.NoCapsLemmas.{free-same, of_block, replied-none, ride-block}
 use Rattle.fare_caps.proofs.RideLemmas.{is_free, is_ride, tapped}
 
@@ -111,3 +114,25 @@ pub shown-transfer : (rules : CappedRules) (taps : List TapIn) (tap : TapIn) (mo
 unfolding shown_reason capped_reason
 shown-transfer rules taps tap moment mode is =
     transfer-by rules (states rules taps) tap (rule.reason rules.rules taps tap) moment mode is
+
+-- no reply costs more than a fare may
+pub capped_most : (rules : CappedRules) (taps : List TapIn) (tap : TapIn)
+    → ((mode : Mode) → tap.mode ≡ Some mode
+    → AreBoundedTerms (rules.rules.terms (live_at tap.moment mode)))
+    → (capped_reply rules taps tap).cents ≤ 100_000
+unfolding capped_reply capped_reason ride_charge charge_at
+capped_most rules taps tap bounds = elim (tapped rules.rules taps tap) [
+  | is_free free same ↦ omega (arith, free-cents rules (states rules taps) tap _ free)
+  | is_ride mode known why more ↦
+      let ride = live_at tap.moment mode in
+      let because = why
+      ∙ ride-block rules.rules (last_block (windows rules.rules taps)) ride in
+      let inside = at_ride rules ride (states rules taps) in
+      rw (because, known)
+      (omega (
+        arith,
+        reply-cents (ride_charge rules (states rules taps) ride),
+        lowered-few (least_from 0 None ride rules.caps inside.caps) (rules.rules.terms ride)
+            inside.rides inside.window.cents (bounds mode known),
+      ))
+]
