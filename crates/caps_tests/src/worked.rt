@@ -51,7 +51,12 @@ transfers = [["bus", "bus"], ["bus", "max"], ["max", "bus"], ["max", "max"]]
 default_class = "adult"
 validators = [{first = 0, last = 9, mode = "bus"}]
 caps.month.window = "calendar month"
-classes.adult = {fare = 280, ceiling = 560, transfers = "any", transfer_minutes = 150, caps = {month = 300}}
+[classes.adult]
+fare = 280
+ceiling = 560
+transfers = "any"
+transfer_minutes = 150
+caps = {month = 300}
 "#;
 
 const MONTH_OF_700: &str = r#"zone = "PST8PDT,M3.2.0,M11.1.0"
@@ -61,7 +66,12 @@ transfers = [["bus", "bus"], ["bus", "max"], ["max", "bus"], ["max", "max"]]
 default_class = "adult"
 validators = [{first = 0, last = 9, mode = "bus"}]
 caps.month.window = "calendar month"
-classes.adult = {fare = 280, ceiling = 560, transfers = "any", transfer_minutes = 150, caps = {month = 700}}
+[classes.adult]
+fare = 280
+ceiling = 560
+transfers = "any"
+transfer_minutes = 150
+caps = {month = 700}
 "#;
 
 const NO_CEILING: &str = r#"zone = "PST8PDT,M3.2.0,M11.1.0"
@@ -71,7 +81,11 @@ transfers = [["bus", "bus"], ["bus", "max"], ["max", "bus"], ["max", "max"]]
 default_class = "adult"
 validators = [{first = 0, last = 9, mode = "bus"}]
 caps.month.window = "calendar month"
-classes.adult = {fare = 280, ceiling = 560, transfers = "any", transfer_minutes = 150}
+[classes.adult]
+fare = 280
+ceiling = 560
+transfers = "any"
+transfer_minutes = 150
 "#;
 
 const DAY_OF_700: &str = r#"zone = "PST8PDT,M3.2.0,M11.1.0"
@@ -81,7 +95,12 @@ transfers = [["bus", "bus"], ["bus", "max"], ["max", "bus"], ["max", "max"]]
 default_class = "adult"
 validators = [{first = 0, last = 9, mode = "bus"}]
 caps.month.window = "1 days"
-classes.adult = {fare = 280, ceiling = 560, transfers = "any", transfer_minutes = 150, caps = {month = 700}}
+[classes.adult]
+fare = 280
+ceiling = 560
+transfers = "any"
+transfer_minutes = 150
+caps = {month = 700}
 "#;
 
 /// Three modes, of which each two of three caps count one together.
@@ -347,17 +366,67 @@ fn faults_of_caps(rt: HostRuntime) -> Result<(), Fail> {
     let alloc = rt.alloc();
     let month = "caps.month.window = \"calendar month\"\n";
     let rows = [
-        ("caps.Month.window = \"7 days\"\n", "", TableFault::Range { key: Key::Caps }),
-        ("caps = {w = {window = \"7 days\"}, x = {window = \"7 days\"}, y = {window = \"7 days\"}, z = {window = \"7 days\"}}\n", "", TableFault::Range { key: Key::Caps }),
-        ("caps.month = \"calendar month\"\n", "", TableFault::Kind { key: Key::Caps }),
-        ("caps.month = {}\n", "", TableFault::Missing { key: Key::CapWindow }),
-        ("caps.month.window = 30\n", "", TableFault::Kind { key: Key::CapWindow }),
-        ("caps.month.window = \"month\"\n", "", TableFault::Range { key: Key::CapWindow }),
-        ("caps.month = {window = \"7 days\", modes = \"bus\"}\n", "", TableFault::Kind { key: Key::CapModes }),
-        ("caps.month = {window = \"7 days\", modes = [\"train\"]}\n", "", TableFault::Mode),
-        (month, "caps = {month = \"10000\"}\n", TableFault::Kind { key: Key::ClassCaps }),
+        (
+            "caps.Month.window = \"7 days\"\n",
+            "",
+            TableFault::Range { key: Key::Caps },
+        ),
+        (
+            "caps.w = {}\ncaps.x = {}\ncaps.y = {}\ncaps.z = {}\n",
+            "",
+            TableFault::Range { key: Key::Caps },
+        ),
+        (
+            "caps.month = \"calendar month\"\n",
+            "",
+            TableFault::Kind { key: Key::Caps },
+        ),
+        (
+            "caps.month = {}\n",
+            "",
+            TableFault::Missing {
+                key: Key::CapWindow,
+            },
+        ),
+        (
+            "caps.month.window = 30\n",
+            "",
+            TableFault::Kind {
+                key: Key::CapWindow,
+            },
+        ),
+        (
+            "caps.month.window = \"month\"\n",
+            "",
+            TableFault::Range {
+                key: Key::CapWindow,
+            },
+        ),
+        (
+            "caps.month = {window = \"7 days\", modes = \"bus\"}\n",
+            "",
+            TableFault::Kind { key: Key::CapModes },
+        ),
+        (
+            "caps.month = {window = \"7 days\", modes = [\"train\"]}\n",
+            "",
+            TableFault::Mode,
+        ),
+        (
+            month,
+            "caps = {month = \"10000\"}\n",
+            TableFault::Kind {
+                key: Key::ClassCaps,
+            },
+        ),
         (month, "caps = {week = 10000}\n", TableFault::Cap),
-        (month, "caps = {month = 0}\n", TableFault::Range { key: Key::ClassCaps }),
+        (
+            month,
+            "caps = {month = 0}\n",
+            TableFault::Range {
+                key: Key::ClassCaps,
+            },
+        ),
     ];
     for (caps, class, fault) in rows {
         assert_eq!(rt; fault_of(alloc, caps, class)?, Some(fault));

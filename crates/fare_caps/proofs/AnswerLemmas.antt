@@ -220,6 +220,7 @@ rides-after rules earlier (tap ∷ taps) =
     (replies_after rules.rules (earlier ++ tap ∷ []) taps))
 
 pub same-rides : (rules : CappedRules) (taps : List TapIn)
-    → count_by laws.is_ride (capped_replies rules taps) ≡ count_by laws.is_ride (replies rules.rules taps)
+    → count_by laws.is_ride (capped_replies rules taps)
+    ≡ count_by laws.is_ride (replies rules.rules taps)
 unfolding capped_replies replies
 same-rides rules taps = rides-after rules [] taps

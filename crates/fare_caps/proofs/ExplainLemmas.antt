@@ -42,21 +42,28 @@ pub record IsStep (capped : CappedRules) (taps : List TapIn) (tap : TapIn) (one 
 
 -- there are no caps
 pub empty-step : (fares : Fares) (token : List ℕ) (account : Account)
-    (further : Further) (taps : List TapIn) (tap : TapIn) (one : Reason) → length fares.meaning.caps ≡ 0
+    (further : Further) (taps : List TapIn) (tap : TapIn) (one : Reason)
+    → length fares.meaning.caps ≡ 0
     → one ≡ rule.reason (rules_of fares token) taps tap
     → kept.Represents (rules_of fares token) account (taps ++ tap ∷ [])
     → IsStep (capped_rules_of fares token) taps tap (uncapped one) account further
 unfolding capped_rules_of
 empty-step fares token account further taps tap one none is holds =
     let empty : length (map (cap_rules fares token) (cap_places fares.meaning.caps)) ≡ 0 =
-    omega (arith, places-none fares.meaning.caps none, length-map (cap_places fares.meaning.caps) (cap_rules fares token)) in
+    omega (
+      arith,
+      places-none fares.meaning.caps none,
+      length-map (cap_places fares.meaning.caps) (cap_rules fares token),
+    ) in
     record {
       reason = ap uncapped is
-          ∙ sym (reason-empty (rules_of fares token) (map (cap_rules fares token) (cap_places fares.meaning.caps)) taps tap
+          ∙ sym (reason-empty (rules_of fares token)
+          (map (cap_rules fares token) (cap_places fares.meaning.caps)) taps tap
           empty);
       holds = record {
         account = holds;
-        further = keeps-empty (map (cap_rules fares token) (cap_places fares.meaning.caps)) further _ empty;
+        further = keeps-empty (map (cap_rules fares token) (cap_places fares.meaning.caps)) further
+            _ empty;
       };
     }
 
@@ -113,7 +120,8 @@ ride-step fares token account further after taps tap one seen charge some is hol
       reason = ap (λ c. Ride seen.start seen.until c) now.costs ∙ sym it.reason;
       holds = record {
         account = holds;
-        further = rw it.more (keeps-is (map (cap_rules fares token) (cap_places fares.meaning.caps)) after _
+        further = rw it.more
+            (keeps-is (map (cap_rules fares token) (cap_places fares.meaning.caps)) after _
             (subst (λ n. IsFurther n after (after_ride (capped_rules_of fares token)
             (states (capped_rules_of fares token) taps) (live_at tap.moment seen.mode)))
             (sym long) now.state));
@@ -171,8 +179,13 @@ pub empty-reply : (fares : Fares) (token : List ℕ) (taps : List TapIn)
     ≡ reply (rules_of fares token) taps tap
 unfolding capped_rules_of
 empty-reply fares token taps tap none =
-    reply-empty (rules_of fares token) (map (cap_rules fares token) (cap_places fares.meaning.caps)) taps tap
-    (omega (arith, places-none fares.meaning.caps none, length-map (cap_places fares.meaning.caps) (cap_rules fares token)))
+    reply-empty (rules_of fares token) (map (cap_rules fares token) (cap_places fares.meaning.caps))
+    taps tap
+    (omega (
+      arith,
+      places-none fares.meaning.caps none,
+      length-map (cap_places fares.meaning.caps) (cap_rules fares token),
+    ))
 
 pub empty-holds : (fares : Fares) (token : List ℕ) (account : Account)
     (further : Further) (taps : List TapIn) → length fares.meaning.caps ≡ 0
@@ -183,5 +196,9 @@ unfolding capped_rules_of
 empty-holds fares token account further taps none holds = record {
   account = holds;
   further = keeps-empty (map (cap_rules fares token) (cap_places fares.meaning.caps)) further _
-      (omega (arith, places-none fares.meaning.caps none, length-map (cap_places fares.meaning.caps) (cap_rules fares token)));
+      (omega (
+        arith,
+        places-none fares.meaning.caps none,
+        length-map (cap_places fares.meaning.caps) (cap_rules fares token),
+      ));
 }

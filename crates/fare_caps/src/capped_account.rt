@@ -44,13 +44,7 @@ impl CappedAccount {
     /// Charges one more tap of the token, and returns the rule's reply. Takes no memory. All calls
     /// on an account have one table and one token.
     #[inline(always)]
-    pub fn step(
-        &mut self,
-        table: &FareTable,
-        clock: &Clock,
-        token: &[u8],
-        tap: TapIn,
-    ) -> Reply
+    pub fn step(&mut self, table: &FareTable, clock: &Clock, token: &[u8], tap: TapIn) -> Reply
         requires clock { clock.now ≡ table.now.zone }
         requires token { length token.now ≡ 16 }
         requires mode { ForSome tap.mode (λ mode. mode.position < length table.now.meaning.modes) }

@@ -19,8 +19,8 @@ use tariffs::{CapTerms, Clock, Mode, Tariff, Terms, WindowSpan};
 /// The highest ride limit of a table's classes. Rides are counted up to it.
 const MAX_RIDES: u16 = 60_000;
 
-/// What an account stores if its table has caps: the numbers of the last window of `window`, and the
-/// last windows of the caps.
+/// What an account stores if its table has caps: the numbers of the last window of `window`, and
+/// the last windows of the caps.
 #[derive(Clone, Copy, Debug, PartialEq, Eq)]
 pub struct Further {
     pub(crate) window: CapWindow,

@@ -180,7 +180,8 @@ caps-reported tree modes known =
     (reported tree top (Range the_key.Caps) rest))
 
 -- the names of the caps that are read are those of the text
-held : (b : Bool) (part tables : Members) → (if b then Ok part else Err (Kind the_key.Caps)) ≡ Ok tables
+held : (b : Bool) (part tables : Members)
+    → (if b then Ok part else Err (Kind the_key.Caps)) ≡ Ok tables
     → part ≡ tables
 held true part tables is = cc
 held false part tables is = absurd (cc)

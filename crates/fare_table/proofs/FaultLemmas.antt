@@ -495,7 +495,8 @@ ceilings-from-reported tree caps n k ceilings (member name _ more) known aligned
 
 ceiling_numbers_if : (b : Bool) (caps : List (List ℕ)) (ceilings : List ℕ) (part : Members)
     (rest : Option TableFault) → (b ≡ true → fault_in (ceilings_from caps ceilings part) ≡ rest)
-    → fault_in ((if b then Ok part else Err (Kind the_key.ClassCaps)) >>= ceilings_from caps ceilings)
+    → fault_in
+    ((if b then Ok part else Err (Kind the_key.ClassCaps)) >>= ceilings_from caps ceilings)
     ≡ cond (not b) (Some (Kind the_key.ClassCaps)) rest
 ceiling_numbers_if true caps ceilings part rest same = same refl
 ceiling_numbers_if false caps ceilings part rest same = refl

@@ -124,12 +124,15 @@ parts tree meaning is =
     let ranges = bind_ok (ranges_of modes.0 tree)
     (by_ranges tree modes.0 transfers.0 capped.0 table.0 classes.0 standard.0) meaning standard.2 in
     let riders = bind_ok (riders_of table.0 tree)
-    (by_riders tree modes.0 transfers.0 capped.0 table.0 classes.0 standard.0 ranges.0) meaning ranges.2 in
+    (by_riders tree modes.0 transfers.0 capped.0 table.0 classes.0 standard.0 ranges.0) meaning
+    ranges.2 in
     let zone = bind_ok (zone_of tree)
-    (by_zone tree modes.0 transfers.0 capped.0 table.0 classes.0 standard.0 ranges.0 riders.0) meaning
+    (by_zone tree modes.0 transfers.0 capped.0 table.0 classes.0 standard.0 ranges.0 riders.0)
+    meaning
     riders.2 in
     let window = bind_ok (window_of tree)
-    (by_window modes.0 transfers.0 capped.0 table.0 classes.0 standard.0 ranges.0 riders.0 zone.0) meaning
+    (by_window modes.0 transfers.0 capped.0 table.0 classes.0 standard.0 ranges.0 riders.0 zone.0)
+    meaning
     zone.2 in
     let whole : TableMeaning = record {
       modes = modes.0;

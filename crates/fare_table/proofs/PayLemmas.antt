@@ -15,7 +15,8 @@ use Rattle.fare_table.proofs.ReadLemmas.{is_number_or, is_table, number-read, ta
 use Rattle.fare_table.proofs.ReadLemmas.{text-read}
 use Rattle.fare_table.specs.Classes.{ceilings_of, class_in, class_named, class_of, classes_from}
 use Rattle.fare_table.specs.Classes.{own_ceiling}
-use Rattle.fare_table.specs.Classes.{classes_of, default_of, fares_of, is_empty, position_of, terms_of}
+use Rattle.fare_table.specs.Classes.{classes_of, default_of, fares_of, is_empty, position_of}
+use Rattle.fare_table.specs.Classes.{terms_of}
 use Rattle.fare_table.specs.Classes.{ride_transfers_of}
 use Rattle.tariffs.specs.Names.{same_name}
 use Rattle.tariffs.specs.declared.class.Class.{Class}
@@ -96,7 +97,8 @@ entry_terms classes element class terms holds is =
     })
 
 -- the member of this name reads as the class
-pub record HasClass (modes caps : List (List ℕ)) (classes : Members) (name : List ℕ) (one : Class) : Type
+pub record HasClass (modes caps : List (List ℕ)) (classes : Members) (name : List ℕ)
+    (one : Class) : Type
     0 where
   pub value : Data
   pub holds : get_member name classes ≡ Some value
@@ -206,7 +208,8 @@ kept-class : (modes caps : List (List ℕ)) (n : ℕ) (earlier list : List Class
 kept-class modes caps n earlier list one no_members is at =
     let same : earlier ≡ list = cc in ap (λ l. slice_get l n) (sym same) ∙ at
 kept-class modes caps n earlier list one (member key value more) is at =
-    let first = bind_ok (class_in modes caps value) (λ c. classes_from modes caps (earlier ++ c ∷ []) more)
+    let first = bind_ok (class_in modes caps value)
+    (λ c. classes_from modes caps (earlier ++ c ∷ []) more)
     list is in
     kept-class modes caps n (earlier ++ first.0 ∷ []) list one more first.2
     (within n earlier first.0 one at)
@@ -223,7 +226,8 @@ at_end [] one n is = rw is refl
 at_end (first ∷ earlier) one n is = rw is (at_end earlier one (length earlier) refl)
 
 -- where the class of a name stands in the list
-pub record IsPlaced (modes caps : List (List ℕ)) (list : List Class) (position : ℕ) (classes : Members)
+pub record IsPlaced (modes caps : List (List ℕ)) (list : List Class) (position : ℕ)
+    (classes : Members)
     (name : List ℕ) : Type 0 where
   pub one : Class
   pub at : slice_get list position ≡ Some one
@@ -235,7 +239,8 @@ pub placed : (modes caps : List (List ℕ)) (earlier list : List Class) (name : 
     → IsPlaced modes caps list there part name
 placed modes caps earlier list name no_members position there is at same = absurd (cc)
 placed modes caps earlier list name (member key value more) position there is at same =
-    let first = bind_ok (class_in modes caps value) (λ c. classes_from modes caps (earlier ++ c ∷ []) more)
+    let first = bind_ok (class_in modes caps value)
+    (λ c. classes_from modes caps (earlier ++ c ∷ []) more)
     list is in
     elim (cases_Bool (same_name name key)) [
       | inl here ↦
@@ -335,7 +340,8 @@ one_terms tree class terms terms' one two =
     (ap (get_member class) (sym classes) ∙ one.holds) two.holds in
     let fare = number_of (get_member (codes "fare") two.element) terms.fare terms'.fare
     (ap (get_member (codes "fare")) (sym element) ∙ one.fare) two.fare in
-    let rides = number_or_of 60_000 (get_member (codes "rides") two.element) terms.rides terms'.rides
+    let rides = number_or_of 60_000 (get_member (codes "rides") two.element) terms.rides
+    terms'.rides
     (subst (λ (e : Members). IsNumberOr 60_000 (get_member (codes "rides") e) terms.rides) element
     one.rides) two.rides in
     let own : own_ceiling terms.rides terms.fare ≡ own_ceiling terms'.rides terms'.fare =

@@ -516,7 +516,8 @@ meaning-reported tree =
     (λ classes is_classes.
     let same : classes_in tree ≡ classes = ap members_of (classes_read tree classes is_classes) in
     let tables = classes_tables tree classes is_classes in
-    steps tree (classes_from modes capped.names [] classes) _ (class_rows tree 0 (classes_in tree)) default_rows
+    steps tree (classes_from modes capped.names [] classes) _ (class_rows tree 0 (classes_in tree))
+    default_rows
     (list-reported tree modes capped.names classes [] known named same tables) (λ list is_list.
     steps tree (default_of classes tree) _ default_step entry_rows
     (default-reported tree classes same) (λ standard is_standard.

@@ -24,7 +24,8 @@ use Rattle.fare_table.specs.declared.fault.Key.{Key}
 use Rattle.fare_table.specs.declared.fault.Key.TheVariants as the_key
 use Rattle.fare_table.specs.declared.fault.TableFault.{TableFault}
 use Rattle.fare_table.specs.declared.fault.TableFault.TheVariants.{Text, Missing, Kind, Range, Mode}
-use Rattle.fare_table.specs.declared.fault.TableFault.TheVariants.{Overlap, Rider, NoMemory, Zone, Cap}
+use Rattle.fare_table.specs.declared.fault.TableFault.TheVariants.{Overlap, Rider, NoMemory, Zone}
+use Rattle.fare_table.specs.declared.fault.TableFault.TheVariants.{Cap}
 
 -- where a row looks: at the keys of the text, at those of one of its classes or of one element of
 -- its `validators`, at one key of the `fares` of a class (the class first, then the key), at one of

@@ -3,7 +3,8 @@ use Rattle.std.specs.Prelude.{ℕ, List, codes}
 use Rattle.fare_table.specs.declared.fault.Key.{Key}
 use Rattle.fare_table.specs.declared.fault.Key.TheVariants.{Modes, Transfers, Caps, CapWindow}
 use Rattle.fare_table.specs.declared.fault.Key.TheVariants.{CapModes, Classes, Fare, Rides}
-use Rattle.fare_table.specs.declared.fault.Key.TheVariants.{Ceiling, ClassCaps, Fares, RideTransfers}
+use Rattle.fare_table.specs.declared.fault.Key.TheVariants.{Ceiling, ClassCaps, Fares}
+use Rattle.fare_table.specs.declared.fault.Key.TheVariants.{RideTransfers}
 use Rattle.fare_table.specs.declared.fault.Key.TheVariants.{TransferMinutes, DefaultClass}
 use Rattle.fare_table.specs.declared.fault.Key.TheVariants.{Validators}
 use Rattle.fare_table.specs.declared.fault.Key.TheVariants.{First, Last, ModeName, Riders, Window}

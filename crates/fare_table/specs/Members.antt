@@ -1,6 +1,6 @@
 -- The values at the keys of a TOML table.
-use Rattle.std.specs.Prelude.{ℕ, ℤ, pos, ◌&&◌, ◌∷◌, [], Bool, true, List, Option, None, Some, Ok, Err}
-use Rattle.std.specs.Prelude.{int_le, unsigned_abs, if◌then◌else◌}
+use Rattle.std.specs.Prelude.{ℕ, ℤ, pos, ◌&&◌, ◌∷◌, [], Bool, true, List, Option, None, Some}
+use Rattle.std.specs.Prelude.{Ok, Err, int_le, unsigned_abs, if◌then◌else◌}
 use Rattle.std.specs.Option.{is_some}
 use Rattle.std.specs.Option.{ok_or}
 use Rattle.toml.specs.Data.{Data, Items, no_items, item, Members, no_members, member, get_member}

@@ -124,8 +124,8 @@ impl fmt::Display for Key {
 }
 
 /// The first fault of a table's text, in the order in which its keys are read: `modes`,
-/// `transfers`, `caps` (by name: `window`, `modes`), `classes` (by name: `fare`, `rides`, `ceiling`,
-/// `fares` with the mode and the number of each, `caps` with the cap and the number of each,
+/// `transfers`, `caps` (by name: `window`, `modes`), `classes` (by name: `fare`, `rides`,
+/// `ceiling`, `fares` with the mode and the number of each, `caps` with the cap and its number,
 /// `transfers`, `transfer_minutes`), `default_class`, `validators` (each: `first`, `last`, `mode`,
 /// the range), `riders` (by token), `zone`, `window`, `day_starts`. The kind of all elements of an
 /// array or table comes first.

@@ -24,7 +24,8 @@ ended-push rules earlier [] tap =
 ended-push rules earlier (first ∷ taps) tap =
     ap (λ (ws : List WindowView). ended rules earlier first ++ ws)
     (ended-push rules (earlier ++ first ∷ []) taps tap
-    ∙ ap (λ (ts : List TapIn). windows_ended rules (earlier ++ first ∷ []) taps ++ ended rules ts tap)
+    ∙ ap (λ (ts : List TapIn). windows_ended rules (earlier ++ first ∷ []) taps ++ ended rules ts
+    tap)
     (append_assoc earlier (first ∷ []) taps))
     ∙ sym (append_assoc (ended rules earlier first) _ _)
 

@@ -87,7 +87,11 @@ impl Explainer {
     {
         let mode = table.mode_of(entry.moment, entry.validator)?;
         let bytes = self.token.bytes();
-        Some(self.account.account.no_transfer(table, &bytes, entry.moment, mode))
+        Some(
+            self.account
+                .account
+                .no_transfer(table, &bytes, entry.moment, mode),
+        )
     }
 
     /// Takes the token's next entry, and returns the account rule's reason for it after those taken

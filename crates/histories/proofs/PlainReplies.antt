@@ -77,14 +77,16 @@ unfolding IsReplied
 replied_again fares token front entry is replied =
     ap (with_reply entry)
     (replied ∙ ap
-    (λ t. capped_reply (capped_rules_of fares (bytes_of t)) (taps_of fares t front) (tap_of fares entry)) is)
+    (λ t. capped_reply (capped_rules_of fares (bytes_of t)) (taps_of fares t front)
+    (tap_of fares entry)) is)
     ∙ ap (λ t. with_reply entry
     (capped_reply (capped_rules_of fares (bytes_of token)) (taps_of fares token front) t))
     (sym (tap_bare fares entry))
 
 legal_again : (fares : Fares) (token : Token) (front rest : List Entry)
     → IsLegal fares (front ++ rest)
-    → own token rest ≡ again fares (capped_rules_of fares (bytes_of token)) (taps_of fares token front)
+    → own token rest ≡ again fares (capped_rules_of fares (bytes_of token))
+    (taps_of fares token front)
     (map bare (own token rest))
 unfolding own again
 legal_again fares token front [] legal = refl

@@ -309,6 +309,7 @@ one_explained fares token entries a b is also =
     (explained_after_same fares token [] entries is.lines also.lines is.of_entries
     also.of_entries)
     ∙ ap (λ ws. head ++ (also.terms ++ (also.lines ++ (totals ++ ws))))
-    (window_lines_same fares.zone (capped_rules_of fares (bytes_of token)) (map (tap_of fares) entries)
+    (window_lines_same fares.zone (capped_rules_of fares (bytes_of token))
+    (map (tap_of fares) entries)
     is.windows also.windows is.of_windows also.of_windows)
     ∙ sym also.whole

@@ -26,7 +26,8 @@ module _ (fares : Fares) (token : Token) where
       ap (with_reply entry)
       (ap (λ t. capped_reply (capped_rules_of fares (bytes_of entry.token)) (taps_of fares t one)
       (tap_of fares entry)) is
-      ∙ ap (λ ts. capped_reply (capped_rules_of fares (bytes_of entry.token)) ts (tap_of fares entry)) same
+      ∙ ap (λ ts. capped_reply (capped_rules_of fares (bytes_of entry.token)) ts
+      (tap_of fares entry)) same
       ∙ ap (λ t. capped_reply (capped_rules_of fares (bytes_of entry.token)) (taps_of fares t other)
       (tap_of fares entry)) (sym is))
 

@@ -77,7 +77,8 @@ pub replied_same : (fares : Fares) (before other : List Entry) (entry : Entry)
 unfolding IsReplied taps_of
 replied_same fares before other entry same replied =
     replied ∙ ap
-    (λ (es : List Entry). capped_reply (capped_rules_of fares (bytes_of entry.token)) (map (tap_of fares) es)
+    (λ (es : List Entry). capped_reply (capped_rules_of fares (bytes_of entry.token))
+    (map (tap_of fares) es)
     (tap_of fares entry)) same
 
 -- where an entry stands in the history of which it is an own one

@@ -79,7 +79,8 @@ same_answer : (fares : Fares) (one other : List Entry) (entry : Entry) → SameS
 unfolding answered
 same_answer fares one other entry same =
     ap (with_reply entry)
-    (same_capped_reply (capped_rules_of fares (bytes_of entry.token)) (taps_of fares entry.token one)
+    (same_capped_reply (capped_rules_of fares (bytes_of entry.token))
+    (taps_of fares entry.token one)
     (taps_of fares entry.token other) (tap_of fares entry) (same entry.token))
 
 -- what is posted after them is answered alike
@@ -179,7 +180,8 @@ dead_again fares earlier f =
     let tap = tap_of fares entry in
     let token = entry.token in
     let L : List TapIn → Type 0 =
-    λ ts. is_live (with_reply entry (capped_reply (capped_rules_of fares (bytes_of token)) ts tap)) ≡ false in
+    λ ts. is_live (with_reply entry (capped_reply (capped_rules_of fares (bytes_of token)) ts tap))
+    ≡ false in
     subst L (sym (taps-push fares token earlier (answered fares earlier entry)
     ∙ ap (λ b. cond b (taps_of fares token earlier ++ tap ∷ []) (taps_of fares token earlier))
     (own_entry entry)))

@@ -235,10 +235,12 @@ module _ (fares : Fares) (token other : Token) (bytes : List ℕ)
   unfolding answered entry_of tap_of entry_by
   renamed_entry one two f mine yours same =
       let tap = tap_of fares (entry_of f) in
-      ap (λ t. entry_by f t (capped_reply (capped_rules_of fares (bytes_of t)) (taps_of fares t two) tap)) yours
+      ap (λ t. entry_by f t
+      (capped_reply (capped_rules_of fares (bytes_of t)) (taps_of fares t two) tap)) yours
       ∙ ap (entry_by f other) (rules.replies (taps_of fares other two) tap
       ∙ ap (λ ts. capped_reply (capped_rules_of fares (bytes_of token)) ts tap) (sym same)
-      ∙ ap (λ t. capped_reply (capped_rules_of fares (bytes_of t)) (taps_of fares t one) tap) (sym mine))
+      ∙ ap (λ t. capped_reply (capped_rules_of fares (bytes_of t)) (taps_of fares t one) tap)
+      (sym mine))
 
   push_renamed : (one two : List Entry) (entry : Entry) → is_of token entry ≡ true
       → is_of other (entry_for other entry) ≡ true

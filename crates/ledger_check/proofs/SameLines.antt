@@ -116,7 +116,8 @@ ruled_same fares earlier a b token validator moment =
     let taps : tap_of fares a ≡ tap_of fares b = tap_same fares a b validator moment in
     ap (λ (t : Token). capped_reply (capped_rules_of fares (bytes_of t)) (taps_of fares t earlier)
     (tap_of fares a)) token
-    ∙ ap (λ (t : TapIn). capped_reply (capped_rules_of fares (bytes_of b.token)) (taps_of fares b.token earlier)
+    ∙ ap (λ (t : TapIn). capped_reply (capped_rules_of fares (bytes_of b.token))
+    (taps_of fares b.token earlier)
     t) taps
 
 -- entries of the same tap, both with the rule's reply, are the same

@@ -19,7 +19,8 @@ answered_others : (fares : Fares) (front earlier : List Entry) (entry : Entry)
     → answered fares (front ++ earlier) entry ≡ answered fares earlier entry
 unfolding answered taps_of own
 answered_others fares front earlier entry none =
-    ap (λ (es : List Entry). with_reply entry (capped_reply (capped_rules_of fares (bytes_of entry.token))
+    ap (λ (es : List Entry). with_reply entry
+    (capped_reply (capped_rules_of fares (bytes_of entry.token))
     (map (tap_of fares) es) (tap_of fares entry)))
     (filter-append (is_of entry.token) front earlier
     ∙ ap (λ (es : List Entry). es ++ filter (is_of entry.token) earlier) none)

@@ -110,7 +110,8 @@ answered_own : (fares : Fares) (token : Token) (earlier alone : List Entry) (ent
     → answered fares earlier entry ≡ answered fares alone entry
 unfolding answered taps_of
 answered_own fares token earlier alone entry is same =
-    ap (λ (es : List Entry). with_reply entry (capped_reply (capped_rules_of fares (bytes_of entry.token))
+    ap (λ (es : List Entry). with_reply entry
+    (capped_reply (capped_rules_of fares (bytes_of entry.token))
     (map (tap_of fares) es) (tap_of fares entry)))
     (ap (λ (t : Token). own t earlier) is ∙ same ∙ sym (ap (λ (t : Token). own t alone) is))
 

@@ -47,7 +47,8 @@ not_later fares moment before other there known late =
 stale_answer : (fares : Fares) (earlier : List TapIn) (entry : Entry) (position : Option ℕ)
     → mode_at fares entry.moment entry.validator ≡ position → is_some position ≡ true
     → is_later earlier entry.moment ≡ false
-    → (capped_reply (capped_rules_of fares (bytes_of entry.token)) earlier (tap_of fares entry)).answer
+    → (capped_reply (capped_rules_of fares (bytes_of entry.token)) earlier
+    (tap_of fares entry)).answer
     ≡ Stale
 unfolding tap_of reply_with capped_rules_of
 stale_answer fares earlier entry None at known not = absurd (cc)

@@ -212,12 +212,14 @@ unfolding further_at
 further-same old new token same = rw same refl
 
 -- the account of a token that was there or was opened stands for its taps
-opened-kept : (table : Fares) (old mid : Accounts) (token : Token) (position : ℕ) (taps : List TapIn)
+opened-kept : (table : Fares) (old mid : Accounts) (token : Token) (position : ℕ)
+    (taps : List TapIn)
     → HasPositionFor old mid token position → mid.further ≡ old.further
     → HasKept table old token taps → HasKept table mid token taps
 opened-kept table old mid token position taps made further kept =
     rw (made.now, further-same old mid token further)
-    (holds_or table (bytes_of token) (kept_at old token) made.kept (further_at old token) taps made.is
+    (holds_or table (bytes_of token) (kept_at old token) made.kept (further_at old token) taps
+    made.is
     kept)
 
 -- a step after a look-up, of which the token's account came

@@ -36,7 +36,8 @@ pub sound-on : {table : Fares} {shard shards : ℕ} {accounts after : Accounts}
     → (IsCounting after → IsCounting accounts) → IsSound table shard shards accounts entries
     → IsSound table shard shards after items
 unfolding AreKept
-sound-on {table} {shard} {shards} {accounts} {after} {entries} {items} same others further counting sound =
+sound-on {table} {shard} {shards} {accounts} {after} {entries} {items} same others further counting
+    sound =
     subst (λ (es : List Entry). IsSound table shard shards after es) (sym same) (record {
       within = sound.within;
       few = sound.few;
@@ -130,7 +131,8 @@ pub book-on : {table : Fares} {shard shards : ℕ} {accounts after : Accounts}
     → ((other : Token) → further_at after other ≡ further_at accounts other)
     → (IsCounting after → IsCounting accounts) → IsBook table shard shards accounts packed
     → IsBook table shard shards after next
-book-on {table} {shard} {shards} {accounts} {after} {packed} {next} same keep others further counting
+book-on {table} {shard} {shards} {accounts} {after} {packed} {next} same keep others further
+    counting
     book =
     record {
       sound = sound-on

@@ -47,7 +47,8 @@ replies-after table token before (entry ∷ rest) legal =
           let is : entry.token ≡ token = same_token entry.token token same in
           ap (λ (r : Reply). r ∷ map reply_of (own token rest))
           (subst (λ (t : Token). reply_of entry
-          ≡ capped_reply (capped_rules_of table (bytes_of t)) (taps_of table t before) (tap_of table entry)) is
+          ≡ capped_reply (capped_rules_of table (bytes_of t)) (taps_of table t before)
+          (tap_of table entry)) is
           (legal.each before entry rest refl))
           ∙ ap (λ (rs : List Reply). capped_reply (capped_rules_of table (bytes_of token))
           (taps_of table token before) (tap_of table entry) ∷ rs) rest_is

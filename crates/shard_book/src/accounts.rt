@@ -185,7 +185,8 @@ impl Accounts {
 
         ensures steps { IfOk result (λ done. Steps table.now token tap self.old self.new done.1) }
         ensures counting { IsCounting self.new → IsCounting self.old }
-        ensures position { IfOk result (λ done. slice_get (tokens_of self.new) done.0 ≡ Some token) }
+        ensures position { IfOk result
+            (λ done. slice_get (tokens_of self.new) done.0 ≡ Some token) }
         ensures positions { KeepPositions (tokens_of self.old) (tokens_of self.new) }
         ensures err { OnErr result ((other : Token) → StillKept self.old self.new other) }
     {

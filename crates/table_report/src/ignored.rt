@@ -46,8 +46,18 @@ pub(crate) fn ignored_keys(
 ) -> Result<Vec<(KeyHolder, &str)>, AllocError> {
     let mut found = Vec::new(alloc);
     add_ignored(&mut found, KeyHolder::Top, table)?;
-    add_of_tables(&mut found, table, "caps", |position| KeyHolder::Cap(position))?;
-    add_of_tables(&mut found, table, "classes", |position| KeyHolder::Class(position))?;
+    add_of_tables(
+        &mut found,
+        table,
+        "caps",
+        |position| KeyHolder::Cap(position),
+    )?;
+    add_of_tables(
+        &mut found,
+        table,
+        "classes",
+        |position| KeyHolder::Class(position),
+    )?;
     if let Some(Value::Array(elements)) = table.get("validators") {
         for (position, value) in elements.iter().enumerate() {
             if let Value::Table(keys) = value {

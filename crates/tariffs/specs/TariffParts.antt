@@ -27,8 +27,8 @@ view_of parts = record {
   zone = record { rule = zone_rule parts.zone };
 }
 
--- at most 32 modes and three caps, ranges of modes of the tariff, classes and days of windows within
--- their bounds, a name of each class and cap, and places that have a class
+-- at most 32 modes and three caps, ranges of modes of the tariff, classes and days of windows
+-- within their bounds, a name of each class and cap, and places that have a class
 pub record AreSound (parts : TariffParts) : Type 0 where
   pub few : length parts.modes.items ≤ 32
   pub known : are_modes_below (length parts.modes.items) parts.ranges ≡ true

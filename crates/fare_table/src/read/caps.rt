@@ -74,11 +74,7 @@ fn cap_names(alloc: Global, tables: &Table) -> Result<Vec<String>, TableFault>
     }
 }
 
-fn caps_from(
-    alloc: Global,
-    modes: &[String],
-    tables: &Table,
-) -> Result<Vec<CapTerms>, TableFault>
+fn caps_from(alloc: Global, modes: &[String], tables: &Table) -> Result<Vec<CapTerms>, TableFault>
     requires { length modes.now ≤ 32 }
     ensures answer { Answers (λ v. v.items) result
         (spec.caps_from (map string_bytes modes.now) [] (table_view tables.now)) }

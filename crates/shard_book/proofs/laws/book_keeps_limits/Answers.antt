@@ -12,7 +12,8 @@ use Rattle.histories.specs.History.{IsLegal}
 use Rattle.histories.specs.declared.entry.Entry.{Entry}
 use Rattle.tap_views.specs.declared.token.Token.{Token}
 use Rattle.tap_views.specs.Token.{bytes_of}
-use Rattle.shard_book.proofs.WindowsLemmas.{cents-counted, cents-of, cents-own, paid-counted, paid-of}
+use Rattle.shard_book.proofs.WindowsLemmas.{cents-counted, cents-of, cents-own, paid-counted}
+use Rattle.shard_book.proofs.WindowsLemmas.{paid-of}
 use Rattle.shard_book.proofs.WindowsLemmas.{replies-own}
 use Rattle.shard_book.proofs.laws.book_keeps_limits.Goals as goal
 

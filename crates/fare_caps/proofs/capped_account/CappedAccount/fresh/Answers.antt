@@ -14,7 +14,11 @@ returns-clause-holds c = λ fares token.
       account = c.fresh.ensures.holds (rules_of fares token);
       further = rw c.none.ensures (keeps-nothing (rules_of fares token)
           (map (cap_rules fares token) places)
-          (omega (arith, places-few fares.meaning.caps, length-map places (cap_rules fares token))));
+          (omega (
+            arith,
+            places-few fares.meaning.caps,
+            length-map places (cap_rules fares token),
+          )));
     }
 
 pub returns-clause-some : goal.returns-clause-some

@@ -11,7 +11,8 @@ use Rattle.fare_table.proofs.read.classes.ceilings_from.Goals as goal
 
 ceilings-step : (caps : List (List ℕ)) (ceilings next : List ℕ) (key : List ℕ) (value : Data)
     (more : Members) (position cents : ℕ) → cap_named caps key ≡ Ok position
-    → number_in the_key.ClassCaps 1 100_000_000 value ≡ Ok cents → next ≡ set ceilings position cents
+    → number_in the_key.ClassCaps 1 100_000_000 value ≡ Ok cents
+    → next ≡ set ceilings position cents
     → ceilings_from caps ceilings (member key value more) ≡ ceilings_from caps next more
 ceilings-step caps ceilings next key value more position cents named number same =
     rw (named, number, same)
@@ -34,7 +35,8 @@ loop-name-preserved c =
       same =
           c.loop-name.invariant.same
           ∙ ap (λ more. ceilings_from caps ceilings (members_view more)) c.in-Some.ensures.steps
-          ∙ ceilings-step caps ceilings (set ceilings position cents) key value more position cents named
+          ∙ ceilings-step caps ceilings (set ceilings position cents) key value more position cents
+          named
           number
           refl;
       bounds = All-set (λ one. one ≤ 100_000_000) ceilings position cents

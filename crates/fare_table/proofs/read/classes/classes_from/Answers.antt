@@ -42,7 +42,8 @@ loop-name-preserved c =
       same =
           c.loop-name.invariant.same
           ∙ ap (λ more. classes_from modes caps earlier (members_view more)) c.in-Some.ensures.steps
-          ∙ classes-step modes caps earlier found key value more one (sym c.in_ok-class.ensures.class)
+          ∙ classes-step modes caps earlier found key value more one
+          (sym c.in_ok-class.ensures.class)
           same;
       bounds = all_with earlier found one c.loop-name.invariant.bounds c.in_ok-class.ensures.bounds
           same;

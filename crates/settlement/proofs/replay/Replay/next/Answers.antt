@@ -46,7 +46,8 @@ returns-clause-entry c = λ earlier posted.
       moment = tap.moment;
       answer = tap.answer;
       cents = tap.cents;
-    }) (capped_reply (capped_rules_of fares (bytes_of t)) (taps_of fares t earlier) (tap_of fares tap)))
+    }) (capped_reply (capped_rules_of fares (bytes_of t)) (taps_of fares t earlier)
+    (tap_of fares tap)))
     (sym c.requires.its)
 
 pub returns-clause-posted : goal.returns-clause-posted

@@ -44,7 +44,8 @@ returns-then-not-same_names-2-clause-fault c =
     let names : same_names c.args.self.now.meaning.modes c.args.next.now.meaning.modes ≡ true =
     sym (rw (c.mode_names.ensures.names, c.mode_names-2.ensures.names) at c.same_names.ensures)
     ∙ c.if-not-same_names.false in
-    let caps : same_names c.args.self.now.meaning.cap_names c.args.next.now.meaning.cap_names ≡ false =
+    let caps : same_names c.args.self.now.meaning.cap_names c.args.next.now.meaning.cap_names
+    ≡ false =
     sym (rw (c.cap_names.ensures.names, c.cap_names-2.ensures.names) at c.same_names-2.ensures)
     ∙ c.if-not-same_names-2.true in
     (date, zones-same _ _ zone, names-same _ _ names, names-other _ _ caps)
@@ -60,7 +61,8 @@ returns-then-not-is_empty-clause-fault c =
     let names : same_names c.args.self.now.meaning.modes c.args.next.now.meaning.modes ≡ true =
     sym (rw (c.mode_names.ensures.names, c.mode_names-2.ensures.names) at c.same_names.ensures)
     ∙ c.if-not-same_names.false in
-    let caps : same_names c.args.self.now.meaning.cap_names c.args.next.now.meaning.cap_names ≡ true =
+    let caps : same_names c.args.self.now.meaning.cap_names c.args.next.now.meaning.cap_names
+    ≡ true =
     sym (rw (c.cap_names.ensures.names, c.cap_names-2.ensures.names) at c.same_names-2.ensures)
     ∙ c.if-not-same_names-2.false in (
       date,
@@ -83,7 +85,8 @@ returns-clause-none c = λ _.
     let names : same_names c.args.self.now.meaning.modes c.args.next.now.meaning.modes ≡ true =
     sym (rw (c.mode_names.ensures.names, c.mode_names-2.ensures.names) at c.same_names.ensures)
     ∙ c.if-not-same_names.false in
-    let caps : same_names c.args.self.now.meaning.cap_names c.args.next.now.meaning.cap_names ≡ true =
+    let caps : same_names c.args.self.now.meaning.cap_names c.args.next.now.meaning.cap_names
+    ≡ true =
     sym (rw (c.cap_names.ensures.names, c.cap_names-2.ensures.names) at c.same_names-2.ensures)
     ∙ c.if-not-same_names-2.false in
     record {
