@@ -256,8 +256,8 @@ impl Accounts {
         self.further.insert(token, account.further)?;
         let (_, kept) = self.map.pair_mut(position as usize);
         kept.account = account.account;
-        let was_counted = kept.counts.add(reply);
-        self.counting = self.counting & was_counted;
+        let was_added = kept.counts.add(reply);
+        self.counting = self.counting & was_added;
         Ok(reply)
     }
 

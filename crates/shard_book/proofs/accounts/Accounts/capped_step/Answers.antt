@@ -40,7 +40,7 @@ returns-clause-steps c =
     let table = c.args.table.now in
     let token = c.args.token in
     let next : KeptAccount =
-    record { account = c.step-reply.new.self.account; counts = c.add-was_counted.new.self } in
+    record { account = c.step-reply.new.self.account; counts = c.add-was_added.new.self } in
     let there = account-at c.args.self.now token c.args.position _ c.requires.there
     c.pair_mut-kept.ensures.value in
     let now = written c.args.self.now c.args.position token _ next c.pair_mut-kept.ensures.unique
@@ -56,7 +56,7 @@ returns-clause-steps c =
           at c.step-reply.ensures.holds) taps
           (kept-capped table c.args.self.now token c.args.position taps c.requires.there kept));
       counted = λ counting. ap counted now.1
-          ∙ c.add-was_counted.ensures (grind arith)
+          ∙ c.add-was_added.ensures (grind arith)
           ∙ ap (λ (s : Sums). add_sums s (sums_of_replies (c.step-reply.result ∷ [])))
           (ap counted (sym there));
       counting = λ counting. grind arith;
@@ -70,4 +70,4 @@ returns-clause-steps c =
 pub returns-clause-tokens : goal.returns-clause-tokens
 returns-clause-tokens c =
     keys-with_value_at c.args.self.now.map c.args.position
-    (record { account = c.step-reply.new.self.account; counts = c.add-was_counted.new.self })
+    (record { account = c.step-reply.new.self.account; counts = c.add-was_added.new.self })
