@@ -1,5 +1,5 @@
 -- Each way out of a step under caps is one of the rule's cases.
-use Rattle.std.proofs.Common.{◌≡◌, ℕ, ◌≤◌, List, [], ◌∷◌, ◌++◌, length, map, Some, None, sym}
+use Rattle.std.proofs.Common.{◌≡◌, ℕ, List, [], ◌∷◌, ◌++◌, length, map, Some, None, sym}
 use Rattle.std.proofs.Common.{ap}
 use Rattle.std.proofs.Common.{◌∙◌, arith, subst}
 use Rattle.std.proofs.lemmas.List.{length-map}
@@ -8,6 +8,7 @@ use Rattle.tariffs.specs.Fares.{Fares, class_of, meaning_at, ride_terms}
 use Rattle.tariffs.specs.TableMeaning.{TableMeaning}
 use Rattle.tariffs.specs.Terms.{AreBoundedTerms}
 use Rattle.tariffs.specs.Until.{window_end_in}
+use Rattle.tariffs.specs.declared.cap_terms.CapTerms.{CapTerms}
 use Rattle.account_rule.specs.declared.account.Account.{Account}
 use Rattle.account_rule.specs.declared.reason.Reason.{Reason}
 use Rattle.account_rule.specs.declared.tap.TapIn.{TapIn}
@@ -132,6 +133,7 @@ ride-step fares token account further after taps tap one seen charge some is hol
 pub ride-step-by : (fares : Fares) (token : List ℕ) (account : Account)
     (further after : Further) (taps : List TapIn) (tap : TapIn) (one : Reason) (seen : RideSeen)
     (charge : CapCharge) (clock : ClockView) (meaning : TableMeaning) (class : ℕ)
+    (caps : List CapTerms)
     → (length fares.meaning.caps ≡ 0 → ⊥)
     → one ≡ rule.reason (rules_of fares token) taps tap
     → kept.Represents (rules_of fares token) account (taps ++ tap ∷ [])
@@ -139,27 +141,28 @@ pub ride-step-by : (fares : Fares) (token : List ℕ) (account : Account)
     (states (capped_rules_of fares token) taps)
     → ride_seen one tap.mode ≡ Some seen
     → clock ≡ fares.zone → meaning ≡ meaning_at fares tap.moment → class ≡ class_of meaning token
+    → caps ≡ fares.meaning.caps
     → AreBoundedTerms (ride_terms meaning class seen.mode.position)
     → HasRoom after
     → charge ≡ charge_of (ride_terms meaning class seen.mode.position)
-    (said_by fares.meaning.caps meaning seen.mode.position class)
+    (said_by caps meaning seen.mode.position class)
     (opened_all clock tap.moment (window_end_in clock meaning.window tap.moment)
-    (said_by fares.meaning.caps meaning seen.mode.position class) further)
-    → after ≡ counted_all charge (said_by fares.meaning.caps meaning seen.mode.position class)
+    (said_by caps meaning seen.mode.position class) further)
+    → after ≡ counted_all charge (said_by caps meaning seen.mode.position class)
     (opened_all clock tap.moment (window_end_in clock meaning.window tap.moment)
-    (said_by fares.meaning.caps meaning seen.mode.position class) further)
+    (said_by caps meaning seen.mode.position class) further)
     → IsStep (capped_rules_of fares token) taps tap (Ride seen.start seen.until charge) account
     after
 unfolding rules_of token_class live_at
 ride-step-by fares token account further after taps tap one seen charge clock meaning class
-    some is holds keeps seen-is clock-is meaning-is class-is bounds room costs counted =
+    caps some is holds keeps seen-is clock-is meaning-is class-is caps-is bounds room costs counted =
     let class-at : class ≡ class_of (meaning_at fares tap.moment) token =
     rw meaning-is at class-is in
     ride-step fares token account further after taps tap one seen charge some is holds
     keeps
     seen-is (rw (meaning-is, class-at) at bounds) room
-    (rw (clock-is, meaning-is, class-at) at costs)
-    (rw (clock-is, meaning-is, class-at) at counted)
+    (rw (clock-is, meaning-is, class-at, caps-is) at costs)
+    (rw (clock-is, meaning-is, class-at, caps-is) at counted)
 
 -- the numbers that are kept leave room for one more ride
 pub has-room : (fares : Fares) (token : List ℕ) (further : Further)

@@ -16,14 +16,14 @@ use Rattle.fare_table.proofs.FaultLemmas.{fails, fault_in, needs, reported, repo
 use Rattle.fare_table.proofs.FaultLemmas.{reported_two, steps}
 use Rattle.fare_table.proofs.PartLemmas.{bind_ok}
 use Rattle.fare_table.specs.Caps.{TextCaps, are_cap_names, cap_length, cap_names, cap_of}
-use Rattle.fare_table.specs.Caps.{cap_tables, caps_from, caps_of, counts_from, counts_of}
+use Rattle.fare_table.specs.Caps.{caps_from, caps_of, counts_from, counts_of}
+use Rattle.fare_table.specs.Caps.{text_caps}
 use Rattle.fare_table.specs.Caps as read
-use Rattle.fare_table.specs.Faults.{FaultRow, a_row, cap, cap_rows, caps_in, caps_step, first_row}
+use Rattle.fare_table.specs.Faults.{a_row, cap, cap_rows, caps_in, caps_step, first_row}
 use Rattle.fare_table.specs.Faults.{is_in_bounds, is_kind, is_mode, is_wrong, items_of, members_at}
-use Rattle.fare_table.specs.Faults.{members_of, mode_names, needed_rows, optional_rows}
+use Rattle.fare_table.specs.Faults.{members_of, mode_names, needed_rows}
 use Rattle.fare_table.specs.Faults.{rows_of_cap, texts, top, value_at}
 use Rattle.fare_table.specs.Members.{are_texts, hold_tables, names_in, of_kind}
-use Rattle.fare_table.specs.Modes.{mode_named}
 use Rattle.fare_table.specs.OrFault.{OrFault, ◌>>=◌}
 use Rattle.fare_table.specs.declared.fault.Key.{Key}
 use Rattle.fare_table.specs.declared.fault.Key.TheVariants as the_key
@@ -125,7 +125,7 @@ list-from-reported tree modes n earlier (member name _ more) known aligned table
 
 -- ---- the whole
 abbrev by_list : List (List ℕ) → List CapTerms → OrFault TextCaps
-by_list names caps = Ok (record { names = names; caps = caps })
+by_list names caps = Ok (text_caps names caps)
 
 abbrev by_names : List (List ℕ) → Members → List (List ℕ) → OrFault TextCaps
 by_names modes tables names = caps_from modes [] tables >>= by_list names
@@ -194,7 +194,7 @@ in_bounds false names found is = absurd (cc)
 names_of : (names : List (List ℕ)) (caps : List CapTerms) (capped : TextCaps)
     → by_list names caps ≡ Ok capped → names ≡ capped.names
 names_of names caps capped is =
-    let same : record { names = names; caps = caps } ≡ capped = cc in
+    let same : text_caps names caps ≡ capped = cc in
     ap (λ (c : TextCaps). c.names) same
 
 none_named : (capped : TextCaps) → by_list [] [] ≡ Ok capped → [] ≡ capped.names

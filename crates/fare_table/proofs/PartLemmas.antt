@@ -1,7 +1,7 @@
 -- Rules that were read, taken apart into what each key of the text gives.
 use Rattle.std.proofs.Common.{◌≡◌, ℕ, List, [], Option, Ok, Err, refl, subst}
 use Rattle.toml.specs.Data.{Members}
-use Rattle.fare_table.specs.Caps.{TextCaps, caps_of}
+use Rattle.fare_table.specs.Caps.{TextCaps, caps_of, text_caps}
 use Rattle.fare_table.specs.Classes.{classes_from, classes_of, default_of}
 use Rattle.fare_table.specs.Members.{names_in}
 use Rattle.fare_table.specs.Modes.{modes_of}
@@ -28,7 +28,7 @@ pub record AreParts (tree : Members) (meaning : TableMeaning) : Type 0 where
   pub modes : modes_of tree ≡ Ok meaning.modes
   pub transfers : transfers_of meaning.modes tree ≡ Ok meaning.transfers
   pub caps : caps_of meaning.modes tree
-      ≡ Ok (record { names = meaning.cap_names; caps = meaning.caps })
+      ≡ Ok (text_caps meaning.cap_names meaning.caps)
   pub table : Members
   pub members : classes_of tree ≡ Ok table
   pub classes : classes_from meaning.modes meaning.cap_names [] table ≡ Ok meaning.classes

@@ -21,6 +21,10 @@ pub record TextCaps : Type 0 where
   pub names : List (List ℕ)
   pub caps : List CapTerms
 
+-- these names and caps
+abbrev pub text_caps : List (List ℕ) → List CapTerms → TextCaps
+text_caps names caps = record { names = names; caps = caps }
+
 -- at most three names, each as that of a mode
 abbrev pub are_cap_names : List (List ℕ) → Bool
 are_cap_names names = nat_le (length names) 3 && list_all is_mode_name names
@@ -80,12 +84,12 @@ cap_names tables =
 
 -- the caps of a value: none, if there is none
 abbrev pub caps_in : List (List ℕ) → Option Data → OrFault TextCaps
-caps_in modes None = Ok (record { names = []; caps = [] })
+caps_in modes None = Ok (text_caps [] [])
 caps_in modes (Some value) = do
   tables ← cap_tables value
   names ← cap_names tables
   caps ← caps_from modes [] tables
-  Ok (record { names = names; caps = caps })
+  Ok (text_caps names caps)
 
 -- the caps of the text
 unfoldable pub caps_of : List (List ℕ) → Members → OrFault TextCaps

@@ -79,7 +79,7 @@ same_answer : (fares : Fares) (one other : List Entry) (entry : Entry) → SameS
 unfolding answered
 same_answer fares one other entry same =
     ap (with_reply entry)
-    (same_capped_reply (capped_rules_of fares (bytes_of entry.token))
+    (same_reply (capped_rules_of fares (bytes_of entry.token))
     (taps_of fares entry.token one)
     (taps_of fares entry.token other) (tap_of fares entry) (same entry.token))
 

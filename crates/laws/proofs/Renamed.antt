@@ -23,7 +23,6 @@ use Rattle.tariffs.specs.Fares.{Fares, class_of, meaning_at, terms_on}
 use Rattle.tariffs.specs.declared.class.Class.{Class}
 use Rattle.account_rule.specs.Blocks.{last_block}
 use Rattle.account_rule.specs.Reasons.{given_by, latest, live_reason, reason, ride_of}
-use Rattle.account_rule.specs.Replies.{live_reply, reply}
 use Rattle.account_rule.specs.Taps.{LiveTap, is_later}
 use Rattle.account_rule.specs.TokenRules.{TokenRules, permits_of, rules_of, token_class}
 use Rattle.account_rule.specs.TokenRules.{transfers_of}

@@ -18,7 +18,7 @@ use Rattle.fare_caps.specs.declared.further.Further.{Further}
 use Rattle.shard_book.specs.declared.accounts.Accounts.{Accounts}
 use Rattle.shard_book.specs.declared.accounts.KeptAccount.{KeptAccount}
 use Rattle.shard_book.specs.inside.Accounts.{IsKept, IsKeptOrFresh, HasPositionFor, IsPosition}
-use Rattle.shard_book.specs.inside.Accounts.{HasKept, IsCounting, StaysKept, Steps, StillKept}
+use Rattle.shard_book.specs.inside.Accounts.{HasKept, StaysKept, Steps, StillKept}
 use Rattle.shard_book.specs.inside.Accounts.{StillRepresents}
 use Rattle.shard_book.specs.inside.Accounts.{capped_of, counted, further_at, kept_at}
 use Rattle.histories.specs.Counts.{sums_of_counts}

@@ -1,9 +1,10 @@
 //! The key `caps`: how long the windows of caps beside `window` are, and which modes these count.
 ghost use Rattle.std.specs.Prelude.{◌≡◌, ◌<◌, ◌≤◌, [], All, IfOk, false, length, map};
-ghost use Rattle.std.specs.Prelude.{option_map, replicate, string_bytes, vec_len};
+ghost use Rattle.std.specs.Prelude.{IsTrue, nat_le, option_map, replicate, string_bytes, vec_len};
 ghost use Rattle.toml.specs.View.{array_view, view, table_view};
 ghost use Rattle.tariffs.specs.WindowSpan.{IsBoundedLength};
 ghost use Rattle.fare_table.specs.Caps as spec;
+ghost use Rattle.fare_table.specs.Caps.{text_caps};
 ghost use Rattle.fare_table.specs.Classes.{count_of};
 ghost use Rattle.fare_table.specs.inside.OrFault.{Answers, seen_through};
 
@@ -30,11 +31,11 @@ pub(crate) fn caps_of(
     table: &Table,
 ) -> Result<TextCaps, TableFault>
     requires { length modes.now ≤ 32 }
-    ensures answer { Answers
-        (λ c. record { names = map string_bytes c.names.items; caps = c.caps.items }) result
+    ensures answer { Answers (λ c. text_caps (map string_bytes c.names.items) c.caps.items) result
         (spec.caps_of (map string_bytes modes.now) (table_view table.now)) }
     ensures bounds { IfOk result (λ c. All (λ cap. IsBoundedLength cap.length) c.caps.items) }
     ensures few { IfOk result (λ c. vec_len c.caps ≤ 3) }
+    ensures short { IfOk result (λ c. vec_len c.names ≤ 3) }
     ensures named { IfOk result (λ c. vec_len c.names ≡ vec_len c.caps) }
 {
     let Some(value) = optional(table, "caps") else {
@@ -67,11 +68,24 @@ fn cap_names(alloc: Global, tables: &Table) -> Result<Vec<String>, TableFault>
     ensures few { IfOk result (λ v. vec_len v ≤ 3) }
 {
     let names = names_of(alloc, tables)?;
-    if names.len() <= MAX_CAPS && are_short_words(&names) {
+    if are_cap_names(&names) {
         Ok(names)
     } else {
         Err(TableFault::Range { key: Key::Caps })
     }
+}
+
+fn are_cap_names(names: &[String]) -> bool
+    ensures names { result ≡ spec.are_cap_names (map string_bytes names.now) }
+    ensures few { IsTrue result → length names.now ≤ 3 }
+{
+    is_few(names.len()) && are_short_words(names)
+}
+
+fn is_few(caps: usize) -> bool
+    ensures { result ≡ nat_le caps 3 }
+{
+    caps <= MAX_CAPS
 }
 
 fn caps_from(alloc: Global, modes: &[String], tables: &Table) -> Result<Vec<CapTerms>, TableFault>

@@ -90,12 +90,12 @@ is_ride c taps holds =
     ride-step-by c.args.table.now c.args.token.now c.explain_step-reason.new.self
     c.args.self.now.further c.charge_ride.new.self taps c.args.tap c.explain_step-reason.result
     c.in-Some.ride c.charge_ride.result c.args.clock.now c.at-tariff.result.now.meaning
-    c.class_of-class.result
+    c.class_of-class.result c.caps.result.now
     (c.has_caps.ensures.some c.if-not-has_caps.false)
     (c.explain_step-reason.ensures.reason taps holds.account)
     (c.explain_step-reason.ensures.holds taps holds.account) holds.further
     (sym c.ride_seen.ensures ∙ c.in-Some.is) c.requires.clock c.at-tariff.ensures.meaning
-    c.class_of-class.ensures.class c.charge_ride.ensures.bounds c.charge_ride.ensures.room
+    c.class_of-class.ensures.class c.caps.ensures.caps c.charge_ride.ensures.bounds c.charge_ride.ensures.room
     c.charge_ride.ensures.charge c.charge_ride.ensures.state
 
 pub returns-clause-reason : goal.returns-clause-reason
