@@ -360,7 +360,7 @@ fn fault_of(alloc: Global, caps: &str, class: &str) -> Result<Option<TableFault>
     Ok(FareTable::read(alloc, text.as_bytes()).err())
 }
 
-/// The lines of caps, those of the class behind its fare, and the fault.
+/// The lines of caps, those of the class after its fare, and the fault.
 #[test]
 fn faults_of_caps(rt: HostRuntime) -> Result<(), Fail> {
     let alloc = rt.alloc();

@@ -5,10 +5,10 @@ use Rattle.tariffs.specs.Fares.{Fares}
 use Rattle.account_rule.specs.Replies.{replies}
 use Rattle.account_rule.specs.TokenRules.{TokenRules, rules_of}
 use Rattle.account_rule.specs.declared.tap.TapIn.{TapIn}
-use Rattle.fare_caps.specs.CapMeanings.{cap_places, cap_rules, capped_rules_of}
+use Rattle.fare_caps.specs.CapMeanings.{cap_positions, cap_rules, capped_rules_of}
 use Rattle.fare_caps.specs.CappedReplies.{capped_replies}
 use Rattle.fare_caps.specs.Caps.{CapRules}
-use Rattle.fare_caps.proofs.FurtherLemmas.{places-none}
+use Rattle.fare_caps.proofs.FurtherLemmas.{positions-none}
 use Rattle.fare_caps.proofs.NoCapsLemmas.{replies-none}
 
 replies-by : (rules : TokenRules) (caps : List CapRules) (taps : List TapIn) → length caps ≡ 0
@@ -22,6 +22,6 @@ pub replies-empty : (fares : Fares) (token : List ℕ) (taps : List TapIn)
 unfolding capped_rules_of
 replies-empty fares token taps none =
     replies-by (rules_of fares token)
-    (map (cap_rules fares token) (cap_places fares.meaning.caps)) taps
-    (length-map (cap_places fares.meaning.caps) (cap_rules fares token)
-    ∙ places-none fares.meaning.caps none)
+    (map (cap_rules fares token) (cap_positions fares.meaning.caps)) taps
+    (length-map (cap_positions fares.meaning.caps) (cap_rules fares token)
+    ∙ positions-none fares.meaning.caps none)

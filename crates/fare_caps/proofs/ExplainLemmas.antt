@@ -17,7 +17,7 @@ use Rattle.account_rule.specs.Represents as kept
 use Rattle.account_rule.specs.Replies.{reply}
 use Rattle.account_rule.specs.TokenRules.{rules_of, token_class}
 use Rattle.account_rule.specs.Taps.{live_at}
-use Rattle.fare_caps.specs.CapMeanings.{cap_places, cap_rules, capped_rules_of}
+use Rattle.fare_caps.specs.CapMeanings.{cap_positions, cap_rules, capped_rules_of}
 use Rattle.fare_caps.specs.CapStates.{CapStates, after_ride, states}
 use Rattle.fare_caps.specs.CappedReplies.{capped_reason, capped_reply}
 use Rattle.fare_caps.specs.Caps.{CappedRules}
@@ -29,8 +29,8 @@ use Rattle.fare_caps.specs.declared.capped_reason.CappedReason.TheVariants.{Ride
 use Rattle.fare_caps.specs.declared.further.Further.{Further}
 use Rattle.fare_caps.specs.inside.Further.{charge_of, counted_all, opened_all, said_by}
 use Rattle.fare_caps.specs.inside.Seen.{ride_seen, uncapped}
-use Rattle.fare_caps.proofs.FurtherLemmas.{caps_count, keeps-is, keeps-some, places-none}
-use Rattle.fare_caps.proofs.FurtherLemmas.{places-some, rides, said_to}
+use Rattle.fare_caps.proofs.FurtherLemmas.{caps_count, keeps-is, keeps-some, positions-none}
+use Rattle.fare_caps.proofs.FurtherLemmas.{positions-some, rides, said_to}
 use Rattle.fare_caps.proofs.NoCapsLemmas.{keeps-empty, reason-empty, reply-empty}
 use Rattle.fare_caps.proofs.SeenLemmas.{no-ride, ride}
 
@@ -50,20 +50,20 @@ pub empty-step : (fares : Fares) (token : List ℕ) (account : Account)
     → IsStep (capped_rules_of fares token) taps tap (uncapped one) account further
 unfolding capped_rules_of
 empty-step fares token account further taps tap one none is holds =
-    let empty : length (map (cap_rules fares token) (cap_places fares.meaning.caps)) ≡ 0 =
+    let empty : length (map (cap_rules fares token) (cap_positions fares.meaning.caps)) ≡ 0 =
     omega (
       arith,
-      places-none fares.meaning.caps none,
-      length-map (cap_places fares.meaning.caps) (cap_rules fares token),
+      positions-none fares.meaning.caps none,
+      length-map (cap_positions fares.meaning.caps) (cap_rules fares token),
     ) in
     record {
       reason = ap uncapped is
           ∙ sym (reason-empty (rules_of fares token)
-          (map (cap_rules fares token) (cap_places fares.meaning.caps)) taps tap
+          (map (cap_rules fares token) (cap_positions fares.meaning.caps)) taps tap
           empty);
       holds = record {
         account = holds;
-        further = keeps-empty (map (cap_rules fares token) (cap_places fares.meaning.caps)) further
+        further = keeps-empty (map (cap_rules fares token) (cap_positions fares.meaning.caps)) further
             _ empty;
       };
     }
@@ -109,11 +109,11 @@ pub ride-step : (fares : Fares) (token : List ℕ) (account : Account)
 unfolding capped_rules_of
 ride-step fares token account further after taps tap one seen charge some is holds keeps
     seen-is bounds room costs counted =
-    let long = length-map (cap_places fares.meaning.caps) (cap_rules fares token) in
+    let long = length-map (cap_positions fares.meaning.caps) (cap_rules fares token) in
     let before : IsFurther (caps_count fares) further (states (capped_rules_of fares token) taps) =
     subst (λ n. IsFurther n further (states (capped_rules_of fares token) taps)) long
-    (keeps-some (map (cap_rules fares token) (cap_places fares.meaning.caps)) further _
-    (λ none. some (places-some fares.meaning.caps (omega (arith, none, long)))) keeps) in
+    (keeps-some (map (cap_rules fares token) (cap_positions fares.meaning.caps)) further _
+    (λ none. some (positions-some fares.meaning.caps (omega (arith, none, long)))) keeps) in
     let now = rides fares token tap.moment seen.mode further after _ charge before bounds
     room costs counted in
     let it = ride (capped_rules_of fares token) taps tap seen (rw is at seen-is) in
@@ -122,7 +122,7 @@ ride-step fares token account further after taps tap one seen charge some is hol
       holds = record {
         account = holds;
         further = rw it.more
-            (keeps-is (map (cap_rules fares token) (cap_places fares.meaning.caps)) after _
+            (keeps-is (map (cap_rules fares token) (cap_positions fares.meaning.caps)) after _
             (subst (λ n. IsFurther n after (after_ride (capped_rules_of fares token)
             (states (capped_rules_of fares token) taps) (live_at tap.moment seen.mode)))
             (sym long) now.state));
@@ -170,9 +170,9 @@ pub has-room : (fares : Fares) (token : List ℕ) (further : Further)
     → KeepsStates (capped_rules_of fares token).caps further states → HasRoom further
 unfolding capped_rules_of
 has-room fares token further states some keeps =
-    let long = length-map (cap_places fares.meaning.caps) (cap_rules fares token) in
-    (keeps-some (map (cap_rules fares token) (cap_places fares.meaning.caps)) further states
-    (λ none. some (places-some fares.meaning.caps (omega (arith, none, long)))) keeps).room
+    let long = length-map (cap_positions fares.meaning.caps) (cap_rules fares token) in
+    (keeps-some (map (cap_rules fares token) (cap_positions fares.meaning.caps)) further states
+    (λ none. some (positions-some fares.meaning.caps (omega (arith, none, long)))) keeps).room
 
 -- there are no caps, and the reply is asked for
 pub empty-reply : (fares : Fares) (token : List ℕ) (taps : List TapIn)
@@ -182,12 +182,12 @@ pub empty-reply : (fares : Fares) (token : List ℕ) (taps : List TapIn)
     ≡ reply (rules_of fares token) taps tap
 unfolding capped_rules_of
 empty-reply fares token taps tap none =
-    reply-empty (rules_of fares token) (map (cap_rules fares token) (cap_places fares.meaning.caps))
+    reply-empty (rules_of fares token) (map (cap_rules fares token) (cap_positions fares.meaning.caps))
     taps tap
     (omega (
       arith,
-      places-none fares.meaning.caps none,
-      length-map (cap_places fares.meaning.caps) (cap_rules fares token),
+      positions-none fares.meaning.caps none,
+      length-map (cap_positions fares.meaning.caps) (cap_rules fares token),
     ))
 
 pub empty-holds : (fares : Fares) (token : List ℕ) (account : Account)
@@ -198,10 +198,10 @@ pub empty-holds : (fares : Fares) (token : List ℕ) (account : Account)
 unfolding capped_rules_of
 empty-holds fares token account further taps none holds = record {
   account = holds;
-  further = keeps-empty (map (cap_rules fares token) (cap_places fares.meaning.caps)) further _
+  further = keeps-empty (map (cap_rules fares token) (cap_positions fares.meaning.caps)) further _
       (omega (
         arith,
-        places-none fares.meaning.caps none,
-        length-map (cap_places fares.meaning.caps) (cap_rules fares token),
+        positions-none fares.meaning.caps none,
+        length-map (cap_positions fares.meaning.caps) (cap_rules fares token),
       ));
 }

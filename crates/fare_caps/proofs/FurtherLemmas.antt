@@ -16,7 +16,7 @@ use Rattle.account_rule.specs.Taps.{live, live_after, live_at}
 use Rattle.account_rule.specs.Trips as taken
 use Rattle.account_rule.specs.Windows.{charge}
 use Rattle.account_rule.proofs.LimitLemmas.{charge-min}
-use Rattle.fare_caps.specs.CapMeanings.{cap_places, cap_rules, capped_rules_of, said_of}
+use Rattle.fare_caps.specs.CapMeanings.{cap_positions, cap_rules, capped_rules_of, said_of}
 use Rattle.fare_caps.specs.CapStates.{CapStates, after_ride, at_ride, charge_at, no_rides}
 use Rattle.fare_caps.specs.CapStates.{after_rides, ride_charge, states, with_charge}
 use Rattle.fare_caps.specs.Caps.{CapRules, counted, each_window, left, no_window}
@@ -47,26 +47,26 @@ said_to fares token moment mode = said_of_caps fares token fares.meaning.caps mo
 
 -- how many caps of a table count
 abbrev pub caps_count : Fares → ℕ
-caps_count fares = length (cap_places fares.meaning.caps)
+caps_count fares = length (cap_positions fares.meaning.caps)
 
 -- a table has no caps exactly if none counts, and never more than three count
-pub places-none : (caps : List CapTerms) → length caps ≡ 0 → length (cap_places caps) ≡ 0
-places-none [] none = refl
-places-none (a ∷ []) none = absurd (omega (arith, none))
-places-none (a ∷ b ∷ []) none = absurd (omega (arith, none))
-places-none (a ∷ b ∷ c ∷ more) none = absurd (omega (arith, none))
+pub positions-none : (caps : List CapTerms) → length caps ≡ 0 → length (cap_positions caps) ≡ 0
+positions-none [] none = refl
+positions-none (a ∷ []) none = absurd (omega (arith, none))
+positions-none (a ∷ b ∷ []) none = absurd (omega (arith, none))
+positions-none (a ∷ b ∷ c ∷ more) none = absurd (omega (arith, none))
 
-pub places-some : (caps : List CapTerms) → length (cap_places caps) ≡ 0 → length caps ≡ 0
-places-some [] none = refl
-places-some (a ∷ []) none = absurd (omega (arith, none))
-places-some (a ∷ b ∷ []) none = absurd (omega (arith, none))
-places-some (a ∷ b ∷ c ∷ more) none = absurd (omega (arith, none))
+pub positions-some : (caps : List CapTerms) → length (cap_positions caps) ≡ 0 → length caps ≡ 0
+positions-some [] none = refl
+positions-some (a ∷ []) none = absurd (omega (arith, none))
+positions-some (a ∷ b ∷ []) none = absurd (omega (arith, none))
+positions-some (a ∷ b ∷ c ∷ more) none = absurd (omega (arith, none))
 
-pub places-few : (caps : List CapTerms) → length (cap_places caps) ≤ 3
-places-few [] = omega arith
-places-few (a ∷ []) = omega arith
-places-few (a ∷ b ∷ []) = omega arith
-places-few (a ∷ b ∷ c ∷ more) = omega arith
+pub positions-few : (caps : List CapTerms) → length (cap_positions caps) ≤ 3
+positions-few [] = omega arith
+positions-few (a ∷ []) = omega arith
+positions-few (a ∷ b ∷ []) = omega arith
+positions-few (a ∷ b ∷ c ∷ more) = omega arith
 
 -- ---- each of at most three caps
 
@@ -83,11 +83,11 @@ Alike fares token moment mode change by =
 three : (fares : Fares) (token : List ℕ) (moment : ℕ) (mode : Mode)
     (change : CapRules → CapWindow → CapWindow) (by : Option RideCap → CapWindow → CapWindow)
     (caps : List CapTerms) (a b c : CapWindow) → Alike fares token moment mode change by
-    → take (length (cap_places caps)) (by (said_of_caps fares token caps moment mode).first a
+    → take (length (cap_positions caps)) (by (said_of_caps fares token caps moment mode).first a
     ∷ by (said_of_caps fares token caps moment mode).second b
     ∷ by (said_of_caps fares token caps moment mode).third c ∷ [])
-    ≡ each_window change (map (cap_rules fares token) (cap_places caps))
-    (take (length (cap_places caps)) (a ∷ b ∷ c ∷ []))
+    ≡ each_window change (map (cap_rules fares token) (cap_positions caps))
+    (take (length (cap_positions caps)) (a ∷ b ∷ c ∷ []))
 unfolding each_window
 three fares token moment mode change by [] a b c alike = refl
 three fares token moment mode change by (x ∷ []) a b c alike = λ i. alike 0 a i ∷ []
@@ -108,8 +108,8 @@ left-alike fares token moment mode index window = refl
 least-three : (fares : Fares) (token : List ℕ) (moment : ℕ) (mode : Mode) (caps : List CapTerms)
     (further : Further)
     → least_of (said_of_caps fares token caps moment mode) further
-    ≡ least_from 0 None (live_at moment mode) (map (cap_rules fares token) (cap_places caps))
-    (take (length (cap_places caps)) (cap_windows further))
+    ≡ least_from 0 None (live_at moment mode) (map (cap_rules fares token) (cap_positions caps))
+    (take (length (cap_positions caps)) (cap_windows further))
 unfolding least_of least_from
 least-three fares token moment mode [] further = refl
 least-three fares token moment mode (x ∷ []) further =
@@ -180,7 +180,7 @@ opens fares token moment mode further states is = record {
       (opened_by fares.zone moment) fares.meaning.caps further.first further.second further.third
       (opened-alike fares token moment mode)
       ∙ ap (each_window (opened (live_at moment mode)) (map (cap_rules fares token)
-      (cap_places fares.meaning.caps))) is.caps;
+      (cap_positions fares.meaning.caps))) is.caps;
   room = room-all fares.zone moment ((rules_of fares token).until moment)
       (said_to fares token moment mode) further is.room;
 }
@@ -303,7 +303,7 @@ counts fares token moment mode charge further states is room = record {
       (counted-alike fares token moment mode (cap_cents charge))
       ∙ ap (each_window (counted (live_at moment mode) (cap_cents charge))
       (map (cap_rules fares token)
-      (cap_places fares.meaning.caps))) is.caps;
+      (cap_positions fares.meaning.caps))) is.caps;
   room = room;
 }
 

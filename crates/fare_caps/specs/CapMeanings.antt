@@ -14,15 +14,15 @@ use Rattle.fare_caps.specs.declared.ride_cap.RideCap.{RideCap}
 abbrev pub no_cap : CapTerms
 no_cap = record { length = CalendarDay; counts = [] }
 
--- the cap at a place
+-- the cap at a position
 abbrev pub cap_at : TableMeaning → ℕ → CapTerms
 cap_at meaning index = slice_index_or meaning.caps index no_cap
 
--- how long the windows of the cap at a place are, and when a day starts
+-- how long the windows of the cap at a position are, and when a day starts
 abbrev pub cap_span : TableMeaning → ℕ → WindowSpan
 cap_span meaning index = record meaning.window { length = (cap_at meaning index).length }
 
--- what the cap at a place says of a ride: on a mode, of a class, by their places
+-- what the cap at a position says of a ride: on a mode, of a class, by their positions
 abbrev pub said_of : TableMeaning → ℕ → ℕ → ℕ → RideCap
 said_of meaning index mode class = record {
   span = cap_span meaning index;
@@ -30,7 +30,7 @@ said_of meaning index mode class = record {
   ceiling = cap_ceiling meaning class index;
 }
 
--- the rules of the cap at a place for a token
+-- the rules of the cap at a position for a token
 unfoldable pub cap_rules : Fares → List ℕ → ℕ → CapRules
 cap_rules fares token index = record {
   until = λ start. window_end_in fares.zone (cap_span (meaning_at fares start) index) start;
@@ -40,16 +40,16 @@ cap_rules fares token index = record {
       (token_class fares token ride.moment)).ceiling;
 }
 
--- the places of the caps, at most three
-abbrev pub cap_places : List CapTerms → List ℕ
-cap_places [] = []
-cap_places (first ∷ []) = 0 ∷ []
-cap_places (first ∷ second ∷ []) = 0 ∷ 1 ∷ []
-cap_places (first ∷ second ∷ third ∷ more) = 0 ∷ 1 ∷ 2 ∷ []
+-- the positions of the caps, at most three
+abbrev pub cap_positions : List CapTerms → List ℕ
+cap_positions [] = []
+cap_positions (first ∷ []) = 0 ∷ []
+cap_positions (first ∷ second ∷ []) = 0 ∷ 1 ∷ []
+cap_positions (first ∷ second ∷ third ∷ more) = 0 ∷ 1 ∷ 2 ∷ []
 
 -- the rules of a token under a table: all tables name the same caps
 unfoldable pub capped_rules_of : Fares → List ℕ → CappedRules
 capped_rules_of fares token = record {
   rules = rules_of fares token;
-  caps = map (cap_rules fares token) (cap_places fares.meaning.caps);
+  caps = map (cap_rules fares token) (cap_positions fares.meaning.caps);
 }

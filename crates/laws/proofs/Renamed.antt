@@ -33,7 +33,7 @@ use Rattle.account_rule.specs.declared.reason.Reason.TheVariants.{Ride, Stale, T
 use Rattle.account_rule.specs.declared.tap.TapIn.{TapIn}
 use Rattle.account_rule.specs.declared.reply.Reply.{Reply}
 use Rattle.tariffs.specs.declared.mode.Mode.{Mode}
-use Rattle.fare_caps.specs.CapMeanings.{cap_places, cap_rules, capped_rules_of}
+use Rattle.fare_caps.specs.CapMeanings.{cap_positions, cap_rules, capped_rules_of}
 use Rattle.fare_caps.specs.CapStates.{CapStates, after_ride, after_rides, at_ride, charge_at}
 use Rattle.fare_caps.specs.CapStates.{no_rides, ride_charge, states, with_charge}
 use Rattle.fare_caps.specs.CappedReplies.{capped_reason, capped_reply, replied_by, shown}
@@ -196,7 +196,7 @@ rules_by fares position class = record (rules_of fares []) {
 caps_by : Fares → (ℕ → Class) → List CapRules
 caps_by fares class = map (λ index. record (cap_rules fares [] index) {
   ceiling = λ ride. slice_index_or (class ride.moment).caps index 100_000_000;
-}) (cap_places fares.meaning.caps)
+}) (cap_positions fares.meaning.caps)
 
 same_rules : (fares : Fares) (token other : Token) → HaveSameTerms fares token other
     → AnswerAlike (capped_rules_of fares (bytes_of token)) (capped_rules_of fares (bytes_of other))
