@@ -9,6 +9,7 @@ mod output;
 mod placed;
 mod progress;
 mod run;
+mod streams;
 mod texts;
 mod whole;
 

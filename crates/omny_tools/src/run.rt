@@ -5,6 +5,7 @@ use crate::manner::form_of;
 use crate::output::{WRITE_BYTES, collect};
 use crate::placed::FilesByName;
 use crate::progress::{Progress, Watching};
+use crate::streams::Pieces;
 use crate::texts::Texts;
 use jiff::Timestamp;
 use program_manners::{Complaints, Output};
@@ -96,6 +97,7 @@ pub(crate) fn run<R: Threads + Sync, E: Write>(
         words,
         &mut source,
         &FilesByName::new(rt),
+        &mut Pieces::new(rt),
         &mut Output::new(written),
         err,
         &mut framed,

@@ -4,11 +4,11 @@ use Rattle.std.specs.Prelude.{Option, None, Some}
 use Rattle.program_manners.specs.Loads.{Loaded}
 use Rattle.frame.specs.Ends.{Ends}
 use Rattle.frame.specs.Making.{EndsMaking}
-use Rattle.world.specs.Run.{Run as WorldRun}
+use Rattle.world.specs.Run.{Calls, Run as WorldRun}
 use Rattle.world.specs.declared.faults.LoadFault.{LoadFault}
 use Rattle.program_manners.specs.declared.output.WriteEnd.{WriteEnd}
 use Rattle.tool_program.specs.Merge.{AbortsMerge, MergesParts}
-use Rattle.tool_tasks.specs.Corrections.{IsCorrected}
+use Rattle.tool_tasks.specs.Corrections.{EndsCorrecting}
 use Rattle.tool_tasks.specs.Decode.{IsTapTableOf}
 use Rattle.tool_tasks.specs.Encode.{EncodesTable}
 use Rattle.tool_tasks.specs.EncodeRows.{EncodesRows, names_of as rows_names}
@@ -50,25 +50,26 @@ IfKept run Fact = (kept : List Loaded) → run.loaded ≡ Some kept → Fact
 abbrev pub IsIdle : Run → Type 0 → Type 0
 IsIdle run Silent = (run.loaded' ≡ run.loaded) × (run.out' ≡ run.out) × Silent
 
--- What is run over the world ends so in it. Anything else does nothing there. What is known of the
--- files that are read in pieces, and of those that are read at any offset, is `known` and `placed`.
-abbrev pub IsFramed : (known placed : List ℕ → Option (List ℕ)) → Request → WorldRun → WorldRun → ℕ
-    → Type 0
-IsFramed known placed (corrections ledgers) old new status =
-    Ends (IsCorrected known ledgers) (ledgers.old ∷ ledgers.new ∷ []) old new status
-IsFramed known placed (encode word) old new status =
+-- What is run over the world ends so in it. Anything else does nothing there. Files that are read in
+-- pieces are read by these calls, which follow those before, and `placed` is what is known of files
+-- that are read at any offset.
+abbrev pub IsFramed : (before after : List Calls) → (placed : List ℕ → Option (List ℕ)) → Request
+    → WorldRun → WorldRun → ℕ → Type 0
+IsFramed before after placed (corrections ledgers) old new status =
+    EndsCorrecting ledgers before after old new status
+IsFramed before after placed (encode word) old new status =
     EndsMaking (EncodesTable word) (word ∷ []) old new status
-IsFramed known placed (encode_rows word request) old new status = (words : RowsWords)
+IsFramed before after placed (encode_rows word request) old new status = (words : RowsWords)
     × (rows_words_of words ≡ request)
     × EndsMaking (EncodesRows words word) (rows_names words word) old new status
-IsFramed known placed (decode words) old new status = Ends (IsTapTableOf words) words old new status
-IsFramed known placed (valid_prefix request) old new status =
+IsFramed before after placed (decode words) old new status = Ends (IsTapTableOf words) words old new status
+IsFramed before after placed (valid_prefix request) old new status =
     EndsMaking (HasValidPrefix request) (request.upload ∷ request.out ∷ []) old new status
-IsFramed known placed (sort request) old new status = MatchBool request.is_merge
+IsFramed before after placed (sort request) old new status = MatchBool request.is_merge
     (EndsMaking (MergesOrRefuses request (map placed request.uploads)) (names_of request) old new status)
     (EndsMaking (Sorts request) (names_of request) old new status)
-IsFramed known placed shows old new status = EndsInforming old new status ⊎ (new ≡ old)
-IsFramed known placed request old new status = new ≡ old
+IsFramed before after placed shows old new status = EndsInforming old new status ⊎ (new ≡ old)
+IsFramed before after placed request old new status = new ≡ old
 
 -- What is asked for was done, with status 0. Of a source that keeps what it loads. `Silent` says
 -- that nothing was said. Of what only informs nothing is promised.

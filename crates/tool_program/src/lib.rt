@@ -9,4 +9,4 @@ mod program;
 
 pub use merge::merge_over;
 pub use program::main_over;
-pub use tool_tasks::{Counted, Fault, PlacedFiles, Source, say};
+pub use tool_tasks::{Counted, Fault, PlacedFiles, Source, Streams, say};

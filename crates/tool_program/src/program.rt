@@ -13,7 +13,6 @@ ghost use Rattle.tool_words.specs.ToolLine.{AsksForText, Parses};
 
 use crate::answers::show;
 use crate::merge::merge_over;
-use frame::Streams;
 use jiff::Timestamp;
 use program_manners::{Complaints, Output, WrongWord};
 use std::alloc::Global;
@@ -22,9 +21,9 @@ use std::io::Write;
 use std::marker::Sync;
 use std::thread::Threads;
 use tool_tasks::{
-    Counted, Escaped, Fault, PlacedFiles, Source, bounds_over, corrections_over, decode_over,
-    encode_over, encode_rows_over, look_over, merge_sorted_over, say, sort_over, table_over,
-    uploads_over, valid_prefix_over,
+    Counted, Escaped, Fault, PlacedFiles, Source, Streams, bounds_over, corrections_over,
+    decode_over, encode_over, encode_rows_over, look_over, merge_sorted_over, say, sort_over,
+    table_over, uploads_over, valid_prefix_over,
 };
 use tool_words::{Task, UsageError, read};
 use world::World;
@@ -61,9 +60,10 @@ fn task_over<
     R: Threads + Sync,
     S: Source,
     D: PlacedFiles,
+    F: Streams,
     W: Write,
     E: Write,
-    X: World + Streams + Counted,
+    X: World + Counted,
 >(
     threads: &R,
     alloc: Global,
@@ -72,12 +72,13 @@ fn task_over<
     task: Task<'_>,
     source: &mut S,
     files: &D,
+    streams: &mut F,
     out: &mut Output<W>,
     err: &mut Complaints<E>,
     world: &mut X,
 ) -> u8
-    // What the frame runs ends as it says. Else nothing is done.
-    ensures framed { IsFramed X.bytes_under (D.bytes_under files.now)
+    // What is run over the world ends as it says. Anything else does nothing in it.
+    ensures framed { IsFramed (F.readings streams.old) (F.readings streams.new) (D.bytes_under files.now)
         (request_of task.entry) (X.run world.old) (X.run world.new) result }
     ensures done { result ≡ 0 → IsDone (request_of task.entry) (run_of (S.loaded source.old)
         (S.loaded source.new) (S.refused source.new) (D.bytes_under files.now)
@@ -113,7 +114,7 @@ fn task_over<
         Task::Sort(words) => sort_over(threads, alloc, &words, world),
         Task::Merge(parts) => merge_over(alloc, &parts, source, out, err),
         Task::Bounds(words) => bounds_over(alloc, &words, files, world),
-        Task::Corrections(words) => corrections_over(alloc, &words, world),
+        Task::Corrections(words) => corrections_over(alloc, &words, streams, world),
         Task::UsageError(usage_error) => report_usage_error(err, usage_error),
         Task::Unshown(usage_error) => report_usage_error(err, usage_error),
         Task::WrongDate(wrong) => report_wrong_date(alloc, err, &wrong),
@@ -130,9 +131,10 @@ pub fn main_over<
     R: Threads + Sync,
     S: Source,
     D: PlacedFiles,
+    F: Streams,
     W: Write,
     E: Write,
-    X: World + Streams + Counted,
+    X: World + Counted,
 >(
     threads: &R,
     alloc: Global,
@@ -141,13 +143,14 @@ pub fn main_over<
     words: &[String],
     source: &mut S,
     files: &D,
+    streams: &mut F,
     out: &mut Output<W>,
     err: &mut Complaints<E>,
     world: &mut X,
 ) -> u8
     // What is run over the world ends as it says, unless an allocation fails before.
     ensures framed { Parses (map string_bytes words.now)
-        → IsFramed X.bytes_under (D.bytes_under files.now) (request_by (map string_bytes words.now))
+        → IsFramed (F.readings streams.old) (F.readings streams.new) (D.bytes_under files.now) (request_by (map string_bytes words.now))
         (X.run world.old) (X.run world.new) result
         ⊎ ((result ≡ 1) × (X.run world.new ≡ X.run world.old)) }
     ensures unframed { ¬ Parses (map string_bytes words.now) → X.run world.new ≡ X.run world.old }
@@ -208,7 +211,7 @@ pub fn main_over<
 {
     match read(alloc, words) {
         Ok(task) => task_over(
-            threads, alloc, seed, moment, task, source, files, out, err, world,
+            threads, alloc, seed, moment, task, source, files, streams, out, err, world,
         ),
         Err(error) => show(alloc, &error, out, err),
     }

@@ -1,6 +1,7 @@
 mod Informing
 pub mod KnownBytes
 mod Loading
+pub mod Corrected
 pub mod Decoding
 mod Encoding
 pub mod Faults

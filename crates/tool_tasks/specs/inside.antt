@@ -1,5 +1,4 @@
 -- What only private functions cite. Who reads the contracts of public calls need not read it.
-pub mod Corrected
 pub mod Corrections
 pub mod Decode
 pub mod Decoded

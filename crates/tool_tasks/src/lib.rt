@@ -25,6 +25,7 @@
 //! | `upload_tokens` | `uploads --tokens` |
 //! | `valid_prefix` | `uploads --good-part` |
 //! | `look` | `uploads --look`: what each upload has, and what is found in them |
+//! | `streams` | files that are read in pieces |
 //! | `corrections` | `corrections` |
 //! | `table` | `table` |
 //! | `refused_text` | why a text is none of a fare table, in words |
@@ -52,6 +53,7 @@ mod refused_text;
 mod sort;
 mod source;
 mod stops;
+mod streams;
 mod table;
 mod upload_tokens;
 mod uploads;
@@ -72,6 +74,7 @@ pub use names::{Escaped, Name, word_at};
 pub use placed::PlacedFiles;
 pub use sort::sort_over;
 pub use source::{Source, open_all};
+pub use streams::Streams;
 pub use table::table_over;
 pub use uploads::uploads_over;
 pub use valid_prefix::valid_prefix_over;

@@ -30,16 +30,16 @@ returns-in-Ok-clause-wrong_words g c = λ not_so asks_not.
 -- what the frame runs
 pub returns-in-Ok-clause-framed : goal.returns-in-Ok-clause-framed
 returns-in-Ok-clause-framed g c = λ parses.
-    inl (subst (λ (request : Request). IsFramed g.X.Streams.bytes_under
-    (g.D.PlacedFiles.bytes_under c.args.files.now) request
+    inl (subst (λ (request : Request). IsFramed (g.F.Streams.readings c.args.streams.now)
+    (g.F.Streams.readings c.task_over.new.streams) (g.D.PlacedFiles.bytes_under c.args.files.now) request
     (g.X.Inputs.run c.args.world.now) (g.X.Inputs.run c.task_over.new.world) c.task_over.result)
     c.in-Ok.ensures.request.1 c.task_over.ensures.framed)
 
 pub returns-in-Ok-clause-unframed : goal.returns-in-Ok-clause-unframed
 returns-in-Ok-clause-unframed g c = λ not_so.
     let request = c.in-Ok.ensures.request in
-    subst (λ (request : Request). IsFramed g.X.Streams.bytes_under
-    (g.D.PlacedFiles.bytes_under c.args.files.now) request
+    subst (λ (request : Request). IsFramed (g.F.Streams.readings c.args.streams.now)
+    (g.F.Streams.readings c.task_over.new.streams) (g.D.PlacedFiles.bytes_under c.args.files.now) request
     (g.X.Inputs.run c.args.world.now) (g.X.Inputs.run c.task_over.new.world) c.task_over.result)
     (request.1 ∙ unparsed (map string_bytes c.args.words.now) request.0 not_so)
     c.task_over.ensures.framed
