@@ -132,7 +132,7 @@ are_read request r0 r1 r2 r3 r4 o n old new first second third fourth is_o is_n 
 -- what stopped it is in the calls
 pub called_by : (request : CorrectionsRequest) (before after : List Calls) (old new : Calls)
     (why : Stop) (run run' : Run) → AreRead request before after old new
-    → IsStopBy why old new run run' → IsCalled request (old ∷ new ∷ []) why
+    → IsStopBy why old new run run' → IsCalled (request.old ∷ request.new ∷ []) (old ∷ new ∷ []) why
 called_by request before after old new (Unread number why) run run' read (same, inl (at, unread)) = (
   request.old,
   old,
@@ -165,7 +165,7 @@ stopped_by NoMemory old new run run' r text is same = same ∙ is ∙ did_writte
 pub called_unopened : (request : CorrectionsRequest) (calls : List Calls) (number : ℕ)
     (name : List ℕ) (failed : Calls) (why : Stop)
     → slice_get (request.old ∷ request.new ∷ []) number ≡ Some name → Contains calls failed
-    → IsUnopenedAt number (file_named name) failed why → IsCalled request calls why
+    → IsUnopenedAt number (file_named name) failed why → IsCalled (request.old ∷ request.new ∷ []) calls why
 called_unopened request calls number name failed (Unread at why) is has (same, unread) = (
   name,
   failed,

@@ -4,10 +4,8 @@ mod Loading
 pub mod Corrected
 pub mod Decoding
 mod Encoding
-pub mod Faults
 pub mod Making
 pub mod MergedUploads
-pub mod Opened
 mod Preparing
 pub mod Sorting
 mod TablesLoaded

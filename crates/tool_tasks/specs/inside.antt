@@ -5,6 +5,7 @@ pub mod Decoded
 pub mod EncodeTables
 pub mod Informs
 pub mod Loads
+pub mod Merge
 pub mod Prepared
 pub mod Sort
 pub mod ValidPrefix

@@ -1,7 +1,10 @@
 -- What private functions say of the fronts of parts.
-use Rattle.std.specs.Prelude.{◌≡◌, ◌+◌, ℕ, Bool, true, false, List}
+use Rattle.std.specs.Prelude.{◌≡◌, ◌+◌, ⊤, ℕ, Bool, true, false, List, Result, Ok, Err}
 use Rattle.std.specs.Prelude.{Some, None, nat_eq, nat_le}
 use Rattle.histories.specs.Sums.{Sums}
+use Rattle.report_texts.specs.declared.wrong.Wrong.{Wrong as AWrong}
+use Rattle.part_texts.specs.declared.fronts.Refusal.{Refusal}
+use Rattle.part_texts.specs.declared.fronts.Refusal.TheVariants.{NoMemory, Wrong}
 use Rattle.part_texts.specs.declared.fronts.Stage.TheVariants.{Head}
 use Rattle.part_texts.specs.Fronts.{FrontsView, with_validator}
 
@@ -14,3 +17,9 @@ IsWith old new sum false = with_validator old sum ≡ None
 abbrev pub started : ℕ → ℕ → FrontsView → FrontsView
 started position count s =
     record s { stage = Head; is_first = nat_eq position 0; is_last = nat_le count (position + 1) }
+
+-- what is taken is what the step says
+abbrev pub TakesAs : Result FrontsView AWrong → FrontsView → Result Unit Refusal → Type 0
+TakesAs said new (Ok taken) = said ≡ Ok new
+TakesAs said new (Err (Wrong why)) = said ≡ Err why
+TakesAs said new (Err NoMemory) = ⊤
