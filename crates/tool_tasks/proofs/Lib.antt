@@ -6,6 +6,7 @@ pub mod Decoding
 mod Encoding
 pub mod Making
 pub mod MergedUploads
+pub mod PartsRead
 mod Preparing
 pub mod Sorting
 mod TablesLoaded

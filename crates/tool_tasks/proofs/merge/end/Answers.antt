@@ -1,0 +1,16 @@
+use Rattle.std.proofs.Common.{inr, refl}
+use Rattle.std.proofs.lemmas.Result.{IfErr-weaker, IfOk-weaker}
+use Rattle.tool_tasks.proofs.merge.end.Goals as goal
+
+pub returns-in-Ok-clause-ended : goal.returns-in-Ok-clause-ended
+returns-in-Ok-clause-ended g c = rw c.in-Ok.is c.finish.ensures.done
+
+pub returns-in-Ok-clause-stopped : goal.returns-in-Ok-clause-stopped
+returns-in-Ok-clause-stopped g c = rw c.in-Ok.is c.finish.ensures.halted
+
+pub returns-in-Ok-wrong_line-clause-ended : goal.returns-in-Ok-wrong_line-clause-ended
+returns-in-Ok-wrong_line-clause-ended g c = rw c.in-Err-Line.is
+    (let (word, at, line) = c.in-Ok-wrong_line.ensures in
+    IfOk-weaker c.finish-in-Ok-wrong_line.result _ _ (λ status end.
+    (end.0, word, at, end.1 ∙ ap (with_said _) (c.deref.ensures.value ∙ line)))
+    c.finish-in-Ok-wrong_line.ensures.done)
