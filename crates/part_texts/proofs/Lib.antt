@@ -3,7 +3,7 @@ pub mod WholeTexts
 pub mod Written
 pub mod Parts
 pub mod Runs
-pub mod Merging
+pub mod AllParts
 pub mod Kept
 pub mod Leads
 pub mod HeadLines

@@ -33,6 +33,26 @@ follow_set (one ∷ from) zero next d within after = (after, follow_self from)
 follow_set (one ∷ from) (suc i) next d within after =
     (follows_self one, follow_set from i next d (omega (arith, within)) after)
 
+pub follow_length : (a b : List Lines) → AllZip Follows a b → length b ≡ length a
+follow_length [] [] follow = refl
+follow_length [] (y ∷ b) follow = absurd follow
+follow_length (x ∷ a) [] follow = absurd follow
+follow_length (x ∷ a) (y ∷ b) follow = let l = follow_length a b follow.1 in omega (arith, l)
+
+-- how many they are stays the same
+pub counted : (a b : List Lines) (count : ℕ) → AllZip Follows a b → count ≡ length a
+    → count ≡ length b
+counted a b count follow is = is ∙ sym (follow_length a b follow)
+
+pub below : (a b : List Lines) (count i : ℕ) → AllZip Follows a b → count ≡ length a → i < count
+    → i < length b
+below a b count i follow is within =
+    let l = counted a b count follow is in omega (arith, l, within)
+
+pub passed : (a b : List Lines) (count i : ℕ) → AllZip Follows a b → count ≡ length a
+    → ¬ (i < count) → length b ≤ i
+passed a b count i follow is past = let l = counted a b count follow is in omega (arith, l, past)
+
 pub can_before : (a b : List Lines) (texts : List (List ℕ)) → AllZip Follows a b
     → AllZip CanBe (map calls_of b) texts → AllZip CanBe (map calls_of a) texts
 can_before [] [] texts follow can = can
@@ -80,11 +100,14 @@ text_at (one ∷ from) (text ∷ texts) zero d within can = record {
     same_length (one ∷ from) (text ∷ texts) can =
         let l = same_length from texts can.1 in omega (arith, l)
 text_at (one ∷ from) (text ∷ texts) (suc i) d within can =
-    let rest = text_at from texts i d (omega (arith, within)) can.1 in record {
+    let rest = text_at from texts i d (omega (arith, within)) can.1 in
+    let same : suc (i + 1) ≡ suc i + 1 = omega arith in record {
       text = rest.text;
-      here = rest.here;
+      here = rest.here ∙ ap (λ n. rest.text ∷ drop n (text ∷ texts)) same;
       can = rest.can;
-      number = let n = rest.number in omega (arith, n);
+      number =
+          let n = rest.number in
+          let l = ap (λ n. length (drop n (text ∷ texts))) same in omega (arith, n, l);
     }
 
 -- nothing was read of it

@@ -64,7 +64,7 @@ module _ {S : Type 0} (done : S → Bool) (plain : S → List ℕ → Result S W
       ∙ goes_on long more (Err Form) goes (ap (λ b. cond b (Err Form) (plain s long)) far))
       ∙ ends (number, Form) ∙ (λ i. Err (sym is_text i, (sym is_at i, sym is_why i)))
   run_unread end position lines rest line calls (fault.Unread text) ends goes read = read
-  run_unread end position lines rest line calls (fault.Write why) ends goes no = absurd no
+  run_unread end position lines rest line calls (fault.Write why) ends goes bad = absurd bad
   run_unread end position lines rest line calls fault.NoMemory ends goes read = tt
 
 pub fault_same : {S : Type 0} (a b : Result S WrongLine) (position : ℕ) (calls : Calls)
@@ -118,6 +118,33 @@ front_short position first now start from next number whole at after can goes no
     ap (front_end position) (at.same whole (after.back whole can)
     ∙ ap (front_run number now) none)
     ∙ ended position number now [] false goes
+
+pub front_unread : (position : ℕ) (first now : FrontsView) (start from next : Lines) (number : ℕ)
+    (line whole : List ℕ) (why : MergeFault) → IsAtFront first now start from number
+    → Follows from next → CanBe (calls_of next) whole → front_done now ≡ false
+    → LineRead (lines_at from whole) line (lines_at next whole) (position, number) (calls_of next)
+    (Err why)
+    → IsPartFault (front_end position (front_run 1 first (lines_at start whole))) position
+    (calls_of next) why
+front_unread position first now start from next number line whole why at after can goes read =
+    fault_same (front_end position (front_run 1 first (lines_at start whole)))
+    (front_end position (front_run number now (lines_at from whole))) position (calls_of next) why
+    (ap (front_end position) (at.same whole (after.back whole can)))
+    (run_unread front_done front_step number now (front_end position) position
+    (lines_at from whole) (lines_at next whole) line (calls_of next) why (λ wrong. refl) goes read)
+
+pub front_line : (first now : FrontsView) (start from next : Lines) (number : ℕ)
+    (line whole : List ℕ) (said : Result FrontsView Wrong)
+    → IsAtFront first now start from number → Follows from next → CanBe (calls_of next) whole
+    → front_done now ≡ false
+    → (lines_at from whole ≡ line ∷ lines_at next whole) × (nat_lt 1024 (length line) ≡ false)
+    → front_step now line ≡ said
+    → front_run 1 first (lines_at start whole)
+    ≡ carry (λ then. front_run (number + 1) then (lines_at next whole)) (λ why. (number, why)) said
+front_line first now start from next number line whole said at after can goes read is =
+    at.same whole (after.back whole can)
+    ∙ run_line front_done front_step number now (lines_at from whole) (lines_at next whole) line
+    said goes read is
 
 -- ---- the lines after it
 abbrev never : SectionView → Bool
@@ -182,9 +209,12 @@ module _ (position : ℕ) (part : Open) (last : Option Token) (now : SectionView
     at.text,
     subst (λ r. Leaves why r after) at.wrote (none after),
     λ whole can. (
-      fault_same _ _ position (calls_of next) why
+      fault_same (section_of position last (view_of part (lines_at start whole)))
+          (section_ended position (section_run number now (lines_at from whole))) position
+          (calls_of next) why
           (ap (section_ended position) (at.same whole (read_on.back whole can))) (is whole can),
-      (joined (lines_at from whole), at.lines whole (read_on.back whole can)),
+      joined (lines_at from whole),
+      at.lines whole (read_on.back whole can),
     ),
   )
 
@@ -213,14 +243,12 @@ module _ (position : ℕ) (part : Open) (last : Option Token) (now : SectionView
       cut_on before after now_after at.text line why at.wrote cut,
       λ whole can. (
         tt,
-        (
-          cut.rest ++ joined (lines_at next whole),
-          at.lines whole (read_on.back whole can)
-              ∙ ap (λ l. at.text ++ joined l) (read whole can).0
-              ∙ ap (λ l. at.text ++ (l ++ joined (lines_at next whole))) cut.whole
-              ∙ ap (λ l. at.text ++ l)
-              (append_assoc cut.front cut.rest (joined (lines_at next whole)))
-              ∙ sym (append_assoc at.text cut.front (cut.rest ++ joined (lines_at next whole))),
-        ),
+        cut.rest ++ joined (lines_at next whole),
+        at.lines whole (read_on.back whole can)
+            ∙ ap (λ l. at.text ++ joined l) (read whole can).0
+            ∙ ap (λ l. at.text ++ (l ++ joined (lines_at next whole))) cut.whole
+            ∙ ap (λ l. at.text ++ l)
+            (append_assoc cut.front cut.rest (joined (lines_at next whole)))
+            ∙ sym (append_assoc at.text cut.front (cut.rest ++ joined (lines_at next whole))),
       ),
     )

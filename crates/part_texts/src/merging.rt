@@ -1,6 +1,6 @@
 //! Texts of parts, merged.
 
-ghost use Rattle.std.specs.Prelude.{◌≡◌, ◌++◌, IfErr, IfOk, List, OnOk, All, false, length, ℕ, map};
+ghost use Rattle.std.specs.Prelude.{◌≡◌, ◌++◌, [], IfErr, IfOk, List, OnOk, All, false, length, ℕ, map};
 ghost use Rattle.std.specs.Prelude.{string_bytes};
 ghost use Rattle.std.specs.List.{AllZip, flat_map};
 ghost use Rattle.fare_texts.specs.LedgerLines.{head_text};
@@ -176,16 +176,16 @@ fn copy_section<W: World>(
     for number in part.number..u64::MAX {
         match next_line(from, position, number, &mut line) {
             Ok(true) => {}
-            Ok(false) => {
-                return match section.end() {
-                    None => Ok(section.last),
-                    Some(why) => Err(MergeFault::Line {
+            Ok(false) => match section.end() {
+                None => return Ok(section.last),
+                Some(why) => {
+                    return Err(MergeFault::Line {
                         text: position,
                         number,
                         why,
-                    }),
-                };
-            }
+                    });
+                }
+            },
             Err(fault) => return Err(fault),
         }
         match section.trailing(&line) {
@@ -315,7 +315,8 @@ pub fn merge<W: World>(
         return Err(MergeFault::NoMemory);
     };
     match world.write(&text) {
-        Ok(()) => copy_sections(alloc, parts, &opens, world),
-        Err(why) => Err(MergeFault::Write(why)),
+        Ok(()) => {}
+        Err(why) => return Err(MergeFault::Write(why)),
     }
+    copy_sections(alloc, parts, &opens, world)
 }

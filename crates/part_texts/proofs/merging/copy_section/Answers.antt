@@ -1,11 +1,12 @@
 use Rattle.std.proofs.Common.{◌≡◌, ◌∙◌, [], Err, List, None, Ok, Some, ap, false, refl, subst, sym, ℕ}
 use Rattle.histories.specs.Sums.{Sums, sums_of}
+use Rattle.recorded_lines.specs.Texts.{calls_of}
 use Rattle.recorded_lines.proofs.Reading.{follows_on, follows_self}
 use Rattle.world.specs.Run.{with_written}
 use Rattle.world.specs.Writes.{IsCut}
 use Rattle.part_texts.specs.Merged.{section_ended}
 use Rattle.part_texts.specs.Sections.{section_step}
-use Rattle.part_texts.specs.inside.Opened.{lines_at}
+use Rattle.part_texts.specs.inside.Opened.{joined, lines_at}
 use Rattle.part_texts.specs.inside.Sections.{section_view}
 use Rattle.part_texts.specs.declared.fault.MergeFault.TheVariants.{Line, NoMemory}
 use Rattle.part_texts.proofs.Runs.{copied_cut, copied_more, copied_to, copied_whole, run_line}
@@ -55,7 +56,8 @@ returns-in-Some-clause-copied g c =
             (g.W.Inputs.run c.loop-number.world) at c.next_line.ensures.follows
             (Some c.in-Some.why) (sym c.end.ensures ∙ c.in-Some.is) whole can
             (rw c.in-Ok-false.field-0-test at (c.in-Ok-false.ensures.read whole can)).0,
-        (_, at.lines whole (c.next_line.ensures.follows.back whole can)),
+        joined (lines_at c.loop-number.from whole),
+        at.lines whole (c.next_line.ensures.follows.back whole can),
       ),
     )
 
@@ -71,8 +73,9 @@ returns-in-Err-clause-copied g c =
     (g.W.Inputs.run c.args.world.now) (g.W.Inputs.run c.loop-number.world)
     c.loop-number.invariant c.next_line.ensures.follows c.in-Err.fault c.in-Err.ensures.unwritten
     (λ whole can. run_unread (λ s. false) section_step c.loop-number.number
-    (section_view c.loop-number.section) (section_ended c.args.position) c.args.position _ _
-    c.next_line.new.line.items _ c.in-Err.fault (λ wrong. refl) refl
+    (section_view c.loop-number.section) (section_ended c.args.position) c.args.position
+    (lines_at c.loop-number.from whole) (lines_at c.next_line.new.from whole)
+    c.next_line.new.line.items (calls_of c.next_line.new.from) c.in-Err.fault (λ wrong. refl) refl
     (c.in-Err.ensures.read whole can))
 
 pub returns-in-Err-trailing-clause-follows : goal.returns-in-Err-trailing-clause-follows
@@ -89,7 +92,7 @@ returns-in-Err-trailing-clause-copied g c =
     c.loop-number.invariant c.next_line.ensures.follows
     (Line c.args.position c.loop-number.number c.in-Err-trailing.why) (λ r. refl)
     (λ whole can. ap (section_ended c.args.position)
-    (run_line (λ s. false) section_step c.loop-number.number now _
+    (run_line (λ s. false) section_step c.loop-number.number now (lines_at c.loop-number.from whole)
     (lines_at c.next_line.new.from whole) c.next_line.new.line.items (Err c.in-Err-trailing.why)
     refl (rw c.in-Ok-true.field-0-test at (c.in-Ok-true.ensures.read whole can))
     (subst (λ (l : List ℕ). section_step now l ≡ Err c.in-Err-trailing.why) c.deref.ensures.value

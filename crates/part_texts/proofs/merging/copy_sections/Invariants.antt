@@ -1,4 +1,4 @@
-use Rattle.part_texts.proofs.Merging.{AreCopied}
+use Rattle.part_texts.proofs.AllParts.{AreCopied}
 use Rattle.part_texts.proofs.merging.copy_sections.Given as goal
 
 abbrev pub invariant-loop-position : goal.invariant-loop-position

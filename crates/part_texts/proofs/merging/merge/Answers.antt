@@ -6,7 +6,7 @@ use Rattle.world.specs.Writes.{IsCut}
 use Rattle.part_texts.specs.Fronts.{fronts_view}
 use Rattle.part_texts.specs.inside.Opened.{CopiesAll}
 use Rattle.part_texts.specs.declared.fault.MergeFault.TheVariants.{NoMemory}
-use Rattle.part_texts.proofs.Merging.{front_cut, lines_merged, no_fronts_read, no_parts}
+use Rattle.part_texts.proofs.AllParts.{front_cut, lines_merged, no_fronts_read, no_parts}
 use Rattle.part_texts.proofs.Parts.{follow_on, follow_self}
 use Rattle.part_texts.proofs.merging.merge.Goals as goal
 
@@ -44,13 +44,13 @@ returns-in-Err-write-clause-merges g c =
     (subst (λ (l : List ℕ). IsCut run (g.W.Inputs.run c.write.new.self) l c.in-Err-write.why)
     (c.deref.ensures.value ∙ c.in-Ok-whole_front.ensures) c.in-Err-write.ensures.cut)
 
-pub returns-in-Ok-write-clause-follow : goal.returns-in-Ok-write-clause-follow
-returns-in-Ok-write-clause-follow g c =
+pub returns-clause-follow : goal.returns-clause-follow
+returns-clause-follow g c =
     follow_on c.args.parts.now c.read_fronts.new.parts c.copy_sections.new.parts
     c.read_fronts.ensures.follow c.copy_sections.ensures.follow
 
-pub returns-in-Ok-write-clause-merges : goal.returns-in-Ok-write-clause-merges
-returns-in-Ok-write-clause-merges g c =
+pub returns-clause-merges : goal.returns-clause-merges
+returns-clause-merges g c =
     let run = g.W.Inputs.run c.args.world.now in
     lines_merged c.read_fronts.new.parts c.copy_sections.new.parts (fronts_view c.new-fronts.result)
     (fronts_view c.read_fronts.new.fronts) c.in-Ok.opens.items run

@@ -13,7 +13,9 @@ returns-in-Ok-End-clause-read c = λ whole can.
 
 pub returns-in-Ok-Long-clause-read : goal.returns-in-Ok-Long-clause-read
 returns-in-Ok-Long-clause-read c = λ whole can.
-    (refl, refl, refl, rw c.in-Ok-Long.field-0-is at (c.in-Ok-Long.ensures.next whole can))
+    let (long, more, shown, far) =
+    rw c.in-Ok-Long.field-0-is at (c.in-Ok-Long.ensures.next whole can) in
+    (refl, refl, refl, long, more, shown, far)
 
 pub returns-in-Err-Unread-clause-read : goal.returns-in-Err-Unread-clause-read
 returns-in-Err-Unread-clause-read c = λ whole can.

@@ -1,10 +1,9 @@
-use Rattle.std.proofs.Common.{◌≡◌, ◌∙◌, Err, Ok, List, ap, refl, subst, sym, ℕ}
+use Rattle.std.proofs.Common.{◌≡◌, ◌∙◌, Err, List, Ok, ap, subst, sym, ℕ}
 use Rattle.recorded_lines.proofs.Reading.{follows_on, follows_self}
 use Rattle.part_texts.specs.Fronts.{fronts_view}
-use Rattle.part_texts.specs.FrontSteps.{front_done, front_step}
+use Rattle.part_texts.specs.FrontSteps.{front_step}
 use Rattle.part_texts.specs.Merged.{front_end}
-use Rattle.part_texts.specs.inside.Opened.{lines_at}
-use Rattle.part_texts.proofs.Runs.{fault_same, front_short, front_whole, run_line, run_unread}
+use Rattle.part_texts.proofs.Runs.{front_line, front_short, front_unread, front_whole}
 use Rattle.part_texts.proofs.merging.read_front.Goals as goal
 
 pub loop-number-init : goal.loop-number-init
@@ -16,8 +15,12 @@ returns-then-is_done-clause-follows c = c.loop-number.invariant.follows
 pub returns-then-is_done-clause-read : goal.returns-then-is_done-clause-read
 returns-then-is_done-clause-read c = λ whole can.
     front_whole c.args.position (fronts_view c.args.fronts.now) (fronts_view c.loop-number.fronts)
-    c.args.from.now c.loop-number.from c.loop-number.number _ whole c.loop-number.invariant can
-    (sym c.is_done.ensures ∙ c.if-is_done.true)
+    c.args.from.now c.loop-number.from c.loop-number.number (record {
+      number = c.loop-number.number;
+      is_ledger = c.loop-number.fronts.is_ledger;
+      left = c.left_at.result;
+      part = c.loop-number.fronts.part;
+    }) whole c.loop-number.invariant can (sym c.is_done.ensures ∙ c.if-is_done.true)
     (λ lines i. record {
       is_ledger = c.loop-number.fronts.is_ledger;
       left = sym c.left_at.ensures i;
@@ -46,13 +49,11 @@ returns-in-Err-clause-follows c =
 
 pub returns-in-Err-clause-read : goal.returns-in-Err-clause-read
 returns-in-Err-clause-read c = λ whole can.
-    let before = c.next_line.ensures.follows.back whole can in
-    fault_same _ _ c.args.position _ c.in-Err.fault
-    (ap (front_end c.args.position) (c.loop-number.invariant.same whole before))
-    (run_unread front_done front_step c.loop-number.number (fronts_view c.loop-number.fronts)
-    (front_end c.args.position) c.args.position _ _ c.next_line.new.line.items _ c.in-Err.fault
-    (λ wrong. refl) (sym c.is_done.ensures ∙ c.if-is_done.false)
-    (c.in-Err.ensures.read whole can))
+    front_unread c.args.position (fronts_view c.args.fronts.now)
+    (fronts_view c.loop-number.fronts) c.args.from.now c.loop-number.from c.next_line.new.from
+    c.loop-number.number c.next_line.new.line.items whole c.in-Err.fault c.loop-number.invariant
+    c.next_line.ensures.follows can (sym c.is_done.ensures ∙ c.if-is_done.false)
+    (c.in-Err.ensures.read whole can)
 
 pub returns-in-Err-Wrong-clause-follows : goal.returns-in-Err-Wrong-clause-follows
 returns-in-Err-Wrong-clause-follows c =
@@ -61,10 +62,10 @@ returns-in-Err-Wrong-clause-follows c =
 
 pub returns-in-Err-Wrong-clause-read : goal.returns-in-Err-Wrong-clause-read
 returns-in-Err-Wrong-clause-read c = λ whole can.
-    let before = c.next_line.ensures.follows.back whole can in
-    ap (front_end c.args.position) (c.loop-number.invariant.same whole before
-    ∙ run_line front_done front_step c.loop-number.number (fronts_view c.loop-number.fronts) _
-    (lines_at c.next_line.new.from whole) c.next_line.new.line.items (Err c.in-Err-Wrong.why)
+    ap (front_end c.args.position) (front_line (fronts_view c.args.fronts.now)
+    (fronts_view c.loop-number.fronts) c.args.from.now c.loop-number.from c.next_line.new.from
+    c.loop-number.number c.next_line.new.line.items whole (Err c.in-Err-Wrong.why)
+    c.loop-number.invariant c.next_line.ensures.follows can
     (sym c.is_done.ensures ∙ c.if-is_done.false)
     (rw c.in-Ok-true.field-0-test at (c.in-Ok-true.ensures.read whole can))
     (subst (λ (l : List ℕ). front_step (fronts_view c.loop-number.fronts) l ≡ Err c.in-Err-Wrong.why)
@@ -79,12 +80,11 @@ pub loop-number-preserved : goal.loop-number-preserved
 loop-number-preserved c = record {
   follows = follows_on c.args.from.now c.loop-number.from c.next_line.new.from
       c.loop-number.invariant.follows c.next_line.ensures.follows;
-  same = λ whole can.
-      let before = c.next_line.ensures.follows.back whole can in
-      c.loop-number.invariant.same whole before
-      ∙ run_line front_done front_step c.loop-number.number (fronts_view c.loop-number.fronts) _
-      (lines_at c.next_line.new.from whole) c.next_line.new.line.items
-      (Ok (fronts_view c.take.new.self)) (sym c.is_done.ensures ∙ c.if-is_done.false)
+  same = λ whole can. front_line (fronts_view c.args.fronts.now)
+      (fronts_view c.loop-number.fronts) c.args.from.now c.loop-number.from c.next_line.new.from
+      c.loop-number.number c.next_line.new.line.items whole (Ok (fronts_view c.take.new.self))
+      c.loop-number.invariant c.next_line.ensures.follows can
+      (sym c.is_done.ensures ∙ c.if-is_done.false)
       (rw c.in-Ok-true.field-0-test at (c.in-Ok-true.ensures.read whole can))
       (subst (λ (l : List ℕ). front_step (fronts_view c.loop-number.fronts) l
       ≡ Ok (fronts_view c.take.new.self)) c.deref.ensures.value c.in-Ok.ensures);

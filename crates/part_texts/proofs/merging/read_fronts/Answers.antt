@@ -1,6 +1,7 @@
 use Rattle.std.proofs.Common.{arith}
 use Rattle.part_texts.specs.Fronts.{fronts_view}
-use Rattle.part_texts.proofs.Merging.{all_opened, none_opened, not_opened, one_opened, opened_on}
+use Rattle.part_texts.proofs.AllParts.{all_opened, none_opened, not_opened, one_opened, opened_on}
+use Rattle.part_texts.proofs.Parts.{below, counted, passed}
 use Rattle.part_texts.proofs.merging.read_fronts.Goals as goal
 
 pub loop-position-init : goal.loop-position-init
@@ -12,34 +13,50 @@ pub returns-in-Err-clause-follow : goal.returns-in-Err-clause-follow
 returns-in-Err-clause-follow c =
     opened_on (fronts_view c.args.fronts.now) (fronts_view c.loop-position.fronts)
     (fronts_view c.begin.new.self) c.loop-position.opens.items c.args.parts.now
-    c.loop-position.parts c.loop-position.position c.index_mut.result.now
-    c.read_front.new.from c.loop-position.invariant c.requires (omega arith)
-    c.index_mut.ensures.value c.read_front.ensures.follows c.begin.ensures
+    c.loop-position.parts c.loop-position.position c.index-parts-position.result
+    c.read_front.new.from c.loop-position.invariant c.requires c.len-count.result
+    (counted c.args.parts.now c.loop-position.parts c.len-count.result
+    c.loop-position.invariant.follow c.len-count.ensures)
+    (below c.args.parts.now c.loop-position.parts c.len-count.result c.loop-position.position
+    c.loop-position.invariant.follow c.len-count.ensures c.loop-position-test.true)
+    c.index-parts-position.is c.read_front.ensures.follows c.begin.ensures
 
 pub returns-in-Err-clause-read : goal.returns-in-Err-clause-read
 returns-in-Err-clause-read c =
     not_opened (fronts_view c.args.fronts.now) (fronts_view c.loop-position.fronts)
     (fronts_view c.begin.new.self) c.loop-position.opens.items c.args.parts.now
-    c.loop-position.parts c.loop-position.position c.index_mut.result.now
-    c.read_front.new.from c.loop-position.invariant c.requires (omega arith)
-    c.index_mut.ensures.value c.read_front.ensures.follows c.begin.ensures c.in-Err.fault
+    c.loop-position.parts c.loop-position.position c.index-parts-position.result
+    c.read_front.new.from c.loop-position.invariant c.requires c.len-count.result
+    (counted c.args.parts.now c.loop-position.parts c.len-count.result
+    c.loop-position.invariant.follow c.len-count.ensures)
+    (below c.args.parts.now c.loop-position.parts c.len-count.result c.loop-position.position
+    c.loop-position.invariant.follow c.len-count.ensures c.loop-position-test.true)
+    c.index-parts-position.is c.read_front.ensures.follows c.begin.ensures c.in-Err.fault
     c.in-Err.ensures.read
 
 pub returns-in_default-clause-follow : goal.returns-in_default-clause-follow
 returns-in_default-clause-follow c =
     opened_on (fronts_view c.args.fronts.now) (fronts_view c.loop-position.fronts)
     (fronts_view c.begin.new.self) c.loop-position.opens.items c.args.parts.now
-    c.loop-position.parts c.loop-position.position c.index_mut.result.now
-    c.read_front.new.from c.loop-position.invariant c.requires (omega arith)
-    c.index_mut.ensures.value c.read_front.ensures.follows c.begin.ensures
+    c.loop-position.parts c.loop-position.position c.index-parts-position.result
+    c.read_front.new.from c.loop-position.invariant c.requires c.len-count.result
+    (counted c.args.parts.now c.loop-position.parts c.len-count.result
+    c.loop-position.invariant.follow c.len-count.ensures)
+    (below c.args.parts.now c.loop-position.parts c.len-count.result c.loop-position.position
+    c.loop-position.invariant.follow c.len-count.ensures c.loop-position-test.true)
+    c.index-parts-position.is c.read_front.ensures.follows c.begin.ensures
 
 pub loop-position-preserved : goal.loop-position-preserved
 loop-position-preserved c =
     one_opened (fronts_view c.args.fronts.now) (fronts_view c.loop-position.fronts)
     (fronts_view c.begin.new.self) c.loop-position.opens.items c.args.parts.now
-    c.loop-position.parts c.loop-position.position c.index_mut.result.now
-    c.read_front.new.from c.loop-position.invariant c.requires (omega arith)
-    c.index_mut.ensures.value c.read_front.ensures.follows c.begin.ensures
+    c.loop-position.parts c.loop-position.position c.index-parts-position.result
+    c.read_front.new.from c.loop-position.invariant c.requires c.len-count.result
+    (counted c.args.parts.now c.loop-position.parts c.len-count.result
+    c.loop-position.invariant.follow c.len-count.ensures)
+    (below c.args.parts.now c.loop-position.parts c.len-count.result c.loop-position.position
+    c.loop-position.invariant.follow c.len-count.ensures c.loop-position-test.true)
+    c.index-parts-position.is c.read_front.ensures.follows c.begin.ensures
     (fronts_view c.read_front.new.fronts) c.in-Ok.part c.push.new.self.items
     c.in-Ok-push.ensures.items c.in-Ok.ensures.read
 
@@ -50,7 +67,16 @@ pub returns-clause-read : goal.returns-clause-read
 returns-clause-read c = λ texts can.
     all_opened (fronts_view c.args.fronts.now) (fronts_view c.loop-position.fronts)
     c.loop-position.opens.items c.args.parts.now c.loop-position.parts c.loop-position.position
-    c.loop-position.invariant (omega arith) texts can
+    c.loop-position.invariant
+    (passed c.args.parts.now c.loop-position.parts c.len-count.result c.loop-position.position
+    c.loop-position.invariant.follow c.len-count.ensures c.loop-position-test.false) texts can
 
 pub returns-clause-number : goal.returns-clause-number
-returns-clause-number c = omega (arith, c.loop-position.invariant.number)
+returns-clause-number c =
+    omega (
+      arith,
+      c.loop-position.invariant.number,
+      c.loop-position-test.false,
+      counted c.args.parts.now c.loop-position.parts c.len-count.result
+          c.loop-position.invariant.follow c.len-count.ensures,
+    )

@@ -1,5 +1,5 @@
 use Rattle.part_texts.specs.Fronts.{fronts_view}
-use Rattle.part_texts.proofs.Merging.{AreOpened}
+use Rattle.part_texts.proofs.AllParts.{AreOpened}
 use Rattle.part_texts.proofs.merging.read_fronts.Given as goal
 
 abbrev pub invariant-loop-position : goal.invariant-loop-position

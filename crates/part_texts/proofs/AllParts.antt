@@ -6,7 +6,8 @@ use Rattle.std.proofs.Common.{take}
 use Rattle.std.specs.Prelude.{All, nat_le, slice_get}
 use Rattle.std.specs.List.{AllZip}
 use Rattle.std.proofs.lemmas.Bool.Decides.{nat_tests}
-use Rattle.std.proofs.lemmas.List.{drop-set-lt, drop_more, length-set, take_more_set}
+use Rattle.std.proofs.lemmas.List.{drop-drop, drop-set-lt, drop_all, drop_more, length-set, take_all}
+use Rattle.std.proofs.lemmas.List.{take_more_set}
 use Rattle.std.proofs.lemmas.List.Elements.{All-drop, All-head, All-map, All-push, All-rest}
 use Rattle.std.proofs.lemmas.List.Elements.{All-weaker}
 use Rattle.tap_views.specs.declared.token.Token.{Token}
@@ -97,8 +98,9 @@ none_opened first parts from none = record {
 
 module _ (first now mid : FrontsView) (parts : List Open) (start from : List Lines) (i : ℕ)
     (one next : Lines) (at : AreOpened first now parts start from i) (fresh : All IsFresh start)
-    (within : i < length from) (one_is : one ≡ get_or from i one) (read_on : Follows one next)
-    (begins : mid ≡ started i (length from) now) where
+    (count : ℕ) (all : count ≡ length from) (within : i < length from)
+    (one_is : one ≡ get_or from i one) (read_on : Follows one next)
+    (begins : mid ≡ started i count now) where
   pub opened_on : AllZip Follows start (set from i next)
   opened_on = follow_on start from (set from i next) at.follow
       (follow_set from i next one within (subst (λ f. Follows f next) one_is read_on))
@@ -139,7 +141,7 @@ module _ (first now mid : FrontsView) (parts : List Open) (start from : List Lin
       ∙ ap (λ r. and_then r (λ read. fronts_of read.0 (views ++ read.1 ∷ []) (drop (i + 1) texts)))
       (ap (λ n. front_of n (at_part n (drop (i + 1) texts) now) t.text) place
       ∙ ap (λ s. front_of i s t.text)
-      (sym (begins ∙ at_started i (length from) (drop (i + 1) texts) now t.number))
+      (sym (begins ∙ at_started i count (drop (i + 1) texts) now (all ∙ t.number)))
       ∙ ap (front_of i mid) (sym (fresh_left one t.text is_fresh)))
 
   pub one_opened : (new : FrontsView) (part : Open) (more : List Open) → more ≡ parts ++ part ∷ []
@@ -168,13 +170,8 @@ module _ (first now mid : FrontsView) (parts : List Open) (start from : List Lin
       grown [] x = refl
       grown (y ∷ xs) x = let l = grown xs x in omega (arith, l)
 
-      one_more : (xs : List Lines) (i : ℕ) → drop (i + 1) xs ≡ drop 1 (drop i xs)
-      one_more xs zero = refl
-      one_more [] (suc i) = refl
-      one_more (x ∷ xs) (suc i) = one_more xs i
-
       rests : drop (i + 1) from ≡ drop (i + 1) start
-      rests = one_more from i ∙ ap (drop 1) at.rest ∙ sym (one_more start i)
+      rests = sym (drop-drop 1 i from) ∙ ap (drop 1) at.rest ∙ drop-drop 1 i start
 
   pub not_opened : (fault : MergeFault)
       → ((whole : List ℕ) → CanBe (calls_of next) whole
@@ -303,52 +300,37 @@ module _ (parts : List Open) (start from : List Lines) (i : ℕ) (last : Option 
     λ texts can.
         let t = text_of texts can in
         let back = can_before from (set from i next) texts on can in
-        let (wrong, (rest, lines)) = said t.text t.can in (
+        let (wrong, rest, lines) = said t.text t.can in (
           part_fault (section_of i last (view_of part (lines_at one t.text)))
               (λ (s : SectionView). sections_of (i + 1) s.last (later texts))
               (sections_of 0 None (views_of parts start texts)) from i next fault within
               (at.same texts back ∙ ap (sections_of i last) (split texts t.text t.here)) wrong,
-          (
-            rest ++ lines_left (later texts),
-            at.lines texts back
-                ∙ ap (λ views. at.text ++ lines_left views) (split texts t.text t.here)
-                ∙ ap (λ l. at.text ++ (l ++ lines_left (later texts))) lines
-                ∙ ap (λ l. at.text ++ l) (append_assoc more rest (lines_left (later texts)))
-                ∙ sym (append_assoc at.text more (rest ++ lines_left (later texts))),
-          ),
+          rest ++ lines_left (later texts),
+          at.lines texts back
+              ∙ ap (λ views. at.text ++ lines_left views) (split texts t.text t.here)
+              ∙ ap (λ l. at.text ++ (l ++ lines_left (later texts))) lines
+              ∙ ap (λ l. at.text ++ l) (append_assoc more rest (lines_left (later texts)))
+              ∙ sym (append_assoc at.text more (rest ++ lines_left (later texts))),
         ),
   )
 
 pub all_copied : (parts : List Open) (start from : List Lines) (i : ℕ) (last : Option Token)
     (before after : Run) → AreCopied parts start from i last before after
-    → length parts ≡ length from → i ≡ length from
+    → length parts ≡ length from → length from ≤ i
     → CopiesAll parts start from before after (Ok tt)
-all_copied parts start from i last before after at few is = (
+all_copied parts start from i last before after at few past = (
   at.text,
   at.wrote,
-  subst (All IsEndAt) (take_whole from i is) at.ended,
+  subst (All IsEndAt) (take_all i from past) at.ended,
   λ texts can. (
     last,
     at.same texts can ∙ ap (λ ps. sections_of i last (views_of ps (drop i from) (drop i texts)))
-        (drop_whole parts i (is ∙ sym few)),
+        (drop_all i parts (omega (arith, few, past))),
     at.lines texts can
         ∙ ap (λ ps. at.text ++ lines_left (views_of ps (drop i from) (drop i texts)))
-        (drop_whole parts i (is ∙ sym few)) ∙ append-nil at.text,
+        (drop_all i parts (omega (arith, few, past))) ∙ append-nil at.text,
   ),
 )
-  where
-    take_whole : (xs : List Lines) (i : ℕ) → i ≡ length xs → take i xs ≡ xs
-    take_whole [] zero is = refl
-    take_whole [] (suc i) is = refl
-    take_whole (x ∷ xs) zero is = absurd (omega (arith, is))
-    take_whole (x ∷ xs) (suc i) is =
-        ap (λ l. x ∷ l) (take_whole xs i (omega (arith, is)))
-
-    drop_whole : (xs : List Open) (i : ℕ) → i ≡ length xs → drop i xs ≡ []
-    drop_whole [] zero is = refl
-    drop_whole [] (suc i) is = refl
-    drop_whole (x ∷ xs) zero is = absurd (omega (arith, is))
-    drop_whole (x ∷ xs) (suc i) is = drop_whole xs i (omega (arith, is))
 
 -- ---- the whole
 ok_one : {A E : Type 0} {a b : A} → ◌≡◌ {A = Result A E} (Ok a) (Ok b) → a ≡ b
@@ -419,7 +401,7 @@ module _ (from next : List Lines) (first s : FrontsView) (parts : List Open) (r 
     cut.front,
     λ texts can whole ok. (
       cut.rest ++ lines_left (views_of parts from texts),
-      merged_text s _ whole (sym (whole_is texts can) ∙ ok)
+      merged_text s (views_of parts from texts) whole (sym (whole_is texts can) ∙ ok)
           ∙ ap (λ l. l ++ lines_left (views_of parts from texts)) cut.whole
           ∙ append_assoc cut.front cut.rest (lines_left (views_of parts from texts)),
     ),
@@ -430,31 +412,31 @@ module _ (from next : List Lines) (first s : FrontsView) (parts : List Open) (r 
   pub lines_merged : (after : Run) (result : Result Unit MergeFault) → AllZip Follows from next
       → now ≡ with_written r (whole_front s) → CopiesAll parts from next now after result
       → MergesAs (map calls_of next) r after result
-  lines_merged after (Ok done) on wrote (text, more, ends, copied) =
+  lines_merged after (Ok done) follow wrote (text, more, ends, copied) =
       let texts = read_by (map calls_of next) in
       let can = can_be_read (map calls_of next) in
       let (end, sections, lines) = copied texts can in (
         All-map IsWhole calls_of next (All-weaker IsEndAt (λ (l : Lines). IsWhole (calls_of l))
             (λ l end. end.whole) next ends),
         whole_front s ++ text,
-        whole_is texts (can_before from next texts on can)
+        whole_is texts (can_before from next texts follow can)
             ∙ ap (λ r. and_then r (λ (last : Option Token).
             Ok (whole_front s ++ lines_left (views_of parts from texts)))) sections
             ∙ ap (λ l. Ok (whole_front s ++ l)) lines,
         written_on r now after (whole_front s) text wrote more,
       )
-  lines_merged after (Err fault) on wrote (text, leaves, copied) = (
+  lines_merged after (Err fault) follow wrote (text, leaves, copied) = (
     whole_front s ++ text,
     λ texts can whole ok.
-        let (wrong, (rest, lines)) = copied texts can in (
+        let (wrong, rest, lines) = copied texts can in (
           rest,
-          merged_text s _ whole (sym (whole_is texts (can_before from next texts on can)) ∙ ok)
+          merged_text s (views_of parts from texts) whole (sym (whole_is texts (can_before from next texts follow can)) ∙ ok)
               ∙ ap (λ l. whole_front s ++ l) lines ∙ sym (append_assoc (whole_front s) text rest),
         ),
     subst (λ x. Leaves fault x after) (ap (λ x. with_written x text) wrote
         ∙ written_more r (whole_front s) text) leaves,
     λ texts can. fault_goes (sections_of 0 None (views_of parts from texts))
         (λ last. Ok (whole_front s ++ lines_left (views_of parts from texts))) (merge_of texts)
-        (map calls_of next) fault (whole_is texts (can_before from next texts on can))
+        (map calls_of next) fault (whole_is texts (can_before from next texts follow can))
         (copied texts can).0,
   )
