@@ -23,7 +23,7 @@ use Rattle.part_texts.specs.inside.Fronts.{started}
 use Rattle.part_texts.specs.Merged.{OpenView, WrongLine, and_then, at_part, front_of, fronts_of}
 use Rattle.part_texts.specs.Merged.{is_none_left, lines_left, merge_of, merged, section_of}
 use Rattle.part_texts.specs.Merged.{sections_of, whole_front}
-use Rattle.part_texts.specs.Reads.{HasBegun, IsFaultOf, Leaves, MergesAs, read_by}
+use Rattle.part_texts.specs.Reads.{HasStarted, IsFaultOf, Leaves, MergesAs, read_by}
 use Rattle.part_texts.specs.Sections.{SectionView}
 use Rattle.part_texts.specs.inside.Opened.{Copies, CopiesAll, FrontRead, IsPartFault, IsUnwritten}
 use Rattle.part_texts.specs.inside.Opened.{joined, lines_at, view_of, views_of}
@@ -31,7 +31,7 @@ use Rattle.part_texts.specs.declared.fault.MergeFault.{MergeFault}
 use Rattle.part_texts.specs.declared.fault.MergeFault.TheVariants.{Line, Unread, Write, NoMemory}
 use Rattle.part_texts.specs.declared.merging.Open.{Open}
 use Rattle.part_texts.proofs.Parts.{TextAt, can_be_read, can_before, follow_on, follow_self}
-use Rattle.part_texts.proofs.Parts.{follow_set, fresh_left, text_at, views_at, views_length}
+use Rattle.part_texts.proofs.Parts.{follow_set, text_at, views_at, views_length}
 use Rattle.part_texts.proofs.Parts.{views_more}
 use Rattle.part_texts.proofs.Written.{written_more, written_none, written_on}
 
@@ -97,24 +97,25 @@ none_opened first parts from none = record {
 }
 
 module _ (first now mid : FrontsView) (parts : List Open) (start from : List Lines) (i : ℕ)
-    (one next : Lines) (at : AreOpened first now parts start from i) (fresh : All IsFresh start)
+    (d next : Lines) (at : AreOpened first now parts start from i) (fresh : All IsFresh start)
     (count : ℕ) (all : count ≡ length from) (within : i < length from)
-    (one_is : one ≡ get_or from i one) (read_on : Follows one next)
-    (begins : mid ≡ started i count now) where
+    (read_on : Follows (get_or from i d) next) (begins : mid ≡ started i count now) where
+  abbrev one : Lines
+  one = get_or from i d
+
   pub opened_on : AllZip Follows start (set from i next)
   opened_on = follow_on start from (set from i next) at.follow
-      (follow_set from i next one within (subst (λ f. Follows f next) one_is read_on))
+      (follow_set from i next d within read_on)
 
   is_fresh : IsFresh one
-  is_fresh = subst IsFresh (sym one_is)
-      (All-head IsFresh (get_or from i one) (drop (i + 1) from)
-      (subst (All IsFresh) (sym at.rest ∙ drop_more from i one within)
-      (All-drop IsFresh i start fresh)))
+  is_fresh = All-head IsFresh one (drop (i + 1) from)
+      (subst (All IsFresh) (sym at.rest ∙ drop_more from i d within)
+      (All-drop IsFresh i start fresh))
 
   now_at : (texts : List (List ℕ)) → AllZip CanBe (map calls_of (set from i next)) texts
       → AllZip CanBe (map calls_of from) texts
   now_at texts can = can_before from (set from i next) texts
-      (follow_set from i next one within (subst (λ f. Follows f next) one_is read_on)) can
+      (follow_set from i next d within read_on) can
 
   here : (texts : List (List ℕ)) → AllZip CanBe (map calls_of (set from i next)) texts
       → TextAt texts next i (length from)
@@ -135,14 +136,16 @@ module _ (first now mid : FrontsView) (parts : List Open) (start from : List Lin
       let t = here texts can in
       let n = at.number in
       let views = views_of parts from texts in
-      let place : length views ≡ i =
+      let number : length views ≡ i =
       views_length parts from texts (omega (arith, n, within)) (now_at texts can) ∙ n in
       at.same texts (now_at texts can) ∙ ap (fronts_of now views) t.here
       ∙ ap (λ r. and_then r (λ read. fronts_of read.0 (views ++ read.1 ∷ []) (drop (i + 1) texts)))
-      (ap (λ n. front_of n (at_part n (drop (i + 1) texts) now) t.text) place
+      (ap (λ n. front_of n (at_part n (drop (i + 1) texts) now) t.text) number
       ∙ ap (λ s. front_of i s t.text)
       (sym (begins ∙ at_started i count (drop (i + 1) texts) now (all ∙ t.number)))
-      ∙ ap (front_of i mid) (sym (fresh_left one t.text is_fresh)))
+      ∙ ap (front_of i mid)
+      (sym (ap (λ (l : List ℕ). l ++ drop (length (calls_of one).reading.bytes) t.text)
+      is_fresh.none ∙ ap (λ (l : List ℕ). drop (length l) t.text) is_fresh.unread)))
 
   pub one_opened : (new : FrontsView) (part : Open) (more : List Open) → more ≡ parts ++ part ∷ []
       → ((whole : List ℕ) → CanBe (calls_of next) whole
@@ -227,12 +230,15 @@ none_copied parts from r = record {
 }
 
 module _ (parts : List Open) (start from : List Lines) (i : ℕ) (last : Option Token)
-    (before now after : Run) (part : Open) (one next : Lines)
+    (before now after : Run) (part : Open) (d next : Lines)
     (at : AreCopied parts start from i last before now) (few : length parts ≡ length from)
     (within : i < length from) (part_is : part ≡ get_or parts i part)
-    (one_is : one ≡ get_or from i one) (read_on : Follows one next) where
+    (read_on : Follows (get_or from i d) next) where
+  abbrev old : Lines
+  old = get_or from i d
+
   on : AllZip Follows from (set from i next)
-  on = follow_set from i next one within (subst (λ f. Follows f next) one_is read_on)
+  on = follow_set from i next d within read_on
 
   pub copied_on : AllZip Follows start (set from i next)
   copied_on = follow_on start from (set from i next) at.follow on
@@ -250,11 +256,10 @@ module _ (parts : List Open) (start from : List Lines) (i : ℕ) (last : Option 
 
   split : (texts : List (List ℕ)) (text : List ℕ) → drop i texts ≡ text ∷ drop (i + 1) texts
       → views_of (drop i parts) (drop i from) (drop i texts)
-      ≡ view_of part (lines_at one text) ∷ later texts
+      ≡ view_of part (lines_at old text) ∷ later texts
   split texts text here =
-      views_at parts from texts i part one text (omega (arith, few, within)) within here
-      ∙ ap (λ p. view_of p (lines_at (get_or from i one) text) ∷ later texts) (sym part_is)
-      ∙ ap (λ f. view_of part (lines_at f text) ∷ later texts) (sym one_is)
+      views_at parts from texts i part d text (omega (arith, few, within)) within here
+      ∙ ap (λ p. view_of p (lines_at old text) ∷ later texts) (sym part_is)
 
   passed : (texts : List (List ℕ))
       → later texts
@@ -264,7 +269,7 @@ module _ (parts : List Open) (start from : List Lines) (i : ℕ) (last : Option 
       (sym (drop-set-lt (i + 1) from i next (omega arith)))
 
   pub one_copied : (end : Option Token)
-      → Copies i last part one next now after (Ok end)
+      → Copies i last part old next now after (Ok end)
       → AreCopied parts start (set from i next) (i + 1) end before after
   one_copied end (more, wrote, ends, said) = record {
     follow = copied_on;
@@ -291,7 +296,7 @@ module _ (parts : List Open) (start from : List Lines) (i : ℕ) (last : Option 
         ∙ ap (λ views. (at.text ++ more) ++ lines_left views) (passed texts);
   }
 
-  pub not_copied : (fault : MergeFault) → Copies i last part one next now after (Err fault)
+  pub not_copied : (fault : MergeFault) → Copies i last part old next now after (Err fault)
       → CopiesAll parts start (set from i next) before after (Err fault)
   not_copied fault (more, leaves, said) = (
     at.text ++ more,
@@ -301,7 +306,7 @@ module _ (parts : List Open) (start from : List Lines) (i : ℕ) (last : Option 
         let t = text_of texts can in
         let back = can_before from (set from i next) texts on can in
         let (wrong, rest, lines) = said t.text t.can in (
-          part_fault (section_of i last (view_of part (lines_at one t.text)))
+          part_fault (section_of i last (view_of part (lines_at old t.text)))
               (λ (s : SectionView). sections_of (i + 1) s.last (later texts))
               (sections_of 0 None (views_of parts start texts)) from i next fault within
               (at.same texts back ∙ ap (sections_of i last) (split texts t.text t.here)) wrong,
@@ -336,8 +341,8 @@ all_copied parts start from i last before after at few past = (
 ok_one : {A E : Type 0} {a b : A} → ◌≡◌ {A = Result A E} (Ok a) (Ok b) → a ≡ b
 ok_one e = cc
 
-pub nothing_begun : (calls : List Calls) → HasBegun calls []
-nothing_begun calls texts can whole is = (whole, refl)
+pub nothing_started : (calls : List Calls) → HasStarted calls []
+nothing_started calls texts can whole is = (whole, refl)
 
 unwritten : (why : MergeFault) (r : Run) → IsUnwritten why → Leaves why (with_written r []) r
 unwritten why r none = subst (λ s. Leaves why s r) (written_none r) (none r)
@@ -346,7 +351,7 @@ pub no_parts : (from : List Lines) (r : Run) → from ≡ []
     → MergesAs (map calls_of from) r r (Err (Line 0 1 Form))
 no_parts from r none = (
   [],
-  nothing_begun (map calls_of from),
+  nothing_started (map calls_of from),
   written_none r,
   λ texts can. ap merge_of (no_texts texts (subst (λ f. AllZip CanBe (map calls_of f) texts) none can)),
 )
@@ -370,7 +375,7 @@ pub no_fronts_read : (from : List Lines) (first : FrontsView) (r : Run) (fault :
     → MergesAs (map calls_of from) r r (Err fault)
 no_fronts_read from first r fault some is none said = (
   [],
-  nothing_begun (map calls_of from),
+  nothing_started (map calls_of from),
   unwritten fault r none,
   λ texts can. fault_goes (fronts_of first [] texts) merged (merge_of texts) (map calls_of from)
       fault (merge_is from first texts some is can) (said texts can),

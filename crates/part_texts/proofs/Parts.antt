@@ -3,7 +3,7 @@ use Rattle.std.proofs.Common.{◌≡◌, ◌∙◌, ◌+◌, ◌<◌, ◌≤◌,
 use Rattle.std.proofs.Common.{append-nil, drop, get_or, length, map, refl, set, subst, sym}
 use Rattle.std.specs.List.{AllZip}
 use Rattle.std.proofs.lemmas.List.{drop_more}
-use Rattle.recorded_lines.specs.Texts.{CanBe, Follows, IsFresh, calls_of, left}
+use Rattle.recorded_lines.specs.Texts.{CanBe, Follows, calls_of}
 use Rattle.recorded_lines.specs.declared.text.Lines.{Lines}
 use Rattle.recorded_lines.proofs.Reading.{follows_on, follows_self}
 use Rattle.world.specs.Run.{Calls}
@@ -50,7 +50,7 @@ below a b count i follow is within =
     let l = counted a b count follow is in omega (arith, l, within)
 
 pub passed : (a b : List Lines) (count i : ℕ) → AllZip Follows a b → count ≡ length a
-    → ¬ (i < count) → length b ≤ i
+    → count ≤ i → length b ≤ i
 passed a b count i follow is past = let l = counted a b count follow is in omega (arith, l, past)
 
 pub can_before : (a b : List Lines) (texts : List (List ℕ)) → AllZip Follows a b
@@ -109,12 +109,6 @@ text_at (one ∷ from) (text ∷ texts) (suc i) d within can =
           let n = rest.number in
           let l = ap (λ n. length (drop n (text ∷ texts))) same in omega (arith, n, l);
     }
-
--- nothing was read of it
-pub fresh_left : (one : Lines) (text : List ℕ) → IsFresh one → left one text ≡ text
-fresh_left one text fresh =
-    ap (λ (l : List ℕ). l ++ drop (length (calls_of one).reading.bytes) text) fresh.none
-    ∙ ap (λ (l : List ℕ). drop (length l) text) fresh.unread
 
 -- ---- parts whose fronts are read
 pub views_length : (parts : List Open) (from : List Lines) (texts : List (List ℕ))

@@ -14,8 +14,8 @@ abbrev pub read_by : List Calls → List (List ℕ)
 read_by calls = map (λ c. c.reading.bytes) calls
 
 -- With more after it, the text is that into which the parts are merged, if they are.
-abbrev pub HasBegun : List Calls → List ℕ → Type 0
-HasBegun calls text = (texts : List (List ℕ)) → AllZip CanBe calls texts → (whole : List ℕ)
+abbrev pub HasStarted : List Calls → List ℕ → Type 0
+HasStarted calls text = (texts : List (List ℕ)) → AllZip CanBe calls texts → (whole : List ℕ)
     → merge_of texts ≡ Ok whole → (rest : List ℕ) × (whole ≡ text ++ rest)
 
 -- what a fault leaves of a run
@@ -38,7 +38,7 @@ IsFaultOf said calls NoMemory = ⊤
 abbrev pub MergesAs : List Calls → Run → Run → Result Unit MergeFault → Type 0
 MergesAs calls before after (Ok done) = All IsWhole calls × (text : List ℕ)
     × (merge_of (read_by calls) ≡ Ok text) × (after ≡ with_written before text)
-MergesAs calls before after (Err fault) = (text : List ℕ) × HasBegun calls text
+MergesAs calls before after (Err fault) = (text : List ℕ) × HasStarted calls text
     × Leaves fault (with_written before text) after
     × ((texts : List (List ℕ)) → AllZip CanBe calls texts
     → IsFaultOf (merge_of texts) calls fault)

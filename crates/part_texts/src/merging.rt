@@ -9,7 +9,7 @@ ghost use Rattle.histories.specs.Sums.{sums_of};
 ghost use Rattle.tap_views.specs.declared.upload_end.UploadEnd.TheVariants.{Posted};
 ghost use Rattle.recorded_lines.specs.Texts.{CanBe, Follows, IsEndAt, IsFresh, calls_of, left};
 ghost use Rattle.report_texts.specs.Report.{upload_lines};
-ghost use Rattle.part_texts.specs.Fronts.{fronts_view, shown_sums};
+ghost use Rattle.part_texts.specs.inside.Fronts.{fronts_view, shown_sums};
 ghost use Rattle.part_texts.specs.Merged.{front_of, fronts_of, left_at, report_front, whole_front};
 ghost use Rattle.part_texts.specs.Reads.{MergesAs};
 ghost use Rattle.part_texts.specs.inside.Opened.{Copies, CopiesAll, FrontRead, FrontsRead};

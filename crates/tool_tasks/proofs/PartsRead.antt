@@ -10,7 +10,7 @@ use Rattle.frame.specs.Stops.{IsReported}
 use Rattle.frame.specs.declared.stop.Stop.{Stop}
 use Rattle.frame.specs.declared.stop.Stop.TheVariants as stop
 use Rattle.part_texts.specs.Merged.{merge_of}
-use Rattle.part_texts.specs.Reads.{HasBegun, IsFaultOf, MergesAs, read_by}
+use Rattle.part_texts.specs.Reads.{HasStarted, IsFaultOf, MergesAs, read_by}
 use Rattle.part_texts.specs.declared.fault.MergeFault.{MergeFault}
 use Rattle.part_texts.specs.declared.fault.MergeFault.TheVariants.{Line, Unread, Write, NoMemory}
 use Rattle.part_texts.proofs.Parts.{can_be_read}
@@ -101,13 +101,13 @@ merged_words words before mid after opened now r r' (Ok done) same all names fol
   wrote,
 )
 merged_words words before mid after opened now r r' (Err fault) same all names follow
-    (text, begun, leaves, said) =
+    (text, started, leaves, said) =
     let calls = map calls_of now in
     let are : AreOf words calls = names_kept opened now follow ∙ names in (
       calls,
       all ∙ ap (λ l. l ++ calls) same,
       text,
-      inr (are, begun),
+      inr (are, started),
       leaves,
       by fault calls are said,
     )
@@ -159,9 +159,9 @@ whole_read (c ∷ calls) (text ∷ texts) whole can =
     ∙ ap (λ ts. c.reading.bytes ∷ ts)
     (whole_read calls texts (All-tail IsWhole c calls whole) can.1)
 
-whole_begun : (calls : List Calls) (text : List ℕ) → All IsWhole calls
-    → merge_of (read_by calls) ≡ Ok text → HasBegun calls text
-whole_begun calls text whole merged = λ texts can all is.
+whole_started : (calls : List Calls) (text : List ℕ) → All IsWhole calls
+    → merge_of (read_by calls) ≡ Ok text → HasStarted calls text
+whole_started calls text whole merged = λ texts can all is.
     let same : Ok text ≡ Ok all =
     sym merged ∙ ap merge_of (sym (whole_read calls texts whole can)) ∙ is in
     ([], (let e : all ≡ text = cc in e) ∙ sym (append-nil text))
@@ -244,7 +244,7 @@ pub merging_stopped : (words : List (List ℕ)) (before after : List Calls) (r n
 merging_stopped words before after r now end last (Ok done) why
     (calls, read, names, whole, text, merged, wrote) (fault, is, left) reported =
     cut words before after calls r now end last text read
-    (inr (names, whole_begun calls text whole merged)) wrote why fault is left reported
+    (inr (names, whole_started calls text whole merged)) wrote why fault is left reported
 merging_stopped words before after r now end last (Err (Line part number wrong)) why
     (calls, read, text, prefix, wrote, event) stopped reported =
     flushed words before after calls r now end last text read prefix wrote stop.NoMemory why tt

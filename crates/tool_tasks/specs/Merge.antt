@@ -6,7 +6,7 @@ use Rattle.frame.specs.Stops.{IsReported}
 use Rattle.frame.specs.declared.stop.Stop.{Stop}
 use Rattle.frame.specs.declared.stop.Stop.TheVariants.{NoMemory, Unmade, Unread, Unwritten}
 use Rattle.part_texts.specs.Merged.{merge_of}
-use Rattle.part_texts.specs.Reads.{HasBegun, read_by}
+use Rattle.part_texts.specs.Reads.{HasStarted, read_by}
 use Rattle.recorded_lines.specs.Texts.{CanBe}
 use Rattle.report_texts.specs.declared.wrong.Wrong.{Wrong}
 use Rattle.tool_tasks.specs.Corrections.{IsCalled}
@@ -56,7 +56,7 @@ pub record RefusesPart (words : List (List ℕ)) (before after : List Calls) (ru
 
 -- nothing was written, or what was is a prefix of the right text of what reads gave, whatever follows
 abbrev pub IsPrefix : List (List ℕ) → List Calls → List ℕ → Type 0
-IsPrefix words calls text = (text ≡ []) ⊎ (AreOf words calls × HasBegun calls text)
+IsPrefix words calls text = (text ≡ []) ⊎ (AreOf words calls × HasStarted calls text)
 
 -- what stopped a run leaves this of it
 abbrev pub IsLeft : Stop → Run → Run → Type 0

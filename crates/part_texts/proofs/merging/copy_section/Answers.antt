@@ -116,7 +116,7 @@ returns-in-Err-write-clause-copied g c =
     (λ whole can. rw c.in-Ok-true.field-0-test at (c.in-Ok-true.ensures.read whole can))
     (g.W.Inputs.run c.write.new.self) c.in-Err-write.why
     (subst (λ (l : List ℕ). IsCut run (g.W.Inputs.run c.write.new.self) l c.in-Err-write.why)
-    c.deref-2.ensures.value c.in-Err-write.ensures.cut)
+    c.deref-in-loop-number.ensures.value c.in-Err-write.ensures.cut)
 
 pub loop-number-preserved : goal.loop-number-preserved
 loop-number-preserved g c =
@@ -130,7 +130,7 @@ loop-number-preserved g c =
     c.deref.ensures.value c.in-Ok.ensures)
     (λ whole can. rw c.in-Ok-true.field-0-test at (c.in-Ok-true.ensures.read whole can))
     (g.W.Inputs.run c.write.new.self)
-    (c.in-Ok-write.ensures.whole ∙ ap (λ (l : List ℕ). with_written run l) c.deref-2.ensures.value)
+    (c.in-Ok-write.ensures.whole ∙ ap (λ (l : List ℕ). with_written run l) c.deref-in-loop-number.ensures.value)
 
 pub returns-clause-follows : goal.returns-clause-follows
 returns-clause-follows g c = c.loop-number.invariant.follows

@@ -1,4 +1,4 @@
-use Rattle.std.proofs.Common.{◌∙◌, sym}
+use Rattle.std.proofs.Common.{◌∙◌, length, refl, sym}
 use Rattle.part_texts.proofs.AllParts.{all_copied, copied_on, none_copied, not_copied, one_copied}
 use Rattle.part_texts.proofs.Parts.{below, follow_length, passed}
 use Rattle.part_texts.proofs.merging.copy_sections.Goals as goal
@@ -15,9 +15,9 @@ returns-in-Err-clause-follow g c =
     c.index-parts-position.result c.copy_section.new.from c.loop-position.invariant
     (c.requires ∙ sym (follow_length c.args.parts.now c.loop-position.parts
     c.loop-position.invariant.follow))
-    (below c.args.parts.now c.loop-position.parts c.len.result c.loop-position.position
-    c.loop-position.invariant.follow c.len.ensures c.loop-position-test.true)
-    c.index-opens-position.is c.index-parts-position.is c.copy_section.ensures.follows
+    (below c.args.parts.now c.loop-position.parts (length c.args.parts.now) c.loop-position.position
+    c.loop-position.invariant.follow refl c.loop-position-test.true)
+    c.index-opens-position.is c.copy_section.ensures.follows
 
 pub returns-in-Err-clause-copied : goal.returns-in-Err-clause-copied
 returns-in-Err-clause-copied g c =
@@ -27,9 +27,9 @@ returns-in-Err-clause-copied g c =
     c.index-parts-position.result c.copy_section.new.from c.loop-position.invariant
     (c.requires ∙ sym (follow_length c.args.parts.now c.loop-position.parts
     c.loop-position.invariant.follow))
-    (below c.args.parts.now c.loop-position.parts c.len.result c.loop-position.position
-    c.loop-position.invariant.follow c.len.ensures c.loop-position-test.true)
-    c.index-opens-position.is c.index-parts-position.is c.copy_section.ensures.follows
+    (below c.args.parts.now c.loop-position.parts (length c.args.parts.now) c.loop-position.position
+    c.loop-position.invariant.follow refl c.loop-position-test.true)
+    c.index-opens-position.is c.copy_section.ensures.follows
     c.in-Err.fault c.in-Err.ensures.copied
 
 pub loop-position-preserved : goal.loop-position-preserved
@@ -40,9 +40,9 @@ loop-position-preserved g c =
     c.index-parts-position.result c.copy_section.new.from c.loop-position.invariant
     (c.requires ∙ sym (follow_length c.args.parts.now c.loop-position.parts
     c.loop-position.invariant.follow))
-    (below c.args.parts.now c.loop-position.parts c.len.result c.loop-position.position
-    c.loop-position.invariant.follow c.len.ensures c.loop-position-test.true)
-    c.index-opens-position.is c.index-parts-position.is c.copy_section.ensures.follows
+    (below c.args.parts.now c.loop-position.parts (length c.args.parts.now) c.loop-position.position
+    c.loop-position.invariant.follow refl c.loop-position-test.true)
+    c.index-opens-position.is c.copy_section.ensures.follows
     c.in-Ok.next c.in-Ok.ensures.copied
 
 pub returns-clause-follow : goal.returns-clause-follow
@@ -55,5 +55,5 @@ returns-clause-copied g c =
     c.loop-position.invariant
     (c.requires ∙ sym (follow_length c.args.parts.now c.loop-position.parts
     c.loop-position.invariant.follow))
-    (passed c.args.parts.now c.loop-position.parts c.len.result c.loop-position.position
-    c.loop-position.invariant.follow c.len.ensures c.loop-position-test.false)
+    (passed c.args.parts.now c.loop-position.parts (length c.args.parts.now) c.loop-position.position
+    c.loop-position.invariant.follow refl c.loop-position-test.false)

@@ -3,7 +3,7 @@ use Rattle.std.proofs.lemmas.Bool.Decides.{nat_tests}
 use Rattle.std.proofs.lemmas.List.{nil_from_length}
 use Rattle.world.specs.Run.{with_written}
 use Rattle.world.specs.Writes.{IsCut}
-use Rattle.part_texts.specs.Fronts.{fronts_view}
+use Rattle.part_texts.specs.inside.Fronts.{fronts_view}
 use Rattle.part_texts.specs.inside.Opened.{CopiesAll}
 use Rattle.part_texts.specs.declared.fault.MergeFault.TheVariants.{NoMemory}
 use Rattle.part_texts.proofs.AllParts.{front_cut, lines_merged, no_fronts_read, no_parts}

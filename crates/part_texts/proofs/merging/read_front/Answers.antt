@@ -1,6 +1,6 @@
-use Rattle.std.proofs.Common.{◌≡◌, ◌∙◌, Err, List, Ok, ap, subst, sym, ℕ}
+use Rattle.std.proofs.Common.{◌≡◌, ◌∙◌, Err, List, Ok, ap, refl, subst, sym, ℕ}
 use Rattle.recorded_lines.proofs.Reading.{follows_on, follows_self}
-use Rattle.part_texts.specs.Fronts.{fronts_view}
+use Rattle.part_texts.specs.inside.Fronts.{fronts_view}
 use Rattle.part_texts.specs.FrontSteps.{front_step}
 use Rattle.part_texts.specs.Merged.{front_end}
 use Rattle.part_texts.proofs.Runs.{front_line, front_short, front_unread, front_whole}

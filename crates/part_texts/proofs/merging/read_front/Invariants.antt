@@ -1,4 +1,4 @@
-use Rattle.part_texts.specs.Fronts.{fronts_view}
+use Rattle.part_texts.specs.inside.Fronts.{fronts_view}
 use Rattle.part_texts.proofs.Runs.{IsAtFront}
 use Rattle.part_texts.proofs.merging.read_front.Given as goal
 
