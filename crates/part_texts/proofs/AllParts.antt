@@ -1,5 +1,5 @@
 -- Parts that are read one after the other: their fronts, and then their lines.
-use Rattle.std.proofs.Common.{◌≡◌, ◌∙◌, ◌+◌, ◌<◌, ◌≤◌, ℕ, suc, zero, true, false, List, [], ◌∷◌, ◌++◌}
+use Rattle.std.proofs.Common.{◌≡◌, ◌∙◌, ◌+◌, ◌<◌, ◌≤◌, ℕ, suc, zero, List, [], ◌∷◌, ◌++◌}
 use Rattle.std.proofs.Common.{Bool, Option, None, Some, Result, Ok, Err, ap, append-nil, append_assoc}
 use Rattle.std.proofs.Common.{arith, drop, get_or, get_or-set_same, length, map, refl, set, subst, sym}
 use Rattle.std.proofs.Common.{take}
@@ -8,7 +8,7 @@ use Rattle.std.specs.List.{AllZip}
 use Rattle.std.proofs.lemmas.Bool.Decides.{nat_tests}
 use Rattle.std.proofs.lemmas.List.{drop-drop, drop-set-lt, drop_all, drop_more, length-set, take_all}
 use Rattle.std.proofs.lemmas.List.{take_more_set}
-use Rattle.std.proofs.lemmas.List.Elements.{All-drop, All-head, All-map, All-push, All-rest}
+use Rattle.std.proofs.lemmas.List.Elements.{All-drop, All-head, All-map, All-push}
 use Rattle.std.proofs.lemmas.List.Elements.{All-weaker}
 use Rattle.tap_views.specs.declared.token.Token.{Token}
 use Rattle.recorded_lines.specs.Texts.{CanBe, Follows, IsEndAt, IsFresh, calls_of, left}
@@ -26,7 +26,7 @@ use Rattle.part_texts.specs.Merged.{sections_of, whole_front}
 use Rattle.part_texts.specs.Reads.{HasStarted, IsFaultOf, Leaves, MergesAs, read_by}
 use Rattle.part_texts.specs.Sections.{SectionView}
 use Rattle.part_texts.specs.inside.Opened.{Copies, CopiesAll, FrontRead, IsPartFault, IsUnwritten}
-use Rattle.part_texts.specs.inside.Opened.{joined, lines_at, view_of, views_of}
+use Rattle.part_texts.specs.inside.Opened.{lines_at, view_of, views_of}
 use Rattle.part_texts.specs.declared.fault.MergeFault.{MergeFault}
 use Rattle.part_texts.specs.declared.fault.MergeFault.TheVariants.{Line, Unread, Write, NoMemory}
 use Rattle.part_texts.specs.declared.merging.Open.{Open}

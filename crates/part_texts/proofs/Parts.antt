@@ -1,6 +1,6 @@
 -- Parts that are read on, each at its place.
 use Rattle.std.proofs.Common.{◌≡◌, ◌∙◌, ◌+◌, ◌<◌, ◌≤◌, ℕ, suc, zero, List, [], ◌∷◌, ◌++◌, ap, arith}
-use Rattle.std.proofs.Common.{append-nil, drop, get_or, length, map, refl, set, subst, sym}
+use Rattle.std.proofs.Common.{append-nil, drop, get_or, length, map, refl, set, sym}
 use Rattle.std.specs.List.{AllZip}
 use Rattle.std.proofs.lemmas.List.{drop_more}
 use Rattle.recorded_lines.specs.Texts.{CanBe, Follows, calls_of}

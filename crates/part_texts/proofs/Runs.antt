@@ -1,6 +1,6 @@
 -- One part, read and copied line by line.
 use Rattle.std.proofs.Common.{◌≡◌, ◌∙◌, ◌+◌, ℕ, Bool, true, false, cond, List, [], ◌∷◌, ◌++◌, Option}
-use Rattle.std.proofs.Common.{None, Some, Result, Ok, Err, ap, append-nil, append_assoc, length, refl}
+use Rattle.std.proofs.Common.{None, Result, Ok, Err, ap, append-nil, append_assoc, length, refl}
 use Rattle.std.proofs.Common.{subst, sym}
 use Rattle.std.specs.Prelude.{nat_lt}
 use Rattle.tap_views.specs.declared.token.Token.{Token}
@@ -15,7 +15,7 @@ use Rattle.world.specs.Writes.{IsCut}
 use Rattle.world.specs.declared.faults.WriteFault.{WriteFault}
 use Rattle.part_texts.specs.Fronts.{FrontsView}
 use Rattle.part_texts.specs.FrontSteps.{front_done, front_step}
-use Rattle.part_texts.specs.Merged.{OpenView, WrongLine, end_or, front_end, front_of, left_at}
+use Rattle.part_texts.specs.Merged.{OpenView, WrongLine, end_or, front_end}
 use Rattle.part_texts.specs.Merged.{opened, section_at, section_ended, section_of}
 use Rattle.part_texts.specs.Reads.{Leaves}
 use Rattle.part_texts.specs.Sections.{SectionView, section_end, section_step}
@@ -28,44 +28,44 @@ use Rattle.part_texts.proofs.Written.{cut_on, written_on}
 
 -- ---- one line
 module _ {S : Type 0} (done : S → Bool) (plain : S → List ℕ → Result S Wrong) (number : ℕ) (s : S)
-    where
-  goes_on : (line : List ℕ) (lines : List (List ℕ)) (said : Result S Wrong) → done s ≡ false
-      → bounded Form plain s line ≡ said
-      → run done (bounded Form plain) number s (line ∷ lines)
-      ≡ carry (λ next. run done (bounded Form plain) (number + 1) next lines)
-      (λ why. (number, why)) said
-  goes_on line lines said goes is =
-      ap (λ b. cond b (Ok (number, s, line ∷ lines))
-      (carry (λ next. run done (bounded Form plain) (number + 1) next lines)
-      (λ why. (number, why)) (bounded Form plain s line))) goes
-      ∙ ap (carry (λ next. run done (bounded Form plain) (number + 1) next lines)
-      (λ why. (number, why))) is
+  where
+    goes_on : (line : List ℕ) (lines : List (List ℕ)) (said : Result S Wrong) → done s ≡ false
+        → bounded Form plain s line ≡ said
+        → run done (bounded Form plain) number s (line ∷ lines)
+        ≡ carry (λ next. run done (bounded Form plain) (number + 1) next lines)
+        (λ why. (number, why)) said
+    goes_on line lines said goes is =
+        ap (λ b. cond b (Ok (number, s, line ∷ lines))
+        (carry (λ next. run done (bounded Form plain) (number + 1) next lines)
+        (λ why. (number, why)) (bounded Form plain s line))) goes
+        ∙ ap (carry (λ next. run done (bounded Form plain) (number + 1) next lines)
+        (λ why. (number, why))) is
 
-  pub run_line : (lines rest : List (List ℕ)) (line : List ℕ) (said : Result S Wrong)
-      → done s ≡ false → (lines ≡ line ∷ rest) × (nat_lt 1024 (length line) ≡ false)
-      → plain s line ≡ said
-      → run done (bounded Form plain) number s lines
-      ≡ carry (λ next. run done (bounded Form plain) (number + 1) next rest)
-      (λ why. (number, why)) said
-  run_line lines rest line said goes (shown, short) is =
-      ap (run done (bounded Form plain) number s) shown
-      ∙ goes_on line rest said goes (ap (λ b. cond b (Err Form) (plain s line)) short ∙ is)
+    pub run_line : (lines rest : List (List ℕ)) (line : List ℕ) (said : Result S Wrong)
+        → done s ≡ false → (lines ≡ line ∷ rest) × (nat_lt 1024 (length line) ≡ false)
+        → plain s line ≡ said
+        → run done (bounded Form plain) number s lines
+        ≡ carry (λ next. run done (bounded Form plain) (number + 1) next rest)
+        (λ why. (number, why)) said
+    run_line lines rest line said goes (shown, short) is =
+        ap (run done (bounded Form plain) number s) shown
+        ∙ goes_on line rest said goes (ap (λ b. cond b (Err Form) (plain s line)) short ∙ is)
 
-  -- a line that could not be read
-  pub run_unread : {T : Type 0}
-      (end : Result (ℕ × S × List (List ℕ)) (ℕ × Wrong) → Result T WrongLine) (position : ℕ)
-      (lines rest : List (List ℕ)) (line : List ℕ) (calls : Calls) (why : MergeFault)
-      → ((wrong : ℕ × Wrong) → end (Err wrong) ≡ Err (position, wrong)) → done s ≡ false
-      → LineRead lines line rest (position, number) calls (Err why)
-      → IsPartFault (end (run done (bounded Form plain) number s lines)) position calls why
-  run_unread end position lines rest line calls (fault.Line text at why) ends goes
-      (is_text, is_at, is_why, long, more, shown, far) =
-      ap end (ap (run done (bounded Form plain) number s) shown
-      ∙ goes_on long more (Err Form) goes (ap (λ b. cond b (Err Form) (plain s long)) far))
-      ∙ ends (number, Form) ∙ (λ i. Err (sym is_text i, (sym is_at i, sym is_why i)))
-  run_unread end position lines rest line calls (fault.Unread text) ends goes read = read
-  run_unread end position lines rest line calls (fault.Write why) ends goes bad = absurd bad
-  run_unread end position lines rest line calls fault.NoMemory ends goes read = tt
+    -- a line that could not be read
+    pub run_unread : {T : Type 0}
+        (end : Result (ℕ × S × List (List ℕ)) (ℕ × Wrong) → Result T WrongLine) (position : ℕ)
+        (lines rest : List (List ℕ)) (line : List ℕ) (calls : Calls) (why : MergeFault)
+        → ((wrong : ℕ × Wrong) → end (Err wrong) ≡ Err (position, wrong)) → done s ≡ false
+        → LineRead lines line rest (position, number) calls (Err why)
+        → IsPartFault (end (run done (bounded Form plain) number s lines)) position calls why
+    run_unread end position lines rest line calls (fault.Line text at why) ends goes
+        (is_text, is_at, is_why, long, more, shown, far) =
+        ap end (ap (run done (bounded Form plain) number s) shown
+        ∙ goes_on long more (Err Form) goes (ap (λ b. cond b (Err Form) (plain s long)) far))
+        ∙ ends (number, Form) ∙ (λ i. Err (sym is_text i, (sym is_at i, sym is_why i)))
+    run_unread end position lines rest line calls (fault.Unread text) ends goes read = read
+    run_unread end position lines rest line calls (fault.Write why) ends goes bad = absurd bad
+    run_unread end position lines rest line calls fault.NoMemory ends goes read = tt
 
 pub fault_same : {S : Type 0} (a b : Result S WrongLine) (position : ℕ) (calls : Calls)
     (why : MergeFault) → a ≡ b → IsPartFault b position calls why → IsPartFault a position calls why
@@ -172,83 +172,83 @@ pub record IsCopying (part : Open) (last : Option Token) (now : SectionView) (st
 module _ (position : ℕ) (part : Open) (last : Option Token) (now : SectionView)
     (start from next : Lines) (number : ℕ) (before after : Run)
     (at : IsCopying part last now start from number before after) (read_on : Follows from next)
-    where
-  -- the lines end here
-  pub section_done : (end : Option Wrong) → section_end now ≡ end → (whole : List ℕ)
-      → CanBe (calls_of next) whole → lines_at from whole ≡ []
-      → section_of position last (view_of part (lines_at start whole))
-      ≡ end_or (position, (number, Form)) now end
-  section_done end is whole can none =
-      ap (section_ended position) (at.same whole (read_on.back whole can)
-      ∙ ap (section_run number now) none)
-      ∙ ap (end_or (position, (number, Form)) now) is
+  where
+    -- the lines end here
+    pub section_done : (end : Option Wrong) → section_end now ≡ end → (whole : List ℕ)
+        → CanBe (calls_of next) whole → lines_at from whole ≡ []
+        → section_of position last (view_of part (lines_at start whole))
+        ≡ end_or (position, (number, Form)) now end
+    section_done end is whole can none =
+        ap (section_ended position) (at.same whole (read_on.back whole can)
+        ∙ ap (section_run number now) none)
+        ∙ ap (end_or (position, (number, Form)) now) is
 
-  pub copied_whole : section_end now ≡ None → IsEndAt next
-      → ((whole : List ℕ) → CanBe (calls_of next) whole → lines_at from whole ≡ [])
-      → Copies position last part start next before after (Ok now.last)
-  copied_whole is end none = (
-    at.text,
-    at.wrote,
-    end,
-    λ whole can. (
-      now,
-      section_done None is whole can (none whole can),
-      refl,
-      at.lines whole (read_on.back whole can)
-          ∙ ap (λ l. at.text ++ joined l) (none whole can) ∙ append-nil at.text,
-    ),
-  )
-
-  -- a fault that comes between two lines
-  pub copied_to : (why : MergeFault) → IsUnwritten why
-      → ((whole : List ℕ) → CanBe (calls_of next) whole
-      → IsPartFault (section_ended position (section_run number now (lines_at from whole)))
-      position (calls_of next) why)
-      → Copies position last part start next before after (Err why)
-  copied_to why none is = (
-    at.text,
-    subst (λ r. Leaves why r after) at.wrote (none after),
-    λ whole can. (
-      fault_same (section_of position last (view_of part (lines_at start whole)))
-          (section_ended position (section_run number now (lines_at from whole))) position
-          (calls_of next) why
-          (ap (section_ended position) (at.same whole (read_on.back whole can))) (is whole can),
-      joined (lines_at from whole),
-      at.lines whole (read_on.back whole can),
-    ),
-  )
-
-  module _ (line : List ℕ) (then : SectionView) (taken : section_step now line ≡ Ok then)
-      (read : (whole : List ℕ) → CanBe (calls_of next) whole
-      → (lines_at from whole ≡ line ∷ lines_at next whole)
-      × (nat_lt 1024 (length line) ≡ false)) where
-    pub copied_more : (now_after : Run) → now_after ≡ with_written after line
-        → IsCopying part last then start next (number + 1) before now_after
-    copied_more now_after more = record {
-      follows = follows_on start from next at.follows read_on;
-      text = at.text ++ line;
-      wrote = written_on before after now_after at.text line at.wrote more;
-      same = λ whole can. at.same whole (read_on.back whole can)
-          ∙ run_line never section_step number now (lines_at from whole) (lines_at next whole) line
-          (Ok then) refl (read whole can) taken;
-      lines = λ whole can. at.lines whole (read_on.back whole can)
-          ∙ ap (λ l. at.text ++ joined l) (read whole can).0
-          ∙ sym (append_assoc at.text line (joined (lines_at next whole)));
-    }
-
-    pub copied_cut : (now_after : Run) (why : WriteFault) → IsCut after now_after line why
-        → Copies position last part start next before now_after (Err (fault.Write why))
-    copied_cut now_after why cut = (
-      at.text ++ cut.front,
-      cut_on before after now_after at.text line why at.wrote cut,
+    pub copied_whole : section_end now ≡ None → IsEndAt next
+        → ((whole : List ℕ) → CanBe (calls_of next) whole → lines_at from whole ≡ [])
+        → Copies position last part start next before after (Ok now.last)
+    copied_whole is end none = (
+      at.text,
+      at.wrote,
+      end,
       λ whole can. (
-        tt,
-        cut.rest ++ joined (lines_at next whole),
+        now,
+        section_done None is whole can (none whole can),
+        refl,
         at.lines whole (read_on.back whole can)
-            ∙ ap (λ l. at.text ++ joined l) (read whole can).0
-            ∙ ap (λ l. at.text ++ (l ++ joined (lines_at next whole))) cut.whole
-            ∙ ap (λ l. at.text ++ l)
-            (append_assoc cut.front cut.rest (joined (lines_at next whole)))
-            ∙ sym (append_assoc at.text cut.front (cut.rest ++ joined (lines_at next whole))),
+            ∙ ap (λ l. at.text ++ joined l) (none whole can) ∙ append-nil at.text,
       ),
     )
+
+    -- a fault that comes between two lines
+    pub copied_to : (why : MergeFault) → IsUnwritten why
+        → ((whole : List ℕ) → CanBe (calls_of next) whole
+        → IsPartFault (section_ended position (section_run number now (lines_at from whole)))
+        position (calls_of next) why)
+        → Copies position last part start next before after (Err why)
+    copied_to why none is = (
+      at.text,
+      subst (λ r. Leaves why r after) at.wrote (none after),
+      λ whole can. (
+        fault_same (section_of position last (view_of part (lines_at start whole)))
+            (section_ended position (section_run number now (lines_at from whole))) position
+            (calls_of next) why
+            (ap (section_ended position) (at.same whole (read_on.back whole can))) (is whole can),
+        joined (lines_at from whole),
+        at.lines whole (read_on.back whole can),
+      ),
+    )
+
+    module _ (line : List ℕ) (then : SectionView) (taken : section_step now line ≡ Ok then)
+        (read : (whole : List ℕ) → CanBe (calls_of next) whole
+        → (lines_at from whole ≡ line ∷ lines_at next whole)
+        × (nat_lt 1024 (length line) ≡ false)) where
+      pub copied_more : (now_after : Run) → now_after ≡ with_written after line
+          → IsCopying part last then start next (number + 1) before now_after
+      copied_more now_after more = record {
+        follows = follows_on start from next at.follows read_on;
+        text = at.text ++ line;
+        wrote = written_on before after now_after at.text line at.wrote more;
+        same = λ whole can. at.same whole (read_on.back whole can)
+            ∙ run_line never section_step number now (lines_at from whole) (lines_at next whole) line
+            (Ok then) refl (read whole can) taken;
+        lines = λ whole can. at.lines whole (read_on.back whole can)
+            ∙ ap (λ l. at.text ++ joined l) (read whole can).0
+            ∙ sym (append_assoc at.text line (joined (lines_at next whole)));
+      }
+
+      pub copied_cut : (now_after : Run) (why : WriteFault) → IsCut after now_after line why
+          → Copies position last part start next before now_after (Err (fault.Write why))
+      copied_cut now_after why cut = (
+        at.text ++ cut.front,
+        cut_on before after now_after at.text line why at.wrote cut,
+        λ whole can. (
+          tt,
+          cut.rest ++ joined (lines_at next whole),
+          at.lines whole (read_on.back whole can)
+              ∙ ap (λ l. at.text ++ joined l) (read whole can).0
+              ∙ ap (λ l. at.text ++ (l ++ joined (lines_at next whole))) cut.whole
+              ∙ ap (λ l. at.text ++ l)
+              (append_assoc cut.front cut.rest (joined (lines_at next whole)))
+              ∙ sym (append_assoc at.text cut.front (cut.rest ++ joined (lines_at next whole))),
+        ),
+      )

@@ -417,12 +417,7 @@ impl Fronts {
         Ok(())
     }
 
-    fn take_validator(
-        &mut self,
-        left: u64,
-        last: Option<u32>,
-        line: &[u8],
-    ) -> Result<(), Refusal>
+    fn take_validator(&mut self, left: u64, last: Option<u32>, line: &[u8]) -> Result<(), Refusal>
         requires { 0 < left }
         ensures { TakesAs (validator_step left last (fronts_view self.old) line.now)
             (fronts_view self.new) result }

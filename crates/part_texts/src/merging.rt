@@ -290,11 +290,7 @@ fn whole_front(alloc: Global, fronts: Fronts) -> Result<Vec<u8>, AllocError>
 
 /// Merges the texts of parts, in their order: all reports, or all ledgers. All fronts are read
 /// before the first byte is written.
-pub fn merge<W: World>(
-    alloc: Global,
-    parts: &mut [Lines],
-    world: &mut W,
-) -> Result<(), MergeFault>
+pub fn merge<W: World>(alloc: Global, parts: &mut [Lines], world: &mut W) -> Result<(), MergeFault>
     requires { All IsFresh parts.old }
     ensures follow { AllZip Follows parts.old parts.new }
     ensures merges { MergesAs (map calls_of parts.new) (W.run world.old) (W.run world.new) result }

@@ -9,7 +9,6 @@ use Rattle.line_folds.specs.Folds.{lines_of}
 use Rattle.recorded_lines.specs.Texts.{CanBe, IsEndAt, calls_of, left}
 use Rattle.recorded_lines.specs.Unread.{IsUnread}
 use Rattle.recorded_lines.specs.declared.text.Lines.{Lines}
-use Rattle.report_texts.specs.declared.wrong.Wrong.{Wrong}
 use Rattle.report_texts.specs.declared.wrong.Wrong.TheVariants.{Form}
 use Rattle.world.specs.Run.{Calls, Run, with_written}
 use Rattle.part_texts.specs.Fronts.{FrontsView}

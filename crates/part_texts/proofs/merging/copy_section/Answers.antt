@@ -1,5 +1,5 @@
-use Rattle.std.proofs.Common.{◌≡◌, ◌∙◌, [], Err, List, None, Ok, Some, ap, false, refl, subst, sym, ℕ}
-use Rattle.histories.specs.Sums.{Sums, sums_of}
+use Rattle.std.proofs.Common.{◌≡◌, ◌∙◌, [], Err, List, Ok, Some, ap, false, refl, subst, sym, ℕ}
+use Rattle.histories.specs.Sums.{Sums}
 use Rattle.recorded_lines.specs.Texts.{calls_of}
 use Rattle.recorded_lines.proofs.Reading.{follows_on, follows_self}
 use Rattle.world.specs.Run.{with_written}
