@@ -127,7 +127,7 @@ merged_words words before mid after opened now r r' (Err fault) same all names f
 pub unopened_words : (words : List (List ℕ)) (before mid after calls more : List Calls) (r : Run)
     (fault : MergeFault) → mid ≡ before ++ calls → after ≡ mid ++ more
     → IsUnopened words calls fault → MergesWords words before after r r (Err fault)
-unopened_words words before mid after calls more r (Line part number why) first then no = absurd no
+unopened_words words before mid after calls more r (Line part number why) first then bad = absurd bad
 unopened_words words before mid after calls more r (Unread part) first then
     (name, failed, at, has, unread) = (
   calls ++ more,
@@ -137,7 +137,7 @@ unopened_words words before mid after calls more r (Unread part) first then
   written_none r,
   (name, failed, at, Contains-append_left calls more failed has, unread),
 )
-unopened_words words before mid after calls more r (Write why) first then no = absurd no
+unopened_words words before mid after calls more r (Write why) first then bad = absurd bad
 unopened_words words before mid after calls more r NoMemory first then none = (
   calls ++ more,
   then ∙ ap (λ l. l ++ more) first ∙ append_assoc before calls more,
@@ -197,9 +197,9 @@ merging_ended words before after r now end (Err (Line part number why)) status
       all = all ∙ ap (λ (x : Run). with_said (with_flushed x) (part_note word number why)) same;
       failed = failed;
     }))
-merging_ended words before after r now end (Err (Unread part)) status merges no = absurd no
-merging_ended words before after r now end (Err (Write why)) status merges no = absurd no
-merging_ended words before after r now end (Err NoMemory) status merges no = absurd no
+merging_ended words before after r now end (Err (Unread part)) status merges bad = absurd bad
+merging_ended words before after r now end (Err (Write why)) status merges bad = absurd bad
+merging_ended words before after r now end (Err NoMemory) status merges bad = absurd bad
 
 module _ (words : List (List ℕ)) (before after calls : List Calls) (r now end last : Run)
     (text : List ℕ) (all : after ≡ before ++ calls) (prefix : IsPrefix words calls text) where

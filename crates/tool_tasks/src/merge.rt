@@ -27,7 +27,7 @@ fn open_all<F: Streams>(
     parts: &mut Vec<Lines>,
 ) -> Result<(), MergeFault>
     requires { parts.old.items ≡ [] }
-    ensures fresh { All IsFresh parts.new.items }
+    ensures fresh { OnOk result (All IsFresh parts.new.items) }
     ensures named { OnOk result
         (names_of (map calls_of parts.new.items) ≡ map file_named (map (λ w. w.now) words.now)) }
     ensures unchanged { OnOk result (F.readings files.new ≡ F.readings files.old) }

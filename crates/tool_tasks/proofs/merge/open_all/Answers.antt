@@ -22,7 +22,8 @@ pub loop-number-preserved : goal.loop-number-preserved
 loop-number-preserved g c =
     let no_word : Bor (List ℕ) = record { ref_ptr = (0, 0); now = [] } in
     record {
-      fresh = All-same IsFresh c.push.new.self.items _ c.in-Ok-push.ensures.items
+      fresh = All-same IsFresh c.push.new.self.items
+          (c.loop-number.parts.items ++ c.in-Ok.lines ∷ []) c.in-Ok-push.ensures.items
           (All-push IsFresh c.loop-number.parts.items c.in-Ok.lines c.loop-number.invariant.fresh
           c.in-Ok.ensures.fresh);
       named = opened_more c.args.words.now c.loop-number.number no_word c.loop-number.parts.items
@@ -31,18 +32,12 @@ loop-number-preserved g c =
       unchanged = c.in-Ok.ensures.unchanged ∙ c.loop-number.invariant.unchanged;
     }
 
-pub returns-in_default-clause-fresh : goal.returns-in_default-clause-fresh
-returns-in_default-clause-fresh g c = c.loop-number.invariant.fresh
-
 pub returns-in_default-clause-stopped : goal.returns-in_default-clause-stopped
 returns-in_default-clause-stopped g c = (
   [],
   c.in-Ok.ensures.unchanged ∙ c.loop-number.invariant.unchanged ∙ sym (append-nil _),
   tt,
 )
-
-pub returns-in-Err-Unread-clause-fresh : goal.returns-in-Err-Unread-clause-fresh
-returns-in-Err-Unread-clause-fresh g c = c.loop-number.invariant.fresh
 
 pub returns-in-Err-Unread-clause-stopped : goal.returns-in-Err-Unread-clause-stopped
 returns-in-Err-Unread-clause-stopped g c =
@@ -60,9 +55,6 @@ returns-in-Err-Unread-clause-stopped g c =
             ∙ ap (λ (name : Option (List ℕ)). name ∷ []) c.file_of.ensures,
       ),
     )
-
-pub returns-in-Err-clause-fresh : goal.returns-in-Err-clause-fresh
-returns-in-Err-clause-fresh g c = c.loop-number.invariant.fresh
 
 pub returns-in-Err-clause-stopped : goal.returns-in-Err-clause-stopped
 returns-in-Err-clause-stopped g c =
