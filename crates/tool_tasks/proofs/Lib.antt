@@ -10,5 +10,5 @@ pub mod MergedUploads
 pub mod Opened
 mod Preparing
 pub mod Sorting
-mod TablesLoaded
+mod EncodingRows
 pub mod ValidPrefixes
