@@ -2,7 +2,9 @@
 use Rattle.std.proofs.Common.{◌≡◌, ◌∙◌, ◌++◌, ◌∷◌, ◌+◌, ◌≤◌, Bor, List, [], None, Some, ap}
 use Rattle.std.proofs.Common.{append-nil, append_assoc, arith, get_or, inl, inr, length, refl, suc}
 use Rattle.std.proofs.Common.{sym, take, zero, ℕ}
-use Rattle.std.specs.Prelude.{codes, flat_map, max, slice_get}
+use Rattle.std.proofs.Common.{false, subst, true, ◌<◌}
+use Rattle.std.proofs.lemmas.Bool.{lt-ltb}
+use Rattle.std.specs.Prelude.{◌==◌, ◌^◌, codes, flat_map, max, nat_lt, slice_get}
 use Rattle.std.proofs.lemmas.List.{take_more}
 use Rattle.std.proofs.lemmas.Option.{slice_get-get_or, slice_get_cases, slice_get_within}
 use Rattle.std.proofs.lemmas.List.Sums.{fold-append}
@@ -11,9 +13,9 @@ use Rattle.std.proofs.lemmas.Grind.{flat_map-append}
 use Rattle.csv.specs.declared.reader.Reader.{Reader}
 use Rattle.tap_rows.specs.AgencyRows.{HeadLayout, layout_in}
 use Rattle.tap_rows.specs.AgencyTexts.{HasRecords}
-use Rattle.tap_rows.specs.Devices.{Device}
+use Rattle.tap_rows.specs.Devices.{Device, validator_of}
 use Rattle.tap_rows.specs.Numbering.{IsNumbered, device_row, device_table_text, greatest}
-use Rattle.tap_rows.specs.Numbering.{with_row}
+use Rattle.tap_rows.specs.Numbering.{with_name, with_row}
 use Rattle.tap_rows.specs.declared.agency.choice.Choice.{Choice}
 use Rattle.tap_rows.specs.declared.agency.positions.Positions.{Positions}
 use Rattle.tap_rows.specs.inside.Numbering.{IsNumbering}
@@ -55,22 +57,22 @@ numbering_done choice positions text reader old now is records = inl (record {
 })
 
 -- ---- the devices of a table, one after the other
-one_more : {X : Type 0} (xs : List X) (i : ℕ) (x : X) → slice_get xs i ≡ Some x
+one_more : (xs : List Device) (i : ℕ) (x : Device) → slice_get xs i ≡ Some x
     → take (i + 1) xs ≡ take i xs ++ x ∷ []
 one_more xs i x at =
     let within = slice_get_within xs i x at in
     let same : get_or xs i x ≡ x = cc (at, slice_get-get_or xs i x within) in
     take_more xs i x within ∙ ap (λ y. take i xs ++ y ∷ []) same
 
-pub all_taken : {X : Type 0} (xs : List X) (i : ℕ) → length xs ≤ i → take i xs ≡ xs
+pub all_taken : (xs : List Device) (i : ℕ) → length xs ≤ i → take i xs ≡ xs
 all_taken [] zero le = refl
 all_taken [] (suc i) le = refl
 all_taken (x ∷ xs) zero le = absurd (omega (arith, le))
-all_taken (x ∷ xs) (suc i) le = ap (λ (ys : List X). x ∷ ys) (all_taken xs i (omega (arith, le)))
+all_taken (x ∷ xs) (suc i) le = ap (λ (ys : List Device). x ∷ ys) (all_taken xs i (omega (arith, le)))
 
-pub none_left : {X : Type 0} (xs : List X) (i : ℕ) → slice_get xs i ≡ None → take i xs ≡ xs
+pub none_left : (xs : List Device) (i : ℕ) → slice_get xs i ≡ None → take i xs ≡ xs
 none_left xs i none = elim (slice_get_cases xs i).1 [
-  | inl some ↦ absurd (cc (none, some.2.0))
+  | inl some ↦ absurd (cc (none, some.2))
   | inr past ↦ all_taken xs i past.0
 ]
 
@@ -95,3 +97,13 @@ rows_more devices i text new device at is more =
     ∙ ap (λ rest. head ++ (rows ++ rest)) (sym (append-nil (device_row device)))
     ∙ sym (ap device_table_text (one_more devices i device at)
     ∙ ap (λ rs. head ++ rs) (flat_map-append device_row (take i devices) (device ∷ [])))
+
+-- a device of a new name has the next number
+pub number_added : (devices new : List Device) (name : List ℕ) (next : ℕ)
+    → (length name == 0) ≡ false → validator_of devices name ≡ None
+    → next ≡ greatest devices + 1 → next < 2 ^ 32 → new ≡ devices ++ (name, next) ∷ []
+    → new ≡ with_name devices name
+number_added devices new name next some none is small more =
+    let below : nat_lt (greatest devices + 1) (2 ^ 32) ≡ true =
+    lt-ltb (greatest devices + 1) (2 ^ 32) (subst (λ n. n < 2 ^ 32) is small) in
+    more ∙ ap (λ n. devices ++ (name, n) ∷ []) is ∙ sym (rw (some, none, below) refl)

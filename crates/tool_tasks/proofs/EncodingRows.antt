@@ -33,6 +33,9 @@ use Rattle.tool_tasks.specs.inside.Prepared.{AreNamed, HasNoFiles, IsNamedIn, an
 use Rattle.tool_tasks.specs.inside.Sort.{HaltsLoading}
 
 -- ---- loads
+pub nothing_loaded : (r : Run) → with_loads r [] ≡ r
+nothing_loaded r = no_loads r
+
 -- a file of these names was not loaded, after these loads
 pub halts_unloaded : (names : List (List ℕ)) (number : ℕ) (word : List ℕ) (why : LoadFault)
     (stop : Stop) (old mid new : Run) (loads : List Load) → slice_get names number ≡ Some word

@@ -8,7 +8,7 @@ pub mod Faults
 pub mod Making
 pub mod MergedUploads
 pub mod Opened
-mod Preparing
+pub mod Preparing
 pub mod Sorting
-mod EncodingRows
+pub mod EncodingRows
 pub mod ValidPrefixes

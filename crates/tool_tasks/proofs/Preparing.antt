@@ -23,6 +23,9 @@ use Rattle.tool_tasks.specs.inside.Prepared.{IsNamedIn, text_of}
 use Rattle.tool_tasks.specs.inside.Sort.{HaltsMade, with_files}
 
 -- ---- a text, and files
+pub no_files : (old : Run) → with_files old [] ≡ old
+no_files old = ap (λ (fs : List Named). record old { made = fs }) (append-nil old.made)
+
 made_more : (old : Run) (text : List ℕ) (made more : List Named)
     → with_files (did_making old [] (text_of text) made) more
     ≡ did_making old [] (text_of text) (made ++ more)

@@ -128,7 +128,7 @@ fn unread_zone<'a>(word: Option<&'a str>, why: LoadFault) -> Halt<'a>
 }
 
 /// All bytes of the file that the word names, if there is one.
-#[tactic(auto, using(Rattle.world.proofs.Laws.no_loads))]
+#[tactic(auto, using(crate::proofs::EncodingRows::nothing_loaded))]
 fn load_named<W: World>(
     alloc: Global,
     name: Option<&str>,

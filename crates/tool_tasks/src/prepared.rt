@@ -86,6 +86,7 @@ fn begin<'a, W: World>(
 }
 
 /// Makes the file, if there is one.
+#[tactic(auto, using(crate::proofs::Preparing::no_files))]
 fn make<'a, W: World>(
     file: &Option<NewFile<'a>>,
     number: usize,
