@@ -7,7 +7,7 @@ use Rattle.world.specs.Writes.{IsSaid}
 use Rattle.tool_tasks.specs.Corrections.{EndsCorrecting}
 use Rattle.tool_tasks.specs.Decode.{IsTapTableOf}
 use Rattle.tool_tasks.specs.Encode.{EncodesTable}
-use Rattle.tool_tasks.specs.EncodeRows.{EncodesRows, names_of as rows_names}
+use Rattle.tool_tasks.specs.EncodeRows.{EndsRows}
 use Rattle.tool_tasks.specs.Informs.{EndsInforming}
 use Rattle.tool_tasks.specs.Merge.{EndsMerging}
 use Rattle.tool_tasks.specs.ValidPrefix.{HasValidPrefix}
@@ -45,9 +45,8 @@ IsFramed before after placed (merge parts) old new status =
     EndsMerging parts before after old new status
 IsFramed before after placed (encode word) old new status =
     EndsMaking (EncodesTable word) (word ∷ []) old new status
-IsFramed before after placed (encode_rows word request) old new status = (words : RowsWords)
-    × (rows_words_of words ≡ request)
-    × EndsMaking (EncodesRows words word) (rows_names words word) old new status
+IsFramed before after placed (encode_rows csvs request) old new status = (words : RowsWords)
+    × (rows_words_of words ≡ request) × EndsRows words csvs old new status
 IsFramed before after placed (decode words) old new status = Ends (IsTapTableOf words) words old new status
 IsFramed before after placed (valid_prefix request) old new status =
     EndsMaking (HasValidPrefix request) (request.upload ∷ request.out ∷ []) old new status

@@ -69,7 +69,7 @@ fn task_over<R: Threads + Sync, D: PlacedFiles, F: Streams, W: World + Counted>(
 {
     match task {
         Task::Encode(word) => encode_over(alloc, word, world),
-        Task::EncodeRows(word, words) => encode_rows_over(alloc, seed, &words, word, world),
+        Task::EncodeRows(csvs, words) => encode_rows_over(alloc, seed, &words, &csvs, world),
         Task::Decode(words) => decode_over(alloc, words, world),
         Task::Uploads(words, has_tokens) => uploads_over(alloc, words, has_tokens, world),
         Task::ValidPrefix(words) => valid_prefix_over(alloc, &words, world),

@@ -7,7 +7,7 @@ mod Encoding
 pub mod Making
 pub mod MergedUploads
 pub mod PartsRead
-mod Preparing
+pub mod Preparing
 pub mod Sorting
-mod TablesLoaded
+pub mod EncodingRows
 pub mod ValidPrefixes

@@ -2,7 +2,7 @@
 pub mod Corrections
 pub mod Decode
 pub mod Decoded
-pub mod EncodeTables
+pub mod EncodeRows
 pub mod Informs
 pub mod Loads
 pub mod Merge

@@ -12,8 +12,10 @@
 //! | `stops` | fault lines of what stops a task from outside |
 //! | `layout`, `wrong_tables` | what is wrong with an upload, or with a table, in words |
 //! | `encode` | `encode` of a tap table |
-//! | `encode_rows` | `encode` of an agency's own CSV |
-//! | `encode_tables` | what it loads beside the rows and the devices: a key, a zone |
+//! | `encode_rows` | `encode` of an agency's own CSVs |
+//! | `encode_loads` | what it loads: devices, a key, a zone, the CSVs |
+//! | `encode_tables` | how the rows are read by them |
+//! | `encode_csvs` | what the rows are encoded as |
 //! | `decode` | `decode` |
 //! | `placed` | files that are read at any offset |
 //! | `sort` | `sort` of uploads that are loaded |
@@ -35,6 +37,8 @@ mod corrections;
 mod counted;
 mod decode;
 mod encode;
+mod encode_csvs;
+mod encode_loads;
 mod encode_rows;
 mod encode_tables;
 mod fault;
