@@ -117,17 +117,19 @@ fn end<W: World>(
 {
     match merged {
         Ok(()) => finish(&[], 0, world),
-        Err(MergeFault::Line { text, number, why }) => {
-            match wrong_line(alloc, words, text, number, why) {
-                Ok(note) => finish(&note, 1, world),
-                Err(AllocError) => Err(stopped(Stop::NoMemory, world)),
+        Err(fault) => match fault {
+            MergeFault::Line { text, number, why } => {
+                match wrong_line(alloc, words, text, number, why) {
+                    Ok(note) => finish(&note, 1, world),
+                    Err(AllocError) => Err(stopped(Stop::NoMemory, world)),
+                }
             }
-        }
-        Err(MergeFault::Unread(text)) => {
-            Err(stopped(Stop::Unread(text, LoadFault::Unread), world))
-        }
-        Err(MergeFault::Write(why)) => Err(Stop::Unwritten(why)),
-        Err(MergeFault::NoMemory) => Err(stopped(Stop::NoMemory, world)),
+            MergeFault::Unread(text) => {
+                Err(stopped(Stop::Unread(text, LoadFault::Unread), world))
+            }
+            MergeFault::Write(why) => Err(Stop::Unwritten(why)),
+            MergeFault::NoMemory => Err(stopped(Stop::NoMemory, world)),
+        },
     }
 }
 

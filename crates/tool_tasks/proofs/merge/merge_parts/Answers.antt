@@ -1,4 +1,6 @@
-use Rattle.std.proofs.Common.{◌++◌, ◌∙◌, List, ap, map, refl}
+use Rattle.std.proofs.Common.{◌++◌, ◌∙◌, List, ap, arith, drop, length, map}
+use Rattle.std.proofs.lemmas.List.{take_at}
+use Rattle.part_texts.proofs.Parts.{follow_length}
 use Rattle.recorded_lines.specs.Texts.{calls_of}
 use Rattle.recorded_lines.specs.declared.text.Lines.{Lines}
 use Rattle.tool_tasks.specs.inside.Merge.{names_of}
@@ -18,7 +20,15 @@ returns g c =
           w.deref_mut.result.now w.merge-merged.new.parts run
           (g.W.Inputs.run w.merge-merged.new.world) w.merge-merged.result w.in-Ok.ensures.unchanged
           (c.close_all.ensures ∙ ap (λ (l : List Lines). mid ++ map calls_of l)
-          (ap (λ v. v.items) w.parts-is ∙ refl))
+          (ap (λ v. v.items) w.parts-is ∙ take_at w.merge-merged.new.parts
+          (drop (length w.merge-merged.new.parts) c.open_all.new.parts.items)
+          c.open_all.new.parts.len (omega (
+            arith,
+            follow_length w.deref_mut.result.now w.merge-merged.new.parts
+                w.merge-merged.ensures.follow,
+            ap length w.deref_mut.ensures.value,
+            c.open_all.new.parts.ok.0,
+          ))))
           (ap (λ (l : List Lines). names_of (map calls_of l)) w.deref_mut.ensures.value
           ∙ w.in-Ok.ensures.named)
           w.merge-merged.ensures.follow w.merge-merged.ensures.merges)
