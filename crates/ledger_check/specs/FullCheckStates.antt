@@ -11,10 +11,12 @@ use Rattle.fare_texts.specs.Explainers.{HasExplained}
 use Rattle.fare_texts.specs.declared.explainer.Explainer.{Explainer}
 use Rattle.ledger_check.specs.Lines.{Lacks, lines_of}
 use Rattle.ledger_check.specs.Orders.{IsOrderOf}
-use Rattle.ledger_check.specs.FullChecks.{AreTaken, TakenLine, cents_from, last_wrong_token}
+use Rattle.ledger_check.specs.FullChecks.{AreTaken, TakenLine, cents_from, entries_from}
+use Rattle.ledger_check.specs.FullChecks.{last_wrong_token}
 use Rattle.ledger_check.specs.FullChecks.{lines_from, run_of, taps_from, token_count, remark_lines}
 use Rattle.ledger_check.specs.FullChecks.{wanted_cents_from, wrong_count}
 use Rattle.ledger_check.specs.Balances.{IsBalance}
+use Rattle.ledger_check.specs.OpenSums.{AreOpenSums}
 use Rattle.ledger_check.specs.Verdicts.{IsVerdict, is_legal}
 use Rattle.ledger_check.specs.declared.balance.Balance.{Balance}
 use Rattle.ledger_check.specs.declared.checker.Checker.{Checker}
@@ -22,6 +24,7 @@ use Rattle.ledger_check.specs.declared.checker.Verdict.{Verdict}
 use Rattle.ledger_check.specs.declared.full_check.FullCheck.{FullCheck}
 use Rattle.ledger_check.specs.declared.lines_fed.LinesFed.{LinesFed}
 use Rattle.ledger_check.specs.declared.lines_fed.LinesTaken.{LinesTaken}
+use Rattle.ledger_check.specs.declared.open_sums.OpenSums.{OpenSums}
 use Rattle.ledger_check.specs.declared.full_check_sums.FullCheckSums.{FullCheckSums}
 
 -- the explainer represents the entries, which are its token's, and has taken some
@@ -47,6 +50,12 @@ pub record AreSums (sums : FullCheckSums) (taken : List TakenLine) : Type 0 wher
   pub wanted : sums.wanted ≡ wanted_cents_from taken
   pub order : IsOrderOf (taps_from taken) sums.order
 
+-- the sums of the entries, if they are requested and no line is wrong
+abbrev pub HasEntries : Bool → Option OpenSums → List TakenLine → Type 0
+HasEntries summed None taken = summed ≡ true → 0 < wrong_count taken
+HasEntries summed (Some sums) taken =
+    (wrong_count taken ≡ 0) × AreOpenSums (entries_from taken) sums
+
 -- these lines were taken
 pub record HasTakenLines (fares : Fares) (so_far : LinesTaken) (taken : List TakenLine)
     : Type 0 where
@@ -56,6 +65,7 @@ pub record HasTakenLines (fares : Fares) (so_far : LinesTaken) (taken : List Tak
   pub is_run : run ≡ run_of taken
   pub few : length run ≤ length taken
   pub explainer : HasRunExplainer fares so_far.walk.explainer run
+  pub entries : HasEntries so_far.is_summed so_far.entries taken
 
 -- of the text all is kept, or more than the longest line has
 abbrev pub IsKept : List ℕ → List ℕ → Type 0
@@ -93,3 +103,10 @@ abbrev pub IsFed : Fares → Checker → Balance → List ℕ → List TapFields
 IsFed fares checker balance text valid None = IsRightSoFar fares checker balance text valid
 IsFed fares checker balance text valid (Some verdict) =
     ((more : List ℕ) → IsVerdict fares (text ++ more) verdict) × (is_legal verdict ≡ false)
+
+-- whether the sums of the entries are requested
+abbrev pub is_summed : Checker → Bool
+is_summed checker = checker.fed.so_far.is_summed
+
+abbrev pub is_full_summed : FullCheck → Bool
+is_full_summed full_check = full_check.fed.so_far.is_summed

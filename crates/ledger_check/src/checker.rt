@@ -1,16 +1,18 @@
 //! The check of a text that comes in pieces, up to the first wrong line, and the taps of its lines.
 
-ghost use Rattle.std.specs.Prelude.{◌≡◌, ◌++◌, [], ℕ, List, IfOk, IsTrue, map, string_bytes};
+ghost use Rattle.std.specs.Prelude.{◌≡◌, ◌++◌, [], ℕ, List, IfOk, IsTrue, OnOk, is_some, map};
+ghost use Rattle.std.specs.Prelude.{string_bytes};
 ghost use Rattle.tariffs.specs.Fares.{Fares};
 ghost use Rattle.histories.specs.declared.entry.Entry.{Entry};
 ghost use Rattle.ledger_check.specs.Balances.{IsBalance};
 ghost use Rattle.ledger_check.specs.declared.balance.Balance.{Balance};
 ghost use Rattle.tap_views.specs.declared.encoder.TapFields.{TapFields};
 ghost use Rattle.ledger_check.specs.FullChecks.{taps_with};
-ghost use Rattle.ledger_check.specs.FullCheckStates.{IsFed, IsRightSoFar};
+ghost use Rattle.ledger_check.specs.FullCheckStates.{IsFed, IsRightSoFar, is_summed};
 ghost use Rattle.ledger_check.specs.Ledger.{IsLedgerOf};
 ghost use Rattle.ledger_check.specs.Lines.{IsLine, Lacks};
 ghost use Rattle.ledger_check.specs.Orders.{tap_of_entry};
+ghost use Rattle.ledger_check.specs.Sums.{HasSumsOf};
 ghost use Rattle.ledger_check.specs.Verdicts.{IsVerdict, is_legal};
 ghost use Rattle.ledger_check.specs.inside.FullChecks.{IsCalled};
 
@@ -18,7 +20,9 @@ use crate::Balance;
 use crate::bytes::split_line;
 use crate::full_check_sums::one_wrong;
 use crate::lines_fed::{LinesFed, MAX_LINE_BYTES};
+use crate::open_sums::EntrySums;
 use crate::walk::{CountedTap, LineFinding, Remark};
+use histories::HashSeed;
 use std::alloc::{AllocError, Global};
 use tariffs::{Clock, FareTable};
 
@@ -61,13 +65,14 @@ pub struct Checker {
 }
 
 impl Checker {
-    /// Nothing was read.
-    pub fn new(alloc: Global) -> Checker
-        ensures { (fares : Fares) (balance : Balance) (valid : List TapFields)
+    /// Nothing was read. With a seed, which hashes the validators' numbers, entries are summed.
+    pub fn new(alloc: Global, seed: Option<HashSeed>) -> Checker
+        ensures right { (fares : Fares) (balance : Balance) (valid : List TapFields)
             → IsBalance balance valid [] → IsRightSoFar fares result balance [] valid }
+        ensures summed { is_summed result ≡ is_some seed }
     {
         Checker {
-            fed: LinesFed::new(alloc),
+            fed: LinesFed::new(alloc, seed),
         }
     }
 
@@ -76,6 +81,7 @@ impl Checker {
     /// balance are of no use. The table, its clock and the balance are the same in all calls.
     pub fn feed(
         &mut self,
+        alloc: Global,
         table: &FareTable,
         clock: &Clock,
         piece: &[u8],
@@ -86,13 +92,14 @@ impl Checker {
             × IsRightSoFar table.now self.old balance.old text valid }
 
         // For every text that was read so far.
-        ensures { IfOk result (λ reported. (text : List ℕ) (valid : List TapFields)
+        ensures fed { IfOk result (λ reported. (text : List ℕ) (valid : List TapFields)
             → IsRightSoFar table.now self.old balance.old text valid
             → IsFed table.now self.new balance.new (text ++ piece.now) valid reported) }
+        ensures summed { OnOk result (is_summed self.new ≡ is_summed self.old) }
     {
         let mut rest = piece;
         while let Some((line, trailing)) = split_line(rest) {
-            let reported = self.take(table, clock, line, balance)?;
+            let reported = self.take(alloc, table, clock, line, balance)?;
             if reported.is_some() {
                 return Ok(reported);
             }
@@ -104,6 +111,7 @@ impl Checker {
 
     fn take(
         &mut self,
+        alloc: Global,
         table: &FareTable,
         clock: &Clock,
         line: &[u8],
@@ -113,11 +121,12 @@ impl Checker {
         requires fed { (text : List ℕ) × (valid : List TapFields)
             × IsRightSoFar table.now self.old balance.old text valid }
         requires line { IsLine line.now }
-        ensures { IfOk result (λ reported. (text : List ℕ) (valid : List TapFields)
+        ensures fed { IfOk result (λ reported. (text : List ℕ) (valid : List TapFields)
             → IsRightSoFar table.now self.old balance.old text valid
             → IsFed table.now self.new balance.new (text ++ line.now) valid reported) }
+        ensures summed { OnOk result (is_summed self.new ≡ is_summed self.old) }
     {
-        let finding = self.fed.end_line(table, clock, line)?;
+        let finding = self.fed.end_line(alloc, table, clock, line)?;
         if one_wrong(finding.remark) == 0 {
             subtract_tap(balance, finding.tap);
             return Ok(None);
@@ -131,7 +140,8 @@ impl Checker {
         requires fed { (fares : Fares) × (balance : Balance) × (text : List ℕ)
             × (valid : List TapFields) × IsRightSoFar fares self.old balance text valid }
         requires rest { Lacks 10 rest.now }
-        ensures { IfOk result (λ reported. (fares : Fares) (balance : Balance) (text : List ℕ)
+        ensures summed { OnOk result (is_summed self.new ≡ is_summed self.old) }
+        ensures fed { IfOk result (λ reported. (fares : Fares) (balance : Balance) (text : List ℕ)
             (valid : List TapFields) → IsRightSoFar fares self.old balance text valid
             → IsFed fares self.new balance (text ++ rest.now) valid reported) }
     {
@@ -143,23 +153,27 @@ impl Checker {
     }
 
     /// The verdict on the text that was read, which ends here. What is left is the balance of the
-    /// taps of the ledger, if the text is one.
-    pub fn finish(&self) -> Verdict
+    /// taps of the ledger, if the text is one; and its sums, if they are requested.
+    pub fn finish(&mut self, alloc: Global) -> Result<(Verdict, Option<EntrySums>), AllocError>
         requires { (fares : Fares) × (balance : Balance) × (text : List ℕ)
-            × (valid : List TapFields) × IsRightSoFar fares self.now balance text valid }
-        ensures verdict { (fares : Fares) (balance : Balance) (text : List ℕ)
-            (valid : List TapFields) → IsRightSoFar fares self.now balance text valid
-            → IsVerdict fares text result }
-        ensures subtracted { (fares : Fares) (balance : Balance) (text : List ℕ)
-            (valid : List TapFields) → IsRightSoFar fares self.now balance text valid
-            → IsTrue (is_legal result) → (entries : List Entry) → IsLedgerOf fares entries text
-            → IsBalance balance valid (map tap_of_entry entries) }
+            × (valid : List TapFields) × IsRightSoFar fares self.old balance text valid }
+        ensures verdict { IfOk result (λ ended. (fares : Fares) (balance : Balance) (text : List ℕ)
+            (valid : List TapFields) → IsRightSoFar fares self.old balance text valid
+            → IsVerdict fares text ended.0) }
+        ensures legal { IfOk result (λ ended. (fares : Fares) (balance : Balance) (text : List ℕ)
+            (valid : List TapFields) → IsRightSoFar fares self.old balance text valid
+            → IsTrue (is_legal ended.0) → (entries : List Entry) → IsLedgerOf fares entries text
+            → IsBalance balance valid (map tap_of_entry entries)
+            × HasSumsOf (is_summed self.old) entries ended.1) }
     {
         let sums = self.fed.so_far.sums;
-        if self.fed.is_whole() {
-            Verdict::Legal(sums.lines - 1, sums.order.early)
-        } else {
-            Verdict::NoLine(sums.lines + 1)
+        if !self.fed.is_whole() {
+            return Ok((Verdict::NoLine(sums.lines + 1), None));
         }
+        let entry_sums = self.fed.entry_sums(alloc)?;
+        Ok((
+            Verdict::Legal(sums.lines - 1, sums.order.early),
+            entry_sums,
+        ))
     }
 }

@@ -3,7 +3,6 @@ use Rattle.std.specs.Prelude.{is_some}
 use Rattle.ledger_check.specs.Columns.{read_as}
 use Rattle.omny_audit.specs.declared.traced.TracedPieces.{TracedPieces}
 use Rattle.omny_audit.specs.inside.Checks.{HasChecked}
-use Rattle.omny_audit.specs.inside.Reports.{HasSummedFor}
 use Rattle.omny_audit.specs.inside.Traced.{HasReadAll, wanted_by}
 use Rattle.omny_audit.proofs.Audits.{given_traced}
 use Rattle.omny_audit.proofs.audit.Audit.read_end.Goals as goal
@@ -37,8 +36,7 @@ returns c = λ valid file written has.
         checked = subst
             (λ (t : List ℕ). HasChecked after.table.now after.subtracts valid after.check t
             (written ++ taken.0)) whole taken.3.checked;
-        summed = λ open_still. subst (λ (t : List ℕ). HasSummedFor after.table.now after.report t)
-            whole taken.3.summed;
+        summed = taken.3.summed;
         all = λ open_still. subst (λ (t : Option TracedPieces). HasReadAll t file)
             (sym c.take.ensures.trace) read.1;
       },
