@@ -162,7 +162,7 @@ pub lines_more : (fares : Fares) (so_far after : LinesTaken) (taken : List Taken
     (line : List ℕ) (finding : LineFinding)
     → (lines : HasTakenLines fares so_far taken) → HasFound fares taken line after.walk finding
     → AreSums after.sums (next_taken line finding after ∷ taken)
-    → HasEntries after.is_summed after.entries (next_taken line finding after ∷ taken)
+    → HasEntries after.entries (next_taken line finding after ∷ taken)
     → HasTakenLines fares after (next_taken line finding after ∷ taken)
 lines_more fares so_far after taken line finding lines found sums entries = record {
   are = (lines.are, found.is);

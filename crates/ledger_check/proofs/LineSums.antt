@@ -74,12 +74,12 @@ entries_few [] = omega arith
 entries_few (next ∷ taken) =
     omega (arith, entries_few taken, entries_grow (entries_from taken) next.finding.tap)
 
-pub room_for : (fares : Fares) (summed : Bool) (entries : Option OpenSums) (taken : List TakenLine)
+pub room_for : (fares : Fares) (entries : Option OpenSums) (taken : List TakenLine)
     (next : TakenLine) → AreTaken fares (next ∷ taken) → length taken < 2 ^ 62
-    → HasEntries summed entries taken
+    → HasEntries entries taken
     → IfSome entries (λ sums. IfRight next.finding (λ tap. HasRoomFor tap.entry.token sums))
-room_for fares summed None taken next are few has = tt
-room_for fares summed (Some sums) taken next are few has = λ right_line.
+room_for fares None taken next are few has = tt
+room_for fares (Some sums) taken next are few has = λ right_line.
     by_tap next.finding.tap (right_up fares taken next are has.0 (omega (arith, few)) right_line)
   where
     by_tap : (tap : Option CountedTap)
@@ -89,11 +89,11 @@ room_for fares summed (Some sums) taken next are few has = λ right_line.
     by_tap (Some t) up = (entries_from taken, has.1, up, omega (arith, few, entries_few taken))
 
 -- a right line without an entry
-pub none_more : (summed : Bool) (entries : Option OpenSums) (taken : List TakenLine)
-    (next : TakenLine) → one_wrong next.finding.remark ≡ 0 → next.finding.tap ≡ None
-    → HasEntries summed entries taken → HasEntries summed entries (next ∷ taken)
-none_more summed None taken next right_line none has = λ requested. omega (arith, has requested)
-none_more summed (Some sums) taken next right_line none has = (
+pub none_more : (entries : Option OpenSums) (taken : List TakenLine) (next : TakenLine)
+    → one_wrong next.finding.remark ≡ 0 → next.finding.tap ≡ None
+    → HasEntries entries taken → HasEntries entries (next ∷ taken)
+none_more None taken next right_line none has = tt
+none_more (Some sums) taken next right_line none has = (
   omega (arith, has.0, right_line),
   subst (λ (t : Option CountedTap). AreOpenSums (entries_with (entries_from taken) t) sums)
       (sym none) has.1,
@@ -102,16 +102,10 @@ none_more summed (Some sums) taken next right_line none has = (
 -- a right line with its entry
 pub entry_more : (sums after : OpenSums) (taken : List TakenLine) (next : TakenLine)
     (tap : CountedTap) → one_wrong next.finding.remark ≡ 0 → next.finding.tap ≡ Some tap
-    → (has : (wrong_count taken ≡ 0) × AreOpenSums (entries_from taken) sums)
-    → AreOpenSums (entries_from taken ++ tap.entry ∷ []) after
-    → (wrong_count (next ∷ taken) ≡ 0) × AreOpenSums (entries_from (next ∷ taken)) after
+    → HasEntries (Some sums) taken → AreOpenSums (entries_from taken ++ tap.entry ∷ []) after
+    → HasEntries (Some after) (next ∷ taken)
 entry_more sums after taken next tap right_line some has added = (
   omega (arith, has.0, right_line),
   subst (λ (t : Option CountedTap). AreOpenSums (entries_with (entries_from taken) t) after)
       (sym some) added,
 )
-
-pub not_summed : (summed : Bool) (wrong : ℕ) → (summed ≡ true → 0 < wrong) → wrong ≡ 0
-    → summed ≡ false
-not_summed true wrong some none = absurd (omega (arith, some refl, none))
-not_summed false wrong some none = refl

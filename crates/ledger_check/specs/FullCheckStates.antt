@@ -1,6 +1,6 @@
 -- What a check knows of the lines that it has read.
 use Rattle.std.specs.Prelude.{◌≡◌, ◌⊎◌, ℕ, ◌+◌, ◌^◌, ◌<◌, ◌≤◌, Bool, true, List, [], ◌∷◌, ◌++◌}
-use Rattle.std.specs.Prelude.{All, Option, None, Some, false, length}
+use Rattle.std.specs.Prelude.{All, IfSome, Option, None, Some, false, length}
 use Rattle.tariffs.specs.Fares.{Fares}
 use Rattle.histories.specs.declared.entry.Entry.{Entry}
 use Rattle.ledger_check.specs.FullBalances.{IsFullBalance}
@@ -51,10 +51,9 @@ pub record AreSums (sums : FullCheckSums) (taken : List TakenLine) : Type 0 wher
   pub order : IsOrderOf (taps_from taken) sums.order
 
 -- the sums of the entries, if they are requested and no line is wrong
-abbrev pub HasEntries : Bool → Option OpenSums → List TakenLine → Type 0
-HasEntries summed None taken = summed ≡ true → 0 < wrong_count taken
-HasEntries summed (Some sums) taken =
-    (wrong_count taken ≡ 0) × AreOpenSums (entries_from taken) sums
+abbrev pub HasEntries : Option OpenSums → List TakenLine → Type 0
+HasEntries entries taken =
+    IfSome entries (λ sums. (wrong_count taken ≡ 0) × AreOpenSums (entries_from taken) sums)
 
 -- these lines were taken
 pub record HasTakenLines (fares : Fares) (so_far : LinesTaken) (taken : List TakenLine)
@@ -65,7 +64,7 @@ pub record HasTakenLines (fares : Fares) (so_far : LinesTaken) (taken : List Tak
   pub is_run : run ≡ run_of taken
   pub few : length run ≤ length taken
   pub explainer : HasRunExplainer fares so_far.walk.explainer run
-  pub entries : HasEntries so_far.is_summed so_far.entries taken
+  pub entries : HasEntries so_far.entries taken
 
 -- of the text all is kept, or more than the longest line has
 abbrev pub IsKept : List ℕ → List ℕ → Type 0
@@ -103,10 +102,3 @@ abbrev pub IsFed : Fares → Checker → Balance → List ℕ → List TapFields
 IsFed fares checker balance text valid None = IsRightSoFar fares checker balance text valid
 IsFed fares checker balance text valid (Some verdict) =
     ((more : List ℕ) → IsVerdict fares (text ++ more) verdict) × (is_legal verdict ≡ false)
-
--- whether the sums of the entries are requested
-abbrev pub is_summed : Checker → Bool
-is_summed checker = checker.fed.so_far.is_summed
-
-abbrev pub is_full_summed : FullCheck → Bool
-is_full_summed full_check = full_check.fed.so_far.is_summed

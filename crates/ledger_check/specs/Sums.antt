@@ -1,5 +1,5 @@
 -- The sums of a ledger's entries.
-use Rattle.std.specs.Prelude.{◌≡◌, Bool, List, None, Option, Some, false, map}
+use Rattle.std.specs.Prelude.{◌≡◌, List, map}
 use Rattle.histories.specs.Shown.{validator_sum}
 use Rattle.histories.specs.Sums.{sums, sums_of}
 use Rattle.histories.specs.SumsByKey.{sums_by_token, sums_by_validator}
@@ -11,8 +11,3 @@ pub record AreSumsOf (entries : List Entry) (made : EntrySums) : Type 0 where
   pub tokens : made.tokens ≡ sums_by_token entries
   pub validators : map validator_sum made.validators.items ≡ sums_by_validator entries
   pub totals : sums_of made.totals ≡ sums entries
-
--- these are the sums of the entries, if they are requested
-abbrev pub HasSumsOf : Bool → List Entry → Option EntrySums → Type 0
-HasSumsOf summed entries None = summed ≡ false
-HasSumsOf summed entries (Some made) = AreSumsOf entries made

@@ -1,6 +1,6 @@
 //! The check of a text that comes in pieces, up to the first wrong line, and the taps of its lines.
 
-ghost use Rattle.std.specs.Prelude.{◌≡◌, ◌++◌, [], ℕ, List, IfOk, IsTrue, OnOk, is_some, map};
+ghost use Rattle.std.specs.Prelude.{◌≡◌, ◌++◌, [], ℕ, List, IfOk, IfSome, IsTrue, map};
 ghost use Rattle.std.specs.Prelude.{string_bytes};
 ghost use Rattle.tariffs.specs.Fares.{Fares};
 ghost use Rattle.histories.specs.declared.entry.Entry.{Entry};
@@ -8,11 +8,11 @@ ghost use Rattle.ledger_check.specs.Balances.{IsBalance};
 ghost use Rattle.ledger_check.specs.declared.balance.Balance.{Balance};
 ghost use Rattle.tap_views.specs.declared.encoder.TapFields.{TapFields};
 ghost use Rattle.ledger_check.specs.FullChecks.{taps_with};
-ghost use Rattle.ledger_check.specs.FullCheckStates.{IsFed, IsRightSoFar, is_summed};
+ghost use Rattle.ledger_check.specs.FullCheckStates.{IsFed, IsRightSoFar};
 ghost use Rattle.ledger_check.specs.Ledger.{IsLedgerOf};
 ghost use Rattle.ledger_check.specs.Lines.{IsLine, Lacks};
 ghost use Rattle.ledger_check.specs.Orders.{tap_of_entry};
-ghost use Rattle.ledger_check.specs.Sums.{HasSumsOf};
+ghost use Rattle.ledger_check.specs.Sums.{AreSumsOf};
 ghost use Rattle.ledger_check.specs.Verdicts.{IsVerdict, is_legal};
 ghost use Rattle.ledger_check.specs.inside.FullChecks.{IsCalled};
 
@@ -67,9 +67,8 @@ pub struct Checker {
 impl Checker {
     /// Nothing was read. With a seed, which hashes the validators' numbers, entries are summed.
     pub fn new(alloc: Global, seed: Option<HashSeed>) -> Checker
-        ensures right { (fares : Fares) (balance : Balance) (valid : List TapFields)
+        ensures { (fares : Fares) (balance : Balance) (valid : List TapFields)
             → IsBalance balance valid [] → IsRightSoFar fares result balance [] valid }
-        ensures summed { is_summed result ≡ is_some seed }
     {
         Checker {
             fed: LinesFed::new(alloc, seed),
@@ -92,10 +91,9 @@ impl Checker {
             × IsRightSoFar table.now self.old balance.old text valid }
 
         // For every text that was read so far.
-        ensures fed { IfOk result (λ reported. (text : List ℕ) (valid : List TapFields)
+        ensures { IfOk result (λ reported. (text : List ℕ) (valid : List TapFields)
             → IsRightSoFar table.now self.old balance.old text valid
             → IsFed table.now self.new balance.new (text ++ piece.now) valid reported) }
-        ensures summed { OnOk result (is_summed self.new ≡ is_summed self.old) }
     {
         let mut rest = piece;
         while let Some((line, trailing)) = split_line(rest) {
@@ -121,10 +119,9 @@ impl Checker {
         requires fed { (text : List ℕ) × (valid : List TapFields)
             × IsRightSoFar table.now self.old balance.old text valid }
         requires line { IsLine line.now }
-        ensures fed { IfOk result (λ reported. (text : List ℕ) (valid : List TapFields)
+        ensures { IfOk result (λ reported. (text : List ℕ) (valid : List TapFields)
             → IsRightSoFar table.now self.old balance.old text valid
             → IsFed table.now self.new balance.new (text ++ line.now) valid reported) }
-        ensures summed { OnOk result (is_summed self.new ≡ is_summed self.old) }
     {
         let finding = self.fed.end_line(alloc, table, clock, line)?;
         if one_wrong(finding.remark) == 0 {
@@ -140,8 +137,7 @@ impl Checker {
         requires fed { (fares : Fares) × (balance : Balance) × (text : List ℕ)
             × (valid : List TapFields) × IsRightSoFar fares self.old balance text valid }
         requires rest { Lacks 10 rest.now }
-        ensures summed { OnOk result (is_summed self.new ≡ is_summed self.old) }
-        ensures fed { IfOk result (λ reported. (fares : Fares) (balance : Balance) (text : List ℕ)
+        ensures { IfOk result (λ reported. (fares : Fares) (balance : Balance) (text : List ℕ)
             (valid : List TapFields) → IsRightSoFar fares self.old balance text valid
             → IsFed fares self.new balance (text ++ rest.now) valid reported) }
     {
@@ -164,7 +160,7 @@ impl Checker {
             (valid : List TapFields) → IsRightSoFar fares self.old balance text valid
             → IsTrue (is_legal ended.0) → (entries : List Entry) → IsLedgerOf fares entries text
             → IsBalance balance valid (map tap_of_entry entries)
-            × HasSumsOf (is_summed self.old) entries ended.1) }
+            × IfSome ended.1 (AreSumsOf entries)) }
     {
         let sums = self.fed.so_far.sums;
         if !self.fed.is_whole() {

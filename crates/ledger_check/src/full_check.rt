@@ -1,6 +1,6 @@
 //! A full check of a text that comes in pieces, past wrong lines.
 
-ghost use Rattle.std.specs.Prelude.{◌≡◌, ◌++◌, [], ℕ, List, IfOk, OnOk, Bool, is_some, nat_eq};
+ghost use Rattle.std.specs.Prelude.{◌≡◌, ◌++◌, [], ℕ, List, IfOk, IfSome, OnOk, Bool, nat_eq};
 ghost use Rattle.std.specs.Prelude.{string_bytes, true};
 ghost use Rattle.tariffs.specs.Fares.{Fares};
 ghost use Rattle.ledger_check.specs.FullBalances.{IsFullBalance};
@@ -9,9 +9,9 @@ ghost use Rattle.tap_views.specs.declared.encoder.TapFields.{TapFields};
 ghost use Rattle.ledger_check.specs.Orders.{are_settled};
 ghost use Rattle.ledger_check.specs.FullChecks.{IsFullCheck, TakenLine, entries_from};
 ghost use Rattle.ledger_check.specs.FullChecks.{full_check_text, taps_from, taps_with, wrong_count};
-ghost use Rattle.ledger_check.specs.FullCheckStates.{HasFullyChecked, is_full_summed};
+ghost use Rattle.ledger_check.specs.FullCheckStates.{HasFullyChecked};
 ghost use Rattle.ledger_check.specs.Lines.{IsLine};
-ghost use Rattle.ledger_check.specs.Sums.{HasSumsOf};
+ghost use Rattle.ledger_check.specs.Sums.{AreSumsOf};
 ghost use Rattle.ledger_check.specs.inside.FullChecks.{HasEnded};
 
 use crate::FullBalance;
@@ -62,8 +62,7 @@ pub struct FullCheck {
 impl FullCheck {
     /// Nothing was read. With a seed, which hashes the validators' numbers, entries are summed.
     pub fn new(alloc: Global, seed: Option<HashSeed>) -> FullCheck
-        ensures summed { is_full_summed result ≡ is_some seed }
-        ensures checked { (fares : Fares) (subtracts : Bool) (full : AFullBalance) (valid : List TapFields)
+        ensures { (fares : Fares) (subtracts : Bool) (full : AFullBalance) (valid : List TapFields)
             → (subtracts ≡ true → IsFullBalance full valid [])
             → HasFullyChecked fares result subtracts full [] [] valid }
     {
@@ -89,10 +88,9 @@ impl FullCheck {
         requires fed { (text : List ℕ) × (written : List ℕ) × (valid : List TapFields)
             × HasFullyChecked table.now self.old subtracts full.old text written valid }
 
-        ensures summed { OnOk result (is_full_summed self.new ≡ is_full_summed self.old) }
 
         // For every text that was read so far.
-        ensures fed { OnOk result ((text written : List ℕ) (valid : List TapFields)
+        ensures { OnOk result ((text written : List ℕ) (valid : List TapFields)
             → HasFullyChecked table.now self.old subtracts full.old text written valid
             → (more : List ℕ) × (string_bytes reported.new ≡ string_bytes reported.old ++ more)
             × HasFullyChecked table.now self.new subtracts full.new (text ++ piece.now)
@@ -121,8 +119,7 @@ impl FullCheck {
         requires fed { (text : List ℕ) × (written : List ℕ) × (valid : List TapFields)
             × HasFullyChecked table.now self.old subtracts full.old text written valid }
         requires line { IsLine line.now }
-        ensures summed { OnOk result (is_full_summed self.new ≡ is_full_summed self.old) }
-        ensures fed { OnOk result ((text written : List ℕ) (valid : List TapFields)
+        ensures { OnOk result ((text written : List ℕ) (valid : List TapFields)
             → HasFullyChecked table.now self.old subtracts full.old text written valid
             → (more : List ℕ) × (string_bytes reported.new ≡ string_bytes reported.old ++ more)
             × HasFullyChecked table.now self.new subtracts full.new (text ++ line.now)
@@ -173,7 +170,7 @@ impl FullCheck {
             × (fully_checked.is_settled ≡ are_settled (taps_from taken))
             × (subtracts ≡ true → IsFullBalance full valid (taps_from taken))
             × (wrong_count taken ≡ 0
-            → HasSumsOf (is_full_summed self.old) (entries_from taken) fully_checked.sums)
+            → IfSome fully_checked.sums (AreSumsOf (entries_from taken)))
             × (more : List ℕ) × (string_bytes reported.new ≡ string_bytes reported.old ++ more)
             × (written ++ more ≡ full_check_text taken)) }
     {

@@ -1,11 +1,11 @@
 //! The lines of a text that comes in pieces, each judged after those before it.
 
 ghost use Rattle.std.specs.Prelude.{◌≡◌, ◌++◌, ◌∷◌, ◌<◌, ◌↔◌, [], ℕ, List, IfOk, IfSome, IsTrue};
-ghost use Rattle.std.specs.Prelude.{OnOk, is_some};
+ghost use Rattle.std.specs.Prelude.{OnOk};
 ghost use Rattle.tariffs.specs.Fares.{Fares};
 ghost use Rattle.ledger_check.specs.FullChecks.{TakenLine, entries_from, wrong_count};
 ghost use Rattle.ledger_check.specs.FullCheckStates.{HasEntries, HasFed, HasTakenLines, IsKept};
-ghost use Rattle.ledger_check.specs.Sums.{HasSumsOf};
+ghost use Rattle.ledger_check.specs.Sums.{AreSumsOf};
 ghost use Rattle.ledger_check.specs.Lines.{IsLine, Lacks};
 ghost use Rattle.ledger_check.specs.inside.FullChecks.{HasFound, IfRight, IsFirstFinding, next_taken};
 ghost use Rattle.ledger_check.specs.inside.OpenSums.{AreUpTo, HasRoomFor};
@@ -42,9 +42,7 @@ fn first_finding(line: &[u8]) -> LineFinding
 pub(crate) struct LinesTaken {
     pub(crate) walk: Walk,
     pub(crate) sums: FullCheckSums,
-    /// Whether the sums of the entries are requested.
-    pub(crate) is_summed: bool,
-    /// These sums, if they are requested and no line is wrong.
+    /// The sums of the entries, if they are requested and no line is wrong.
     entries: Option<OpenSums>,
 }
 
@@ -57,12 +55,11 @@ fn add_entry(
     requires fits { IfSome finding.tap (λ tap. Fits tap.entry.token) }
     requires room { IfSome entries.old (λ sums. IfRight finding
         (λ tap. HasRoomFor tap.entry.token sums)) }
-    ensures { OnOk result ((summed : Bool) (taken : List TakenLine) (next : TakenLine)
+    ensures { OnOk result ((taken : List TakenLine) (next : TakenLine)
         → next.finding ≡ finding
         → (wrong_count taken ≡ 0
         → IfRight finding (λ tap. AreUpTo tap.entry.token (entries_from taken)))
-        → HasEntries summed entries.old taken
-        → HasEntries summed entries.new (next ∷ taken)) }
+        → HasEntries entries.old taken → HasEntries entries.new (next ∷ taken)) }
 {
     if one_wrong(finding.remark) != 0 {
         *entries = None;
@@ -95,7 +92,6 @@ impl LinesTaken {
             → HasFound table.now taken whole self.new.walk finding) }
         ensures sums { OnOk result (self.new.sums ≡ self.old.sums) }
         ensures entries { OnOk result (self.new.entries ≡ self.old.entries) }
-        ensures summed { OnOk result (self.new.is_summed ≡ self.old.is_summed) }
     {
         if self.sums.lines == 0 {
             return Ok(first_finding(line));
@@ -117,10 +113,9 @@ impl LinesTaken {
         requires clock { clock.now ≡ table.now.zone }
         requires taken { (taken : List TakenLine) × HasTakenLines table.now self.old taken }
         requires line { (whole : List ℕ) × IsLine whole × IsKept line.now whole }
-        ensures taken { IfOk result (λ finding. (taken : List TakenLine) (whole : List ℕ)
+        ensures { IfOk result (λ finding. (taken : List TakenLine) (whole : List ℕ)
             → HasTakenLines table.now self.old taken → IsLine whole → IsKept line.now whole
             → HasTakenLines table.now self.new (next_taken whole finding self.new ∷ taken)) }
-        ensures summed { OnOk result (self.new.is_summed ≡ self.old.is_summed) }
     {
         let finding = self.find(table, clock, line)?;
         let sums = self.sums.with(finding)?;
@@ -131,7 +126,7 @@ impl LinesTaken {
 }
 
 fn open_sums(alloc: Global, seed: Option<HashSeed>) -> Option<OpenSums>
-    ensures { HasEntries (is_some seed) result [] }
+    ensures { HasEntries result [] }
 {
     match seed {
         Some(seed) => Some(OpenSums::new(alloc, seed)),
@@ -164,14 +159,12 @@ pub(crate) struct LinesFed {
 
 impl LinesFed {
     pub(crate) fn new(alloc: Global, seed: Option<HashSeed>) -> LinesFed
-        ensures fed { (fares : Fares) → HasFed fares result [] [] }
-        ensures summed { result.so_far.is_summed ≡ is_some seed }
+        ensures { (fares : Fares) → HasFed fares result [] [] }
     {
         LinesFed {
             so_far: LinesTaken {
                 walk: Walk::new(alloc),
                 sums: FullCheckSums::new(),
-                is_summed: seed.is_some(),
                 entries: open_sums(alloc, seed),
             },
             started: Vec::new(alloc),
@@ -181,9 +174,8 @@ impl LinesFed {
     /// Takes what is without a newline.
     pub(crate) fn keep(&mut self, rest: &[u8]) -> Result<(), AllocError>
         requires { Lacks 10 rest.now }
-        ensures fed { OnOk result ((fares : Fares) (text : List ℕ) (taken : List TakenLine)
+        ensures { OnOk result ((fares : Fares) (text : List ℕ) (taken : List TakenLine)
             → HasFed fares self.old text taken → HasFed fares self.new (text ++ rest.now) taken) }
-        ensures summed { OnOk result (self.new.so_far.is_summed ≡ self.old.so_far.is_summed) }
     {
         keep(&mut self.started, rest)?;
         Ok(())
@@ -201,11 +193,10 @@ impl LinesFed {
         requires fed { (text : List ℕ) × (taken : List TakenLine)
             × HasFed table.now self.old text taken }
         requires line { IsLine line.now }
-        ensures fed { IfOk result (λ finding. (text : List ℕ) (taken : List TakenLine)
+        ensures { IfOk result (λ finding. (text : List ℕ) (taken : List TakenLine)
             → HasFed table.now self.old text taken → (whole : List ℕ)
             × HasFed table.now self.new (text ++ line.now)
             (next_taken whole finding self.new.so_far ∷ taken)) }
-        ensures summed { OnOk result (self.new.so_far.is_summed ≡ self.old.so_far.is_summed) }
     {
         if self.started.is_empty() {
             let finding = self.so_far.take(alloc, table, clock, line)?;
@@ -217,13 +208,12 @@ impl LinesFed {
         Ok(finding)
     }
 
-    /// The sums of the entries of lines of which none is wrong, if they are requested.
+    /// The sums of the entries, if they are requested and no line is wrong.
     pub(crate) fn entry_sums(&mut self, alloc: Global) -> Result<Option<EntrySums>, AllocError>
         requires { (fares : Fares) × (text : List ℕ) × (taken : List TakenLine)
             × HasFed fares self.old text taken }
         ensures { IfOk result (λ sums. (fares : Fares) (text : List ℕ) (taken : List TakenLine)
-            → HasFed fares self.old text taken → wrong_count taken ≡ 0
-            → HasSumsOf self.old.so_far.is_summed (entries_from taken) sums) }
+            → HasFed fares self.old text taken → IfSome sums (AreSumsOf (entries_from taken))) }
     {
         let Some(entries) = self.so_far.entries.take() else {
             return Ok(None);

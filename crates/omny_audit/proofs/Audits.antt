@@ -94,7 +94,6 @@ decided_ends audit valid file written more has is =
           audit.check t written) (sym rest.1)
           (checked_more audit.table.now audit.subtracts valid audit.check has.text written
           rest.0 has.taken.checked is);
-      summed = has.taken.summed;
       all = λ no. absurd (true≢false (sym is ∙ no));
     }
 

@@ -1,6 +1,6 @@
 //! The lines of a ledger, checked up to the first wrong one, or all of them.
 
-ghost use Rattle.std.specs.Prelude.{◌≡◌, ◌++◌, ◌↔◌, ◌&&◌, ◌||◌, ℕ, List, [], IfOk, IsTrue};
+ghost use Rattle.std.specs.Prelude.{◌≡◌, ◌++◌, ◌↔◌, ◌&&◌, ◌||◌, ℕ, List, [], IfOk, IfSome, IsTrue};
 ghost use Rattle.std.specs.Prelude.{None, OnOk, Bool, Some, if◌then◌else◌, is_some, map};
 ghost use Rattle.std.specs.Prelude.{string_bytes, true, false};
 ghost use Rattle.tariffs.specs.Fares.{Fares};
@@ -9,13 +9,13 @@ ghost use Rattle.ledger_check.specs.Balances.{IsBalance};
 ghost use Rattle.ledger_check.specs.FullBalances.{IsFullBalance};
 ghost use Rattle.ledger_check.specs.Ledger.{IsLedger, IsLedgerOf};
 ghost use Rattle.ledger_check.specs.Orders.{tap_of_entry};
-ghost use Rattle.ledger_check.specs.FullCheckStates.{HasFullyChecked, is_full_summed, is_summed};
-ghost use Rattle.ledger_check.specs.Sums.{HasSumsOf};
+ghost use Rattle.ledger_check.specs.FullCheckStates.{HasFullyChecked};
+ghost use Rattle.ledger_check.specs.Sums.{AreSumsOf};
 ghost use Rattle.ledger_check.specs.Verdicts.{IsVerdict, early_in, is_legal};
 ghost use Rattle.tap_views.specs.declared.encoder.TapFields.{TapFields as ATap};
 ghost use Rattle.omny_audit.specs.Findings.{IsDifferencesEnd, IsFinding, IsFindingOf, IsFullFinding};
 ghost use Rattle.omny_audit.specs.Findings.{agrees};
-ghost use Rattle.omny_audit.specs.inside.Checks.{HasChecked, is_all, is_check_summed, is_decided};
+ghost use Rattle.omny_audit.specs.inside.Checks.{HasChecked, is_all, is_decided};
 
 use crate::text::{are_none, write_difference, write_differences, write_verdict};
 use fare_table::{Clock, FareTable};
@@ -54,7 +54,6 @@ impl Check {
         seed: Option<HashSeed>,
     ) -> Check
         ensures all { is_all result ≡ all }
-        ensures summed { is_check_summed result ≡ is_some seed }
         ensures checked { (fares : Fares) (subtracts : Bool) (valid : List ATap)
             → IsBalance balance valid [] → HasChecked fares subtracts valid result [] [] }
     {
@@ -101,7 +100,6 @@ impl Check {
         requires fed { (valid : List ATap) × (text written : List ℕ)
             × HasChecked table.now subtracts valid self.old text written }
         ensures all { is_all self.new ≡ is_all self.old }
-        ensures summed { OnOk result (is_check_summed self.new ≡ is_check_summed self.old) }
         ensures fed { OnOk result ((valid : List ATap) (text written : List ℕ)
             → HasChecked table.now subtracts valid self.old text written → (more : List ℕ)
             × (string_bytes reported.new ≡ string_bytes reported.old ++ more)
@@ -140,7 +138,7 @@ impl Check {
         ensures sums { IfOk result (λ found. (fares : Fares) (valid : List ATap)
             (text written : List ℕ) → HasChecked fares subtracts valid self.old text written
             → found.is_legal ≡ true → (entries : List Entry) → IsLedgerOf fares entries text
-            → HasSumsOf (is_check_summed self.old) entries found.sums) }
+            → IfSome found.sums (AreSumsOf entries)) }
         ensures decided { IfOk result
             (λ found. is_decided self.old ≡ true → found.is_legal ≡ false) }
         ensures unsound { IfOk result
@@ -260,7 +258,7 @@ fn first_found(
         (text written : List ℕ)
         → HasChecked fares subtracts valid (Check.First checker.old balance.now verdict.now) text
         written → found.is_legal ≡ true → (entries : List Entry) → IsLedgerOf fares entries text
-        → HasSumsOf (is_summed checker.old) entries found.sums) }
+        → IfSome found.sums (AreSumsOf entries)) }
     ensures decided { IfOk result (λ found. is_some verdict.now ≡ true
         → ((fares : Fares) × (valid : List ATap) × (text written : List ℕ)
         × HasChecked fares subtracts valid (Check.First checker.old balance.now verdict.now) text
@@ -326,7 +324,7 @@ fn full_finding(
         (text written : List ℕ)
         → HasFullyChecked fares full_check.old subtracts full.now text written valid
         → found.is_legal ≡ true → (entries : List Entry) → IsLedgerOf fares entries text
-        → HasSumsOf (is_full_summed full_check.old) entries found.sums) }
+        → IfSome found.sums (AreSumsOf entries)) }
 {
     // proof: no line is wrong exactly if the text is a ledger
     full_checks_decide();

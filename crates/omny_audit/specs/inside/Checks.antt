@@ -1,8 +1,7 @@
 -- What a check of lines has read: what private functions alone cite.
 use Rattle.std.specs.Prelude.{◌≡◌, ◌++◌, ℕ, Bool, true, false, List, [], None, Some, is_some}
 use Rattle.tariffs.specs.Fares.{Fares}
-use Rattle.ledger_check.specs.FullCheckStates.{HasFullyChecked, IsRightSoFar, is_full_summed}
-use Rattle.ledger_check.specs.FullCheckStates.{is_summed}
+use Rattle.ledger_check.specs.FullCheckStates.{HasFullyChecked, IsRightSoFar}
 use Rattle.ledger_check.specs.Verdicts.{IsVerdict, is_legal}
 use Rattle.tap_views.specs.declared.encoder.TapFields.{TapFields}
 use Rattle.omny_audit.specs.declared.check.Check.{Check}
@@ -17,11 +16,6 @@ is_all (All full_check full) = true
 abbrev pub is_decided : Check → Bool
 is_decided (First checker balance verdict) = is_some verdict
 is_decided (All full_check full) = false
-
--- whether the sums of the entries are requested
-abbrev pub is_check_summed : Check → Bool
-is_check_summed (First checker balance verdict) = is_summed checker
-is_check_summed (All full_check full) = is_full_summed full_check
 
 -- The text was read, this was reported of it, and its taps were subtracted from the valid ones, if
 -- it is to subtract them; or a line of it is the first wrong one, whatever follows.

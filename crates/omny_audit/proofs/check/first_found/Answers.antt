@@ -1,10 +1,9 @@
 use Rattle.std.proofs.Common.{◌≡◌, ◌∙◌, ◌++◌, ℕ, Bool, List, [], None, Option, Some, append-nil}
 use Rattle.std.proofs.Common.{if◌then◌else◌, subst, sym, true}
-use Rattle.std.specs.Prelude.{◌↔◌}
+use Rattle.std.specs.Prelude.{◌↔◌, IfSome}
 use Rattle.std.proofs.lemmas.Bool.{true≢false}
-use Rattle.ledger_check.specs.FullCheckStates.{is_summed}
 use Rattle.ledger_check.specs.Ledger.{IsLedger}
-use Rattle.ledger_check.specs.Sums.{HasSumsOf}
+use Rattle.ledger_check.specs.Sums.{AreSumsOf}
 use Rattle.ledger_check.specs.declared.open_sums.EntrySums.{EntrySums}
 use Rattle.ledger_check.specs.Verdicts.{IsVerdict}
 use Rattle.omny_audit.specs.Findings.{IsFinding}
@@ -65,7 +64,7 @@ returns-in_ok-found-in-Some-clause-sums c = λ fares valid text written has lega
 pub returns-in_ok-found-in-None-clause-sums : goal.returns-in_ok-found-in-None-clause-sums
 returns-in_ok-found-in-None-clause-sums c = λ fares valid text written has legal entries of.
     let known = rw c.in-None.is at has in
-    subst (λ (s : Option EntrySums). HasSumsOf (is_summed c.args.checker.now) entries s)
+    subst (λ (s : Option EntrySums). IfSome s (AreSumsOf entries))
     (sym c.in_ok-found-in-None.ensures.sums)
     (c.in_ok-sums.ensures.legal fares c.args.balance.now text valid known.0
     (sym c.in_ok-found-in-None.ensures.legal ∙ legal) entries of).1

@@ -1,11 +1,10 @@
 use Rattle.std.proofs.Common.{◌≡◌, ◌∙◌, ◌++◌, ℕ, Bool, List, ap, append_assoc, string_bytes, subst}
 use Rattle.std.proofs.Common.{sym, true, nat_eq}
-use Rattle.std.specs.Prelude.{◌&&◌, ◌||◌, ◌↔◌}
+use Rattle.std.specs.Prelude.{◌&&◌, ◌||◌, ◌↔◌, IfSome}
 use Rattle.std.proofs.lemmas.Bool.{eqb-true}
 use Rattle.histories.specs.declared.entry.Entry.{Entry}
-use Rattle.ledger_check.specs.FullCheckStates.{is_full_summed}
 use Rattle.ledger_check.specs.Ledger.{IsLedger}
-use Rattle.ledger_check.specs.Sums.{HasSumsOf}
+use Rattle.ledger_check.specs.Sums.{AreSumsOf}
 use Rattle.ledger_check.specs.FullChecks.{taps_from, wrong_count}
 use Rattle.omny_audit.proofs.FullFindingLemmas.{full_check_legal}
 use Rattle.omny_audit.proofs.check.full_finding.Goals as goal
@@ -50,7 +49,6 @@ pub returns-clause-sums : goal.returns-clause-sums
 returns-clause-sums c = λ fares valid text written has legal entries of.
     let ended = c.in_ok-fully_checked.ensures fares c.args.subtracts c.args.full.now text written
     valid has in
-    subst (λ (es : List Entry). HasSumsOf (is_full_summed c.args.full_check.now) es
-    c.in_ok-fully_checked.fully_checked.sums)
+    subst (λ (es : List Entry). IfSome c.in_ok-fully_checked.fully_checked.sums (AreSumsOf es))
     ((c.full_checks_decide.ensures fares text ended.0 ended.1).entries entries of)
     (ended.5 (eqb-true (wrong_count ended.0) 0 (sym ended.2 ∙ legal)))

@@ -12,7 +12,6 @@ loop-line-init c = record {
   fed = λ text valid is.
       subst (λ (t : List ℕ). IsRightSoFar c.args.table.now c.args.self.now c.args.balance.now t
       valid) (sym (append-nil text)) is;
-  summed = refl;
 }
 
 pub take-requires-clause-fed : goal.take-requires-clause-fed
@@ -20,8 +19,8 @@ take-requires-clause-fed c =
     let fed = c.requires.fed in
     (fed.0 ++ c.loop-line.invariant.consumed, fed.1, c.loop-line.invariant.fed fed.0 fed.1 fed.2)
 
-pub returns-then-is_some-clause-fed : goal.returns-then-is_some-clause-fed
-returns-then-is_some-clause-fed c = λ text valid is.
+pub returns-then-is_some : goal.returns-then-is_some
+returns-then-is_some c = λ text valid is.
     let before = c.loop-line.invariant in
     let line = c.in-Some.line.now in
     let whole = before.whole ∙ ap (λ (r : List ℕ). before.consumed ++ r) c.in-Some.ensures.some.1
@@ -33,7 +32,7 @@ returns-then-is_some-clause-fed c = λ text valid is.
     c.in_ok-reported.reported (sym c.is_some.ensures ∙ c.if-is_some.true)
     (subst (λ (t : List ℕ). IsFed c.args.table.now c.take.new.self c.take.new.balance t valid
     c.in_ok-reported.reported) (append_assoc text before.consumed line)
-    (c.in_ok-reported.ensures.fed (text ++ before.consumed) valid (before.fed text valid is))))
+    (c.in_ok-reported.ensures (text ++ before.consumed) valid (before.fed text valid is))))
 
 pub loop-line-preserved : goal.loop-line-preserved
 loop-line-preserved c =
@@ -50,8 +49,7 @@ loop-line-preserved c =
           (fed_none c.args.table.now c.take.new.self c.take.new.balance
           ((text ++ before.consumed) ++ line) valid c.in_ok-reported.reported
           (sym c.is_some.ensures ∙ c.if-is_some.false)
-          (c.in_ok-reported.ensures.fed (text ++ before.consumed) valid (before.fed text valid is)));
-      summed = c.in_ok-reported.ensures.summed ∙ before.summed;
+          (c.in_ok-reported.ensures (text ++ before.consumed) valid (before.fed text valid is)));
     }
 
 pub keep-requires-clause-fed : goal.keep-requires-clause-fed
@@ -67,19 +65,12 @@ keep-requires-clause-fed c =
 pub keep-requires-clause-rest : goal.keep-requires-clause-rest
 keep-requires-clause-rest c = c.in_default.ensures.none
 
-pub returns-clause-fed : goal.returns-clause-fed
-returns-clause-fed c = λ text valid is.
+pub returns : goal.returns
+returns c = λ text valid is.
     let before = c.loop-line.invariant in
     subst (λ (t : List ℕ). IsFed c.args.table.now c.keep.new.self c.loop-line.balance t valid
     c.in_ok-reported-2.reported)
     (append_assoc text before.consumed c.loop-line.rest.now
     ∙ ap (λ (p : List ℕ). text ++ p) (sym before.whole))
-    (c.in_ok-reported-2.ensures.fed c.args.table.now c.loop-line.balance (text ++ before.consumed)
+    (c.in_ok-reported-2.ensures c.args.table.now c.loop-line.balance (text ++ before.consumed)
     valid (before.fed text valid is))
-
-pub returns-then-is_some-clause-summed : goal.returns-then-is_some-clause-summed
-returns-then-is_some-clause-summed c =
-    c.in_ok-reported.ensures.summed ∙ c.loop-line.invariant.summed
-
-pub returns-clause-summed : goal.returns-clause-summed
-returns-clause-summed c = c.in_ok-reported-2.ensures.summed ∙ c.loop-line.invariant.summed

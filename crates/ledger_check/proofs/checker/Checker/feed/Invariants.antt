@@ -1,6 +1,6 @@
 use Rattle.std.proofs.Common.{◌≡◌, List, ℕ, ◌++◌, length}
 use Rattle.tap_views.specs.declared.encoder.TapFields.{TapFields}
-use Rattle.ledger_check.specs.FullCheckStates.{IsRightSoFar, is_summed}
+use Rattle.ledger_check.specs.FullCheckStates.{IsRightSoFar}
 use Rattle.ledger_check.proofs.checker.Checker.feed.Given as goal
 
 -- a front of the piece was read
@@ -11,7 +11,6 @@ invariant-loop-line l = record {
   fed : (text : List ℕ) (valid : List TapFields)
       → IsRightSoFar l.table l.fn.self l.fn.balance text valid
       → IsRightSoFar l.table l.self l.balance (text ++ consumed) valid;
-  summed : is_summed l.self ≡ is_summed l.fn.self;
 }
 
 abbrev pub decreases-loop-line : goal.decreases-loop-line

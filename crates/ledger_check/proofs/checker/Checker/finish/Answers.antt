@@ -1,7 +1,8 @@
 use Rattle.std.proofs.Common.{◌≡◌, ◌+◌, ◌<◌, ◌∙◌, List, sym, subst, true, false, arith}
 use Rattle.std.proofs.lemmas.Bool.{false≢true, true≢false}
 use Rattle.histories.specs.declared.entry.Entry.{Entry}
-use Rattle.ledger_check.specs.Sums.{HasSumsOf}
+use Rattle.std.specs.Prelude.{IfSome}
+use Rattle.ledger_check.specs.Sums.{AreSumsOf}
 use Rattle.ledger_check.proofs.CheckerLemmas.{all_subtracted, ended_complete, ended_in_line, of_ledger}
 use Rattle.ledger_check.proofs.checker.Checker.finish.Goals as goal
 
@@ -30,7 +31,7 @@ returns-clause-legal c = λ fares balance text valid is legal entries of.
     let whole = c.is_whole.ensures.0 c.if-is_whole.true in
     let self = c.args.self.now in (
       all_subtracted fares self balance text valid is whole.0 whole.1 entries of,
-      subst (λ (es : List Entry). HasSumsOf self.fed.so_far.is_summed es c.in_ok-entry_sums.entry_sums)
+      subst (λ (es : List Entry). IfSome c.in_ok-entry_sums.entry_sums (AreSumsOf es))
           (of_ledger fares self balance text valid is whole.0 whole.1 entries of).entries
-          (c.in_ok-entry_sums.ensures fares text is.taken is.fed is.none),
+          (c.in_ok-entry_sums.ensures fares text is.taken is.fed),
     )

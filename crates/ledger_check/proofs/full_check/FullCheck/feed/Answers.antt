@@ -16,7 +16,6 @@ loop-line-init c = record {
         (subst (λ (w : List ℕ). HasFullyChecked c.args.table.now c.args.self.now c.args.subtracts
         c.args.full.now text w valid) (sym (append-nil written)) is),
   );
-  summed = refl;
 }
 
 pub take-requires-clause-fed : goal.take-requires-clause-fed
@@ -35,7 +34,7 @@ loop-line-preserved c =
           ∙ sym (append_assoc before.consumed line c.in-Some.trailing.now);
       fed = λ text written valid is.
           let now = before.fed text written valid is in
-          let next = c.in_ok-take.ensures.fed (text ++ before.consumed) (written ++ now.0) valid now.2
+          let next = c.in_ok-take.ensures (text ++ before.consumed) (written ++ now.0) valid now.2
           in (
             now.0 ++ next.0,
             next.1 ∙ ap (λ (t : List ℕ). t ++ next.0) now.1
@@ -47,14 +46,13 @@ loop-line-preserved c =
                 c.args.subtracts c.take.new.full ((text ++ before.consumed) ++ line) w valid)
                 (append_assoc written now.0 next.0) next.2),
           );
-      summed = c.in_ok-take.ensures.summed ∙ before.summed;
     }
 
 pub keep-requires : goal.keep-requires
 keep-requires c = c.in_default.ensures.none
 
-pub returns-clause-fed : goal.returns-clause-fed
-returns-clause-fed c = λ text written valid is.
+pub returns : goal.returns
+returns c = λ text written valid is.
     let before = c.loop-line.invariant in
     let now = before.fed text written valid is in (
       now.0,
@@ -65,11 +63,8 @@ returns-clause-fed c = λ text written valid is.
             (λ (t : List ℕ). HasFed c.args.table.now c.keep.new.self t now.2.taken)
             (append_assoc text before.consumed c.loop-line.rest.now
             ∙ ap (λ (p : List ℕ). text ++ p) (sym before.whole))
-            (c.in_ok-keep.ensures.fed c.args.table.now (text ++ before.consumed) now.2.taken now.2.fed);
+            (c.in_ok-keep.ensures c.args.table.now (text ++ before.consumed) now.2.taken now.2.fed);
         reported = now.2.reported;
         subtracted = now.2.subtracted;
       },
     )
-
-pub returns-clause-summed : goal.returns-clause-summed
-returns-clause-summed c = c.in_ok-keep.ensures.summed ∙ c.loop-line.invariant.summed

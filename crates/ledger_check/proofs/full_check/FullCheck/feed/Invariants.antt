@@ -1,6 +1,6 @@
 use Rattle.std.proofs.Common.{◌≡◌, List, ℕ, ◌++◌, length, string_bytes}
 use Rattle.tap_views.specs.declared.encoder.TapFields.{TapFields}
-use Rattle.ledger_check.specs.FullCheckStates.{HasFullyChecked, is_full_summed}
+use Rattle.ledger_check.specs.FullCheckStates.{HasFullyChecked}
 use Rattle.ledger_check.proofs.full_check.FullCheck.feed.Given as goal
 
 -- a front of the piece was read, and this was reported of its lines
@@ -13,7 +13,6 @@ invariant-loop-line l = record {
       → (more : List ℕ) × (string_bytes l.reported ≡ string_bytes l.fn.reported ++ more)
       × HasFullyChecked l.table l.self l.subtracts l.full (text ++ consumed) (written ++ more)
       valid;
-  summed : is_full_summed l.self ≡ is_full_summed l.fn.self;
 }
 
 abbrev pub decreases-loop-line : goal.decreases-loop-line

@@ -7,10 +7,10 @@ pub end_line-requires-clause-fed : goal.end_line-requires-clause-fed
 end_line-requires-clause-fed c = let is = c.requires.fed.3 in
     (c.requires.fed.0, is.taken, is.fed)
 
-pub returns-clause-fed : goal.returns-clause-fed
-returns-clause-fed c = λ text written valid is.
+pub returns : goal.returns
+returns c = λ text written valid is.
     let finding = c.in_ok-finding.finding in
-    let took = c.in_ok-finding.ensures.fed text is.taken is.fed in
+    let took = c.in_ok-finding.ensures text is.taken is.fed in
     let so_far = c.end_line.new.self.so_far in
     let wanted = string_bytes so_far.walk.wanted in
     let number : so_far.sums.lines ≡ length is.taken + 1 = let n = took.1.lines.sums.lines in

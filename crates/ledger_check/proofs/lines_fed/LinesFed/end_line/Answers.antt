@@ -12,8 +12,8 @@ take-requires-clause-taken c = let fed = c.requires.fed in (fed.1, fed.2.lines)
 pub take-requires-clause-line : goal.take-requires-clause-line
 take-requires-clause-line c = (c.args.line.now, c.requires.line, inl refl)
 
-pub returns-then-is_empty-clause-fed : goal.returns-then-is_empty-clause-fed
-returns-then-is_empty-clause-fed c = λ text taken is.
+pub returns-then-is_empty : goal.returns-then-is_empty
+returns-then-is_empty c = λ text taken is.
     let fed = c.args.self.now in
     let line = c.args.line.now in
     let none : length fed.started.items ≤ 0 = grind (arith, nat_tests, fed.started.ok.0) in
@@ -22,7 +22,7 @@ returns-then-is_empty-clause-fed c = λ text taken is.
     let same : line ≡ is.started ++ line = ap (λ (b : List ℕ). b ++ line) (sym started) in (
       line,
       took_line_of c.args.table.now fed _ text line taken _ is c.requires.line empty same
-          (c.in_ok-finding.ensures.taken taken line is.lines c.requires.line (inl refl)),
+          (c.in_ok-finding.ensures taken line is.lines c.requires.line (inl refl)),
     )
 
 pub take-requires-2-clause-taken : goal.take-requires-2-clause-taken
@@ -37,13 +37,13 @@ take-requires-2-clause-line c =
           (sym c.as_slice.ensures.value) (c.in_ok-keep.ensures is.started is.kept),
     )
 
-pub returns-clause-fed : goal.returns-clause-fed
-returns-clause-fed c = λ text taken is.
+pub returns : goal.returns
+returns c = λ text taken is.
     let whole = is.started ++ c.args.line.now in (
       whole,
       took_line_of c.args.table.now c.args.self.now _ text c.args.line.now taken _ is
           c.requires.line c.clear.ensures.items refl
-          (c.in_ok-finding-2.ensures.taken taken whole is.lines
+          (c.in_ok-finding-2.ensures taken whole is.lines
           (line_ends is.started c.args.line.now is.lacks c.requires.line)
           (subst (λ (k : List ℕ). IsKept k whole) (sym c.as_slice.ensures.value)
           (c.in_ok-keep.ensures is.started is.kept))),

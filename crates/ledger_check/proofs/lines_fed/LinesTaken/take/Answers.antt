@@ -1,4 +1,4 @@
-use Rattle.std.proofs.Common.{Bool, Option, refl, sym, subst, arith}
+use Rattle.std.proofs.Common.{Option, refl, sym, subst, arith}
 use Rattle.ledger_check.specs.FullCheckStates.{AreSums, HasEntries}
 use Rattle.ledger_check.specs.declared.open_sums.OpenSums.{OpenSums}
 use Rattle.ledger_check.specs.declared.full_check_sums.FullCheckSums.{FullCheckSums}
@@ -30,21 +30,19 @@ add_entry-requires-clause-room c =
       wanted = _;
     }) refl (subst (λ (s : FullCheckSums). AreSums s taken) (sym c.in_ok-finding.ensures.sums)
     lines.sums) in
-    room_for c.args.table.now c.args.self.now.is_summed _ taken _ (lines.are, found.is)
-    (omega (arith, sums.few))
-    (subst (λ (e : Option OpenSums). HasEntries c.args.self.now.is_summed e taken)
+    room_for c.args.table.now _ taken _ (lines.are, found.is) (omega (arith, sums.few))
+    (subst (λ (e : Option OpenSums). HasEntries e taken)
     (sym c.in_ok-finding.ensures.entries) lines.entries)
 
-pub returns-clause-taken : goal.returns-clause-taken
-returns-clause-taken c = λ taken whole lines line same.
+pub returns : goal.returns
+returns c = λ taken whole lines line same.
     let finding = c.in_ok-finding.finding in
     let found = c.in_ok-finding.ensures.found taken whole lines line same in
     let before = subst (λ (s : FullCheckSums). AreSums s taken) (sym c.in_ok-finding.ensures.sums)
     lines.sums in
     lines_more c.args.table.now c.args.self.now _ taken whole finding lines found
     (c.in_ok-sums.ensures taken _ refl before)
-    (subst (λ (b : Bool). HasEntries b _ _) (sym c.find.ensures.summed)
-    (c.in_ok-add_entry.ensures c.args.self.now.is_summed taken _ refl
+    (c.in_ok-add_entry.ensures taken _ refl
     (λ none. right_up c.args.table.now taken _ (lines.are, found.is) none lines.sums.few)
-    (subst (λ (e : Option OpenSums). HasEntries c.args.self.now.is_summed e taken)
-    (sym c.in_ok-finding.ensures.entries) lines.entries)))
+    (subst (λ (e : Option OpenSums). HasEntries e taken)
+    (sym c.in_ok-finding.ensures.entries) lines.entries))

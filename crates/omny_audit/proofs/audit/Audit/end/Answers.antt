@@ -2,7 +2,6 @@ use Rattle.std.proofs.Common.{◌++◌, ◌∙◌, ℕ, Bool, List, ap, append_a
 use Rattle.std.proofs.Common.{Global, Vec, string_bytes, subst, sym, true}
 use Rattle.std.specs.Prelude.{◌&&◌, ◌||◌}
 use Rattle.std.proofs.lemmas.Bool.{and_parts}
-use Rattle.ledger_check.specs.Sums.{HasSumsOf}
 use Rattle.omny_audit.specs.Reports.{AreLastLines, ledger_in}
 use Rattle.omny_audit.specs.Traced.{AreColumnsReported}
 use Rattle.omny_audit.specs.inside.Audits.{given_in}
@@ -16,20 +15,6 @@ finish-requires c =
     let has = c.requires.3 in record {
       fed = (c.args.self.now.table.now, c.requires.0, _, c.requires.2, has.checked);
     }
-
-pub write_last_lines-requires : goal.write_last_lines-requires
-write_last_lines-requires c = λ yes.
-    let audit = c.args.self.now in
-    let (valid, file, written, has) = c.requires in
-    let text = ledger_in (given_in audit valid) file in
-    let found = c.in_ok-found.ensures.found audit.table.now valid text written has.checked in
-    let legal = (and_parts c.in_ok-found.found.is_legal c.in_ok-is_right.is_right
-    (sym c.are_both-is_whole.ensures ∙ yes)).0 in
-    let (entries, of) = found.3.0 legal in (
-      entries,
-      subst (λ (b : Bool). HasSumsOf b entries c.in_ok-found.found.sums) has.summed
-          (c.in_ok-found.ensures.sums audit.table.now valid text written has.checked legal entries of),
-    )
 
 pub returns-clause-decided : goal.returns-clause-decided
 returns-clause-decided c = λ is.
@@ -54,9 +39,8 @@ returns-clause-ended c = λ valid file before has.
     let reported = columns.2 file (λ look. has.all (undecided audit.check legal
     c.in_ok-found.ensures.decided (sym looked ∙ look))) in
     let last = wrote.2 audit.table.now (ledger_in given file) (λ yes entries of.
-    subst (λ (b : Bool). HasSumsOf b entries c.in_ok-found.found.sums) has.summed
-    (c.in_ok-found.ensures.sums audit.table.now valid (ledger_in given file) written has.checked
-    (and_parts legal right (sym whole ∙ yes)).0 entries of)) in (
+    c.in_ok-found.ensures.sums audit.table.now valid (ledger_in given file) written has.checked
+    (and_parts legal right (sym whole ∙ yes)).0 entries of) in (
       reported.0,
       record {
         found = written ++ found.0;

@@ -12,7 +12,7 @@ take-requires c = let has = c.requires.3 in (
   c.requires.0,
   has.text,
   c.requires.2,
-  record { clock = has.taken.clock; checked = has.taken.checked; summed = has.taken.summed },
+  record { clock = has.taken.clock; checked = has.taken.checked },
 )
 
 pub returns : goal.returns
@@ -23,7 +23,6 @@ returns c = λ valid file written has.
     let taken = c.in_ok-take.ensures.taken valid has.text written (record {
       clock = has.taken.clock;
       checked = has.taken.checked;
-      summed = has.taken.summed;
     }) in
     let read = c.in_ok-read_end.ensures.read file has.text has.as_text in
     let whole : has.text ++ text.items ≡ read_as (is_some (wanted_by after.trace)) file = read.0
@@ -36,7 +35,6 @@ returns c = λ valid file written has.
         checked = subst
             (λ (t : List ℕ). HasChecked after.table.now after.subtracts valid after.check t
             (written ++ taken.0)) whole taken.3.checked;
-        summed = taken.3.summed;
         all = λ open_still. subst (λ (t : Option TracedPieces). HasReadAll t file)
             (sym c.take.ensures.trace) read.1;
       },

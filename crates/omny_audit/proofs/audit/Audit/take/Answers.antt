@@ -18,6 +18,5 @@ returns-clause-taken c = λ valid text written has.
         clock = has.clock;
         checked = subst (λ (t : List ℕ). HasChecked audit.table.now audit.subtracts valid
             c.feed.new.self (text ++ t) (written ++ fed.0)) piece fed.2;
-        summed = c.in_ok-feed.ensures.summed ∙ has.summed;
       },
     )
