@@ -30,7 +30,7 @@ use Rattle.ledger_check.specs.declared.walk.Remark.TheVariants.{Nothing, NoLine,
 use Rattle.tap_views.specs.declared.encoder.TapFields.{TapFields}
 use Rattle.ledger_check.proofs.EndLemmas.{cut_lines, cut_taken, whole_lines}
 use Rattle.ledger_check.proofs.EntryLists.{next-parts}
-use Rattle.ledger_check.proofs.FullCheckLaw.{Legal, Right, all_right, legal_step, legal_taps}
+use Rattle.ledger_check.proofs.FullCheckLaw.{Legal as LegalLines, Right, all_right, legal_step, legal_taps}
 use Rattle.ledger_check.proofs.FullCheckLaw.{next_wanted, right}
 use Rattle.ledger_check.proofs.FullCheckLemmas.{kept_long, long_taken}
 use Rattle.ledger_check.proofs.LineLemmas.{lines-open}
@@ -220,7 +220,7 @@ module _ (fares : Fares) (checker : Checker) (balance : Balance) (text : List �
         }
 
     pub of_ledger : (entries : List Entry) (of : IsLedgerOf fares entries text)
-        → Legal fares is.taken entries of.lines
+        → LegalLines fares is.taken entries of.lines
     of_ledger entries of =
         (all_right fares is.taken is.fed.lines.are entries of.lines (sym whole ∙ of.split) of.are).legal
 

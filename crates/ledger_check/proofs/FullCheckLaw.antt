@@ -44,7 +44,7 @@ pub record Step (fares : Fares) (run entries : List Entry) (line : List ℕ) (ta
     (entry : Entry) : Type 0 where
   pub next : IsNext fares entries entry line
   pub state : State (run_with run tap) (entries ++ entry ∷ [])
-  pub entries : (earlier : List Entry) → entries_with earlier tap ≡ earlier ++ entry ∷ []
+  pub more : (earlier : List Entry) → entries_with earlier tap ≡ earlier ++ entry ∷ []
 
 -- what the counted tap's entry is among all entries
 pub record Ruled (fares : Fares) (run entries : List Entry) (tap : CountedTap)
@@ -106,7 +106,7 @@ right_step fares run entries line (Some tap) remark wanted is none state few =
             (next_wanted fares run entries line tap remark wanted is state is_right.0
             (subst (λ (l : List ℕ). length l ≤ 255) line_is is.of_tap.short) few);
         state = state_push run entries entry state is.of_tap.fits is_right.0;
-        entries = λ earlier. refl;
+        more = λ earlier. refl;
       },
     )
 
@@ -115,7 +115,7 @@ pub record Legal (fares : Fares) (taken : List TakenLine) (entries : List Entry)
     (lines : List (List ℕ)) : Type 0 where
   pub are : AreNext fares [] entries lines
   pub state : State (run_of taken) entries
-  pub entries : entries_from taken ≡ entries
+  pub same : entries_from taken ≡ entries
   pub counted : length taken ≡ length entries + 1
 
 -- the taps of the lines are those of their entries
@@ -135,7 +135,7 @@ taps_are (next ∷ taken) =
 pub legal_taps : (fares : Fares) (taken : List TakenLine) (entries : List Entry)
     (lines : List (List ℕ)) → Legal fares taken entries lines
     → taps_from taken ≡ map tap_of_entry entries
-legal_taps fares taken entries lines legal = taps_are taken ∙ ap (map tap_of_entry) legal.entries
+legal_taps fares taken entries lines legal = taps_are taken ∙ ap (map tap_of_entry) legal.same
 
 legal_push : (fares : Fares) (taken : List TakenLine) (next : TakenLine) (entries : List Entry)
     (lines : List (List ℕ)) (entry : Entry)
@@ -148,8 +148,8 @@ legal_push fares taken next entries lines entry legal step =
     record {
       are = next-push fares [] entries lines entry next.line legal.are step.next;
       state = step.state;
-      entries = step.entries (entries_from taken)
-          ∙ ap (λ (es : List Entry). es ++ entry ∷ []) legal.entries;
+      same = step.more (entries_from taken)
+          ∙ ap (λ (es : List Entry). es ++ entry ∷ []) legal.same;
       counted = omega (arith, size, before);
     }
 
@@ -163,7 +163,7 @@ legal_head : (fares : Fares) (first : TakenLine) → first.finding.tap ≡ None
 legal_head fares first none = record {
   are = tt;
   state = inl (ap (λ (t : Option CountedTap). run_with [] t) none, refl);
-  entries = ap (λ (t : Option CountedTap). entries_with [] t) none;
+  same = ap (λ (t : Option CountedTap). entries_with [] t) none;
   counted = refl;
 }
 
@@ -254,7 +254,7 @@ legal_step fares run entries line (Some tap) remark wanted entry is state next =
         state = subst
             (λ (e : Entry). State (own tap.entry.token run ++ tap.entry ∷ []) (entries ++ e ∷ []))
             back (state_push run entries tap.entry state is.of_tap.fits up);
-        entries = λ earlier. ap (λ (e : Entry). earlier ++ e ∷ []) back;
+        more = λ earlier. ap (λ (e : Entry). earlier ++ e ∷ []) back;
       };
     }
 
@@ -372,5 +372,5 @@ decides fares text taken full_check = record {
   all_right = λ ledger. (found_right fares text taken full_check ledger.0 ledger.1).none;
   taps = λ entries of.
       legal_taps fares taken entries of.lines (found_right fares text taken full_check entries of).legal;
-  entries = λ entries of. (found_right fares text taken full_check entries of).legal.entries;
+  entries = λ entries of. (found_right fares text taken full_check entries of).legal.same;
 }

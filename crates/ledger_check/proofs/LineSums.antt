@@ -31,7 +31,7 @@ up_to fares last earlier line tap remark wanted are none few is right_line =
     let rest = right fares (last ∷ earlier) are none (omega arith) few in
     let is_right = remark_right (decreases_after (run_of (last ∷ earlier)) tap.entry.token)
     (bytes_eq line wanted) (ap one_wrong (sym is.is_remark) ∙ right_line) in
-    subst (λ (es : List Entry). AreUpTo tap.entry.token es) (sym rest.legal.entries)
+    subst (λ (es : List Entry). AreUpTo tap.entry.token es) (sym rest.legal.same)
     (unfallen (run_of (last ∷ earlier)) rest.entries tap.entry.token rest.legal.state is.of_tap.fits
     is_right.0).up_to
 
@@ -87,25 +87,3 @@ room_for fares (Some sums) taken next are few has = λ right_line.
         → IfSome tap (λ t. HasRoomFor t.entry.token sums)
     by_tap None up = tt
     by_tap (Some t) up = (entries_from taken, has.1, up, omega (arith, few, entries_few taken))
-
--- a right line without an entry
-pub none_more : (entries : Option OpenSums) (taken : List TakenLine) (next : TakenLine)
-    → one_wrong next.finding.remark ≡ 0 → next.finding.tap ≡ None
-    → HasEntries entries taken → HasEntries entries (next ∷ taken)
-none_more None taken next right_line none has = tt
-none_more (Some sums) taken next right_line none has = (
-  omega (arith, has.0, right_line),
-  subst (λ (t : Option CountedTap). AreOpenSums (entries_with (entries_from taken) t) sums)
-      (sym none) has.1,
-)
-
--- a right line with its entry
-pub entry_more : (sums after : OpenSums) (taken : List TakenLine) (next : TakenLine)
-    (tap : CountedTap) → one_wrong next.finding.remark ≡ 0 → next.finding.tap ≡ Some tap
-    → HasEntries (Some sums) taken → AreOpenSums (entries_from taken ++ tap.entry ∷ []) after
-    → HasEntries (Some after) (next ∷ taken)
-entry_more sums after taken next tap right_line some has added = (
-  omega (arith, has.0, right_line),
-  subst (λ (t : Option CountedTap). AreOpenSums (entries_with (entries_from taken) t) after)
-      (sym some) added,
-)

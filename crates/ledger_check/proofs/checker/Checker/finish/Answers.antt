@@ -32,6 +32,6 @@ returns-clause-legal c = λ fares balance text valid is legal entries of.
     let self = c.args.self.now in (
       all_subtracted fares self balance text valid is whole.0 whole.1 entries of,
       subst (λ (es : List Entry). IfSome c.in_ok-entry_sums.entry_sums (AreSumsOf es))
-          (of_ledger fares self balance text valid is whole.0 whole.1 entries of).entries
+          (of_ledger fares self balance text valid is whole.0 whole.1 entries of).same
           (c.in_ok-entry_sums.ensures fares text is.taken is.fed),
     )
