@@ -163,13 +163,11 @@ impl Checker {
             × IfSome ended.1 (AreSumsOf entries)) }
     {
         let sums = self.fed.so_far.sums;
-        if !self.fed.is_whole() {
-            return Ok((Verdict::NoLine(sums.lines + 1), None));
+        if self.fed.is_whole() {
+            let entry_sums = self.fed.entry_sums(alloc)?;
+            let verdict = Verdict::Legal(sums.lines - 1, sums.order.early);
+            return Ok((verdict, entry_sums));
         }
-        let entry_sums = self.fed.entry_sums(alloc)?;
-        Ok((
-            Verdict::Legal(sums.lines - 1, sums.order.early),
-            entry_sums,
-        ))
+        Ok((Verdict::NoLine(sums.lines + 1), None))
     }
 }
