@@ -2,6 +2,7 @@ use Rattle.std.proofs.Common.{Bor, List, inl, inr, map, refl, subst, ℕ}
 use Rattle.std.specs.Prelude.{codes}
 use Rattle.std.proofs.Common.{◌++◌}
 use Rattle.tool_words.specs.UsageErrors.{usage_error_text}
+use Rattle.tool_tasks.specs.EncodeRows.{EndsRows}
 use Rattle.tool_tasks.specs.Merge.{EndsMerging}
 use Rattle.tool_program.proofs.program.task_over.Goals as goal
 
@@ -14,7 +15,13 @@ returns-in-Merge-clause-framed g c =
 
 pub returns-in-EncodeRows-clause-framed : goal.returns-in-EncodeRows-clause-framed
 returns-in-EncodeRows-clause-framed g c =
-    rw c.in-EncodeRows.is (c.in-EncodeRows.words, refl, c.encode_rows_over.ensures.ends)
+    rw c.in-EncodeRows.is (
+      c.in-EncodeRows.words,
+      refl,
+      subst (λ (ps : List (Bor (List ℕ))). EndsRows c.in-EncodeRows.words (map (λ w. w.now) ps)
+          (g.W.Inputs.run c.args.world.now) (g.W.Inputs.run c.encode_rows_over.new.world)
+          c.encode_rows_over.result) c.deref.ensures.value c.encode_rows_over.ensures.ends,
+    )
 
 pub returns-in-UsageError-clause-framed : goal.returns-in-UsageError-clause-framed
 returns-in-UsageError-clause-framed g c =
