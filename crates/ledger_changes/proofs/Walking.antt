@@ -9,7 +9,7 @@ use Rattle.std.proofs.lemmas.List.Elements.{filter-append}
 use Rattle.ledger_fields.specs.Rows.{Row}
 use Rattle.ledger_changes.specs.Changes.{Pair, beside, changes_between, is_changed, pairs_by}
 use Rattle.ledger_changes.specs.Changes.{pairs_with}
-use Rattle.ledger_changes.specs.Given.{After, HasBegun, HasGiven, IsFaultOf, IsGivenAfter}
+use Rattle.ledger_changes.specs.Given.{After, HasStarted, HasGiven, IsFaultOf, IsGivenAfter}
 use Rattle.ledger_changes.specs.Given.{Left, Said, Walked, Wrote, new_calls, old_calls}
 use Rattle.ledger_changes.specs.inside.Walks.{WalksOn}
 use Rattle.ledger_changes.specs.inside.Pairs.{next_sides, pairs_of, sides_by}
@@ -525,12 +525,12 @@ stops_new (Unread Old) bill old new said is wrong first =
 stops_new NoMemory bill old new said is wrong first = tt
 
 -- ---- corrections that are given in pieces
-pub begun : (c : Corrections) (by_token : Bool) (text : List ℕ) (old new : Calls)
+pub started : (c : Corrections) (by_token : Bool) (text : List ℕ) (old new : Calls)
     → HasGiven c by_token text
     → ((whole : List ℕ) → CanBe old whole → CanBe (old_calls c) whole)
     → ((whole : List ℕ) → CanBe new whole → CanBe (new_calls c) whole)
-    → HasBegun by_token text old new
-begun c by_token text old new has back_old back_new o n can_o can_n =
+    → HasStarted by_token text old new
+started c by_token text old new has back_old back_new o n can_o can_n =
     outlook by_token text c.tally.removed (sum_in c.tally.last) (rows_at c.old o) (rows_at c.new n)
     (rows_of o) (rows_of n) (has.walked o n (back_old o can_o) (back_new n can_n))
 

@@ -105,13 +105,13 @@ IsFaultOf (Unread New) old new = IsUnread new
 IsFaultOf NoMemory old new = ⊤
 
 -- With more after it, the text would be the whole one of these ledgers; or a line of one is wrong.
-abbrev pub IsBegun : Bool → List ℕ → List ℕ → List ℕ → Type 0
-IsBegun by_token text old new =
+abbrev pub IsStarted : Bool → List ℕ → List ℕ → List ℕ → Type 0
+IsStarted by_token text old new =
     ((rest : List ℕ) × (removed : ℕ) × (corrections_of by_token old new ≡ Some (text ++ rest, removed)))
     ⊎ (((wrong : ℕ × WrongLine) × (rows_of old ≡ Err wrong))
     ⊎ ((wrong : ℕ × WrongLine) × (rows_of new ≡ Err wrong)))
 
 -- the same, of what reads gave of both, whatever follows
-abbrev pub HasBegun : Bool → List ℕ → Calls → Calls → Type 0
-HasBegun by_token text old new =
-    (o n : List ℕ) → CanBe old o → CanBe new n → IsBegun by_token text o n
+abbrev pub HasStarted : Bool → List ℕ → Calls → Calls → Type 0
+HasStarted by_token text old new =
+    (o n : List ℕ) → CanBe old o → CanBe new n → IsStarted by_token text o n

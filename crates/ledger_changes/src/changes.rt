@@ -4,7 +4,7 @@ ghost use Rattle.std.specs.Prelude.{◌≡◌, ◌+◌, ◌++◌, ◌∷◌, [],
 ghost use Rattle.std.specs.Prelude.{IfSome, None, OnOk, filter};
 ghost use Rattle.recorded_lines.specs.Texts.{Follows, IsFresh, calls_of};
 ghost use Rattle.ledger_changes.specs.Changes.{is_changed};
-ghost use Rattle.ledger_changes.specs.Given.{HasBegun, HasGiven, IsFaultOf, IsGivenAfter};
+ghost use Rattle.ledger_changes.specs.Given.{HasStarted, HasGiven, IsFaultOf, IsGivenAfter};
 ghost use Rattle.ledger_changes.specs.Given.{IsUnbegun, IsWalked, new_calls, old_calls};
 ghost use Rattle.ledger_changes.specs.Texts.{removed_in};
 ghost use Rattle.ledger_changes.specs.Tokens.{change_lines, head_of, last_sums, lines_of_changes};
@@ -220,8 +220,8 @@ impl Corrections {
         ensures given { IfOk result (λ end. (by_token : Bool) (text : List ℕ)
             → HasGiven self.entry.now by_token text
             → IsGivenAfter self.exit.now by_token end (text ++ piece.new.items)) }
-        ensures begun { (by_token : Bool) (text : List ℕ) → HasGiven self.entry.now by_token text
-            → HasBegun by_token text (old_calls self.exit.now) (new_calls self.exit.now) }
+        ensures started { (by_token : Bool) (text : List ℕ) → HasGiven self.entry.now by_token text
+            → HasStarted by_token text (old_calls self.exit.now) (new_calls self.exit.now) }
         ensures wrong { IfErr result (λ fault. (by_token : Bool) (text : List ℕ)
             → HasGiven self.entry.now by_token text
             → IsFaultOf fault (old_calls self.exit.now) (new_calls self.exit.now)) }

@@ -88,7 +88,6 @@ impl FullCheck {
         requires fed { (text : List ℕ) × (written : List ℕ) × (valid : List TapFields)
             × HasFullyChecked table.now self.old subtracts full.old text written valid }
 
-
         // For every text that was read so far.
         ensures { OnOk result ((text written : List ℕ) (valid : List TapFields)
             → HasFullyChecked table.now self.old subtracts full.old text written valid

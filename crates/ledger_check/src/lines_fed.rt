@@ -203,7 +203,9 @@ impl LinesFed {
             return Ok(finding);
         }
         keep(&mut self.started, line)?;
-        let finding = self.so_far.take(alloc, table, clock, self.started.as_slice())?;
+        let finding = self
+            .so_far
+            .take(alloc, table, clock, self.started.as_slice())?;
         self.started.clear();
         Ok(finding)
     }

@@ -47,21 +47,13 @@ pub(crate) enum Check {
 impl Check {
     /// The taps of the ledger are to be subtracted from the balance. With a seed, its entries are
     /// summed.
-    pub(crate) fn new(
-        alloc: Global,
-        all: bool,
-        balance: Balance,
-        seed: Option<HashSeed>,
-    ) -> Check
+    pub(crate) fn new(alloc: Global, all: bool, balance: Balance, seed: Option<HashSeed>) -> Check
         ensures all { is_all result ≡ all }
         ensures checked { (fares : Fares) (subtracts : Bool) (valid : List ATap)
             → IsBalance balance valid [] → HasChecked fares subtracts valid result [] [] }
     {
         if all {
-            Check::All(
-                FullCheck::new(alloc, seed),
-                FullBalance::of(alloc, balance),
-            )
+            Check::All(FullCheck::new(alloc, seed), FullBalance::of(alloc, balance))
         } else {
             Check::First(Checker::new(alloc, seed), balance, None)
         }

@@ -30,8 +30,7 @@ pub(crate) struct HeldReport {
     pub(crate) seed: HashSeed,
 }
 
-pub(crate) fn seed_of(report: &Option<HeldReport>) -> Option<HashSeed>
-{
+pub(crate) fn seed_of(report: &Option<HeldReport>) -> Option<HashSeed> {
     match report {
         Some(report) => Some(report.seed),
         None => None,

@@ -5,14 +5,14 @@ use Rattle.std.specs.Prelude.{Contains, slice_get}
 use Rattle.frame.specs.Ends.{did}
 use Rattle.frame.specs.declared.stop.Stop.{Stop}
 use Rattle.frame.specs.declared.stop.Stop.TheVariants.{NoMemory, Unmade, Unread, Unwritten}
-use Rattle.ledger_changes.specs.Given.{HasBegun, HasGiven, IsAllGiven, IsBegun, IsFaultOf}
+use Rattle.ledger_changes.specs.Given.{HasStarted, HasGiven, IsAllGiven, IsStarted, IsFaultOf}
 use Rattle.ledger_changes.specs.Given.{IsGivenAfter, new_calls, old_calls}
 use Rattle.ledger_changes.specs.Tokens.{corrections_of, head_of}
 use Rattle.ledger_changes.specs.declared.changes.Corrections.{Corrections}
 use Rattle.ledger_changes.specs.declared.fault.Bill.TheVariants.{New, Old}
 use Rattle.ledger_changes.specs.declared.fault.CorrectionsFault.{CorrectionsFault}
 use Rattle.ledger_changes.specs.declared.fault.CorrectionsFault.TheVariants as fault
-use Rattle.ledger_changes.proofs.Walking.{begun}
+use Rattle.ledger_changes.proofs.Walking.{started}
 use Rattle.part_texts.proofs.Written.{written_none}
 use Rattle.recorded_lines.specs.Texts.{CanBe, Follows, calls_of}
 use Rattle.recorded_lines.specs.declared.text.Lines.{Lines}
@@ -40,14 +40,14 @@ did_written r text =
     ∙ ap (λ s. record (with_written r text) { loads = r.loads ++ []; said = s })
     (sym (append-nil r.said))
 
--- ---- what was begun
-pub begun_part : (by_token : Bool) (text piece front rest : List ℕ) (old new : Calls)
-    → piece ≡ front ++ rest → HasBegun by_token (text ++ piece) old new
-    → HasBegun by_token (text ++ front) old new
-begun_part by_token text piece front rest old new is has o n can_o can_n =
+-- ---- what was started
+pub started_part : (by_token : Bool) (text piece front rest : List ℕ) (old new : Calls)
+    → piece ≡ front ++ rest → HasStarted by_token (text ++ piece) old new
+    → HasStarted by_token (text ++ front) old new
+started_part by_token text piece front rest old new is has o n can_o can_n =
     by (has o n can_o can_n)
   where
-    by : IsBegun by_token (text ++ piece) o n → IsBegun by_token (text ++ front) o n
+    by : IsStarted by_token (text ++ piece) o n → IsStarted by_token (text ++ front) o n
     by (inl (more, removed, whole)) = inl (
       rest ++ more,
       removed,
@@ -64,9 +64,9 @@ all_read calls whole is can =
     can.begins ∙ ap (λ (l : List ℕ). calls.reading.bytes ++ l) (can.ends is)
     ∙ append-nil calls.reading.bytes
 
-pub all_begun : (by_token : Bool) (old new : Calls) (text : List ℕ) (removed : ℕ)
-    → IsAllGiven by_token old new text removed → HasBegun by_token text old new
-all_begun by_token old new text removed all o n can_o can_n = inl (
+pub all_started : (by_token : Bool) (old new : Calls) (text : List ℕ) (removed : ℕ)
+    → IsAllGiven by_token old new text removed → HasStarted by_token text old new
+all_started by_token old new text removed all o n can_o can_n = inl (
   [],
   removed,
   ap (λ (x : List ℕ). corrections_of by_token x n) (all_read old o all.old_whole can_o)
@@ -74,12 +74,12 @@ all_begun by_token old new text removed all o n can_o can_n = inl (
       ∙ all.text_is ∙ ap (λ (t : List ℕ). Some (t, removed)) (sym (append-nil text)),
 )
 
-pub after_begun : (c : Corrections) (by_token : Bool) (end : Option ℕ) (text : List ℕ)
-    → IsGivenAfter c by_token end text → HasBegun by_token text (old_calls c) (new_calls c)
-after_begun c by_token None text has =
-    begun c by_token text (old_calls c) (new_calls c) has (λ whole can. can) (λ whole can. can)
-after_begun c by_token (Some removed) text all =
-    all_begun by_token (old_calls c) (new_calls c) text removed all
+pub after_started : (c : Corrections) (by_token : Bool) (end : Option ℕ) (text : List ℕ)
+    → IsGivenAfter c by_token end text → HasStarted by_token text (old_calls c) (new_calls c)
+after_started c by_token None text has =
+    started c by_token text (old_calls c) (new_calls c) has (λ whole can. can) (λ whole can. can)
+after_started c by_token (Some removed) text all =
+    all_started by_token (old_calls c) (new_calls c) text removed all
 
 -- the head line was given
 pub given_head : (c : Corrections) (is by_token : Bool) → is ≡ by_token
@@ -205,13 +205,13 @@ both_read request r0 r1 r2 r3 r4 o n c c' texts first second are third fourth is
 
 pub part_of : (request : CorrectionsRequest) (before after : List Calls) (old new : Calls)
     (text : List ℕ) → AreRead request before after old new
-    → (text ≡ []) ⊎ HasBegun request.is_by_token text old new → IsPart request before after text
+    → (text ≡ []) ⊎ HasStarted request.is_by_token text old new → IsPart request before after text
 part_of request before after old new text read (inl none) = inl none
 part_of request before after old new text read (inr has) = inr (old, new, read, has)
 
 pub stops : (request : CorrectionsRequest) (before after : List Calls) (old new : Calls) (why : Stop)
     (run run' : Run) (text : List ℕ) → AreRead request before after old new
-    → (text ≡ []) ⊎ HasBegun request.is_by_token text old new
+    → (text ≡ []) ⊎ HasStarted request.is_by_token text old new
     → IsStopBy why old new (with_written run text) run' → Stopped request before after run run' why
 stops request before after old new why run run' text read part is = record {
   calls = old ∷ new ∷ [];

@@ -5,7 +5,7 @@ use Rattle.frame.specs.Ends.{did}
 use Rattle.frame.specs.Stops.{IsReported}
 use Rattle.frame.specs.declared.stop.Stop.{Stop}
 use Rattle.frame.specs.declared.stop.Stop.TheVariants.{NoMemory, Unmade, Unread, Unwritten}
-use Rattle.ledger_changes.specs.Given.{HasBegun, IsAllGiven}
+use Rattle.ledger_changes.specs.Given.{HasStarted, IsAllGiven}
 use Rattle.ledger_changes.specs.Ledgers.{rows_of}
 use Rattle.ledger_changes.specs.declared.fault.Bill.{Bill}
 use Rattle.ledger_changes.specs.declared.fault.Bill.TheVariants.{New, Old}
@@ -61,7 +61,7 @@ pub record Corrects (request : CorrectionsRequest) (before after : List Calls) (
 -- follows, unless a line of that is wrong
 abbrev pub IsPart : CorrectionsRequest → List Calls → List Calls → List ℕ → Type 0
 IsPart request before after text = (text ≡ []) ⊎ ((old : Calls) × (new : Calls)
-    × AreRead request before after old new × HasBegun request.is_by_token text old new)
+    × AreRead request before after old new × HasStarted request.is_by_token text old new)
 
 -- One of them is no settled ledger: its first wrong line, whatever follows what reads gave, is noted.
 pub record RefusesLedger (request : CorrectionsRequest) (before after : List Calls) (run run' : Run)

@@ -1,6 +1,6 @@
 //! `corrections`.
 ghost use Rattle.std.specs.Prelude.{◌≡◌, ◌≤◌, ◌⊎◌, ◌++◌, ◌∷◌, [], ℕ, List, IfErr, IfOk, OnOk};
-ghost use Rattle.ledger_changes.specs.Given.{HasBegun, IsAllGiven, IsUnbegun, new_calls, old_calls};
+ghost use Rattle.ledger_changes.specs.Given.{HasStarted, IsAllGiven, IsUnbegun, new_calls, old_calls};
 ghost use Rattle.recorded_lines.specs.Texts.{Follows, IsFresh, calls_of};
 ghost use Rattle.tool_tasks.specs.Corrections.{EndsCorrecting, of_bill, removed_note, wrong_note};
 ghost use Rattle.tool_tasks.specs.Corrections.{wrong_text};
@@ -80,7 +80,7 @@ fn write_all<W: World>(
         × IsAllGiven is_by_token (old_calls corrections.exit.now) (new_calls corrections.exit.now)
         text removed) }
     ensures halted { IfErr result (λ halt. (text : List ℕ)
-        × ((text ≡ []) ⊎ HasBegun is_by_token text (old_calls corrections.exit.now)
+        × ((text ≡ []) ⊎ HasStarted is_by_token text (old_calls corrections.exit.now)
         (new_calls corrections.exit.now))
         × IsHalt halt (old_calls corrections.exit.now) (new_calls corrections.exit.now)
         (with_written (W.run world.old) text) (W.run world.new)) }

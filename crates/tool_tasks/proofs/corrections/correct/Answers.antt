@@ -8,7 +8,7 @@ use Rattle.tool_tasks.specs.Corrections.{removed_note, wrong_note}
 use Rattle.tool_tasks.specs.declared.corrections.Halt.{Halt}
 use Rattle.tool_tasks.specs.inside.Corrections.{IsHalt}
 use Rattle.world.specs.Run.{with_written}
-use Rattle.tool_tasks.proofs.Corrected.{all_begun, both_read, flushed_said, not_both, not_flushed}
+use Rattle.tool_tasks.proofs.Corrected.{all_started, both_read, flushed_said, not_both, not_flushed}
 use Rattle.tool_tasks.proofs.Corrected.{not_opened, part_of, stops}
 use Rattle.tool_tasks.proofs.corrections.correct.Goals as goal
 
@@ -66,7 +66,7 @@ returns-in-Ok-removed_line-clause-halted g c =
     c.new-corrections.ensures.old c.new-corrections.ensures.new c.write_all-written.ensures.follow in
     let (text, is, all) = c.in-Ok-written.ensures.done in
     IfErr-weaker c.finish.result _ _ (λ why cut. stops request _ _ old new why run _ text read
-    (inr (all_begun request.is_by_token old new text _ all))
+    (inr (all_started request.is_by_token old new text _ all))
     (not_flushed why old new run run' _ text is cut)) c.finish.ensures.halted
 
 pub returns-in-Err-removed_line-clause-halted : goal.returns-in-Err-removed_line-clause-halted
@@ -83,7 +83,7 @@ returns-in-Err-removed_line-clause-halted g c =
     c.new-corrections.ensures.old c.new-corrections.ensures.new c.write_all-written.ensures.follow in
     let (text, is, all) = c.in-Ok-written.ensures.done in
     stops request _ _ old new NoMemory run run' text read
-    (inr (all_begun request.is_by_token old new text _ all)) is
+    (inr (all_started request.is_by_token old new text _ all)) is
 
 pub returns-in-Ok-wrong_line-clause-done : goal.returns-in-Ok-wrong_line-clause-done
 returns-in-Ok-wrong_line-clause-done g c =

@@ -6,7 +6,7 @@ use Rattle.world.specs.Run.{with_written}
 use Rattle.tool_tasks.specs.inside.Corrections.{IsHalt}
 use Rattle.tool_tasks.specs.declared.corrections.Halt.{Halt}
 use Rattle.part_texts.proofs.Written.{cut_on, written_none, written_on}
-use Rattle.tool_tasks.proofs.Corrected.{after_begun, begun_part, given_head, halt_faulted}
+use Rattle.tool_tasks.proofs.Corrected.{after_started, started_part, given_head, halt_faulted}
 use Rattle.tool_tasks.proofs.corrections.write_all.Goals as goal
 
 pub begin-requires : goal.begin-requires
@@ -32,9 +32,9 @@ pub returns-in-Err-write-clause-halted : goal.returns-in-Err-write-clause-halted
 returns-in-Err-write-clause-halted g c =
     let cut = c.in-Err-write.ensures.cut in (
       cut.front,
-      inr (begun_part c.args.is_by_token [] (head_of c.args.is_by_token) cut.front cut.rest _ _
+      inr (started_part c.args.is_by_token [] (head_of c.args.is_by_token) cut.front cut.rest _ _
           (sym c.corrections_head.ensures ∙ cut.whole)
-          (after_begun c.begin.new.self c.args.is_by_token None _
+          (after_started c.begin.new.self c.args.is_by_token None _
           (given_head c.begin.new.self _ c.args.is_by_token c.requires.by c.in-Ok.ensures.given))),
       cut.prefix,
     )
@@ -65,7 +65,7 @@ pub returns-in-Err-next-clause-halted : goal.returns-in-Err-next-clause-halted
 returns-in-Err-next-clause-halted g c =
     let (text, run, has) = c.loop.invariant.given in (
       text,
-      inr (c.next.ensures.begun c.args.is_by_token text has),
+      inr (c.next.ensures.started c.args.is_by_token text has),
       subst (λ (h : Halt). IsHalt h (old_calls c.next.new.self) (new_calls c.next.new.self)
           (with_written (g.W.Inputs.run c.args.world.now) text) (g.W.Inputs.run c.loop.world))
           (sym c.halt_of-in-Err-next.ensures) (halt_faulted c.in-Err-next.fault _ _ _ _ run
@@ -83,9 +83,9 @@ returns-in-Err-write-2-clause-halted g c =
     let (text, run, has) = c.loop.invariant.given in
     let cut = c.in-Err-write-2.ensures.cut in (
       text ++ cut.front,
-      inr (begun_part c.args.is_by_token text c.next.new.piece.items cut.front cut.rest _ _
+      inr (started_part c.args.is_by_token text c.next.new.piece.items cut.front cut.rest _ _
           (sym c.deref.ensures.value ∙ cut.whole)
-          (after_begun c.next.new.self c.args.is_by_token c.in-Ok-next.next _
+          (after_started c.next.new.self c.args.is_by_token c.in-Ok-next.next _
           (c.in-Ok-next.ensures.given c.args.is_by_token text has))),
       cut_on (g.W.Inputs.run c.args.world.now) (g.W.Inputs.run c.loop.world) _ text
           c.deref.result.now c.in-Err-write-2.why run cut,
@@ -133,4 +133,4 @@ returns-clause-follow g c = (c.loop.invariant.follow_old, c.loop.invariant.follo
 pub returns-clause-halted : goal.returns-clause-halted
 returns-clause-halted g c =
     let (text, run, has) = c.loop.invariant.given in
-    (text, inr (after_begun _ _ None text has), run)
+    (text, inr (after_started _ _ None text has), run)

@@ -3,7 +3,7 @@ use Rattle.std.proofs.lemmas.Result.{IfErr-weaker, IfOk-weaker}
 use Rattle.ledger_changes.specs.Given.{IsWalked}
 use Rattle.ledger_changes.specs.inside.Walks.{WalksOn}
 use Rattle.ledger_changes.specs.inside.Views.{sum_in}
-use Rattle.ledger_changes.proofs.Walking.{begun, given_after}
+use Rattle.ledger_changes.proofs.Walking.{started, given_after}
 use Rattle.ledger_changes.proofs.changes.Corrections.next.Goals as goal
 
 pub returns-clause-given : goal.returns-clause-given
@@ -19,9 +19,9 @@ returns-clause-given c =
     self.tally.removed (sum_in self.tally.last) self.old self.new) (sym has.by) has.walked))))
     c.push_changes.ensures.given
 
-pub returns-clause-begun : goal.returns-clause-begun
-returns-clause-begun c by_token text has =
-    begun c.args.self.now by_token text _ _ has c.push_changes.ensures.follow.0.back
+pub returns-clause-started : goal.returns-clause-started
+returns-clause-started c by_token text has =
+    started c.args.self.now by_token text _ _ has c.push_changes.ensures.follow.0.back
     c.push_changes.ensures.follow.1.back
 
 pub returns-clause-wrong : goal.returns-clause-wrong
