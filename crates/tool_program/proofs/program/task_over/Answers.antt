@@ -4,6 +4,7 @@ use Rattle.program_manners.specs.LineWritten.{LineWritten}
 use Rattle.tool_words.specs.UsageErrors.{usage_error_text}
 use Rattle.tool_words.specs.Tasks.{request_of}
 use Rattle.tool_words.proofs.Entered.{some_is}
+use Rattle.tool_tasks.specs.EncodeRows.{EndsRows}
 use Rattle.tool_program.specs.Merge.{AbortsMerge}
 use Rattle.tool_program.specs.Program.{usage_error_line}
 use Rattle.tool_program.proofs.program.task_over.Goals as goal
@@ -22,7 +23,14 @@ returns-in-Merge-clause-aborted g c = λ one.
 
 pub returns-in-EncodeRows-clause-framed : goal.returns-in-EncodeRows-clause-framed
 returns-in-EncodeRows-clause-framed g c =
-    rw c.in-EncodeRows.is (c.in-EncodeRows.words, refl, c.encode_rows_over.ensures.ends)
+    rw c.in-EncodeRows.is (
+      c.in-EncodeRows.words,
+      refl,
+      subst (λ (ws : List (Bor (List ℕ))). EndsRows c.in-EncodeRows.words (map (λ w. w.now) ws)
+          (g.X.Inputs.run c.args.world.now) (g.X.Inputs.run c.encode_rows_over.new.world)
+          c.encode_rows_over.result) c.deref-in-EncodeRows.ensures.value
+          c.encode_rows_over.ensures.ends,
+    )
 
 pub returns-in-UsageError-clause-misused : goal.returns-in-UsageError-clause-misused
 returns-in-UsageError-clause-misused g c = λ line is.
