@@ -11,7 +11,7 @@ use Rattle.std.proofs.lemmas.List.Sums.{fold-append}
 use Rattle.std.specs.List.{fold}
 use Rattle.std.proofs.lemmas.Grind.{flat_map-append}
 use Rattle.csv.specs.declared.reader.Reader.{Reader}
-use Rattle.tap_rows.specs.AgencyRows.{HeadLayout, layout_in}
+use Rattle.tap_rows.specs.AgencyRows.{HeadLayout}
 use Rattle.tap_rows.specs.AgencyTexts.{HasRecords}
 use Rattle.tap_rows.specs.Devices.{Device, validator_of}
 use Rattle.tap_rows.specs.Numbering.{IsNumbered, device_row, device_table_text, greatest}
@@ -19,7 +19,7 @@ use Rattle.tap_rows.specs.Numbering.{with_name, with_row}
 use Rattle.tap_rows.specs.declared.agency.choice.Choice.{Choice}
 use Rattle.tap_rows.specs.declared.agency.positions.Positions.{Positions}
 use Rattle.tap_rows.specs.inside.Numbering.{IsNumbering}
-use Rattle.tap_rows.specs.inside.Positions.{ArePositions, layout_of}
+use Rattle.tap_rows.specs.inside.Positions.{layout_of}
 use Rattle.tap_rows.specs.inside.RecordReaders.{HasConsumed}
 use Rattle.tap_rows.proofs.AgencyRowLemmas.{layout_is, no_wanting}
 

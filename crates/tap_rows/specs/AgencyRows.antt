@@ -9,7 +9,6 @@ use Rattle.std.specs.Str.{bytes_eq}
 use Rattle.csv.specs.Records.{field_at}
 use Rattle.sha2.specs.Sha256.{sha256}
 use Rattle.uuid.specs.Text.{parsed}
-use Rattle.tap_views.specs.declared.encoder.TapFields.{TapFields}
 use Rattle.tap_rows.specs.Devices.{devices_of, validator_of}
 use Rattle.tap_rows.specs.Formats.{moment_under}
 use Rattle.tap_rows.specs.Keys.{code_by}

@@ -2,7 +2,10 @@
 use Rattle.std.proofs.Common.{◌≡◌, ◌∙◌, ◌⊎◌, ◌∷◌, ◌++◌, ◌<◌, ◌+◌, ℕ, Bool, Bor, List, [], None}
 use Rattle.std.proofs.Common.{Option, Some, ap, arith, false, get_or, if◌then◌else◌, inl, inr}
 use Rattle.std.proofs.Common.{length, map, refl, subst, suc, sym, take, true}
-use Rattle.std.proofs.lemmas.List.{map-append, take_more}
+use Rattle.std.proofs.Common.{drop}
+use Rattle.std.proofs.Math.ListN.{drop_of_length-le, get_or-map}
+use Rattle.std.proofs.lemmas.List.{drop_more, length-map, map-append, take_more}
+use Rattle.std.proofs.Common.{◌≤◌}
 use Rattle.std.specs.Prelude.{IsSome, option_map, slice_get, unwrap_or}
 use Rattle.frame.specs.Ends.{Answer}
 use Rattle.frame.specs.Making.{EndsMaking, IsHaltedMaking}
@@ -20,7 +23,9 @@ use Rattle.tap_rows.specs.declared.agency.choice.LocalClock.{LocalClock}
 use Rattle.tool_words.specs.declared.task.RowsWords.{RowsWords}
 use Rattle.tool_tasks.proofs.Loading.{unread_leaves}
 use Rattle.tool_tasks.proofs.Making.{halts_loaded}
-use Rattle.tool_tasks.specs.EncodeRows.{Csv, EncodesRows, EndsRows, HasDevices, IsChoice}
+use Rattle.tap_rows.specs.Numbering.{IsNumbered}
+use Rattle.tool_tasks.specs.EncodeRows.{AddsCsv, AddsCsvs, AreNumbered, Csv, Encoded, EncodesRows}
+use Rattle.tool_tasks.specs.EncodeRows.{HasDevices, IsChoice}
 use Rattle.tool_tasks.specs.EncodeRows.{IsRowsAnswer, Texts, AnswersTexts, devices_word}
 use Rattle.tool_tasks.specs.EncodeRows.{later_loads, load_csv, loads_in, loads_of, names_of, word_in}
 use Rattle.tool_tasks.specs.EncodeTables.{IsClock, IsKey, zone_file, zone_loaded}
@@ -28,7 +33,8 @@ use Rattle.tool_tasks.specs.Names.{file_named}
 use Rattle.tool_tasks.specs.declared.prepared.NewFile.{NewFile}
 use Rattle.tool_tasks.specs.declared.prepared.Prepared.{Prepared}
 use Rattle.tool_tasks.specs.inside.EncodeRows.{AreLoaded, AreOf, HasLoaded, IsMade, IsOf, Prepares}
-use Rattle.tool_tasks.specs.inside.EncodeRows.{PreparesCsvs}
+use Rattle.tool_tasks.specs.inside.EncodeRows.{IsWrongCsv, PreparesCsvs, csv_of}
+use Rattle.tool_tasks.specs.declared.encode_loads.Csv.{Csv as HeldCsv}
 use Rattle.tool_tasks.specs.inside.Prepared.{AreNamed, HasNoFiles, IsNamedIn, answer_of, files_of}
 use Rattle.tool_tasks.specs.inside.Sort.{HaltsLoading}
 
@@ -194,3 +200,51 @@ rows_statuses words csvs is_there names old new status (inr stopped) = inr (inl 
 pub no_rule : {A : Type 0} (o : Option A) → ¬ (IsSome o) → o ≡ None
 no_rule None none = refl
 no_rule (Some x) none = absurd (none refl)
+
+-- ---- CSVs one after the other
+pub none_after : {X : Type 0} (xs : List X) (i : ℕ) → length xs ≤ i → drop i xs ≡ []
+none_after xs i past = drop_of_length-le xs past
+
+pub numbered_on : (choice : Choice) (csvs : List HeldCsv) (i : ℕ) (csv : HeldCsv)
+    (now new final : List Device) → i < length csvs → csv ≡ get_or csvs i csv
+    → IsNumbered choice csv.text.items now new
+    → AreNumbered choice (map csv_of (drop (i + 1) csvs)) new final
+    → AreNumbered choice (map csv_of (drop i csvs)) now final
+numbered_on choice csvs i csv now new final within is numbered rest =
+    subst (λ (xs : List HeldCsv). AreNumbered choice (map csv_of xs) now final)
+    (sym (drop_more csvs i csv within))
+    (subst (λ (c : HeldCsv). AreNumbered choice (csv_of c ∷ map csv_of (drop (i + 1) csvs)) now final)
+    is (new, numbered, rest))
+
+pub added_on : (words : RowsWords) (is_many : Bool) (choice : Choice) (csvs : List HeldCsv) (i : ℕ)
+    (csv : HeldCsv) (now new final : Encoded) → i < length csvs → csv ≡ get_or csvs i csv
+    → AddsCsv words is_many choice (csv_of csv) now new
+    → AddsCsvs words is_many choice (map csv_of (drop (i + 1) csvs)) new final
+    → AddsCsvs words is_many choice (map csv_of (drop i csvs)) now final
+added_on words is_many choice csvs i csv now new final within is adds rest =
+    subst (λ (xs : List HeldCsv). AddsCsvs words is_many choice (map csv_of xs) now final)
+    (sym (drop_more csvs i csv within))
+    (subst (λ (c : HeldCsv).
+    AddsCsvs words is_many choice (csv_of c ∷ map csv_of (drop (i + 1) csvs)) now final)
+    is (new, adds, rest))
+
+-- one of them says why there is no upload
+pub refused_csv : (words : RowsWords) (choice : Choice) (csvs : List HeldCsv) (i : ℕ)
+    (csv : HeldCsv) (prepared : Prepared) → i < length csvs → csv ≡ get_or csvs i csv
+    → IsWrongCsv words choice (csv_of csv) prepared
+    → PreparesCsvs words choice (map csv_of csvs) prepared
+refused_csv words choice csvs i csv prepared within is wrong = (
+  no_files_of words prepared wrong.3.1,
+  inr (
+    csv_of csv,
+    (
+      i,
+      subst (λ n. i < n) (sym (length-map csvs csv_of)) within,
+      get_or-map csv_of csvs i csv ∙ ap csv_of (sym is),
+    ),
+    wrong.0,
+    wrong.1,
+    wrong.2,
+    wrong.3.0,
+  ),
+)

@@ -257,13 +257,13 @@ fn prepare_encoded<'a>(
     ensures named { IfOk result (AreOf words.now) }
     ensures answered { IfOk result (λ prepared. answer_of prepared
         ≡ record {
-          text = upload_text (word_in words.now.out) (encoded_of all.entry).upload;
-          note = (encoded_of all.entry).note;
+          text = upload_text (word_in words.now.out) (encoded_of all).upload;
+          note = (encoded_of all).note;
         }) }
     ensures made { IfOk result
-        (λ prepared. files_of prepared ≡ files_made words.now choice.now (encoded_of all.entry)) }
+        (λ prepared. files_of prepared ≡ files_made words.now choice.now (encoded_of all)) }
     ensures status { IfOk result
-        (λ prepared. prepared.status ≡ rows_status (encoded_of all.entry)) }
+        (λ prepared. prepared.status ≡ rows_status (encoded_of all)) }
 {
     let status = status_of(&all);
     let devices = device_file(alloc, words, is_there, choice)?;
@@ -297,7 +297,8 @@ pub(crate) fn prepare_csvs<'a>(
 {
     let is_many = csvs.len() > 1;
     let mut all = Encoded::new(alloc);
-    for csv in csvs {
+    for number in 0..csvs.len() {
+        let csv = &csvs[number];
         if let Some(refused) = encode_csv(alloc, words, is_many, choice, csv, &mut all)? {
             return Ok(refused);
         }

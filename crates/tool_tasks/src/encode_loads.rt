@@ -196,7 +196,7 @@ pub(crate) fn load_later<'a, W: World + Counted>(
     world: &mut W,
 ) -> Result<Texts<'a>, Halt<'a>>
     ensures loaded { IfOk result (λ texts. HasLoaded words.now (map (λ w. w.now) csvs.now)
-        devices.entry.items (texts_in texts) (W.run world.old) (W.run world.new)) }
+        devices.items (texts_in texts) (W.run world.old) (W.run world.new)) }
     ensures halted { IfErr result (λ halt. HaltsLoading
         (names_of words.now (map (λ w. w.now) csvs.now)) halt.why (W.run world.old)
         (W.run world.new)) }

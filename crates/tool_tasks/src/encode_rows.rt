@@ -28,11 +28,11 @@ fn encode<'a, W: World + Counted>(
     world: &mut W,
 ) -> Result<u8, Halt<'a>>
     ensures done { IfOk result (λ status. (started : Run) → W.run world.old
-        ≡ with_loads started (loads_in (devices_word words.now is_there) devices.entry.items)
+        ≡ with_loads started (loads_in (devices_word words.now is_there) devices.items)
         → IsDoneMaking (EncodesRows words.now (map (λ w. w.now) csvs.now) is_there) started
         (W.run world.new) status) }
     ensures halted { IfErr result (λ halt. (started : Run) → W.run world.old
-        ≡ with_loads started (loads_in (devices_word words.now is_there) devices.entry.items)
+        ≡ with_loads started (loads_in (devices_word words.now is_there) devices.items)
         → IsHaltedMaking (EncodesRows words.now (map (λ w. w.now) csvs.now) is_there)
         (names_of words.now (map (λ w. w.now) csvs.now)) started (W.run world.new) halt.why) }
 {

@@ -66,9 +66,9 @@ fn prepare_by_zone_file<'a>(
     requires named { word_in words.now.zone ≡ Some name.now }
     requires no_rule { read_whole name.now ≡ None }
     requires devices { HasDevices words.now is_there (texts_in texts.now)
-        (option_map (λ d. devices_of d.now) devices.entry) }
+        (option_map (λ d. devices_of d.now) devices) }
     requires key { IsKey (word_in words.now.key) (texts_in texts.now).key
-        (option_map (λ k. k.now.block) key.entry) }
+        (option_map (λ k. k.now.block) key) }
     ensures { IfOk result (Prepares words.now is_there (texts_in texts.now)) }
 {
     if !is_zone_name(name) {
@@ -86,18 +86,18 @@ fn prepare_by_zone_file<'a>(
 }
 
 /// With the zone that the words name, by its rule or its name.
-fn prepare_by_zone<'a>(
+fn prepare_by_zone<'a, 'c>(
     alloc: Global,
-    words: &RowsWords<'a>,
+    words: &'c RowsWords<'a>,
     is_there: bool,
     texts: &Texts<'a>,
-    devices: Option<&DeviceTable>,
-    key: Option<&TokenKey>,
+    devices: Option<&'c DeviceTable>,
+    key: Option<&'c TokenKey>,
 ) -> Result<Prepared<'a>, AllocError>
     requires devices { HasDevices words.now is_there (texts_in texts.now)
-        (option_map (λ d. devices_of d.now) devices.entry) }
+        (option_map (λ d. devices_of d.now) devices) }
     requires key { IsKey (word_in words.now.key) (texts_in texts.now).key
-        (option_map (λ k. k.now.block) key.entry) }
+        (option_map (λ k. k.now.block) key) }
     ensures { IfOk result (Prepares words.now is_there (texts_in texts.now)) }
 {
     match words.zone {
@@ -129,7 +129,7 @@ fn prepare_by_key<'a>(
     devices: Option<&DeviceTable>,
 ) -> Result<Prepared<'a>, AllocError>
     requires { HasDevices words.now is_there (texts_in texts.now)
-        (option_map (λ d. devices_of d.now) devices.entry) }
+        (option_map (λ d. devices_of d.now) devices) }
     ensures { IfOk result (Prepares words.now is_there (texts_in texts.now)) }
 {
     match words.key {
@@ -170,7 +170,8 @@ fn number_each(
     ensures { OnOk result (AreNumbered choice.now (map csv_of csvs.now)
         (devices_of devices.old) (devices_of devices.new)) }
 {
-    for csv in csvs {
+    for number in 0..csvs.len() {
+        let csv = &csvs[number];
         number_devices(alloc, choice, &csv.text, devices)?;
     }
     Ok(())

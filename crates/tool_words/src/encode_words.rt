@@ -282,15 +282,28 @@ pub(crate) fn files_in<'a>(
     Ok(files)
 }
 
+fn is_twice(inputs: usize, is_devices: bool, is_key: bool) -> bool
+    ensures { result ≡ is_twice inputs is_devices is_key }
+{
+    if inputs > 1 {
+        return true;
+    }
+    if inputs > 0 && (is_devices || is_key) {
+        return true;
+    }
+    is_devices && is_key
+}
+
 fn has_table_twice(matches: &ArgMatches<'_>, files: &[&str]) -> bool
     ensures { result ≡ is_twice (inputs_in (texts_of files.now))
         (has_input_at (codes "validators") (rows_of (found_of matches.now)))
         (has_input_at (codes "token-key") (rows_of (found_of matches.now))) }
 {
-    let inputs = inputs_in(files);
-    let is_devices = is_input_given(value_in(matches, "validators"));
-    let is_key = is_input_given(value_in(matches, "token-key"));
-    inputs > 1 || inputs > 0 && (is_devices || is_key) || is_devices && is_key
+    is_twice(
+        inputs_in(files),
+        is_input_given(value_in(matches, "validators")),
+        is_input_given(value_in(matches, "token-key")),
+    )
 }
 
 /// The device table that is read, or made.

@@ -73,6 +73,7 @@ fn table_rows_task<'a>(matches: &ArgMatches<'a>, has_files: bool) -> Task<'a>
     Task::Encode(encoded_file(matches))
 }
 
+#[tactic(auto, using(crate::proofs::Columns::many_named))]
 fn encode_task<'a>(alloc: Global, matches: &ArgMatches<'a>) -> Result<Task<'a>, AllocError>
     ensures { IfOk result (λ task. request_of task ≡ encode_request (rows_of (found_of matches.now))) }
 {

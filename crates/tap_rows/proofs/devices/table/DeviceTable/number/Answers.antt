@@ -1,4 +1,4 @@
-use Rattle.std.proofs.Common.{◌∙◌, refl, rules, sym}
+use Rattle.std.proofs.Common.{◌∙◌, rules, sym}
 use Rattle.indexmap.proofs.CallerLemmas.{insert_entry-new}
 use Rattle.tap_rows.specs.Devices.{devices_of}
 use Rattle.tap_rows.proofs.DeviceLemmas.{device_added, none_found}
