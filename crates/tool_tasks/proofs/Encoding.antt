@@ -1,35 +1,19 @@
 -- What `encode` has done when it ends.
-use Rattle.std.proofs.Common.{◌≡◌, ◌∙◌, ◌⊎◌, ◌∷◌, ◌++◌, ◌≤◌, ℕ, Bool, Err, IfOk, List, [], None, Ok}
-use Rattle.std.proofs.Common.{Option, Result, Some}
-use Rattle.std.proofs.Common.{ap, arith, false, if◌then◌else◌, inl, inr, refl, subst, sym, true}
-use Rattle.std.specs.Prelude.{◌==◌, codes, option_map, slice_get, unwrap_or}
+use Rattle.std.proofs.Common.{◌≡◌, ◌∙◌, ◌∷◌, ◌≤◌, ℕ, List, [], Option, Some, ap, arith, inl, inr, refl}
+use Rattle.std.proofs.Common.{subst, sym}
+use Rattle.std.specs.Prelude.{slice_get}
 use Rattle.frame.specs.Ends.{Answer}
-use Rattle.frame.specs.Making.{EndsMaking, IsDoneMaking, IsHaltedMaking}
+use Rattle.frame.specs.Making.{EndsMaking, IsHaltedMaking}
 use Rattle.frame.specs.declared.stop.Stop.{Stop}
 use Rattle.frame.specs.declared.stop.Stop.TheVariants.{NoMemory, Unread}
-use Rattle.world.proofs.Laws.{more_loads, no_loads}
 use Rattle.world.specs.Loads.{IsRefused}
 use Rattle.world.specs.Origins.{with_loads}
 use Rattle.world.specs.Run.{Load, Named, Run, with_load}
 use Rattle.world.specs.declared.faults.LoadFault.{LoadFault}
-use Rattle.tap_rows.specs.Agencies.{IsFirstRefused, IsRowsEncoded}
-use Rattle.tap_rows.specs.declared.agency.choice.Choice.{Choice}
-use Rattle.tap_rows.specs.declared.agency.reading.Reason.{Reason}
-use Rattle.tap_rows.specs.declared.agency.summary.Summary.{Summary}
-use Rattle.tool_words.specs.declared.task.RowsWords.{RowsWords}
 use Rattle.tool_tasks.proofs.Loading.{unread_leaves}
-use Rattle.tool_tasks.proofs.Making.{halts_at_once, halts_loaded}
-use Rattle.tool_tasks.specs.Encode.{EncodesTable, IsTableAnswer, Refuses, load_of}
-use Rattle.tool_tasks.specs.EncodeRows.{EncodesRows, EncodesText, IsChoice}
-use Rattle.tool_tasks.specs.EncodeRows.{IsRowsAnswer, IsRowsUpload, IsSummaryLine}
-use Rattle.tool_tasks.specs.EncodeRows.{IsWrongDevices, names_of}
-use Rattle.tool_tasks.specs.EncodeRows.{refused_files, rows_status, word_in}
-use Rattle.tool_tasks.specs.EncodeTables.{zone_file}
-use Rattle.tool_tasks.specs.Fault.{wrong_line}
+use Rattle.tool_tasks.proofs.Making.{halts_loaded}
+use Rattle.tool_tasks.specs.Encode.{EncodesTable, IsTableAnswer, load_of}
 use Rattle.tool_tasks.specs.Names.{file_named}
-use Rattle.tool_tasks.specs.WrongTables.{devices_text}
-use Rattle.tool_tasks.specs.declared.wrong_tables.WrongDevices.{WrongDevices}
-use Rattle.tool_tasks.specs.inside.Prepared.{IsNamedIn, files_in}
 
 -- ---- the load of a word
 pub word_loaded : (word : List ℕ) (old new : Run) (name : Option (List ℕ)) (bytes : List ℕ)

@@ -2,7 +2,16 @@
 use Rattle.std.proofs.Common.{◌≡◌, ◌∙◌, ◌⊎◌, ◌∷◌, ◌++◌, ◌<◌, ◌+◌, ℕ, Bool, Bor, List, [], None}
 use Rattle.std.proofs.Common.{Option, Some, ap, arith, false, get_or, if◌then◌else◌, inl, inr}
 use Rattle.std.proofs.Common.{length, map, refl, subst, suc, sym, take, true}
-use Rattle.std.proofs.Common.{drop}
+use Rattle.std.proofs.Common.{Ok, drop, zero}
+use Rattle.jiff_tz.specs.PosixReader.{read_whole}
+use Rattle.jiff_tz.specs.Tzif.{tzif_view}
+use Rattle.jiff_tz.specs.TzifReader.{read_tzif}
+use Rattle.jiff_tz.specs.declared.timezone.TimeZone.{TimeZone}
+use Rattle.jiff_tz.specs.declared.timezone.TimeZone.TheVariants as zones
+use Rattle.jiff_tz.specs.declared.tzif.Tzif.{Tzif}
+use Rattle.tap_rows.specs.Agencies.{IsFirstRefused, IsRowsEncoded}
+use Rattle.tap_rows.specs.declared.agency.reading.Reason.{Reason}
+use Rattle.tap_rows.specs.declared.agency.summary.Summary.{Summary}
 use Rattle.std.proofs.Math.ListN.{drop_of_length-le, get_or-map}
 use Rattle.std.proofs.lemmas.List.{drop_more, length-map, map-append, take_more}
 use Rattle.std.proofs.Common.{◌≤◌}
@@ -11,8 +20,13 @@ use Rattle.frame.specs.Ends.{Answer}
 use Rattle.frame.specs.Making.{EndsMaking, IsHaltedMaking}
 use Rattle.frame.specs.Stops.{Leaves}
 use Rattle.frame.specs.declared.stop.Stop.{Stop}
+<<<<<<< ours
 use Rattle.frame.specs.declared.stop.Stop.TheVariants.{Unread}
 use Rattle.world.proofs.Laws.{more_loads}
+=======
+use Rattle.frame.specs.declared.stop.Stop.TheVariants.{NoMemory, Unread}
+use Rattle.world.proofs.Laws.{more_loads, no_loads}
+>>>>>>> theirs
 use Rattle.world.specs.Loads.{IsRefused}
 use Rattle.world.specs.Origins.{with_loads}
 use Rattle.world.specs.Run.{Load, Named, Run, with_load}
@@ -21,24 +35,41 @@ use Rattle.tap_rows.specs.Devices.{Device, devices_of}
 use Rattle.tap_rows.specs.declared.agency.choice.Choice.{Choice}
 use Rattle.tap_rows.specs.declared.agency.choice.LocalClock.{LocalClock}
 use Rattle.tool_words.specs.declared.task.RowsWords.{RowsWords}
-use Rattle.tool_tasks.proofs.Loading.{unread_leaves}
+use Rattle.tool_tasks.proofs.Loading.{unread_leaves, word_got}
 use Rattle.tool_tasks.proofs.Making.{halts_loaded}
 use Rattle.tap_rows.specs.Numbering.{IsNumbered}
 use Rattle.tool_tasks.specs.EncodeRows.{AddsCsv, AddsCsvs, AreNumbered, Csv, Encoded, EncodesRows}
 use Rattle.tool_tasks.specs.EncodeRows.{HasDevices, IsChoice}
 use Rattle.tool_tasks.specs.EncodeRows.{IsRowsAnswer, Texts, AnswersTexts, devices_word}
 use Rattle.tool_tasks.specs.EncodeRows.{later_loads, load_csv, loads_in, loads_of, names_of, word_in}
-use Rattle.tool_tasks.specs.EncodeTables.{IsClock, IsKey, zone_file, zone_loaded}
+use Rattle.tool_tasks.specs.EncodeTables.{IsClock, IsKey, IsZone, is_zone_name, zone_file}
+use Rattle.tool_tasks.specs.EncodeTables.{zone_loaded}
 use Rattle.tool_tasks.specs.Names.{file_named}
 use Rattle.tool_tasks.specs.declared.prepared.NewFile.{NewFile}
 use Rattle.tool_tasks.specs.declared.prepared.Prepared.{Prepared}
 use Rattle.tool_tasks.specs.inside.EncodeRows.{AreLoaded, AreOf, HasLoaded, IsMade, IsOf, Prepares}
-use Rattle.tool_tasks.specs.inside.EncodeRows.{IsWrongCsv, PreparesCsvs, csv_of}
+use Rattle.tool_tasks.specs.inside.EncodeRows.{IsTable, IsWrongCsv, PreparesCsvs, csv_of}
 use Rattle.tool_tasks.specs.declared.encode_loads.Csv.{Csv as HeldCsv}
 use Rattle.tool_tasks.specs.inside.Prepared.{AreNamed, HasNoFiles, IsNamedIn, answer_of, files_of}
 use Rattle.tool_tasks.specs.inside.Sort.{HaltsLoading}
 
 -- ---- loads
+<<<<<<< ours
+=======
+-- an element after a list
+slice_get_after : {X : Type 0} (xs ys : List X) (n k : ℕ) → length xs ≡ k
+    → slice_get (xs ++ ys) (n + k) ≡ slice_get ys n
+slice_get_after {X} [] ys n k long =
+    let same : n + k ≡ n = omega (arith, long) in ap (slice_get ys) same
+slice_get_after {X} (x ∷ xs) ys n zero long = absurd (omega (arith, long))
+slice_get_after {X} (x ∷ xs) ys n (suc k) long =
+    let next : n + suc k ≡ suc (n + k) = omega arith in
+    ap (slice_get (x ∷ (xs ++ ys))) next ∙ slice_get_after xs ys n k (omega (arith, long))
+
+pub nothing_loaded : (r : Run) → with_loads r [] ≡ r
+nothing_loaded r = no_loads r
+
+>>>>>>> theirs
 -- a file of these names was not loaded, after these loads
 pub halts_unloaded : (names : List (List ℕ)) (number : ℕ) (word : List ℕ) (why : LoadFault)
     (stop : Stop) (old mid new : Run) (loads : List Load) → slice_get names number ≡ Some word
@@ -245,3 +276,67 @@ refused_csv words choice csvs i csv prepared within is wrong = (
     wrong.3.0,
   ),
 )
+
+-- the first row that is refused
+pub first_refused : (choice : Choice) (text file refused : List ℕ) (summary : Summary) (number : ℕ)
+    (reason : Reason) → IsRowsEncoded choice text file refused summary
+    → summary.first_refused ≡ Some (number, reason) → IsFirstRefused choice text number reason
+first_refused choice text file refused summary number reason is first = record {
+  head = is.head;
+  rows = is.rows;
+  readings = is.readings;
+  is_read = is.is_read;
+  first = sym is.summary_is.first_refused ∙ first;
+}
+
+-- ---- the zone
+pub named_clock : (words : RowsWords) (name text : List ℕ) (clock : LocalClock)
+    → word_in words.zone ≡ Some name → clock.fold ≡ words.fold → IsZone name text clock.zone
+    → IsClock (word_in words.zone) words.fold text (Some clock)
+named_clock words name text clock named fold is =
+    subst (λ (w : Option (List ℕ)). IsClock w words.fold text (Some clock)) (sym named) (fold, is)
+
+pub table_zone : (name text : List ℕ) (table : Tzif) (zone : TimeZone) → IsTable table zone
+    → read_whole name ≡ None → is_zone_name name ≡ true → read_tzif text ≡ Ok (tzif_view table)
+    → IsZone name text zone
+table_zone name text table (zones.Tzif held) is none named read =
+    (none, named, read ∙ sym (ap (λ (t : Tzif). Ok (tzif_view t)) is))
+table_zone name text table zones.UTC is none named read = absurd is
+table_zone name text table zones.Unknown is none named read = absurd is
+table_zone name text table (zones.Fixed offset) is none named read = absurd is
+table_zone name text table (zones.Posix rule) is none named read = absurd is
+
+-- a CSV that was not loaded
+pub halts_csv : (front : List (List ℕ)) (words : List (Bor (List ℕ))) (n : ℕ)
+    (d : Bor (List ℕ)) (why : LoadFault) (stop : Stop) (old mid new : Run) (loads : List Load)
+    → length front ≡ 5 → n < length words → stop ≡ Unread (n + 5) why
+    → mid ≡ with_loads old loads → IsRefused mid new (file_named (get_or words n d).now) why
+    → HaltsLoading (front ++ map (λ w. w.now) words) stop old new
+halts_csv front words n d why stop old mid new loads long within stopped was refused =
+    let names = front ++ map (λ w. w.now) words in
+    let word = (get_or words n d).now in
+    let here : slice_get names (n + 5) ≡ Some word =
+    slice_get_after front (map (λ w. w.now) words) n 5 long ∙ word_got words n d within in
+    halts_unloaded names (n + 5) word why stop old mid new loads here stopped was refused
+
+-- an allocation failed after one more load
+pub halts_full : (names : List (List ℕ)) (stop : Stop) (old mid new : Run) (loads : List Load)
+    (name : Option (List ℕ)) (bytes : List ℕ) → stop ≡ NoMemory → mid ≡ with_loads old loads
+    → new ≡ with_load mid name bytes → HaltsLoading names stop old new
+halts_full names stop old mid new loads name bytes is was loaded =
+    let one = record { name = name; bytes = bytes } ∷ [] in
+    subst (λ s. HaltsLoading names s old new) (sym is) (record {
+      loads = loads ++ one;
+      named = tt;
+      all = loaded ∙ ap (λ r. with_load r name bytes) was ∙ more_loads old loads one;
+    })
+
+-- it was stopped after these loads and others
+pub halts_after : (names : List (List ℕ)) (why : Stop) (old mid new : Run) (loads : List Load)
+    → mid ≡ with_loads old loads → HaltsLoading names why mid new → HaltsLoading names why old new
+halts_after names why old mid new loads was h = record {
+  loads = loads ++ h.loads;
+  named = h.named;
+  all = subst (λ r. Leaves names why r new)
+      (ap (λ r. with_loads r h.loads) was ∙ more_loads old loads h.loads) h.all;
+}

@@ -71,7 +71,7 @@ made_leaves : (names : List (List ℕ)) (name : List ℕ) (number : ℕ) (why : 
     → IsNamed names why × Leaves names why old new
 made_leaves names name number (Unmade which fault) old new at unmade =
     let here : slice_get names which ≡ Some name = ap (slice_get names) unmade.0 ∙ at in
-    (slice_get_within names which name here, name, here, unmade.1)
+    (slice_get_within names which name here, (name, here, unmade.1))
 made_leaves names name number (Unread which fault) old new at unmade = absurd unmade
 made_leaves names name number (Unwritten fault) old new at unmade = absurd unmade
 made_leaves names name number NoMemory old new at unmade = absurd unmade

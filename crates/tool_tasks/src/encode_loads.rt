@@ -111,6 +111,15 @@ fn zone_loaded(alloc: Global, zone: Option<&str>) -> Result<Option<String>, Allo
     }
 }
 
+fn name_in<'p>(path: &'p Option<String>) -> Option<&'p str>
+    ensures { word_in result ≡ option_map string_bytes path.entry.now }
+{
+    match path {
+        Some(path) => Some(path.as_str()),
+        None => None,
+    }
+}
+
 /// The file of the zone was not loaded.
 fn unread_zone<'a>(word: Option<&'a str>, why: LoadFault) -> Halt<'a>
     ensures { result.why ≡ Stop.Unread ZONE_NUMBER why }
@@ -209,11 +218,7 @@ pub(crate) fn load_later<'a, W: World + Counted>(
         Ok(key) => key,
         Err(why) => return Err(Halt::of(Stop::Unread(KEY_NUMBER, why), words.key)),
     };
-    let zone_file = match &path {
-        Some(path) => Some(path.as_str()),
-        None => None,
-    };
-    let zone = match load_named(alloc, zone_file, world) {
+    let zone = match load_named(alloc, name_in(&path), world) {
         Ok(zone) => zone,
         Err(why) => return Err(unread_zone(words.zone, why)),
     };

@@ -206,13 +206,15 @@ fn prepare_by_devices<'a>(
     words: &RowsWords<'a>,
     is_there: bool,
     texts: &Texts<'a>,
+    name: &str,
     old: DeviceTable,
 ) -> Result<Prepared<'a>, AllocError>
-    requires named { (name : List ℕ) × (word_in words.now.devices ≡ Some name) }
+    requires named { word_in words.now.devices ≡ Some name.now }
     requires old { AreOldDevices is_there words.now.columns.separator (texts_in texts.now).devices
         (devices_of old) }
     ensures { IfOk result (Prepares words.now is_there (texts_in texts.now)) }
 {
+    let _ = name;
     let mut devices = old;
     number_if_made(
         alloc,
@@ -237,12 +239,12 @@ pub(crate) fn prepare<'a>(
 {
     match words.devices {
         None => prepare_by_key(alloc, words, is_there, texts, None),
-        Some(_) if !is_there => {
+        Some(name) if !is_there => {
             let none = DeviceTable::new(alloc, seed);
-            prepare_by_devices(alloc, words, is_there, texts, none)
+            prepare_by_devices(alloc, words, is_there, texts, name, none)
         }
         Some(name) => match read_devices(alloc, seed, words.columns.separator, &texts.devices) {
-            Ok(old) => prepare_by_devices(alloc, words, is_there, texts, old),
+            Ok(old) => prepare_by_devices(alloc, words, is_there, texts, name, old),
             Err(fault) => refuse_devices(alloc, name, fault),
         },
     }

@@ -138,7 +138,10 @@ pub(crate) fn encode_command<'a>(alloc: Global, is_whole: bool) -> Result<Comman
         ),
         Row::One(Takes::Value("zone", "ZONE", ZONE_HELP), Need::Never),
         Row::One(Takes::Value("fold", "FOLD", FOLD_HELP), Need::Never),
-        Row::One(Takes::Value("refused", "REFUSED", REFUSED_HELP), Need::Never),
+        Row::One(
+            Takes::Value("refused", "REFUSED", REFUSED_HELP),
+            Need::Never,
+        ),
         Row::One(Takes::Value("out", "OUT", OUT_HELP), Need::Never),
         Row::One(Takes::Words("FILE", ENCODE_HELP), Need::Never),
     ];
