@@ -20,13 +20,8 @@ use Rattle.frame.specs.Ends.{Answer}
 use Rattle.frame.specs.Making.{EndsMaking, IsHaltedMaking}
 use Rattle.frame.specs.Stops.{Leaves}
 use Rattle.frame.specs.declared.stop.Stop.{Stop}
-<<<<<<< ours
-use Rattle.frame.specs.declared.stop.Stop.TheVariants.{Unread}
-use Rattle.world.proofs.Laws.{more_loads}
-=======
 use Rattle.frame.specs.declared.stop.Stop.TheVariants.{NoMemory, Unread}
-use Rattle.world.proofs.Laws.{more_loads, no_loads}
->>>>>>> theirs
+use Rattle.world.proofs.Laws.{more_loads}
 use Rattle.world.specs.Loads.{IsRefused}
 use Rattle.world.specs.Origins.{with_loads}
 use Rattle.world.specs.Run.{Load, Named, Run, with_load}
@@ -54,8 +49,6 @@ use Rattle.tool_tasks.specs.inside.Prepared.{AreNamed, HasNoFiles, IsNamedIn, an
 use Rattle.tool_tasks.specs.inside.Sort.{HaltsLoading}
 
 -- ---- loads
-<<<<<<< ours
-=======
 -- an element after a list
 slice_get_after : {X : Type 0} (xs ys : List X) (n k : ℕ) → length xs ≡ k
     → slice_get (xs ++ ys) (n + k) ≡ slice_get ys n
@@ -66,10 +59,6 @@ slice_get_after {X} (x ∷ xs) ys n (suc k) long =
     let next : n + suc k ≡ suc (n + k) = omega arith in
     ap (slice_get (x ∷ (xs ++ ys))) next ∙ slice_get_after xs ys n k (omega (arith, long))
 
-pub nothing_loaded : (r : Run) → with_loads r [] ≡ r
-nothing_loaded r = no_loads r
-
->>>>>>> theirs
 -- a file of these names was not loaded, after these loads
 pub halts_unloaded : (names : List (List ℕ)) (number : ℕ) (word : List ℕ) (why : LoadFault)
     (stop : Stop) (old mid new : Run) (loads : List Load) → slice_get names number ≡ Some word
