@@ -15,7 +15,7 @@ use Rattle.tap_rows.specs.declared.agency.summary.Summary.{Summary}
 use Rattle.std.proofs.Math.ListN.{drop_of_length-le, get_or-map}
 use Rattle.std.proofs.lemmas.List.{drop_more, length-map, map-append, take_more}
 use Rattle.std.proofs.Common.{◌≤◌}
-use Rattle.std.specs.Prelude.{IsSome, option_map, slice_get, unwrap_or}
+use Rattle.std.specs.Prelude.{Err, IfOk, IsSome, Result, nat_lt, option_map, slice_get, unwrap_or}
 use Rattle.frame.specs.Ends.{Answer}
 use Rattle.frame.specs.Making.{EndsMaking, IsHaltedMaking}
 use Rattle.frame.specs.Stops.{Leaves}
@@ -34,7 +34,8 @@ use Rattle.tool_tasks.proofs.Loading.{unread_leaves, word_got}
 use Rattle.tool_tasks.proofs.Making.{halts_loaded}
 use Rattle.tap_rows.specs.Numbering.{IsNumbered}
 use Rattle.tool_tasks.specs.EncodeRows.{AddsCsv, AddsCsvs, AreNumbered, Csv, Encoded, EncodesRows}
-use Rattle.tool_tasks.specs.EncodeRows.{HasDevices, IsChoice}
+use Rattle.tool_tasks.specs.EncodeRows.{HasDevices, IsChoice, files_made, nothing_encoded}
+use Rattle.tool_tasks.specs.EncodeRows.{rows_status, upload_text}
 use Rattle.tool_tasks.specs.EncodeRows.{IsRowsAnswer, Texts, AnswersTexts, devices_word}
 use Rattle.tool_tasks.specs.EncodeRows.{later_loads, load_csv, loads_in, loads_of, names_of, word_in}
 use Rattle.tool_tasks.specs.EncodeTables.{IsClock, IsKey, IsZone, is_zone_name, zone_file}
@@ -329,3 +330,29 @@ halts_after names why old mid new loads was h = record {
   all = subst (λ r. Leaves names why r new)
       (ap (λ r. with_loads r h.loads) was ∙ more_loads old loads h.loads) h.all;
 }
+
+-- ---- all CSVs
+-- four facts of a result
+pub all_four : {T E : Type 0} (r : Result T E) (A B C D P : T → Type 0) → IfOk r A → IfOk r B
+    → IfOk r C → IfOk r D → ((x : T) → A x → B x → C x → D x → P x) → IfOk r P
+all_four (Ok x) A B C D P a b c d make = make x a b c d
+all_four (Err e) A B C D P a b c d make = tt
+
+pub csvs_prepared : (words : RowsWords) (choice : Choice) (csvs : List Csv) (all : Encoded)
+    (prepared : Prepared)
+    → AddsCsvs words (nat_lt 1 (length csvs)) choice csvs nothing_encoded all
+    → AreOf words prepared
+    → answer_of prepared
+    ≡ record { text = upload_text (word_in words.out) all.upload; note = all.note }
+    → files_of prepared ≡ files_made words choice all → prepared.status ≡ rows_status all
+    → PreparesCsvs words choice csvs prepared
+csvs_prepared words choice csvs all prepared added named answered made status = (
+  named,
+  inl (record {
+    all = all;
+    encoded = added;
+    answered = answered;
+    made = made;
+    status_is = status;
+  }),
+)

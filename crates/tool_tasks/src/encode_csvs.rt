@@ -299,8 +299,9 @@ pub(crate) fn prepare_csvs<'a>(
     let mut all = Encoded::new(alloc);
     for number in 0..csvs.len() {
         let csv = &csvs[number];
-        if let Some(refused) = encode_csv(alloc, words, is_many, choice, csv, &mut all)? {
-            return Ok(refused);
+        match encode_csv(alloc, words, is_many, choice, csv, &mut all)? {
+            Some(refused) => return Ok(refused),
+            None => {}
         }
     }
     prepare_encoded(alloc, words, is_there, choice, all)

@@ -137,7 +137,7 @@ fn unread_zone<'a>(word: Option<&'a str>, why: LoadFault) -> Halt<'a>
 }
 
 /// All bytes of the file that the word names, if there is one.
-#[tactic(auto, using(crate::proofs::EncodingRows::nothing_loaded))]
+#[tactic(auto, using(world::proofs::Laws::no_loads))]
 fn load_named<W: World>(
     alloc: Global,
     name: Option<&str>,

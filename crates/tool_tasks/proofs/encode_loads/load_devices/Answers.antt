@@ -13,4 +13,4 @@ returns-in-Err-Unread-clause-loaded g c =
 pub returns-in-Err-clause-refused : goal.returns-in-Err-clause-refused
 returns-in-Err-clause-refused g c =
     let named : word_in c.args.words.now.devices ≡ Some c.in-Some.name.now = rw c.in-Some.is refl in
-    (c.in-Some.name.now, named, rw c.in-Err.why-is at c.in-Err.ensures.refused)
+    (c.in-Some.name.now, named, rw (← c.in-Err.why-is) at c.in-Err.ensures.refused)

@@ -13,11 +13,11 @@ returns-in-Err c =
     let separator = words.columns.separator in
     let wrong = subst (λ (t : List ℕ). IsDevicesFault separator t c.in-Err.fault)
     c.deref.ensures.value c.in-Err.ensures.fault in
-    let named : word_in words.devices ≡ Some c.in-Some.name.now = rw c.in-Some.is refl in
+    let named : word_in words.devices ≡ Some c.in-Some-2.name.now = rw c.in-Some-2.is refl in
     IfOk-weaker c.refuse_devices.result _ _ (λ prepared refused. (
       no_files_of words prepared refused.2.1,
       inr (inl (record {
-        name = c.in-Some.name.now;
+        name = c.in-Some-2.name.now;
         named = named;
         there = c.if-not-is_there.false;
         wrong = refused.0;
