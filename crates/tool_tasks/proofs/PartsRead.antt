@@ -1,5 +1,5 @@
 -- Parts that are merged: what was read of them, and how a run over them ends.
-use Rattle.std.proofs.Common.{◌≡◌, ◌∙◌, ◌⊎◌, ◌+◌, ◌<◌, ◌++◌, ◌∷◌, [], Bor, List, None, Option, Ok, Err, Result}
+use Rattle.std.proofs.Common.{◌≡◌, ◌∙◌, ◌+◌, ◌<◌, ◌++◌, ◌∷◌, [], Bor, List, Ok, Err, Result}
 use Rattle.std.proofs.Common.{Some, ap, append-nil, append_assoc, arith, get_or, inl, inr, length, map, refl}
 use Rattle.std.proofs.Common.{subst, suc, sym, take, zero, ℕ}
 use Rattle.std.specs.Prelude.{All, Contains, slice_get}
