@@ -12,7 +12,7 @@ use Rattle.frame.specs.Making.{EndsMaking, IsHaltedMaking}
 use Rattle.frame.specs.Stops.{Leaves}
 use Rattle.frame.specs.declared.stop.Stop.{Stop}
 use Rattle.frame.specs.declared.stop.Stop.TheVariants.{Unread}
-use Rattle.world.proofs.Laws.{more_loads, no_loads}
+use Rattle.world.proofs.Laws.{more_loads}
 use Rattle.world.specs.Loads.{IsRefused}
 use Rattle.world.specs.Origins.{with_loads}
 use Rattle.world.specs.Run.{Load, Named, Run, with_load}
@@ -39,9 +39,6 @@ use Rattle.tool_tasks.specs.inside.Prepared.{AreNamed, HasNoFiles, IsNamedIn, an
 use Rattle.tool_tasks.specs.inside.Sort.{HaltsLoading}
 
 -- ---- loads
-pub nothing_loaded : (r : Run) → with_loads r [] ≡ r
-nothing_loaded r = no_loads r
-
 -- a file of these names was not loaded, after these loads
 pub halts_unloaded : (names : List (List ℕ)) (number : ℕ) (word : List ℕ) (why : LoadFault)
     (stop : Stop) (old mid new : Run) (loads : List Load) → slice_get names number ≡ Some word

@@ -1,0 +1,63 @@
+-- What follows of a request that is no usage error.
+use Rattle.std.proofs.Common.{◌≡◌, ℕ, zero, suc, List, [], ◌∷◌, Bool, true, false, Option, None, Some}
+use Rattle.std.proofs.Common.{not, refl}
+use Rattle.std.specs.Prelude.{◌&&◌, ◌||◌, is_none, is_some}
+use Rattle.std.specs.List.{list_all, slice_index_or}
+use Rattle.std.specs.Option.{option_and_then}
+use Rattle.clap.proofs.WalkLemmas.{both}
+use Rattle.program_manners.specs.TableWords.{wrong_word}
+use Rattle.fare_program.specs.Options.{Request, lists}
+use Rattle.fare_program.specs.TokenRanges.{range_fault}
+use Rattle.fare_program.specs.Usage.{is_usable, keeps_rules}
+
+rule_at : (rules : List Bool) (k : ℕ) → list_all (λ rule. rule) rules ≡ true
+    → slice_index_or rules k true ≡ true
+rule_at [] k kept = refl
+rule_at (rule ∷ rules) zero kept = (both rule _ kept).0
+rule_at (rule ∷ rules) (suc k) kept = rule_at rules k (both rule _ kept).1
+
+implied : (a b : Bool) → (not a || b) ≡ true → a ≡ true → b ≡ true
+implied true b is so = is
+implied false b is so = cc
+
+excluded : (a b : Bool) → not (a && b) ≡ true → a ≡ true → b ≡ false
+excluded true true is so = cc
+excluded true false is so = refl
+excluded false b is so = cc
+
+none_of : {A : Type 0} (x : Option A) → is_none x ≡ true → x ≡ None
+none_of None is = refl
+none_of (Some x) is = cc
+
+no_list : {A : Type 0} (list : Bool) (table : Option A) → list ≡ false → is_some table ≡ true
+    → (list || not (is_some table)) ≡ false
+no_list true table none some = cc
+no_list false None none some = cc
+no_list false (Some name) none some = refl
+
+module _ (request : Request) (usable : is_usable request ≡ true) where
+  rules : keeps_rules request ≡ true
+  rules = (both _ _ (both _ _ usable).1).0
+
+  pub range_read : option_and_then range_fault request.tokens ≡ None
+  range_read = none_of _ (both _ _ (both _ _ (both _ _ usable).1).1).0
+
+  pub dates_read : option_and_then wrong_word request.table ≡ None
+  dates_read = none_of _ (both _ _ (both _ _ (both _ _ usable).1).1).1
+
+  pub settled_table : request.settle ≡ true → is_some request.table ≡ true
+  settled_table = implied request.settle (is_some request.table) (rule_at _ 1 rules)
+
+  settled_list : request.settle ≡ true → request.list ≡ false
+  settled_list = excluded request.settle request.list (rule_at _ 2 rules)
+
+  pub sorted_settles : request.sorted ≡ true → request.settle ≡ true
+  sorted_settles = implied request.sorted request.settle (rule_at _ 10 rules)
+
+  pub sorted_lists : request.sorted ≡ true → lists request ≡ false
+  sorted_lists sorted = let settle = sorted_settles sorted in
+      no_list request.list request.table (settled_list settle) (settled_table settle)
+
+  pub traced_table : request.traced ≡ true → is_some request.table ≡ true
+  traced_table traced =
+      settled_table (implied request.traced request.settle (rule_at _ 13 rules) traced)
