@@ -13,9 +13,9 @@ line_of : (ends : Option (List UploadEnd)) (fares : Fares) (ledger : List ℕ)
     → held ≡ Some report → legal ≡ true
     → IsReportFinding ends fares ledger report.text.items rest fits
     → IsReportLine ends fares ledger (text_of held) legal rest fits
-line_of ends fares ledger None report legal rest fits is yes found = absurd cc
-line_of ends fares ledger (Some held) report false rest fits is yes found = absurd cc
-line_of ends fares ledger (Some held) report true rest fits is yes found =
+line_of ends fares ledger None report legal rest fits is so found = absurd cc
+line_of ends fares ledger (Some held) report false rest fits is so found = absurd cc
+line_of ends fares ledger (Some held) report true rest fits is so found =
     subst (λ (r : HeldReport). IsReportFinding ends fares ledger r.text.items rest fits)
     (sym (same_Some held report is)) found
 
