@@ -39,7 +39,7 @@ returns-in-Ok-write_report-clause-ends g c = (
   c.in-Ok-write_report.ensures.ok,
 )
 
-pub returns-clause-ends : goal.returns-in-Err-clause-ends
+pub returns-clause-ends : goal.returns-clause-ends
 returns-clause-ends g c = rw c.of_print.ensures
     (printed _ _ _ c.in-Err.fault _ c.in-Err.ensures.fault
     (λ same. rw same (Keeps-refl _))

@@ -28,7 +28,7 @@ returns-in-Ok-write_text-clause-ends g c =
       written,
     )
 
-pub returns-clause-ends : goal.returns-in-Err-write_text-clause-ends
+pub returns-clause-ends : goal.returns-clause-ends
 returns-clause-ends g c =
     let fares = c.args.table.now in
     let (files, read, ended, made) = c.in-Ok.ensures.order in
