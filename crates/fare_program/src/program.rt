@@ -36,7 +36,8 @@ use clap::error::ErrorKind;
 use fare_table::FareTable;
 use file_sources::{Disk, Source, prefetch_files};
 use program_manners::{
-    Complaints, FileFault, Output, STANDARD_INPUT, TableWords, TablesFault, load_tables, show_answer,
+    Complaints, FileFault, Output, STANDARD_INPUT, TableWords, TablesFault, load_tables,
+    show_answer,
 };
 use std::alloc::Global;
 use std::io::Write;

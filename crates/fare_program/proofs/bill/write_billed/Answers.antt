@@ -46,12 +46,18 @@ returns-clause-ends g c = rw c.of_print.ensures
     (λ write. (
       report c.deref.result.now (sums_of c.totals-totals.result)
           (map validator_sum c.deref-2.result.now) c.args.made.bill.tokens,
-      (are_posted c.args.made.ends.items, (refl, λ history is.
-      let one : sums_of c.totals-totals.result ≡ sums history =
-      c.totals-totals.ensures ∙ is.counts.totals in
-      let two : map validator_sum c.deref-2.result.now ≡ sums_by_validator history =
-      ap (map validator_sum) c.deref-2.ensures.value
-      ∙ c.in-Ok.ensures history is.counts.validators in
-      λ i. report (c.deref.ensures.value i) (one i) (two i) (is.tokens i))),
+      (
+        are_posted c.args.made.ends.items,
+        (
+          refl,
+          λ history is.
+              let one : sums_of c.totals-totals.result ≡ sums history =
+              c.totals-totals.ensures ∙ is.counts.totals in
+              let two : map validator_sum c.deref-2.result.now ≡ sums_by_validator history =
+              ap (map validator_sum) c.deref-2.ensures.value
+              ∙ c.in-Ok.ensures history is.counts.validators in
+              λ i. report (c.deref.ensures.value i) (one i) (two i) (is.tokens i),
+        ),
+      ),
       c.in-Err.ensures.started write,
     )))

@@ -27,8 +27,8 @@ returns-then-options-clause-ends g c =
 pub load_table-requires : goal.load_table-requires
 load_table-requires g c = dates_read (request_of c.args.options.now) c.requires.usable
 
-pub work_sorted-requires : goal.work_sorted-requires
-work_sorted-requires g c =
+pub work_sorted-requires-clause-word : goal.work_sorted-requires-clause-word
+work_sorted-requires-clause-word g c κs within =
     range_read (request_of c.args.options.now) c.requires.usable
 
 -- sorted files

@@ -26,7 +26,7 @@ returns-in-Err-clause-right g c =
 pub charge_part-requires : goal.charge_part-requires
 charge_part-requires g c =
     subst (λ (tokens : Option (List ℕ)). option_and_then range_fault tokens ≡ None)
-    (ap (option_map name_in) c.in-Some.is) c.requires
+    (ap (option_map name_in) c.in-Some.is) c.requires.word
 
 pub returns-in-Some-clause-ends : goal.returns-in-Some-clause-ends
 returns-in-Some-clause-ends g c =
