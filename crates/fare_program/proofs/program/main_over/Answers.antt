@@ -9,6 +9,7 @@ use Rattle.fare_program.specs.Causes.{IsRightFault}
 use Rattle.fare_program.specs.Ends.{Did, EndsCommand, HasFailed, HasFinished, IsOfWrite, Leaves}
 use Rattle.fare_program.specs.inside.Options.{request_of}
 use Rattle.fare_texts.proofs.Beginnings.{begins_whole}
+use Rattle.fare_program.specs.Fault.{fault_text}
 use Rattle.fare_program.specs.Options.{AsksForText, Request, program}
 use Rattle.fare_program.specs.Program.{Does}
 use Rattle.fare_program.specs.Usage.{is_usable}
@@ -104,9 +105,11 @@ returns-in-Err g c =
         command = λ parses. absurd (subst (IsAmong (kind_of c.in-Err.error)) parses among);
         answer = λ other. record {
           done = λ zero.
-              let (asks, quiet) = c.show.ensures.done zero in
-              (asks_for (map string_bytes c.args.words.now) (kind_of c.in-Err.error) asks among, subst (λ err. Keeps (g.E.Write.contents c.args.err.now.writer)
-              (g.E.Write.contents err.writer)) (sym quiet) (Keeps-refl _));
+              let (asks, quiet) = c.show.ensures.done zero in (
+                asks_for (map string_bytes c.args.words.now) (kind_of c.in-Err.error) asks among,
+                subst (λ err. Keeps (g.E.Write.contents c.args.err.now.writer)
+                    (g.E.Write.contents err.writer)) (sym quiet) (Keeps-refl _),
+              );
           failed = λ one. elim (c.show.ensures.failed one) [
             | inl nothing ↦ inl (record { line_reported = nothing.0; unwritten = nothing.1 })
             | inr write ↦ inr (
