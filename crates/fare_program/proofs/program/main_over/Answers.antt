@@ -52,18 +52,18 @@ module _ (request : Request) (did : Did) where
   right_remembered None (Late late.Write) right = right
   right_remembered None fault right = right
 
-  abbrev Asked : List ℕ → Type 0
-  Asked text = (success : Bool)
+  abbrev Wanted : List ℕ → Type 0
+  Wanted text = (success : Bool)
       × Does request did.under did.origin did.loaded did.loaded' text success
 
-  left_by : (fault : Fault) → Stops Asked did.out did.out' fault → Leaves request did fault
+  left_by : (fault : Fault) → Stops Wanted did.out did.out' fault → Leaves request did fault
   left_by Write stops = stops
   left_by NoMemory stops = inl stops
   left_by (Late why) stops = tt
   left_by _ stops = stops
 
   left_remembered : (end : Option WriteEnd) (fault : Fault)
-      → Stops Asked did.out did.out' fault → Leaves request did (as_remembered end fault)
+      → Stops Wanted did.out did.out' fault → Leaves request did (as_remembered end fault)
   left_remembered (Some why) fault stops = left_by fault stops
   left_remembered None Write stops = inr stops
   left_remembered None (Late late.Write) stops = tt
@@ -200,7 +200,7 @@ returns-in-Ok-work g c =
       command = λ parses. (
         c.in-Ok.options.workers,
         c.in-Ok.options.shards,
-        subst (λ (asked : Request). EndsCommand asked did c.finish.result) c.in-Ok.ensures.request
+        subst (λ (one : Request). EndsCommand one did c.finish.result) c.in-Ok.ensures.request
             ends,
       );
       answer = λ other. absurd (other c.in-Ok.ensures.kinds);
@@ -241,7 +241,7 @@ returns g c =
       command = λ parses. (
         c.in-Ok.options.workers,
         c.in-Ok.options.shards,
-        subst (λ (asked : Request). EndsCommand asked did c.report.result) c.in-Ok.ensures.request
+        subst (λ (one : Request). EndsCommand one did c.report.result) c.in-Ok.ensures.request
             (record {
               done = λ zero. absurd (omega (arith, zero, c.report.ensures.status));
               failed = λ one. inr failed;
