@@ -1,7 +1,7 @@
 -- How the writing of a text ends.
 use Rattle.std.proofs.Common.{◌≡◌, ◌∙◌, ◌++◌, ℕ, List, Bool, Option, None, Some, Result, Ok, Err}
-use Rattle.std.proofs.Common.{ap, refl}
-use Rattle.std.specs.Prelude.{◌≢◌, IfErr, OnOk}
+use Rattle.std.proofs.Common.{ap, refl, subst}
+use Rattle.std.specs.Prelude.{◌≢◌, IfErr, IfOk, OnOk}
 use Rattle.std.specs.Io.KnownBytes.{Appends, Keeps}
 use Rattle.std.proofs.KnownBytes.{Keeps-refl, Keeps-trans}
 use Rattle.fare_texts.specs.PrintFaults.{UnchangedUnlessWrite}
@@ -79,6 +79,24 @@ pub unwritten : (Right : List ℕ → Type 0) (out : Option (List ℕ)) (fault :
 unwritten Right out Write other = absurd (other refl)
 unwritten Right out (Late why) other = tt
 unwritten Right out _ other = Keeps-refl out
+
+-- what a write that failed left
+pub started_of : (A : List ℕ → Type 0) (out out' : Option (List ℕ)) (fault : Fault)
+    → fault ≡ Write → Stops A out out' fault
+    → (text : List ℕ) × A text × Begins out out' text
+started_of A out out' fault is stops = subst (λ (f : Fault). Stops A out out' f) is stops
+
+-- what is given, by what is known of each end of it
+pub gives_of : (A : List ℕ → Bool → Type 0) (out out' : Option (List ℕ)) (r : Result Bool Fault)
+    → IfOk r (λ success. (text : List ℕ) × A text success × Appends out out' text)
+    → IfErr r (λ fault. fault ≡ Write → (success : Bool) × (text : List ℕ) × A text success
+    × Begins out out' text)
+    → IfErr r (λ fault. fault ≢ Write → Keeps out out') → Gives A out out' r
+gives_of A out out' (Ok success) ok started kept = ok
+gives_of A out out' (Err fault) ok started kept =
+    stopped (λ text. (success : Bool) × A text success) out out' fault (λ other late. kept other)
+    (λ write. let (success, text, right, front) = started write in
+    (text, (success, right), front))
 
 -- ---- what was kept before
 appends_after : (a b c : Option (List ℕ)) (text : List ℕ) → Keeps a b → Appends b c text

@@ -2,7 +2,6 @@ pub mod Appends
 pub mod Billed
 pub mod Causes
 pub mod Counts
-pub mod Defaults
 pub mod Ends
 pub mod Explains
 pub mod Going

@@ -1,6 +1,6 @@
 -- What follows of a request that is no usage error.
 use Rattle.std.proofs.Common.{◌≡◌, ℕ, zero, suc, List, [], ◌∷◌, Bool, true, false, Option, None, Some}
-use Rattle.std.proofs.Common.{not, refl}
+use Rattle.std.proofs.Common.{length, not, refl, ◌==◌}
 use Rattle.std.specs.Prelude.{◌&&◌, ◌||◌, is_none, is_some}
 use Rattle.std.specs.List.{list_all, slice_index_or}
 use Rattle.std.specs.Option.{option_and_then}
@@ -8,7 +8,7 @@ use Rattle.clap.proofs.WalkLemmas.{both}
 use Rattle.program_manners.specs.TableWords.{wrong_word}
 use Rattle.fare_program.specs.Options.{Request, lists}
 use Rattle.fare_program.specs.TokenRanges.{range_fault}
-use Rattle.fare_program.specs.Usage.{is_usable, keeps_rules}
+use Rattle.fare_program.specs.Usage.{has_digits, is_usable, keeps_rules, rules_by}
 
 rule_at : (rules : List Bool) (k : ℕ) → list_all (λ rule. rule) rules ≡ true
     → slice_index_or rules k true ≡ true
@@ -36,23 +36,40 @@ no_list false None none some = cc
 no_list false (Some name) none some = refl
 
 module _ (request : Request) (usable : is_usable request ≡ true) where
-  rules : keeps_rules request ≡ true
-  rules = (both _ _ (both _ _ usable).1).0
+  abbrev all_rules : List Bool
+  all_rules = rules_by (is_some request.table) (is_some request.token)
+      (not (length request.files == 0)) (is_some request.tokens) request
+
+  abbrev reads_range : Bool
+  reads_range = is_none (option_and_then range_fault request.tokens)
+
+  abbrev reads_dates : Bool
+  reads_dates = is_none (option_and_then wrong_word request.table)
+
+  parts : (keeps_rules request ≡ true) × (reads_range ≡ true) × (reads_dates ≡ true)
+  parts =
+      let rest = (both (has_digits request.token)
+      (keeps_rules request && (reads_range && reads_dates)) usable).1 in
+      let last = (both (keeps_rules request) (reads_range && reads_dates) rest).1 in (
+        (both (keeps_rules request) (reads_range && reads_dates) rest).0,
+        (both reads_range reads_dates last).0,
+        (both reads_range reads_dates last).1,
+      )
 
   pub range_read : option_and_then range_fault request.tokens ≡ None
-  range_read = none_of _ (both _ _ (both _ _ (both _ _ usable).1).1).0
+  range_read = none_of (option_and_then range_fault request.tokens) parts.1
 
   pub dates_read : option_and_then wrong_word request.table ≡ None
-  dates_read = none_of _ (both _ _ (both _ _ (both _ _ usable).1).1).1
+  dates_read = none_of (option_and_then wrong_word request.table) parts.2
 
   pub settled_table : request.settle ≡ true → is_some request.table ≡ true
-  settled_table = implied request.settle (is_some request.table) (rule_at _ 1 rules)
+  settled_table = implied request.settle (is_some request.table) (rule_at all_rules 1 parts.0)
 
   settled_list : request.settle ≡ true → request.list ≡ false
-  settled_list = excluded request.settle request.list (rule_at _ 2 rules)
+  settled_list = excluded request.settle request.list (rule_at all_rules 2 parts.0)
 
   pub sorted_settles : request.sorted ≡ true → request.settle ≡ true
-  sorted_settles = implied request.sorted request.settle (rule_at _ 10 rules)
+  sorted_settles = implied request.sorted request.settle (rule_at all_rules 10 parts.0)
 
   pub sorted_lists : request.sorted ≡ true → lists request ≡ false
   sorted_lists sorted = let settle = sorted_settles sorted in
@@ -60,4 +77,4 @@ module _ (request : Request) (usable : is_usable request ≡ true) where
 
   pub traced_table : request.traced ≡ true → is_some request.table ≡ true
   traced_table traced =
-      settled_table (implied request.traced request.settle (rule_at _ 13 rules) traced)
+      settled_table (implied request.traced request.settle (rule_at all_rules 13 parts.0) traced)

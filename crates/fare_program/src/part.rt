@@ -23,6 +23,7 @@ use std::alloc::Global;
 use std::io::Write;
 use std::random::RandomSource;
 
+/// If the first lines are not written, nothing is promised of what was.
 fn write_made<'a, W: Write>(alloc: Global, made: PartBill, out: &mut W) -> Result<(), Fault<'a>>
     requires { (history : List Entry) × IsBillOf history made.billed.bill
         × (length history ≤ 2 ^ 95) }
@@ -33,9 +34,9 @@ fn write_made<'a, W: Write>(alloc: Global, made: PartBill, out: &mut W) -> Resul
         → IsRightOfSorted names known fault) }
 {
     let PartBill { spans, billed } = made;
-    if let Err(fault) = write_part_head(alloc, &spans, out) {
-        return Err(Fault::of_print(fault));
-    }
+    let Ok(()) = write_part_head(alloc, &spans, out) else {
+        return Err(Fault::Late(LateFault::Write));
+    };
     match write_billed(alloc, billed, out) {
         Ok(_) => Ok(()),
         Err(Fault::Write) => Err(Fault::Write),
@@ -66,7 +67,6 @@ fn write_report<'a, R: RandomSource, F: Placed, W: Write>(
     }
 }
 
-/// If a write fails, nothing is promised of what was written.
 fn write_ledger<'a, F: Placed, W: Write>(
     alloc: Global,
     options: &Options<'a>,

@@ -1,8 +1,9 @@
 //! The whole program, over any source of bytes and any two writers.
 ghost use Rattle.std.specs.Prelude.{◌≡◌, ◌≢◌, ◌≤◌, ◌⊎◌, ◌++◌, ◌∷◌, [], List, Option, None, Some};
-ghost use Rattle.std.specs.Prelude.{IfErr, IfOk, OnOk, false, map};
+ghost use Rattle.std.specs.Prelude.{Bool, IfErr, IfOk, OnOk, false, map, ℕ};
 ghost use Rattle.std.specs.Prelude.{option_map, string_bytes, true};
-ghost use Rattle.std.specs.Io.KnownBytes.{Keeps};
+ghost use Rattle.std.specs.Io.KnownBytes.{Appends, Keeps};
+ghost use Rattle.fare_texts.specs.WrittenOut.{Begins};
 ghost use Rattle.std.specs.Option.{option_and_then};
 ghost use Rattle.clap.specs.Words.{kind_of};
 ghost use Rattle.fare_program.specs.Causes.{IsFaultOfTables, IsFileFault, IsRightFault, names_reported};
@@ -35,7 +36,8 @@ use clap::error::ErrorKind;
 use fare_table::FareTable;
 use file_sources::{Disk, Source, prefetch_files};
 use program_manners::{
-    Complaints, FileFault, Output, STANDARD_INPUT, TableWords, TablesFault, load_tables, show_answer,
+    Complaints, FileFault, Output, STANDARD_INPUT, TableWords, TablesFault, load_tables,
+    show_answer,
 };
 use std::alloc::Global;
 use std::io::Write;
@@ -153,18 +155,19 @@ fn list<'a, W: Write>(
     files: &[Vec<u8>],
     out: &mut W,
 ) -> Result<bool, Fault<'a>>
-    ensures ends { Gives (IsListing table (map (λ f. f.items) files.now)) (W.contents out.old)
-        (W.contents out.new) result }
+    ensures ok { IfOk result (λ clean. (text : List ℕ)
+        × IsListing table (map (λ f. f.items) files.now) text clean
+        × Appends (W.contents out.old) (W.contents out.new) text) }
+    ensures started { IfErr result (λ fault. fault ≡ Fault.Write → (clean : Bool) × (text : List ℕ)
+        × IsListing table (map (λ f. f.items) files.now) text clean
+        × Begins (W.contents out.old) (W.contents out.new) text) }
+    ensures fault { IfErr result (λ fault. fault ≢ Fault.Write
+        → Keeps (W.contents out.old) (W.contents out.new)) }
     ensures output { IfErr result IsOfOutput }
 {
-    let (text, clean) = match listing_text(alloc, table.as_ref(), files) {
-        Ok(answer) => answer,
-        Err(_) => return Err(Fault::NoMemory),
-    };
-    match write_text(out, text.as_str()) {
-        Ok(()) => Ok(clean),
-        Err(_) => Err(Fault::Write),
-    }
+    let (text, clean) = listing_text(alloc, table.as_ref(), files)?;
+    write_text(out, text.as_str())?;
+    Ok(clean)
 }
 
 /// Loads the files, and does what is asked for by the table that was loaded before. Says whether
@@ -269,10 +272,10 @@ fn work<'a, R: Threads + Wait + RandomSource + Sync, D: Disk + Sync, S: Source, 
     };
     if options.sorted {
         let Some(table) = &table else { unreachable!() };
-        return match work_sorted(rt, alloc, disk, options, table, token, out) {
-            Ok(()) => Ok(true),
-            Err(fault) => Err(fault),
-        };
+        if let Err(fault) = work_sorted(rt, alloc, disk, options, table, token, out) {
+            return Err(fault);
+        }
+        return Ok(true);
     }
     match charge_prefetched(rt, alloc, disk, options, &table, token, source, out) {
         Some(ended) => ended,

@@ -165,7 +165,7 @@ pub(crate) fn work_sorted<'a, R: Threads + RandomSource + Sync, D: Disk, W: Writ
     token: Option<Token>,
     out: &mut W,
 ) -> Result<(), Fault<'a>>
-    requires { option_and_then range_fault (request_of options.now).tokens ≡ None }
+    requires word { option_and_then range_fault (request_of options.now).tokens ≡ None }
     ensures ends { Prints (IfKnown
         (map (D.bytes_under disk.now) (request_of options.now).files) (λ all text.
         ShowsSorted (request_of options.now) table.now all token text true)) (W.contents out.old)

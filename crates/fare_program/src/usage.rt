@@ -57,29 +57,53 @@ fn broken_rule(options: &Options<'_>) -> Option<&'static str>
     let table = options.table.is_some();
     let token = options.token.is_some();
     let range = options.tokens.is_some();
-    let file = !options.files.is_empty();
+    let file = !options.files.as_slice().is_empty();
     let (settle, live, list) = (options.settle, options.live, options.list);
     let (ledger, traced, sorted) = (options.ledger, options.traced, options.sorted);
     let (explain, json) = (options.explain, options.json);
     first_broken(&[
         (!token | table, "fault: --token needs --table"),
         (!settle | table, "fault: --settle needs --table"),
-        (!(settle & list), "fault: --settle cannot be used with --list"),
-        (!(live & settle), "fault: --live cannot be used with --settle"),
+        (
+            !(settle & list),
+            "fault: --settle cannot be used with --list",
+        ),
+        (
+            !(live & settle),
+            "fault: --live cannot be used with --settle",
+        ),
         (!ledger | table, "fault: --ledger needs --table"),
-        (!(ledger & list), "fault: --ledger cannot be used with --list"),
+        (
+            !(ledger & list),
+            "fault: --ledger cannot be used with --list",
+        ),
         (!json | explain, "fault: --json needs --explain"),
         (!explain | token, "fault: --explain needs --token"),
-        (!(explain & list), "fault: --explain cannot be used with --list"),
-        (!(explain & ledger), "fault: --explain cannot be used with --ledger"),
+        (
+            !(explain & list),
+            "fault: --explain cannot be used with --list",
+        ),
+        (
+            !(explain & ledger),
+            "fault: --explain cannot be used with --ledger",
+        ),
         (!sorted | settle, "fault: --sorted needs --settle"),
         (!sorted | file, "fault: --sorted needs a FILE"),
         (!traced | ledger, "fault: --traced needs --ledger"),
         (!traced | settle, "fault: --traced needs --settle"),
-        (!(traced & token), "fault: --traced cannot be used with --token"),
-        (!(traced & sorted), "fault: --traced cannot be used with --sorted"),
+        (
+            !(traced & token),
+            "fault: --traced cannot be used with --token",
+        ),
+        (
+            !(traced & sorted),
+            "fault: --traced cannot be used with --sorted",
+        ),
         (!range | sorted, "fault: --tokens needs --sorted"),
-        (!(range & token), "fault: --tokens cannot be used with --token"),
+        (
+            !(range & token),
+            "fault: --tokens cannot be used with --token",
+        ),
     ])
 }
 

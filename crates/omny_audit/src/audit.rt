@@ -99,12 +99,12 @@ impl Audit<'_> {
             → HasEnded self.old valid file (before ++ string_bytes reported) → (read : List ReadLine)
             × IsAudit (given_in self.old valid) file read (before ++ ended.0.items) ended.1) }
     {
-        let is_all = self.check.is_all();
+        let all = self.check.is_all();
         let found = self
             .check
             .finish(alloc, self.subtracts, self.live, &mut reported)?;
         let mut text = reported.into_bytes();
-        let is_looked_at = is_either(is_all, found.is_legal);
+        let is_looked_at = is_either(all, found.is_legal);
         let is_right = write_columns(alloc, &mut text, is_looked_at, &self.trace)?;
         let is_whole = are_both(found.is_legal, is_right);
         let fits = write_last_lines(

@@ -120,15 +120,19 @@ fn write_finding(
     alloc: Global,
     text: &mut Vec<u8>,
     report: &[u8],
-    sums: &EntrySums,
+    sums: &Option<EntrySums>,
     ends: Option<&[UploadEnd]>,
 ) -> Result<bool, NoMemory>
     ensures { IfOk result (λ fits. (rest : List ℕ) × (text.new.items ≡ text.old.items ++ rest)
         × ((fares : Fares) (ledger : List ℕ)
         → ((entries : List Entry) → IsLedgerOf fares entries ledger
-        → AreSumsOf entries sums.now)
+        → IfSome sums.now (AreSumsOf entries))
         → IsReportFinding (option_map (λ e. e.now) ends.entry) fares ledger report.now rest fits)) }
 {
+    let Some(sums) = sums else {
+        // the entries of a legal ledger are summed wherever there is a report
+        return Err(NoMemory);
+    };
     let verdict = check_report(alloc, ends, sums, report)?;
     write_verdict(alloc, text, &verdict)?;
     write_uncompared(text, ends)?;
@@ -158,11 +162,8 @@ fn write_report_line(
     if !is_legal {
         return Ok(false);
     }
-    let Some(sums) = sums else {
-        // the entries of a legal ledger are summed wherever there is a report
-        return Err(NoMemory);
-    };
-    write_finding(alloc, text, &report.text, sums, ends)
+    let fits = write_finding(alloc, text, report.text.as_slice(), sums, ends)?;
+    Ok(fits)
 }
 
 fn write_damaged(text: &mut String, upload: u64, end: &UploadEnd) -> Result<(), AllocError>

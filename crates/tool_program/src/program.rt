@@ -122,9 +122,7 @@ pub fn main_over<R: Threads + Sync, D: PlacedFiles, F: Streams, W: World + Count
     ensures status { result ≤ 3 }
 {
     match read(alloc, words) {
-        Ok(task) => task_over(
-            threads, alloc, seed, moment, task, files, streams, world,
-        ),
+        Ok(task) => task_over(threads, alloc, seed, moment, task, files, streams, world),
         Err(error) => show(alloc, &error, world),
     }
 }

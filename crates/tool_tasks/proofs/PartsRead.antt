@@ -1,5 +1,5 @@
 -- Parts that are merged: what was read of them, and how a run over them ends.
-use Rattle.std.proofs.Common.{◌≡◌, ◌∙◌, ◌⊎◌, ◌+◌, ◌<◌, ◌++◌, ◌∷◌, [], Bor, List, None, Option, Ok, Err, Result}
+use Rattle.std.proofs.Common.{◌≡◌, ◌∙◌, ◌+◌, ◌<◌, ◌++◌, ◌∷◌, [], Bor, List, Ok, Err, Result}
 use Rattle.std.proofs.Common.{Some, ap, append-nil, append_assoc, arith, get_or, inl, inr, length, map, refl}
 use Rattle.std.proofs.Common.{subst, suc, sym, take, zero, ℕ}
 use Rattle.std.specs.Prelude.{All, Contains, slice_get}
@@ -92,14 +92,14 @@ pub merged_words : (words : List (List ℕ)) (before mid after : List Calls) (op
     → MergesAs (map calls_of now) r r' result → MergesWords words before after r r' result
 merged_words words before mid after opened now r r' (Ok done) same all names follow
     (whole, text, merged, wrote) = (
-  map calls_of now,
-  all ∙ ap (λ l. l ++ map calls_of now) same,
-  names_kept opened now follow ∙ names,
-  whole,
-  text,
-  merged,
-  wrote,
-)
+      map calls_of now,
+      all ∙ ap (λ l. l ++ map calls_of now) same,
+      names_kept opened now follow ∙ names,
+      whole,
+      text,
+      merged,
+      wrote,
+    )
 merged_words words before mid after opened now r r' (Err fault) same all names follow
     (text, started, leaves, said) =
     let calls = map calls_of now in
@@ -130,13 +130,13 @@ pub unopened_words : (words : List (List ℕ)) (before mid after calls more : Li
 unopened_words words before mid after calls more r (Line part number why) first then bad = absurd bad
 unopened_words words before mid after calls more r (Unread part) first then
     (name, failed, at, has, unread) = (
-  calls ++ more,
-  then ∙ ap (λ l. l ++ more) first ∙ append_assoc before calls more,
-  [],
-  inl refl,
-  written_none r,
-  (name, failed, at, Contains-append_left calls more failed has, unread),
-)
+      calls ++ more,
+      then ∙ ap (λ l. l ++ more) first ∙ append_assoc before calls more,
+      [],
+      inl refl,
+      written_none r,
+      (name, failed, at, Contains-append_left calls more failed has, unread),
+    )
 unopened_words words before mid after calls more r (Write why) first then bad = absurd bad
 unopened_words words before mid after calls more r NoMemory first then none = (
   calls ++ more,
@@ -171,16 +171,16 @@ pub merging_ended : (words : List (List ℕ)) (before after : List Calls) (r now
     → IsEnded words merged now end status → EndsMerging words before after r end status
 merging_ended words before after r now end (Ok done) status
     (calls, read, names, whole, text, merged, wrote) (success, all) = inl (record {
-  calls = calls;
-  read = read;
-  names = names;
-  whole = whole;
-  text = text;
-  merged = merged;
-  all = all ∙ ap (λ s. record (with_flushed now) { said = s }) (append-nil now.said)
-      ∙ ap with_flushed wrote;
-  success = success;
-})
+      calls = calls;
+      read = read;
+      names = names;
+      whole = whole;
+      text = text;
+      merged = merged;
+      all = all ∙ ap (λ s. record (with_flushed now) { said = s }) (append-nil now.said)
+          ∙ ap with_flushed wrote;
+      success = success;
+    })
 merging_ended words before after r now end (Err (Line part number why)) status
     (calls, read, text, prefix, same, (names, first)) (failed, word, of_part, all) =
     inr (inl (record {

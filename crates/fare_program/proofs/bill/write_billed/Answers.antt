@@ -39,19 +39,25 @@ returns-in-Ok-write_report-clause-ends g c = (
   c.in-Ok-write_report.ensures.ok,
 )
 
-pub returns-clause-ends : goal.returns-in-Err-clause-ends
+pub returns-clause-ends : goal.returns-clause-ends
 returns-clause-ends g c = rw c.of_print.ensures
     (printed _ _ _ c.in-Err.fault _ c.in-Err.ensures.fault
     (λ same. rw same (Keeps-refl _))
     (λ write. (
       report c.deref.result.now (sums_of c.totals-totals.result)
           (map validator_sum c.deref-2.result.now) c.args.made.bill.tokens,
-      (are_posted c.args.made.ends.items, (refl, λ history is.
-      let one : sums_of c.totals-totals.result ≡ sums history =
-      c.totals-totals.ensures ∙ is.counts.totals in
-      let two : map validator_sum c.deref-2.result.now ≡ sums_by_validator history =
-      ap (map validator_sum) c.deref-2.ensures.value
-      ∙ c.in-Ok.ensures history is.counts.validators in
-      λ i. report (c.deref.ensures.value i) (one i) (two i) (is.tokens i))),
+      (
+        are_posted c.args.made.ends.items,
+        (
+          refl,
+          λ history is.
+              let one : sums_of c.totals-totals.result ≡ sums history =
+              c.totals-totals.ensures ∙ is.counts.totals in
+              let two : map validator_sum c.deref-2.result.now ≡ sums_by_validator history =
+              ap (map validator_sum) c.deref-2.ensures.value
+              ∙ c.in-Ok.ensures history is.counts.validators in
+              λ i. report (c.deref.ensures.value i) (one i) (two i) (is.tokens i),
+        ),
+      ),
       c.in-Err.ensures.started write,
     )))

@@ -1,4 +1,5 @@
 use Rattle.std.proofs.Common.{sym}
+use Rattle.fare_program.proofs.Ends.{started_of}
 use Rattle.fare_program.proofs.Prefetched.{charged_joined}
 use Rattle.fare_program.proofs.named_files.charge_prefetched.Goals as goal
 
@@ -13,7 +14,8 @@ returns-in-Ok-clause-ends g c =
 
 pub returns-in-Err-Write-clause-ends : goal.returns-in-Err-Write-clause-ends
 returns-in-Err-Write-clause-ends g c =
-    let (text, (success, is), started) = c.in-Err-Write.ensures.ends in (
+    let (text, (success, is), started) = started_of _ _ _ _ c.in-Err-Write.field-0-is
+    c.in-Err-Write.ensures.ends in (
       text,
       (
         success,

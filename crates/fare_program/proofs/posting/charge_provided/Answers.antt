@@ -41,21 +41,24 @@ returns-in-Err-print_requested-clause-ends g c =
     (λ write.
     let (text, shows, started) = c.in-Err-print_requested.ensures.started write in (
       text,
-      (are_posted outcome.ends, (
-        files,
-        drawn_by live.run.0,
-        record {
-          provided = live.provided;
-          run = outcome.run;
-          loaded = live.loaded;
-          appended = ap (λ (k : Calls). k.run) c.join-in-Err-print_requested.ensures
-              ∙ ap (λ (r : Run). with_all c.args.calls.now.run r)
-              c.into_calls-in-Err-print_requested.ensures;
-        },
-        live_request (request_of c.args.options.now) c.args.table files (drawn_by live.run.0)
-            c.args.token text (are_posted outcome.ends) (g.U.UploadSource.origins c.args.uploads)
-            outcome c.requires shows refl live refl,
-      )),
+      (
+        are_posted outcome.ends,
+        (
+          files,
+          drawn_by live.run.0,
+          record {
+            provided = live.provided;
+            run = outcome.run;
+            loaded = live.loaded;
+            appended = ap (λ (k : Calls). k.run) c.join-in-Err-print_requested.ensures
+                ∙ ap (λ (r : Run). with_all c.args.calls.now.run r)
+                c.into_calls-in-Err-print_requested.ensures;
+          },
+          live_request (request_of c.args.options.now) c.args.table files (drawn_by live.run.0)
+              c.args.token text (are_posted outcome.ends) (g.U.UploadSource.origins c.args.uploads)
+              outcome c.requires shows refl live refl,
+        ),
+      ),
       started,
     ))
 

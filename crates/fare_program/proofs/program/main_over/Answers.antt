@@ -9,6 +9,7 @@ use Rattle.fare_program.specs.Causes.{IsRightFault}
 use Rattle.fare_program.specs.Ends.{Did, EndsCommand, HasFailed, HasFinished, IsOfWrite, Leaves}
 use Rattle.fare_program.specs.inside.Options.{request_of}
 use Rattle.fare_texts.proofs.Beginnings.{begins_whole}
+use Rattle.fare_program.specs.Fault.{fault_text}
 use Rattle.fare_program.specs.Options.{AsksForText, Request, program}
 use Rattle.fare_program.specs.Program.{Does}
 use Rattle.fare_program.specs.Usage.{is_usable}
@@ -51,18 +52,18 @@ module _ (request : Request) (did : Did) where
   right_remembered None (Late late.Write) right = right
   right_remembered None fault right = right
 
-  abbrev Asked : List ℕ → Type 0
-  Asked text = (success : Bool)
+  abbrev Wanted : List ℕ → Type 0
+  Wanted text = (success : Bool)
       × Does request did.under did.origin did.loaded did.loaded' text success
 
-  left_by : (fault : Fault) → Stops Asked did.out did.out' fault → Leaves request did fault
+  left_by : (fault : Fault) → Stops Wanted did.out did.out' fault → Leaves request did fault
   left_by Write stops = stops
   left_by NoMemory stops = inl stops
   left_by (Late why) stops = tt
   left_by _ stops = stops
 
   left_remembered : (end : Option WriteEnd) (fault : Fault)
-      → Stops Asked did.out did.out' fault → Leaves request did (as_remembered end fault)
+      → Stops Wanted did.out did.out' fault → Leaves request did (as_remembered end fault)
   left_remembered (Some why) fault stops = left_by fault stops
   left_remembered None Write stops = inr stops
   left_remembered None (Late late.Write) stops = tt
@@ -104,9 +105,11 @@ returns-in-Err g c =
         command = λ parses. absurd (subst (IsAmong (kind_of c.in-Err.error)) parses among);
         answer = λ other. record {
           done = λ zero.
-              let (asks, quiet) = c.show.ensures.done zero in
-              (asks_for (map string_bytes c.args.words.now) (kind_of c.in-Err.error) asks among, subst (λ err. Keeps (g.E.Write.contents c.args.err.now.writer)
-              (g.E.Write.contents err.writer)) (sym quiet) (Keeps-refl _));
+              let (asks, quiet) = c.show.ensures.done zero in (
+                asks_for (map string_bytes c.args.words.now) (kind_of c.in-Err.error) asks among,
+                subst (λ err. Keeps (g.E.Write.contents c.args.err.now.writer)
+                    (g.E.Write.contents err.writer)) (sym quiet) (Keeps-refl _),
+              );
           failed = λ one. elim (c.show.ensures.failed one) [
             | inl nothing ↦ inl (record { line_reported = nothing.0; unwritten = nothing.1 })
             | inr write ↦ inr (
@@ -197,7 +200,7 @@ returns-in-Ok-work g c =
       command = λ parses. (
         c.in-Ok.options.workers,
         c.in-Ok.options.shards,
-        subst (λ (asked : Request). EndsCommand asked did c.finish.result) c.in-Ok.ensures.request
+        subst (λ (one : Request). EndsCommand one did c.finish.result) c.in-Ok.ensures.request
             ends,
       );
       answer = λ other. absurd (other c.in-Ok.ensures.kinds);
@@ -238,7 +241,7 @@ returns g c =
       command = λ parses. (
         c.in-Ok.options.workers,
         c.in-Ok.options.shards,
-        subst (λ (asked : Request). EndsCommand asked did c.report.result) c.in-Ok.ensures.request
+        subst (λ (one : Request). EndsCommand one did c.report.result) c.in-Ok.ensures.request
             (record {
               done = λ zero. absurd (omega (arith, zero, c.report.ensures.status));
               failed = λ one. inr failed;

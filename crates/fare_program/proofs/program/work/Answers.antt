@@ -27,8 +27,8 @@ returns-then-options-clause-ends g c =
 pub load_table-requires : goal.load_table-requires
 load_table-requires g c = dates_read (request_of c.args.options.now) c.requires.usable
 
-pub work_sorted-requires : goal.work_sorted-requires
-work_sorted-requires g c κs within =
+pub work_sorted-requires-clause-word : goal.work_sorted-requires-clause-word
+work_sorted-requires-clause-word g c κs within =
     range_read (request_of c.args.options.now) c.requires.usable
 
 -- sorted files
@@ -45,8 +45,8 @@ unreachable-requires g c =
     (settled_table (request_of c.args.options.now) c.requires.usable
     (sorted_settles (request_of c.args.options.now) c.requires.usable c.if-options-2.true))
 
-pub returns-in-Ok-work_sorted-clause-ends : goal.returns-in-Ok-work_sorted-clause-ends
-returns-in-Ok-work_sorted-clause-ends g c =
+pub returns-then-options-2-clause-ends : goal.returns-then-options-2-clause-ends
+returns-then-options-2-clause-ends g c =
     let request = request_of c.args.options.now in
     let known = g.D.Disk.bytes_under c.args.disk.now in
     let origin = g.D.Disk.origin c.args.disk.now in
@@ -54,10 +54,10 @@ returns-in-Ok-work_sorted-clause-ends g c =
     let after = g.S.FileSource.loaded c.load_table.new.source in
     let loads = subst (λ (fares : Option Fares). LoadsTable request.table before after fares)
     c.in-Some.is c.in-Ok.ensures.ok in
-    let (text, shows, written) = c.in-Ok-work_sorted.ensures.ends in (
+    let (text, shows, written) = c.in_default-work_sorted.ensures.ends in (
       text,
       does_untraced request known origin before after text true c.if-options.false
-          (does_sorted request known origin before None after text true c.in-Some.table.now
+          (does_sorted request known origin before None after text true c.in-Some.table
           c.args.token (sorted_lists request c.requires.usable c.if-options-2.true)
           c.if-options-2.true refl loads c.requires.token shows),
       written,
@@ -76,7 +76,7 @@ returns-in-Err-work_sorted-clause-ends g c =
     (λ text shows. (
       true,
       does_untraced request known origin before after text true c.if-options.false
-          (does_sorted request known origin before None after text true c.in-Some.table.now
+          (does_sorted request known origin before None after text true c.in-Some.table
           c.args.token (sorted_lists request c.requires.usable c.if-options-2.true)
           c.if-options-2.true refl loads c.requires.token shows),
     )) c.in-Err-work_sorted.ensures.ends

@@ -3,9 +3,10 @@ use Rattle.std.proofs.Common.{sym, ℕ}
 use Rattle.fare_program.specs.Causes.{IsFileFault, names_reported}
 use Rattle.fare_program.specs.FilesLoaded.{LoadsFiles, names_to_load}
 use Rattle.fare_program.specs.Program.{LoadsTable}
+use Rattle.fare_program.specs.Uploads.{IsListing}
 use Rattle.fare_program.specs.inside.Options.{request_of}
 use Rattle.fare_program.proofs.Causes.{before_files, right_file}
-use Rattle.fare_program.proofs.Ends.{gives_by}
+use Rattle.fare_program.proofs.Ends.{gives_by, gives_of}
 use Rattle.fare_program.proofs.Works.{does_charge, does_list}
 use Rattle.fare_program.proofs.program.work_by_table.Goals as goal
 
@@ -40,7 +41,8 @@ returns-then-options-clause-ends g c before loads =
     (g.S.FileSource.loaded c.args.source.now) (g.S.FileSource.loaded c.load_files.new.source) fs)
     (ap (map bytes_in) (sym c.deref-then-options.ensures.value)) files)
     (inl c.if-options.true) listing)
-    c.list.ensures.ends
+    (gives_of (IsListing c.args.table (map bytes_in c.deref-then-options.result.now)) _ _
+    c.list.result c.list.ensures.ok c.list.ensures.started c.list.ensures.fault)
 
 pub returns-in-Some-clause-ends : goal.returns-in-Some-clause-ends
 returns-in-Some-clause-ends g c before loads =
@@ -67,4 +69,6 @@ returns-clause-ends g c before loads =
     (g.S.FileSource.loaded c.args.source.now) (g.S.FileSource.loaded c.load_files.new.source) fs)
     (ap (map bytes_in) (sym c.deref-in-None.ensures.value)) files)
     (inr refl) listing)
-    c.list-in-None.ensures.ends
+    (gives_of (IsListing None (map bytes_in c.deref-in-None.result.now)) _ _
+    c.list-in-None.result c.list-in-None.ensures.ok
+    c.list-in-None.ensures.started c.list-in-None.ensures.fault)

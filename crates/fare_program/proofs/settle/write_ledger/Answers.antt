@@ -71,14 +71,17 @@ returns-clause-ends g c =
     (λ write.
     let (text, is, started) = c.in-Err-write_settled_ledger.ensures.started write in (
       text,
-      (are_posted c.in-Ok.made.ends.items, (
-        files,
-        read,
-        shows_ledger (request_of c.args.options.now) fares files text _ c.requires
-            (posted fares order) (c.posted_taps.ensures.history fares files order made)
-            c.in-Ok.made.ends.items ended refl
-            (subst (λ (ls : List (Vec TapFields Global)). IsLedgerOver fares
-            (posted fares (joined ls)) None text) c.deref.ensures.value is),
-      )),
+      (
+        are_posted c.in-Ok.made.ends.items,
+        (
+          files,
+          read,
+          shows_ledger (request_of c.args.options.now) fares files text _ c.requires
+              (posted fares order) (c.posted_taps.ensures.history fares files order made)
+              c.in-Ok.made.ends.items ended refl
+              (subst (λ (ls : List (Vec TapFields Global)). IsLedgerOver fares
+              (posted fares (joined ls)) None text) c.deref.ensures.value is),
+        ),
+      ),
       started,
     )))

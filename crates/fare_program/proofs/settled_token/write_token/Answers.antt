@@ -28,7 +28,7 @@ returns-in-Ok-write_text-clause-ends g c =
       written,
     )
 
-pub returns-clause-ends : goal.returns-in-Err-write_text-clause-ends
+pub returns-clause-ends : goal.returns-clause-ends
 returns-clause-ends g c =
     let fares = c.args.table.now in
     let (files, read, ended, made) = c.in-Ok.ensures.order in
@@ -39,17 +39,20 @@ returns-clause-ends g c =
     (λ write.
     let (text, shows, started) = c.in-Err-write_text.ensures.started write in (
       text,
-      (are_posted c.in-Ok.made.ends.items, (
-        files,
-        read,
-        record {
-          history = history;
-          is_settled = c.posted_taps.ensures.history fares files made.order made.settled;
-          shows = shows files history (own_is ∙ ap (posted fares) (sym c.deref-2.ensures.value));
-          ends = c.in-Ok.made.ends.items;
-          ended = ended;
-          succeeded = refl;
-        },
-      )),
+      (
+        are_posted c.in-Ok.made.ends.items,
+        (
+          files,
+          read,
+          record {
+            history = history;
+            is_settled = c.posted_taps.ensures.history fares files made.order made.settled;
+            shows = shows files history (own_is ∙ ap (posted fares) (sym c.deref-2.ensures.value));
+            ends = c.in-Ok.made.ends.items;
+            ended = ended;
+            succeeded = refl;
+          },
+        ),
+      ),
       started,
     ))

@@ -24,9 +24,9 @@ returns-in-Err-clause-right g c =
     c.deref.ensures.value c.in-Err.ensures.fault)
 
 pub charge_part-requires : goal.charge_part-requires
-charge_part-requires g c κs within =
+charge_part-requires g c =
     subst (λ (tokens : Option (List ℕ)). option_and_then range_fault tokens ≡ None)
-    (ap (option_map name_in) c.in-Some.is) c.requires
+    (ap (option_map name_in) c.in-Some.is) c.requires.word
 
 pub returns-in-Some-clause-ends : goal.returns-in-Some-clause-ends
 returns-in-Some-clause-ends g c =

@@ -46,7 +46,7 @@ returns-in-Ok-clause-names c =
     × AreTrees c.args.tables.fares (bytes_of ts) tree later × HasClasses c.in-Ok.names tree later)
     c.deref.ensures.value c.in-Ok.ensures.classes
 
-pub returns-clause-fault : goal.returns-in-Err-clause-fault
+pub returns-clause-fault : goal.returns-clause-fault
 returns-clause-fault c =
     unplain_class (names_of c.args.words.now) _ c.in-Err.wrong
     (wrong_in c.args.tables.texts.items c.deref.result.now c.deref.ensures.value c.in-Err.wrong

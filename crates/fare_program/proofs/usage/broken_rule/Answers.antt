@@ -1,5 +1,5 @@
-use Rattle.std.proofs.Common.{◌≡◌, ◌∙◌, ◌==◌, Bool, None, Option, Some, ap, length, not, option_map, refl}
-use Rattle.std.proofs.Common.{sym}
+use Rattle.std.proofs.Common.{◌≡◌, ◌∙◌, ◌==◌, Bor, List, None, Option, Some, ap, length, not}
+use Rattle.std.proofs.Common.{option_map, refl, sym, ℕ}
 use Rattle.std.specs.Prelude.{is_some}
 use Rattle.std.specs.List.{list_all}
 use Rattle.std.proofs.lemmas.List.{length-map}
@@ -18,7 +18,8 @@ returns c =
     let table = c.is_some-table.ensures ∙ mapped names_of options.table in
     let token = c.is_some-token.ensures ∙ mapped (λ t. t.now) options.token in
     let range = c.is_some-range.ensures ∙ mapped (λ t. t.now) options.tokens in
-    let file = ap not (c.is_empty.ensures
+    let file = ap not (c.is_empty-file.ensures
+    ∙ ap (λ (names : List (Bor (List ℕ))). length names == 0) c.as_slice.ensures.value
     ∙ ap (λ n. n == 0) (sym (length-map options.files.items (λ f. f.now)))) in
     c.first_broken.ensures ∙ (λ i. list_all (λ rule. rule)
     (rules_by (table i) (token i) (file i) (range i) (request_of options)))

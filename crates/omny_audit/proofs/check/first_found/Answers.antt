@@ -42,9 +42,9 @@ returns-in_ok-found-in-Some-clause-decided c = λ some given.
 pub returns-in_ok-found-in-None-clause-found : goal.returns-in_ok-found-in-None-clause-found
 returns-in_ok-found-in-None-clause-found c = λ fares valid text written has.
     let known = rw c.in-None.is at has in
-    let is = c.in_ok-sums.ensures.verdict fares c.args.balance.now text valid known.0 in
+    let is = c.in_ok-verdict-in-None.ensures.verdict fares c.args.balance.now text valid known.0 in
     let found = c.in_ok-found-in-None.ensures.found fares text valid is
-    (λ legal entries of. (c.in_ok-sums.ensures.legal fares c.args.balance.now text valid known.0
+    (λ legal entries of. (c.in_ok-verdict-in-None.ensures.legal fares c.args.balance.now text valid known.0
     legal entries of).0) in (
       found.0,
       found.1,
@@ -53,7 +53,7 @@ returns-in_ok-found-in-None-clause-found c = λ fares valid text written has.
           c.in_ok-found-in-None.found.is_sound) (sym known.1) found.2,
       subst (λ (b : Bool). (b ≡ true) ↔ IsLedger fares text)
           (sym c.in_ok-found-in-None.ensures.legal)
-          (c.verdicts_decide.ensures fares text c.in_ok-sums.verdict is),
+          (c.verdicts_decide.ensures fares text c.in_ok-verdict-in-None.verdict is),
     )
 
 pub returns-in_ok-found-in-Some-clause-sums : goal.returns-in_ok-found-in-Some-clause-sums
@@ -66,5 +66,5 @@ returns-in_ok-found-in-None-clause-sums c = λ fares valid text written has lega
     let known = rw c.in-None.is at has in
     subst (λ (s : Option EntrySums). IfSome s (AreSumsOf entries))
     (sym c.in_ok-found-in-None.ensures.sums)
-    (c.in_ok-sums.ensures.legal fares c.args.balance.now text valid known.0
+    (c.in_ok-verdict-in-None.ensures.legal fares c.args.balance.now text valid known.0
     (sym c.in_ok-found-in-None.ensures.legal ∙ legal) entries of).1

@@ -1,4 +1,4 @@
-use Rattle.std.proofs.Common.{◌∙◌, arith, inl, inr, map, refl, string_bytes, subst}
+use Rattle.std.proofs.Common.{arith, inl, inr, map, refl, string_bytes, subst}
 use Rattle.tool_words.specs.Request.{Request}
 use Rattle.tool_program.specs.Program.{IsFramed}
 use Rattle.tool_program.proofs.Asking.{refused_words, unparsed}

@@ -15,13 +15,19 @@ returns-in-Ok-clause-unchanged g c = c.in-Ok.ensures.unchanged
 
 pub returns-in-Err-Unread-clause-stopped : goal.returns-in-Err-Unread-clause-stopped
 returns-in-Err-Unread-clause-stopped g c =
-    let (calls, all, refused) = c.in-Err-Unread.ensures.refused in
-    (calls, all, (refl, ap (λ (r : Run). r.unread) (subst (λ (w : LoadFault).
-    IsRefused nothing_yet calls.run (option_map (λ n. n.now) c.file_of.result) w)
-    c.in-Err-Unread.field-0-is refused)
-    ∙ ap (λ (name : Option (List ℕ)). name ∷ []) c.file_of.ensures))
+    let (calls, all, refused) = c.in-Err-Unread.ensures.refused in (
+      calls,
+      all,
+      (
+        refl,
+        ap (λ (r : Run). r.unread) (subst (λ (w : LoadFault).
+            IsRefused nothing_yet calls.run (option_map (λ n. n.now) c.file_of.result) w)
+            c.in-Err-Unread.field-0-is refused)
+            ∙ ap (λ (name : Option (List ℕ)). name ∷ []) c.file_of.ensures,
+      ),
+    )
 
 pub returns-in-Err : goal.returns-in-Err
 returns-in-Err g c =
     let (calls, all, refused) = c.in-Err.ensures.refused in
-    record { fresh = tt; named = tt; unchanged = tt; stopped = (calls, all, tt); }
+    record { fresh = tt; named = tt; unchanged = tt; stopped = (calls, all, tt) }

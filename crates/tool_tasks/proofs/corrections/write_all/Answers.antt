@@ -1,5 +1,5 @@
-use Rattle.std.proofs.Common.{◌∙◌, ◌++◌, [], Bool, List, None, Option, Some, ap, inl, inr, refl, subst, sym, ℕ}
-use Rattle.ledger_changes.specs.Given.{HasGiven, IsGivenAfter, new_calls, old_calls}
+use Rattle.std.proofs.Common.{◌∙◌, ◌++◌, [], List, None, Option, ap, inl, inr, refl, subst, sym, ℕ}
+use Rattle.ledger_changes.specs.Given.{IsGivenAfter, new_calls, old_calls}
 use Rattle.ledger_changes.specs.Tokens.{head_of}
 use Rattle.recorded_lines.proofs.Reading.{follows_on}
 use Rattle.world.specs.Run.{with_written}

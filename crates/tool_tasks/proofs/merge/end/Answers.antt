@@ -1,8 +1,6 @@
-use Rattle.std.proofs.Common.{◌∙◌, Err, ap, map, subst, sym}
+use Rattle.std.proofs.Common.{◌∙◌, ap}
 use Rattle.std.proofs.lemmas.Result.{IfOk-weaker}
-use Rattle.part_texts.specs.declared.fault.MergeFault.{MergeFault}
 use Rattle.world.specs.Run.{with_flushed, with_said}
-use Rattle.tool_tasks.specs.inside.Merge.{IsEnded}
 use Rattle.tool_tasks.proofs.merge.end.Goals as goal
 
 pub returns-in-Ok-clause-ended : goal.returns-in-Ok-clause-ended

@@ -1,6 +1,5 @@
-use Rattle.std.proofs.Common.{◌≡◌, ◌∙◌, ◌++◌, ◌∷◌, [], Bor, List, Option, ap, append-nil, map, option_map, refl}
+use Rattle.std.proofs.Common.{◌∙◌, ◌++◌, ◌∷◌, [], Bor, List, Option, ap, append-nil, map, option_map, refl}
 use Rattle.std.proofs.Common.{arith, subst, sym, take_all, ℕ}
-use Rattle.std.specs.Prelude.{All}
 use Rattle.std.proofs.lemmas.List.Elements.{All-nil, All-push, All-same}
 use Rattle.recorded_lines.specs.Texts.{IsFresh, calls_of}
 use Rattle.world.specs.Loads.{IsRefused}

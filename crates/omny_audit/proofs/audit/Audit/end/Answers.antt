@@ -33,7 +33,7 @@ returns-clause-ended c = λ valid file before has.
     has.checked in
     let columns = c.in_ok-is_right.ensures in
     let wrote = c.in_ok-fits.ensures in
-    let looked = c.is_either-is_looked_at.ensures ∙ ap (λ (b : Bool). b || legal) c.is_all.ensures
+    let looked = c.is_either-is_looked_at.ensures ∙ ap (λ (b : Bool). b || legal) c.is_all-all.ensures
     in
     let whole = c.are_both-is_whole.ensures in
     let reported = columns.2 file (λ look. has.all (undecided audit.check legal

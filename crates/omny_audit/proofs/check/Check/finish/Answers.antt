@@ -30,10 +30,8 @@ full_finding-requires c = let given = c.requires.fed in
 
 pub returns-in_ok-found-in-First-clause-sums : goal.returns-in_ok-found-in-First-clause-sums
 returns-in_ok-found-in-First-clause-sums c = λ fares valid text written has.
-    rw c.in-First.is
-    (c.in_ok-found-in-First.ensures.sums fares valid text written (rw c.in-First.is at has))
+    c.in_ok-found-in-First.ensures.sums fares valid text written (rw c.in-First.is at has)
 
 pub returns-in_ok-found-in-All-clause-sums : goal.returns-in_ok-found-in-All-clause-sums
 returns-in_ok-found-in-All-clause-sums c = λ fares valid text written has.
-    rw c.in-All.is
-    (c.in_ok-found-in-All.ensures.sums fares valid text written (rw c.in-All.is at has))
+    c.in_ok-found-in-All.ensures.sums fares valid text written (rw c.in-All.is at has)
