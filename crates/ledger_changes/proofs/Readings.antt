@@ -2,7 +2,7 @@
 use Rattle.std.proofs.Common.{◌≡◌, ◌+◌, ℕ, Bool, true, false, cond, List, [], ◌∷◌, length, Option}
 use Rattle.std.proofs.Common.{Some, None, Result, Ok, Err}
 use Rattle.std.proofs.Common.{refl, sym, ap, subst, ◌∙◌}
-use Rattle.std.specs.Prelude.{nat_lt}
+use Rattle.std.specs.Prelude.{is_some, nat_lt, not}
 use Rattle.std.specs.Str.{bytes_eq}
 use Rattle.std.proofs.lemmas.Bool.{false≢true}
 use Rattle.std.proofs.lemmas.Slice.Eq.{bytes_eq-Decides}
@@ -14,7 +14,13 @@ use Rattle.ledger_changes.specs.Ledgers.{cons_row, does_decrease, placed, row_af
 use Rattle.ledger_changes.specs.Ledgers.{rows_after_head, rows_from, rows_of}
 use Rattle.ledger_changes.specs.declared.fault.WrongLine.{WrongLine}
 use Rattle.ledger_changes.specs.declared.fault.WrongLine.TheVariants.{Form, Order}
-use Rattle.ledger_changes.specs.inside.Readings.{rows_with}
+use Rattle.ledger_changes.specs.declared.fault.Bill.{Bill}
+use Rattle.ledger_changes.specs.declared.fault.CorrectionsFault.{CorrectionsFault}
+use Rattle.ledger_changes.specs.declared.fault.CorrectionsFault.TheVariants.{Line, Unread, NoMemory}
+use Rattle.ledger_changes.specs.declared.row.LedgerRow.{LedgerRow}
+use Rattle.ledger_changes.specs.inside.Readings.{IsWrongAs, rows_with}
+use Rattle.ledger_changes.specs.inside.Views.{row_in as row_at, row_of}
+use Rattle.world.specs.Run.{Calls}
 use Rattle.ledger_changes.proofs.Sorted.{AreNondecreasing, ascend_more, ascend_none, ascend_one}
 
 -- ---- one line
@@ -103,6 +109,25 @@ pub head_is : (text line rest : List ℕ) → lines_of text ≡ line ∷ lines_o
     → rows_of text ≡ rows_from 2 None (lines_of rest)
 head_is text line rest shown is =
     head_by text line (lines_of rest) true shown ((bytes_eq-Decides line head_text).1 is)
+
+-- a line that is wrong after a row
+pub wrong_rows : (row : Option LedgerRow) (is_none : Bool) (bill : Bill) (calls : Calls)
+    (number next : ℕ) (text : List ℕ) (fault : CorrectionsFault) → is_some row ≡ not is_none
+    → is_none ≡ false → next ≡ number + 1
+    → IsWrongAs bill calls (rows_from next (row_at row) (lines_of text)) fault
+    → IsWrongAs bill calls (rows_with (row_at row) number text) fault
+wrong_rows None is_none bill calls number next text fault is some on wrong =
+    absurd (let e : false ≡ true = is ∙ ap not some in cc)
+wrong_rows (Some row) is_none bill calls number next text fault is some on wrong =
+    by fault (subst (λ n. IsWrongAs bill calls (rows_from n (Some (row_of row)) (lines_of text)) fault)
+    on wrong)
+  where
+    by : (fault : CorrectionsFault)
+        → IsWrongAs bill calls (rows_from (number + 1) (Some (row_of row)) (lines_of text)) fault
+        → IsWrongAs bill calls (rows_with (Some (row_of row)) number text) fault
+    by (Line which at why) (same, said) = (same, ap (cons_row (row_of row)) said)
+    by (Unread which) unread = unread
+    by NoMemory none = tt
 
 -- ---- the rows of a ledger are in order
 abbrev AreNondecreasingFrom : Option Row → List Row → Type 0

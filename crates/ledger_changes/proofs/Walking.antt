@@ -2,18 +2,23 @@
 use Rattle.std.proofs.Common.{◌≡◌, ◌+◌, ℕ, Bool, true, false, List, [], ◌∷◌, ◌++◌, length, Option}
 use Rattle.std.proofs.Common.{Some, None, Ok, Err}
 use Rattle.std.proofs.Common.{refl, sym, ap, subst, ◌∙◌, arith, append-nil, append_assoc, filter}
-use Rattle.std.proofs.Common.{if◌then◌else◌, length-append, IfSome, option_map, inl, inr, ◌⊎◌}
+use Rattle.std.proofs.Common.{drop, if◌then◌else◌, length-append, option_map, inl, inr, ◌⊎◌}
 use Rattle.std.specs.declared.cmp.Ordering.{Ordering}
 use Rattle.std.specs.declared.cmp.Ordering.TheVariants.{Less, Equal, Greater}
 use Rattle.std.proofs.lemmas.List.Elements.{filter-append}
 use Rattle.ledger_fields.specs.Rows.{Row}
 use Rattle.ledger_changes.specs.Changes.{Pair, beside, changes_between, is_changed, pairs_by}
 use Rattle.ledger_changes.specs.Changes.{pairs_with}
-use Rattle.ledger_changes.specs.Given.{After, IsGivenAfter, Left, Said, Walked, Wrote}
-use Rattle.ledger_changes.specs.inside.Walks.{GoesOn, IsWhole, StopsAt}
+use Rattle.ledger_changes.specs.Given.{After, HasStarted, HasGiven, IsFaultOf, IsGivenAfter}
+use Rattle.ledger_changes.specs.Given.{Left, Said, Walked, Wrote, new_calls, old_calls}
+use Rattle.ledger_changes.specs.inside.Walks.{WalksOn}
 use Rattle.ledger_changes.specs.inside.Pairs.{next_sides, pairs_of, sides_by}
 use Rattle.line_folds.specs.Folds.{lines_of}
-use Rattle.ledger_changes.specs.Ledgers.{NamesFirstWrong, cons_row, rows_from, rows_of}
+use Rattle.recorded_lines.specs.Texts.{CanBe, IsFresh, calls_of, left}
+use Rattle.recorded_lines.specs.declared.text.Lines.{Lines}
+use Rattle.world.specs.Run.{Calls}
+use Rattle.world.specs.Streams.{IsWhole}
+use Rattle.ledger_changes.specs.Ledgers.{cons_row, rows_from, rows_of}
 use Rattle.ledger_changes.specs.Rows.{key_cmp}
 use Rattle.ledger_changes.specs.Texts.{correction_line, corrections_lines, is_removed, removed_in}
 use Rattle.ledger_changes.specs.Tokens.{TokenSum, all_lines, change_lines, changes_of_both, head_of}
@@ -26,8 +31,9 @@ use Rattle.ledger_changes.specs.declared.fault.CorrectionsFault.{CorrectionsFaul
 use Rattle.ledger_changes.specs.declared.fault.CorrectionsFault.TheVariants.{Line, Unread, NoMemory}
 use Rattle.ledger_changes.specs.declared.fault.WrongLine.{WrongLine}
 use Rattle.ledger_changes.specs.declared.row.LedgerRow.{LedgerRow}
-use Rattle.ledger_changes.specs.inside.Readings.{IsWrongAs, Moves, rows_at, rows_with, with_row}
-use Rattle.ledger_changes.specs.inside.Views.{row_in, sum_in}
+use Rattle.ledger_changes.specs.declared.ledger_rows.LedgerRows.{LedgerRows}
+use Rattle.ledger_changes.specs.inside.Readings.{HasEnded, IsWrongAs, rows_at, rows_with, with_row}
+use Rattle.ledger_changes.specs.inside.Views.{row_in, row_of, sum_in}
 
 -- ---- the text of corrections, in two parts
 lines_more : (by_token : Bool) (last : Option TokenSum) (done more : List Pair)
@@ -123,13 +129,10 @@ abbrev pub HasRow : Option Row → Said → Type 0
 HasRow None said = said ≡ Ok []
 HasRow (Some row) said = (rest : Said) × (said ≡ cons_row row rest)
 
-pub row_of_said : (row : Option Row) (number : ℕ) (left : Option (List ℕ)) (said : Said)
-    → option_map (rows_with row number) left ≡ Some said → HasRow row said
-row_of_said row number None said is = absurd (cc)
-row_of_said None number (Some text) said is = let t : Ok [] ≡ said = cc in sym t
-row_of_said (Some row) number (Some text) said is =
-    let t : rows_with (Some row) number text ≡ said = cc in
-    (rows_from (number + 1) (Some row) (lines_of text), sym t)
+pub row_of_said : (row : Option Row) (number : ℕ) (text : List ℕ)
+    → HasRow row (rows_with row number text)
+row_of_said None number text = refl
+row_of_said (Some row) number text = (rows_from (number + 1) (Some row) (lines_of text), refl)
 
 heads : (row : Option Row) (said : Said) (rows : List Row) → HasRow row said → said ≡ Ok rows
     → Heads row rows
@@ -177,22 +180,20 @@ after_more done more None = refl
 after_more done more (Some pairs) =
     ap (λ (l : List Pair). Some l) (sym (append_assoc done more pairs))
 
-pub walk_first : (by_token : Bool) (o n : Option Said) (old new : Said) → o ≡ Some old
-    → n ≡ Some new
-    → Walked by_token (head_of by_token) 0 None o n old new
-walk_first by_token o n old new is_old is_new = record {
-  old = old;
-  new = new;
-  is_old = is_old;
-  is_new = is_new;
+pub walk_first : (by_token : Bool) (removed : ℕ) (last : Option TokenSum)
+    (old new old0 new0 : Said) → removed ≡ 0 → last ≡ None → old ≡ old0 → new ≡ new0
+    → Walked by_token (head_of by_token) removed last old new old0 new0
+walk_first by_token removed last old new old0 new0 none closed is_old is_new = record {
   done = [];
   rest = record {
-    left = after_none (changes_of_both old new);
-    wrong_old = λ wrong is. is;
-    wrong_new = λ wrong is. is;
+    left = after_none (changes_of_both old0 new0)
+        ∙ ap (λ (s : Said). After [] (changes_of_both s new0)) (sym is_old)
+        ∙ ap (λ (s : Said). After [] (changes_of_both old s)) (sym is_new);
+    wrong_old = λ wrong is. sym is_old ∙ is;
+    wrong_new = λ wrong is. sym is_new ∙ is;
   };
   wrote = record
-      { written = sym (append-nil (head_of by_token)); open_sums = refl; counted = refl };
+      { written = sym (append-nil (head_of by_token)); open_sums = closed; counted = none };
 }
 
 wrong_with : (row : Option Row) (said rest : Said) (wrong : ℕ × WrongLine)
@@ -294,10 +295,15 @@ no_rows o n b a h k sides is_b is_a none =
     (none ∙ ap (λ (r : Option Row). pairs_of r a) is_b
     ∙ ap (λ (r : Option Row). pairs_of (taken_if h o) r) is_a)
 
+-- the text is whole, and so many lines are removed
+abbrev pub IsAll : Bool → List ℕ → ℕ → Said → Said → Type 0
+IsAll by_token text removed old new =
+    option_map (text_of by_token) (changes_of_both old new) ≡ Some (text, removed)
+
 all_given : (by_token : Bool) (text full : List ℕ) (removed : ℕ) (last : Option TokenSum)
     (old0 new0 old new_said : Said) (done : List Pair) → Left old0 new0 old new_said done
     → Wrote by_token text removed last done → old ≡ Ok [] → new_said ≡ Ok []
-    → full ≡ text ++ sums_line last → IsWhole by_token full removed old0 new0
+    → full ≡ text ++ sums_line last → IsAll by_token full removed old0 new0
 all_given by_token text full removed last old0 new0 old new_said done left wrote no_old no_new
     is_full =
     ap (option_map (text_of by_token)) (left.left
@@ -317,7 +323,7 @@ all_given by_token text full removed last old0 new0 old new_said done left wrote
 -- More would make the text whole, or a line of a ledger is wrong.
 abbrev pub Outlook : Bool → List ℕ → Said → Said → Type 0
 Outlook by_token text old new =
-    ((rest : List ℕ) × (removed : ℕ) × IsWhole by_token (text ++ rest) removed old new)
+    ((rest : List ℕ) × (removed : ℕ) × IsAll by_token (text ++ rest) removed old new)
     ⊎ (((wrong : ℕ × WrongLine) × (old ≡ Err wrong))
     ⊎ ((wrong : ℕ × WrongLine) × (new ≡ Err wrong)))
 
@@ -340,12 +346,12 @@ rest_of by_token text removed last done more wrote = (
     sums = sums_line (last_sums by_token None (done ++ more))
 
 pub outlook : (by_token : Bool) (text : List ℕ) (removed : ℕ) (last : Option TokenSum)
-    (o n : Option Said) (old0 new0 : Said)
-    → Walked by_token text removed last o n old0 new0 → Outlook by_token text old0 new0
-outlook by_token text removed last o n (Err wrong) new0 w = inr (inl (wrong, refl))
-outlook by_token text removed last o n (Ok olds) (Err wrong) w = inr (inr (wrong, refl))
-outlook by_token text removed last o n (Ok olds) (Ok news) w =
-    by (changes_of_both w.old w.new) w.rest.left
+    (old new old0 new0 : Said)
+    → Walked by_token text removed last old new old0 new0 → Outlook by_token text old0 new0
+outlook by_token text removed last old new (Err wrong) new0 w = inr (inl (wrong, refl))
+outlook by_token text removed last old new (Ok olds) (Err wrong) w = inr (inr (wrong, refl))
+outlook by_token text removed last old new (Ok olds) (Ok news) w =
+    by (changes_of_both old new) w.rest.left
   where
     by : (rest : Option (List Pair)) → Some (changes_between olds news) ≡ After w.done rest
         → Outlook by_token text (Ok olds) (Ok news)
@@ -369,53 +375,36 @@ taken_none : (is_taken : Bool) (row : Option Row) → row ≡ None → taken_if 
 taken_none true row none = none
 taken_none false row none = refl
 
-abbrev SaidBy : Option LedgerRow → ℕ → Option (List ℕ) → Option Said
-SaidBy row number left = option_map (rows_with (row_in row) number) left
-
 pub record Moved (by_token : Bool) (text : List ℕ) (removed : ℕ) (last : Option TokenSum)
-    (o n : Option Said) (pairs : List Pair) (old0 new0 : Said) : Type 0 where
-  pub old : Said
-  pub new : Said
-  pub is_old : o ≡ Some old
-  pub is_new : n ≡ Some new
+    (old new : Said) (pairs : List Pair) (old0 new0 : Said) : Type 0 where
   pub done : List Pair
   pub rest : Left old0 new0 old new (done ++ filter is_changed pairs)
   pub wrote : Wrote by_token text removed last done
   pub over : [] ≡ pairs → (old ≡ Ok []) × (new ≡ Ok [])
 
 pub moved : (by_token : Bool) (text : List ℕ) (removed : ℕ) (last : Option TokenSum)
-    (o n : Option Said) (old_row new_row b a : Option LedgerRow) (old_number new_number : ℕ)
-    (old_left new_left : Option (List ℕ)) (sides : Bool × Bool) (old0 new0 : Said)
+    (old' new' : Said) (old_row new_row b a : Option LedgerRow) (old_number new_number : ℕ)
+    (old_left new_left : List ℕ) (sides : Bool × Bool) (old0 new0 : Said)
     → sides ≡ next_sides (row_in old_row) (row_in new_row)
     → b ≡ (if sides.0 then old_row else None) → a ≡ (if sides.1 then new_row else None)
-    → IfSome (option_map (rows_with (row_in old_row) old_number) old_left) (Moves (row_in b) o)
-    → IfSome (option_map (rows_with (row_in new_row) new_number) new_left) (Moves (row_in a) n)
-    → Walked by_token text removed last
-    (option_map (rows_with (row_in old_row) old_number) old_left)
-    (option_map (rows_with (row_in new_row) new_number) new_left) old0 new0
-    → Moved by_token text removed last o n (pairs_of (row_in b) (row_in a)) old0 new0
-moved by_token text removed last o n old_row new_row b a old_number new_number old_left new_left
-    sides old0 new0
-    is_sides is_b is_a old_moves new_moves w =
-    let was : Moves (row_in b) o w.old =
-    subst (λ x. IfSome x (Moves (row_in b) o)) w.is_old old_moves in
-    let (old', is_old, old_is) = was in
-    let now : Moves (row_in a) n w.new =
-    subst (λ x. IfSome x (Moves (row_in a) n)) w.is_new new_moves in
-    let (new', is_new, new_is) = now in
-    let row_o = row_of_said (row_in old_row) old_number old_left w.old w.is_old in
-    let row_n = row_of_said (row_in new_row) new_number new_left w.new w.is_new in
+    → rows_with (row_in old_row) old_number old_left ≡ with_row (row_in b) old'
+    → rows_with (row_in new_row) new_number new_left ≡ with_row (row_in a) new'
+    → Walked by_token text removed last (rows_with (row_in old_row) old_number old_left)
+    (rows_with (row_in new_row) new_number new_left) old0 new0
+    → Moved by_token text removed last old' new' (pairs_of (row_in b) (row_in a)) old0 new0
+moved by_token text removed last old' new' old_row new_row b a old_number new_number old_left
+    new_left sides old0 new0 is_sides is_b is_a old_is new_is w =
+    let old = rows_with (row_in old_row) old_number old_left in
+    let new = rows_with (row_in new_row) new_number new_left in
+    let row_o = row_of_said (row_in old_row) old_number old_left in
+    let row_n = row_of_said (row_in new_row) new_number new_left in
     let b_is : row_in b ≡ taken_if sides.0 (row_in old_row) =
     ap row_in is_b ∙ taken_row sides.0 old_row in
     let a_is : row_in a ≡ taken_if sides.1 (row_in new_row) =
     ap row_in is_a ∙ taken_row sides.1 new_row in
     record {
-      old = old';
-      new = new';
-      is_old = is_old;
-      is_new = is_new;
       done = w.done;
-      rest = left_more (row_in old_row) (row_in new_row) old0 new0 w.old w.new old' new' w.done
+      rest = left_more (row_in old_row) (row_in new_row) old0 new0 old new old' new' w.done
           (row_in b) (row_in a)
           sides.0 sides.1 is_sides b_is a_is row_o row_n old_is new_is w.rest;
       wrote = w.wrote;
@@ -425,30 +414,26 @@ moved by_token text removed last o n old_row new_row b a old_number new_number o
           b_is a_is none in (
             ap (λ (r : Option Row). with_row r old')
                 (sym (b_is ∙ taken_none sides.0 (row_in old_row) no_old))
-                ∙ sym old_is ∙ no_row (row_in old_row) w.old row_o no_old,
+                ∙ sym old_is ∙ no_row (row_in old_row) old row_o no_old,
             ap (λ (r : Option Row). with_row r new')
                 (sym (a_is ∙ taken_none sides.1 (row_in new_row) no_new))
-                ∙ sym new_is ∙ no_row (row_in new_row) w.new row_n no_new,
+                ∙ sym new_is ∙ no_row (row_in new_row) new row_n no_new,
           );
     }
 
 pub moved_next : (by_token : Bool) (text more full : List ℕ) (removed counted : ℕ)
     (last last' : Option TokenSum)
-    (o n : Option Said) (pairs : List Pair) (pair : Pair) (old0 new0 : Said) → pair ∷ [] ≡ pairs
+    (old new : Said) (pairs : List Pair) (pair : Pair) (old0 new0 : Said) → pair ∷ [] ≡ pairs
     → full ≡ text ++ more
     → more ≡ lines_of_changes by_token last (filter is_changed (pair ∷ []))
     → last' ≡ last_sums by_token last (filter is_changed (pair ∷ []))
     → counted ≡ removed + removed_in (filter is_changed (pair ∷ []))
-    → Moved by_token text removed last o n pairs old0 new0
-    → Walked by_token full counted last' o n old0 new0
-moved_next by_token text more full removed counted last last' o n pairs pair old0 new0 is is_full
-    lines sums count m = record {
-      old = m.old;
-      new = m.new;
-      is_old = m.is_old;
-      is_new = m.is_new;
+    → Moved by_token text removed last old new pairs old0 new0
+    → Walked by_token full counted last' old new old0 new0
+moved_next by_token text more full removed counted last last' old new pairs pair old0 new0 is
+    is_full lines sums count m = record {
       done = m.done ++ filter is_changed (pair ∷ []);
-      rest = subst (λ (l : List Pair). Left old0 new0 m.old m.new (m.done ++ filter is_changed l))
+      rest = subst (λ (l : List Pair). Left old0 new0 old new (m.done ++ filter is_changed l))
           (sym is) m.rest;
       wrote = wrote_more by_token text more full removed counted last last' m.done
           (filter is_changed (pair ∷ [])) m.wrote is_full lines sums count;
@@ -462,83 +447,111 @@ at_end old0 new0 old new done pairs none left =
     (ap (λ (l : List Pair). done ++ filter is_changed l) (sym none) ∙ append-nil done) left
 
 pub moved_end : (by_token : Bool) (text full : List ℕ) (removed : ℕ) (last : Option TokenSum)
-    (o n : Option Said) (pairs : List Pair) (old0 new0 : Said) → [] ≡ pairs
+    (old new : Said) (pairs : List Pair) (old0 new0 : Said) → [] ≡ pairs
     → full ≡ text ++ sums_line last
-    → Moved by_token text removed last o n pairs old0 new0 → IsWhole by_token full removed old0 new0
-moved_end by_token text full removed last o n pairs old0 new0 none is_full m =
-    let (no_old, no_new) = m.over none in
-    all_given by_token text full removed last old0 new0 m.old m.new m.done
-    (at_end old0 new0 m.old m.new m.done pairs none m.rest) m.wrote no_old no_new is_full
+    → Moved by_token text removed last old new pairs old0 new0
+    → IsAll by_token full removed old0 new0 × (old ≡ Ok []) × (new ≡ Ok [])
+moved_end by_token text full removed last old new pairs old0 new0 none is_full m =
+    let (no_old, no_new) = m.over none in (
+      all_given by_token text full removed last old0 new0 old new m.done
+          (at_end old0 new0 old new m.done pairs none m.rest) m.wrote no_old no_new is_full,
+      no_old,
+      no_new,
+    )
+
+-- ---- of what reads gave
+-- nothing may follow
+pub can_be_read : (calls : Calls) → CanBe calls calls.reading.bytes
+can_be_read calls =
+    record { more = []; begins = sym (append-nil calls.reading.bytes); ends = λ whole. refl }
+
+-- of a ledger of which nothing was read, all is left
+pub all_left : (from : Lines) (whole : List ℕ) → IsFresh from → left from whole ≡ whole
+all_left from whole fresh =
+    ap (λ (l : List ℕ). l ++ drop (length (calls_of from).reading.bytes) whole) fresh.none
+    ∙ ap (λ (l : List ℕ). drop (length l) whole) fresh.unread
+
+-- at the end of its rows a ledger was read to its end
+pub rows_ended : (ledger : LedgerRows) (whole : List ℕ) → HasEnded ledger
+    → rows_at ledger whole ≡ Ok [] → IsWhole (calls_of ledger.from)
+rows_ended ledger whole ended is = by ledger.row refl
+  where
+    some : (row : Row) (rest : Said) → cons_row row rest ≡ Ok [] → ⊥
+    some row (Ok rows) is = cc
+    some row (Err wrong) is = cc
+
+    by : (row : Option LedgerRow) → ledger.row ≡ row → IsWhole (calls_of ledger.from)
+    by None none = (ended none).whole
+    by (Some row) at = absurd (some (row_of row)
+        (rows_from (ledger.number + 1) (Some (row_of row)) (lines_of (left ledger.from whole)))
+        (ap (λ (r : Option LedgerRow). rows_with (row_in r) ledger.number (left ledger.from whole))
+        (sym at) ∙ is))
 
 -- ---- which line is the first wrong one
 other_bill : {A : Type 0} → Old ≡ New → A
 other_bill e = absurd (cc)
 
-pub named_old : (old_text new_text : List ℕ) (fault : CorrectionsFault)
-    → IsWrongAs Old (rows_of old_text) fault
-    → NamesFirstWrong old_text new_text fault
-named_old old_text new_text (Line Old number why) is = is.1
-named_old old_text new_text (Line New number why) is = other_bill (sym is.0)
-named_old old_text new_text (Unread bill) is = tt
-named_old old_text new_text NoMemory is = tt
-
-pub named_new : (old_text new_text : List ℕ) (fault : CorrectionsFault)
-    → IsWrongAs New (rows_of new_text) fault
-    → NamesFirstWrong old_text new_text fault
-named_new old_text new_text (Line Old number why) is = other_bill is.0
-named_new old_text new_text (Line New number why) is = is.1
-named_new old_text new_text (Unread bill) is = tt
-named_new old_text new_text NoMemory is = tt
-
 -- the line of the old ledger, of which this is left
-pub stops_old : (fault : CorrectionsFault) (bill : Bill) (by_token : Bool) (text : List ℕ)
-    (removed : ℕ) (last : Option TokenSum)
-    (o n : Option Said) (old0 new0 : Said) → bill ≡ Old
-    → IfSome o (λ said. IsWrongAs bill said fault)
-    → Walked by_token text removed last o n old0 new0 → StopsAt fault old0 new0
-stops_old fault bill by_token text removed last o n old0 new0 is_old wrong w =
-    by fault (subst (λ (b : Bill). IsWrongAs b w.old fault) is_old
-    (subst (λ x. IfSome x (λ said. IsWrongAs bill said fault)) w.is_old wrong))
-  where
-    by : (fault : CorrectionsFault) → IsWrongAs Old w.old fault → StopsAt fault old0 new0
-    by (Line Old number why) is = w.rest.wrong_old (number, why) is.1
-    by (Line New number why) is = other_bill (sym is.0)
-    by (Unread bill) is = tt
-    by NoMemory is = tt
+pub stops_old : (fault : CorrectionsFault) (bill : Bill) (old new : Calls)
+    (said : List ℕ → Said) → bill ≡ Old
+    → ((whole : List ℕ) → CanBe old whole → IsWrongAs bill old (said whole) fault)
+    → ((whole : List ℕ) → CanBe old whole → (wrong : ℕ × WrongLine) → said whole ≡ Err wrong
+    → rows_of whole ≡ Err wrong)
+    → IsFaultOf fault old new
+stops_old (Line Old number why) bill old new said is wrong first =
+    λ whole can. first whole can (number, why) (wrong whole can).1
+stops_old (Line New number why) bill old new said is wrong first =
+    other_bill (sym is ∙ sym (wrong old.reading.bytes (can_be_read old)).0)
+stops_old (Unread Old) bill old new said is wrong first =
+    (wrong old.reading.bytes (can_be_read old)).1
+stops_old (Unread New) bill old new said is wrong first =
+    other_bill (sym is ∙ sym (wrong old.reading.bytes (can_be_read old)).0)
+stops_old NoMemory bill old new said is wrong first = tt
 
-pub stops_new : (fault : CorrectionsFault) (bill : Bill) (by_token : Bool) (text : List ℕ)
-    (removed : ℕ) (last : Option TokenSum)
-    (o n : Option Said) (old0 new0 : Said) → bill ≡ New
-    → IfSome n (λ said. IsWrongAs bill said fault)
-    → Walked by_token text removed last o n old0 new0 → StopsAt fault old0 new0
-stops_new fault bill by_token text removed last o n old0 new0 is_new wrong w =
-    by fault (subst (λ (b : Bill). IsWrongAs b w.new fault) is_new
-    (subst (λ x. IfSome x (λ said. IsWrongAs bill said fault)) w.is_new wrong))
-  where
-    by : (fault : CorrectionsFault) → IsWrongAs New w.new fault → StopsAt fault old0 new0
-    by (Line Old number why) is = other_bill is.0
-    by (Line New number why) is = w.rest.wrong_new (number, why) is.1
-    by (Unread bill) is = tt
-    by NoMemory is = tt
-
--- the same of the texts of both
-pub named_by : (fault : CorrectionsFault) (old_text new_text : List ℕ)
-    → StopsAt fault (rows_of old_text) (rows_of new_text)
-    → NamesFirstWrong old_text new_text fault
-named_by (Line Old number why) old_text new_text is = is
-named_by (Line New number why) old_text new_text is = is
-named_by (Unread bill) old_text new_text is = tt
-named_by NoMemory old_text new_text is = tt
+pub stops_new : (fault : CorrectionsFault) (bill : Bill) (old new : Calls)
+    (said : List ℕ → Said) → bill ≡ New
+    → ((whole : List ℕ) → CanBe new whole → IsWrongAs bill new (said whole) fault)
+    → ((whole : List ℕ) → CanBe new whole → (wrong : ℕ × WrongLine) → said whole ≡ Err wrong
+    → rows_of whole ≡ Err wrong)
+    → IsFaultOf fault old new
+stops_new (Line New number why) bill old new said is wrong first =
+    λ whole can. first whole can (number, why) (wrong whole can).1
+stops_new (Line Old number why) bill old new said is wrong first =
+    other_bill ((wrong new.reading.bytes (can_be_read new)).0 ∙ is)
+stops_new (Unread New) bill old new said is wrong first =
+    (wrong new.reading.bytes (can_be_read new)).1
+stops_new (Unread Old) bill old new said is wrong first =
+    other_bill ((wrong new.reading.bytes (can_be_read new)).0 ∙ is)
+stops_new NoMemory bill old new said is wrong first = tt
 
 -- ---- corrections that are given in pieces
-pub given_after : {R : Type 0} (remaining : R → Option (List ℕ)) (c : Corrections R)
-    (by_token : Bool) (old_text new_text : List ℕ)
-    (end : Option ℕ) (text : List ℕ) → c.is_by_token ≡ by_token → c.old.bill ≡ Old
-    → c.new.bill ≡ New
-    → GoesOn by_token end text c.tally.removed (sum_in c.tally.last) (rows_at remaining c.old)
-    (rows_at remaining c.new)
-    (rows_of old_text) (rows_of new_text)
-    → IsGivenAfter remaining c by_token old_text new_text end text
-given_after remaining c by_token old_text new_text None text by of_old of_new on =
-    record { by = by; of_old = of_old; of_new = of_new; walked = on }
-given_after remaining c by_token old_text new_text (Some removed) text by of_old of_new on = on
+pub started : (c : Corrections) (by_token : Bool) (text : List ℕ) (old new : Calls)
+    → HasGiven c by_token text
+    → ((whole : List ℕ) → CanBe old whole → CanBe (old_calls c) whole)
+    → ((whole : List ℕ) → CanBe new whole → CanBe (new_calls c) whole)
+    → HasStarted by_token text old new
+started c by_token text old new has back_old back_new o n can_o can_n =
+    outlook by_token text c.tally.removed (sum_in c.tally.last) (rows_at c.old o) (rows_at c.new n)
+    (rows_of o) (rows_of n) (has.walked o n (back_old o can_o) (back_new n can_n))
+
+pub given_after : (c : Corrections) (by_token : Bool) (end : Option ℕ) (text : List ℕ)
+    → c.is_by_token ≡ by_token → c.old.bill ≡ Old → c.new.bill ≡ New
+    → HasEnded c.old × HasEnded c.new
+    → WalksOn by_token end text c.tally.removed (sum_in c.tally.last) c.old c.new
+    → IsGivenAfter c by_token end text
+given_after c by_token None text by of_old of_new (old, new) on = record {
+  by = by;
+  of_old = of_old;
+  of_new = of_new;
+  ended_old = old;
+  ended_new = new;
+  walked = on;
+}
+given_after c by_token (Some removed) text by of_old of_new (old, new) on =
+    let o = (old_calls c).reading.bytes in let n = (new_calls c).reading.bytes in
+    let (is, no_old, no_new) = on o n (can_be_read (old_calls c)) (can_be_read (new_calls c)) in
+    record {
+      old_whole = rows_ended c.old o old no_old;
+      new_whole = rows_ended c.new n new no_new;
+      text_is = is;
+    }

@@ -1,6 +1,11 @@
 -- Corrections that are given in pieces: what they have given of two ledgers that are read side by
 -- side, and what is left.
-use Rattle.std.specs.Prelude.{◌≡◌, ℕ, Bool, List, ◌++◌, Option, None, Some, Result, Err, option_map}
+use Rattle.std.specs.Prelude.{◌≡◌, ◌⊎◌, ⊤, ℕ, Bool, List, [], ◌++◌, Option, None, Some, Result, Err}
+use Rattle.std.specs.Prelude.{option_map}
+use Rattle.recorded_lines.specs.Texts.{CanBe, IsFresh, calls_of}
+use Rattle.recorded_lines.specs.Unread.{IsUnread}
+use Rattle.world.specs.Run.{Calls}
+use Rattle.world.specs.Streams.{IsWhole}
 use Rattle.ledger_fields.specs.Rows.{Row}
 use Rattle.ledger_changes.specs.Changes.{Pair}
 use Rattle.ledger_changes.specs.Ledgers.{rows_of}
@@ -9,8 +14,11 @@ use Rattle.ledger_changes.specs.Tokens.{TokenSum, changes_of_both, corrections_o
 use Rattle.ledger_changes.specs.Tokens.{lines_of_changes}
 use Rattle.ledger_changes.specs.declared.changes.Corrections.{Corrections}
 use Rattle.ledger_changes.specs.declared.fault.Bill.TheVariants.{New, Old}
+use Rattle.ledger_changes.specs.declared.fault.CorrectionsFault.{CorrectionsFault}
+use Rattle.ledger_changes.specs.declared.fault.CorrectionsFault.TheVariants.{Line, Unread, NoMemory}
 use Rattle.ledger_changes.specs.declared.fault.WrongLine.{WrongLine}
-use Rattle.ledger_changes.specs.inside.Readings.{rows_at}
+use Rattle.ledger_changes.specs.declared.ledger_rows.LedgerRows.{LedgerRows}
+use Rattle.ledger_changes.specs.inside.Readings.{HasEnded, rows_at}
 use Rattle.ledger_changes.specs.inside.Views.{sum_in}
 
 -- what a ledger says
@@ -36,28 +44,74 @@ pub record Wrote (by_token : Bool) (text : List ℕ) (removed : ℕ) (last : Opt
 
 -- this text is of the first corrections of two ledgers, of which this is left
 pub record Walked (by_token : Bool) (text : List ℕ) (removed : ℕ) (last : Option TokenSum)
-    (o n : Option Said) (old0 new0 : Said) : Type 0 where
-  pub old : Said
-  pub new : Said
-  pub is_old : o ≡ Some old
-  pub is_new : n ≡ Some new
+    (old new old0 new0 : Said) : Type 0 where
   pub done : List Pair
   pub rest : Left old0 new0 old new done
   pub wrote : Wrote by_token text removed last done
 
--- these corrections, of ledgers that say this, have given this text
-pub record HasGiven {R : Type 0} (remaining : R → Option (List ℕ)) (c : Corrections R)
-    (by_token : Bool) (old new : Said) (text : List ℕ) : Type 0 where
+-- the same, of what reads gave of both, whatever follows
+abbrev pub IsWalked : Bool → List ℕ → ℕ → Option TokenSum → LedgerRows → LedgerRows → Type 0
+IsWalked by_token text removed last old new = (o n : List ℕ) → CanBe (calls_of old.from) o
+    → CanBe (calls_of new.from) n
+    → Walked by_token text removed last (rows_at old o) (rows_at new n) (rows_of o) (rows_of n)
+
+-- these corrections have given this text
+pub record HasGiven (c : Corrections) (by_token : Bool) (text : List ℕ) : Type 0 where
   pub by : c.is_by_token ≡ by_token
   pub of_old : c.old.bill ≡ Old
   pub of_new : c.new.bill ≡ New
-  pub walked : Walked by_token text c.tally.removed (sum_in c.tally.last)
-      (rows_at remaining c.old) (rows_at remaining c.new) old new
+  pub ended_old : HasEnded c.old
+  pub ended_new : HasEnded c.new
+  pub walked : IsWalked by_token text c.tally.removed (sum_in c.tally.last) c.old c.new
 
--- They have given this text; or it is the whole text, and so many lines are removed.
-abbrev pub IsGivenAfter : {R : Type 0} → (R → Option (List ℕ)) → Corrections R → Bool → List ℕ
-    → List ℕ → Option ℕ → List ℕ → Type 0
-IsGivenAfter remaining c by_token old_text new_text None text =
-    HasGiven remaining c by_token (rows_of old_text) (rows_of new_text) text
-IsGivenAfter remaining c by_token old_text new_text (Some removed) text =
-    corrections_of by_token old_text new_text ≡ Some (text, removed)
+-- the calls by which the ledgers are read
+abbrev pub old_calls : Corrections → Calls
+old_calls c = calls_of c.old.from
+
+abbrev pub new_calls : Corrections → Calls
+new_calls c = calls_of c.new.from
+
+-- nothing is given yet, and nothing was read of both ledgers
+pub record IsUnbegun (c : Corrections) : Type 0 where
+  pub of_old : c.old.bill ≡ Old
+  pub of_new : c.new.bill ≡ New
+  pub none : c.tally.removed ≡ 0
+  pub closed : sum_in c.tally.last ≡ None
+  pub fresh_old : IsFresh c.old.from
+  pub fresh_new : IsFresh c.new.from
+
+-- Both ledgers were read to their ends, this is the whole text, and so many lines are removed.
+pub record IsAllGiven (by_token : Bool) (old new : Calls) (text : List ℕ) (removed : ℕ) : Type 0
+  where
+    pub old_whole : IsWhole old
+    pub new_whole : IsWhole new
+    pub text_is : corrections_of by_token old.reading.bytes new.reading.bytes ≡ Some (text, removed)
+
+-- They have given this text; or it is the whole one.
+abbrev pub IsGivenAfter : Corrections → Bool → Option ℕ → List ℕ → Type 0
+IsGivenAfter c by_token None text = HasGiven c by_token text
+IsGivenAfter c by_token (Some removed) text =
+    IsAllGiven by_token (old_calls c) (new_calls c) text removed
+
+-- THE rule of a fault, of what reads gave of both, whatever follows: a line that is refused is the
+-- first wrong one of its ledger, for this reason, and a read that failed is in the trace.
+abbrev pub IsFaultOf : CorrectionsFault → Calls → Calls → Type 0
+IsFaultOf (Line Old number why) old new =
+    (whole : List ℕ) → CanBe old whole → rows_of whole ≡ Err (number, why)
+IsFaultOf (Line New number why) old new =
+    (whole : List ℕ) → CanBe new whole → rows_of whole ≡ Err (number, why)
+IsFaultOf (Unread Old) old new = IsUnread old
+IsFaultOf (Unread New) old new = IsUnread new
+IsFaultOf NoMemory old new = ⊤
+
+-- With more after it, the text would be the whole one of these ledgers; or a line of one is wrong.
+abbrev pub IsStarted : Bool → List ℕ → List ℕ → List ℕ → Type 0
+IsStarted by_token text old new =
+    ((rest : List ℕ) × (removed : ℕ) × (corrections_of by_token old new ≡ Some (text ++ rest, removed)))
+    ⊎ (((wrong : ℕ × WrongLine) × (rows_of old ≡ Err wrong))
+    ⊎ ((wrong : ℕ × WrongLine) × (rows_of new ≡ Err wrong)))
+
+-- the same, of what reads gave of both, whatever follows
+abbrev pub HasStarted : Bool → List ℕ → Calls → Calls → Type 0
+HasStarted by_token text old new =
+    (o n : List ℕ) → CanBe old o → CanBe new n → IsStarted by_token text o n

@@ -1,5 +1,5 @@
 -- What is read: settled ledgers, as far as corrections look at them.
-use Rattle.std.specs.Prelude.{◌≡◌, ◌+◌, ℕ, Bool, false, List, [], ◌∷◌, cond, length, nat_lt}
+use Rattle.std.specs.Prelude.{◌+◌, ℕ, Bool, false, List, [], ◌∷◌, cond, length, nat_lt}
 use Rattle.std.specs.Prelude.{Option, None, Some, Result, Ok, Err}
 use Rattle.std.specs.Ordering.{is_lt}
 use Rattle.std.specs.Str.{bytes_eq}
@@ -8,9 +8,6 @@ use Rattle.line_folds.specs.Folds.{carry, lines_of}
 use Rattle.ledger_fields.specs.Lines.{row_in}
 use Rattle.ledger_fields.specs.Rows.{Row}
 use Rattle.ledger_changes.specs.Rows.{key_cmp}
-use Rattle.ledger_changes.specs.declared.fault.Bill.TheVariants.{New, Old}
-use Rattle.ledger_changes.specs.declared.fault.CorrectionsFault.{CorrectionsFault}
-use Rattle.ledger_changes.specs.declared.fault.CorrectionsFault.TheVariants.{Line, Unread, NoMemory}
 use Rattle.ledger_changes.specs.declared.fault.WrongLine.{WrongLine}
 use Rattle.ledger_changes.specs.declared.fault.WrongLine.TheVariants.{Form, Order}
 
@@ -46,10 +43,3 @@ rows_after_head (line ∷ lines) = cond (bytes_eq line head_text) (rows_from 2 N
 -- header line; or the number of its first wrong line, and why that is wrong
 abbrev pub rows_of : List ℕ → Result (List Row) (ℕ × WrongLine)
 rows_of text = rows_after_head (lines_of text)
-
--- a line that is refused is the first wrong one of its ledger, for this reason
-abbrev pub NamesFirstWrong : List ℕ → List ℕ → CorrectionsFault → Type 0
-NamesFirstWrong old new (Line Old number why) = rows_of old ≡ Err (number, why)
-NamesFirstWrong old new (Line New number why) = rows_of new ≡ Err (number, why)
-NamesFirstWrong old new (Unread bill) = Unit {0}
-NamesFirstWrong old new NoMemory = Unit {0}

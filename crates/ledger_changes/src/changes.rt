@@ -1,25 +1,26 @@
 //! The corrections from one settled ledger to another, given in pieces.
 
 ghost use Rattle.std.specs.Prelude.{◌≡◌, ◌+◌, ◌++◌, ◌∷◌, [], ℕ, Bool, List, Some, IfErr, IfOk};
-ghost use Rattle.std.specs.Prelude.{IfSome, OnOk, filter};
+ghost use Rattle.std.specs.Prelude.{IfSome, None, OnOk, filter};
+ghost use Rattle.recorded_lines.specs.Texts.{Follows, IsFresh, calls_of};
 ghost use Rattle.ledger_changes.specs.Changes.{is_changed};
-ghost use Rattle.ledger_changes.specs.Given.{HasGiven, IsGivenAfter, Said, Walked};
-ghost use Rattle.ledger_changes.specs.Ledgers.{NamesFirstWrong, rows_of};
+ghost use Rattle.ledger_changes.specs.Given.{HasStarted, HasGiven, IsFaultOf, IsGivenAfter};
+ghost use Rattle.ledger_changes.specs.Given.{IsUnbegun, IsWalked, new_calls, old_calls};
 ghost use Rattle.ledger_changes.specs.Texts.{removed_in};
 ghost use Rattle.ledger_changes.specs.Tokens.{change_lines, head_of, last_sums, lines_of_changes};
 ghost use Rattle.ledger_changes.specs.Tokens.{sums_with};
 ghost use Rattle.ledger_changes.specs.declared.fault.Bill.TheVariants.{New, Old};
-ghost use Rattle.ledger_changes.specs.inside.Readings.{rows_at};
+ghost use Rattle.ledger_changes.specs.inside.Readings.{HasEnded};
 ghost use Rattle.ledger_changes.specs.inside.Views.{pair_of, sum_in};
-ghost use Rattle.ledger_changes.specs.inside.Walks.{GoesOn, StopsAt};
+ghost use Rattle.ledger_changes.specs.inside.Walks.{WalksOn};
 
 use crate::correction_text::correction_line;
 use crate::fault::{Bill, CorrectionsFault};
 use crate::ledger_rows::LedgerRows;
 use crate::pairs::{LinePair, next_sides};
 use crate::token_sums::{TokenSums, push_sums, sums_for};
+use recorded_lines::Lines;
 use std::alloc::{AllocError, Global};
-use std::io::BufRead;
 use std::mem;
 
 /// How many bytes make a piece.
@@ -118,25 +119,26 @@ fn take_pair(
 
 /// Appends the next corrections until they are a piece. At the end it gives how many lines are
 /// removed.
-fn push_changes<R: BufRead + Drop>(
+fn push_changes(
     alloc: Global,
     is_by_token: bool,
-    old: &mut LedgerRows<R>,
-    new: &mut LedgerRows<R>,
+    old: &mut LedgerRows,
+    new: &mut LedgerRows,
     tally: &mut Tally,
     piece: &mut Vec<u8>,
 ) -> Result<Option<u64>, CorrectionsFault>
     requires { piece.old.items ≡ [] }
     ensures old { new.new.bill ≡ new.old.bill }
     ensures new { old.new.bill ≡ old.old.bill }
-    ensures given { IfOk result (λ end. (a b : Said) (text : List ℕ) → Walked is_by_token text
-        tally.old.removed (sum_in tally.old.last) (rows_at R.remaining old.old)
-        (rows_at R.remaining new.old) a b → GoesOn is_by_token end (text ++ piece.new.items)
-        tally.new.removed (sum_in tally.new.last) (rows_at R.remaining old.new)
-        (rows_at R.remaining new.new) a b) }
-    ensures stopped { IfErr result (λ fault. (a b : Said) (text : List ℕ) → old.old.bill ≡ Old
-        → new.old.bill ≡ New → Walked is_by_token text tally.old.removed (sum_in tally.old.last)
-        (rows_at R.remaining old.old) (rows_at R.remaining new.old) a b → StopsAt fault a b) }
+    ensures follow { Follows old.old.from old.new.from × Follows new.old.from new.new.from }
+    ensures given { IfOk result (λ end. (HasEnded old.old → HasEnded new.old
+        → HasEnded old.new × HasEnded new.new)
+        × ((text : List ℕ) → IsWalked is_by_token text tally.old.removed (sum_in tally.old.last)
+        old.old new.old → WalksOn is_by_token end (text ++ piece.new.items) tally.new.removed
+        (sum_in tally.new.last) old.new new.new)) }
+    ensures stopped { IfErr result (λ fault. (text : List ℕ) → old.old.bill ≡ Old
+        → new.old.bill ≡ New → IsWalked is_by_token text tally.old.removed (sum_in tally.old.last)
+        old.old new.old → IsFaultOf fault (calls_of old.new.from) (calls_of new.new.from)) }
 {
     for _ in 0..u64::MAX {
         if piece.len() >= PIECE_BYTES {
@@ -158,42 +160,50 @@ fn push_changes<R: BufRead + Drop>(
 /// each line of either that the other charges otherwise; or, by token, a line for each token with a
 /// correction. Both are read side by side: a row of each and the sums of one token are in memory.
 #[derive(Drop)]
-pub struct Corrections<R: BufRead + Drop> {
+pub struct Corrections {
     is_by_token: bool,
-    old: LedgerRows<R>,
-    new: LedgerRows<R>,
+    old: LedgerRows,
+    new: LedgerRows,
     tally: Tally,
 }
 
-impl<R: BufRead + Drop> Corrections<R> {
-    /// The corrections after their header line.
-    pub fn begin(
-        alloc: Global,
-        is_by_token: bool,
-        old: R,
-        new: R,
-    ) -> Result<Corrections<R>, CorrectionsFault>
-        ensures given { IfOk result (λ corrections. (old_text new_text : List ℕ)
-            → R.remaining old ≡ Some old_text → R.remaining new ≡ Some new_text
-            → HasGiven R.remaining corrections is_by_token (rows_of old_text) (rows_of new_text)
-            (head_of is_by_token)) }
-        // The line that is refused is the first wrong one of its ledger, for the reason of the
-        // fault.
-        ensures wrong { IfErr result (λ fault. (old_text new_text : List ℕ)
-            → R.remaining old ≡ Some old_text → R.remaining new ≡ Some new_text
-            → NamesFirstWrong old_text new_text fault) }
+impl Corrections {
+    /// The corrections of these ledgers, of which nothing is read yet.
+    pub fn new(alloc: Global, is_by_token: bool, old: Lines, new: Lines) -> Corrections
+        ensures by { result.is_by_token ≡ is_by_token }
+        ensures old { result.old.from ≡ old }
+        ensures new { result.new.from ≡ new }
+        ensures unbegun { IsFresh old → IsFresh new → IsUnbegun result }
     {
-        let old = LedgerRows::begin(alloc, old, Bill::Old)?;
-        let new = LedgerRows::begin(alloc, new, Bill::New)?;
-        Ok(Corrections {
+        Corrections {
             is_by_token,
-            old,
-            new,
+            old: LedgerRows::new(alloc, old, Bill::Old),
+            new: LedgerRows::new(alloc, new, Bill::New),
             tally: Tally {
                 removed: 0,
                 last: None,
             },
-        })
+        }
+    }
+
+    /// Reads both header lines. The header line of the corrections may be given then.
+    pub fn begin(&mut self, alloc: Global) -> Result<(), CorrectionsFault>
+        requires { IsUnbegun self.now }
+        ensures follow { Follows self.entry.now.old.from self.exit.now.old.from
+            × Follows self.entry.now.new.from self.exit.now.new.from }
+        ensures given { OnOk result (HasGiven self.exit.now self.entry.now.is_by_token
+            (head_of self.entry.now.is_by_token)) }
+        ensures wrong { IfErr result (λ fault. IsFaultOf fault (old_calls self.exit.now)
+            (new_calls self.exit.now)) }
+    {
+        match self.old.begin(alloc) {
+            Ok(()) => {}
+            Err(fault) => return Err(fault),
+        }
+        match self.new.begin(alloc) {
+            Ok(()) => Ok(()),
+            Err(fault) => Err(fault),
+        }
     }
 
     /// Appends the next lines, some 64 KiB of them, and gives none; or the last ones, and gives how
@@ -205,14 +215,16 @@ impl<R: BufRead + Drop> Corrections<R> {
         piece: &mut Vec<u8>,
     ) -> Result<Option<u64>, CorrectionsFault>
         requires { piece.old.items ≡ [] }
-        ensures given { IfOk result (λ end. (by_token : Bool) (old_text new_text text : List ℕ)
-            → HasGiven R.remaining self.entry.now by_token (rows_of old_text) (rows_of new_text)
-            text → IsGivenAfter R.remaining self.exit.now by_token old_text new_text end
-            (text ++ piece.new.items)) }
-        ensures wrong { IfErr result (λ fault. (by_token : Bool)
-            (old_text new_text text : List ℕ) → HasGiven R.remaining self.entry.now by_token
-            (rows_of old_text) (rows_of new_text) text
-            → NamesFirstWrong old_text new_text fault) }
+        ensures follow { Follows self.entry.now.old.from self.exit.now.old.from
+            × Follows self.entry.now.new.from self.exit.now.new.from }
+        ensures given { IfOk result (λ end. (by_token : Bool) (text : List ℕ)
+            → HasGiven self.entry.now by_token text
+            → IsGivenAfter self.exit.now by_token end (text ++ piece.new.items)) }
+        ensures started { (by_token : Bool) (text : List ℕ) → HasGiven self.entry.now by_token text
+            → HasStarted by_token text (old_calls self.exit.now) (new_calls self.exit.now) }
+        ensures wrong { IfErr result (λ fault. (by_token : Bool) (text : List ℕ)
+            → HasGiven self.entry.now by_token text
+            → IsFaultOf fault (old_calls self.exit.now) (new_calls self.exit.now)) }
     {
         push_changes(
             alloc,
@@ -222,5 +234,13 @@ impl<R: BufRead + Drop> Corrections<R> {
             &mut self.tally,
             piece,
         )
+    }
+
+    /// The ledgers, the old one first.
+    pub fn into_texts(self) -> (Lines, Lines)
+        ensures { result ≡ (self.old.from, self.new.from) }
+    {
+        let Corrections { old, new, .. } = self;
+        (old.into_text(), new.into_text())
     }
 }

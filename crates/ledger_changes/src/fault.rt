@@ -25,9 +25,9 @@ pub enum WrongLine {
 pub enum CorrectionsFault {
     /// In this bill's ledger the line of this number, from 1, is the first wrong one.
     Line(Bill, u64, WrongLine),
-    /// A read of this bill's ledger failed, or the number of a line exceeds 64 bits.
+    /// A read of this bill's ledger failed.
     Unread(Bill),
-    /// An allocation failed, or a sum exceeds 64 bits, which no ledger reaches.
+    /// An allocation failed, or a sum or a line's number exceeds 64 bits, which no ledger reaches.
     NoMemory,
 }
 

@@ -32,9 +32,7 @@ use Rattle.omny_audit.specs.inside.Audits.{EndsAs, HasAudited, HasEnded, IsNext,
 use Rattle.omny_audit.specs.inside.Fault.{IsStreamFault, IsWriteFault}
 use Rattle.omny_audit.specs.inside.Checks.{HasChecked, is_all, is_decided}
 use Rattle.omny_audit.specs.Traced.{ReadLine, Wanted}
-use Rattle.omny_audit.specs.declared.report.ReportWithSums.{ReportWithSums}
 use Rattle.omny_audit.specs.declared.traced.TracedPieces.{TracedPieces}
-use Rattle.omny_audit.specs.inside.Reports.{text_of}
 use Rattle.omny_audit.specs.inside.Traced.{wanted_by}
 use Rattle.omny_audit.proofs.TraceLemmas.{reads_more}
 
@@ -45,13 +43,10 @@ pub given_traced : (audit : Audit) (trace : Option TracedPieces) (text : Vec ℕ
 given_traced audit trace text valid same =
     ap (λ (w : Option Wanted). record (given_in audit valid) { wanted = w }) same
 
-pub given_fed : (audit : Audit) (check : Check) (report : Option ReportWithSums)
-    (valid : List TapFields) → is_all check ≡ is_all audit.check
-    → text_of report ≡ text_of audit.report
-    → given_in (record audit { check = check; report = report }) valid ≡ given_in audit valid
-given_fed audit check report valid all text =
-    ap (λ (b : Bool). record (given_in audit valid) { all = b; report = text_of report }) all
-    ∙ ap (λ (t : Option (List ℕ)). record (given_in audit valid) { report = t }) text
+pub given_fed : (audit : Audit) (check : Check) (valid : List TapFields)
+    → is_all check ≡ is_all audit.check
+    → given_in (record audit { check = check }) valid ≡ given_in audit valid
+given_fed audit check valid all = ap (λ (b : Bool). record (given_in audit valid) { all = b }) all
 
 -- a check of all lines is never decided, nor is one that finds a legal ledger
 pub undecided : (check : Check) (legal : Bool) → (is_decided check ≡ true → legal ≡ false)
@@ -99,7 +94,6 @@ decided_ends audit valid file written more has is =
           audit.check t written) (sym rest.1)
           (checked_more audit.table.now audit.subtracts valid audit.check has.text written
           rest.0 has.taken.checked is);
-      summed = λ no. absurd (true≢false (sym is ∙ no));
       all = λ no. absurd (true≢false (sym is ∙ no));
     }
 
@@ -184,12 +178,16 @@ stream_of_write ledger cut Write is = is
 stream_of_write ledger cut Closed is = is
 stream_of_write ledger cut _ is = absurd is
 
-pub written_none : (r : Run) → r ≡ with_written r []
-written_none r = sym (ap (λ xs. record r { written = xs }) (append-nil r.written))
+pub nothing_written : (r : Run) (text : List ℕ) → text ≡ [] → r ≡ with_written r text
+nothing_written r text none =
+    sym (ap (λ xs. record r { written = r.written ++ xs }) none
+    ∙ ap (λ xs. record r { written = xs }) (append-nil r.written))
 
-pub written_more : (r : Run) (xs ys : List ℕ)
-    → with_written (with_written r xs) ys ≡ with_written r (xs ++ ys)
-written_more r xs ys = ap (λ all. record r { written = all }) (append_assoc r.written xs ys)
+pub written_after : (r now : Run) (xs ys : List ℕ) → now ≡ with_written r xs
+    → with_written now ys ≡ with_written r (xs ++ ys)
+written_after r now xs ys is =
+    ap (λ (x : Run). with_written x ys) is
+    ∙ ap (λ all. record r { written = all }) (append_assoc r.written xs ys)
 
 -- what holds of each file that goes on so, of a text that there is
 pub for_each_file : (text : List ℕ) (Goes Holds : List ℕ → Type 0)
@@ -253,7 +251,7 @@ module _ (start before after : Audit) (file piece text : List ℕ) (old now new 
         was.0 ++ text,
         is.0 ∙ was.1,
         is.1,
-        wrote ∙ ap (λ (r : Run). with_written r text) was.3 ∙ written_more old was.0 text,
+        wrote ∙ written_after old now was.0 text was.3,
       )
 
   module _ (ledger : Stream) (name : Option (List ℕ)) (read : HasRead ledger name (file ++ piece))
@@ -275,7 +273,7 @@ module _ (start before after : Audit) (file piece text : List ℕ) (old now new 
         let found = subst (λ (e : Option Bool). IsNext before after valid file piece all e) is
         (steps valid file was.0 was.2) in (
           all,
-          wrote ∙ ap (λ (r : Run). with_written r text) was.3 ∙ written_more old was.0 text,
+          wrote ∙ written_after old now was.0 text was.3,
           λ more end.
               let one = found.0 more (λ none. end (at_end none)) in
               of_read (λ f. (read : List ReadLine) × IsAudit given f read all success) ledger.trace

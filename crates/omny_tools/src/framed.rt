@@ -1,23 +1,18 @@
 //! The system, for what the frame runs.
 
-use crate::lines::Lines;
 use crate::progress::Progress;
 use crate::whole::read_whole;
-use frame::Streams;
-use program_manners::{Opened, open_file};
 use std::fmt::Display;
 use std::fs::File;
 use std::io;
-use std::io::{BufReader, Write};
+use std::io::Write;
 use tool_program::Counted;
 use world::{
     Fault, Inputs, LoadFault, Loaded, MakeFault, NewFile, Stream, System, Trace, World, WriteFault,
 };
 
-const READ_BYTES: usize = 65_536;
-
-/// The system. What it reads in pieces are ledgers, whose lines are short. It shows how much is
-/// read and written, and takes that away before anything else is said.
+/// The system. It shows how much is read and written, and takes that away before anything else is
+/// said.
 #[derive(Drop)]
 pub(crate) struct Framed<'r, W, E> {
     rt: &'r HostRuntime,
@@ -75,25 +70,6 @@ impl<W, E> Inputs for Framed<'_, W, E> {
 
     fn join(&mut self, calls: Trace) {
         self.system.join(calls);
-    }
-}
-
-impl<W, E> Streams for Framed<'_, W, E> {
-    ghost use Rattle.std.specs.Prelude.{None};
-
-    type Text = BufReader<Lines<Opened>>;
-
-    ghost bytes_under = { λ _. None };
-
-    fn open(&mut self, name: Option<&str>) -> Result<BufReader<Lines<Opened>>, LoadFault> {
-        let opened = match name {
-            Some(name) => Opened::File(open_file(self.rt, name)?),
-            None => Opened::Input(self.rt.reader()),
-        };
-        match BufReader::with_capacity(self.rt.alloc(), READ_BYTES, Lines::new(opened)) {
-            Ok(text) => Ok(text),
-            Err(_) => Err(LoadFault::NoMemory),
-        }
     }
 }
 

@@ -14,11 +14,3 @@ abbrev pub LoadsOne : Option (List Loaded) → Option (List Loaded) → Option (
     → Type 0
 LoadsOne before after name bytes = LoadsAll before after
     (record { name = name; bytes = bytes } ∷ [])
-
--- One load under this name, of all that a reader that was opened has left. If the source keeps a
--- list, it is known what the reader has.
-abbrev pub OpensOne : Option (List Loaded) → Option (List Loaded) → Option (List ℕ)
-    → Option (List ℕ) → Type 0
-OpensOne None after name left = ⊤
-OpensOne (Some before) after name None = ⊥
-OpensOne (Some before) after name (Some text) = LoadsOne (Some before) after name text

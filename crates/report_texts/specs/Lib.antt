@@ -3,5 +3,4 @@ pub mod FormLaws
 pub mod Numbers
 pub mod OverHistory
 pub mod Report
-pub mod Texts
 pub mod inside

@@ -2,7 +2,7 @@
 use Rattle.std.proofs.Common.{◌≡◌, ◌∙◌, ℕ, zero, suc, ◌+◌, ◌<◌, ◌≤◌, List, [], ◌∷◌, ◌++◌}
 use Rattle.std.proofs.Common.{Bor, None, Some, ap, arith, length, map, refl, subst, sym, true, false}
 use Rattle.std.specs.Prelude.{Bool, IsSomeAnd, MatchOption, Option, if◌then◌else◌, option_map}
-use Rattle.std.specs.Prelude.{slice_get, slice_index_or, take}
+use Rattle.std.specs.Prelude.{slice_index_or, take}
 use Rattle.std.specs.List.{AllZip}
 use Rattle.std.specs.Str.{bytes_eq}
 use Rattle.std.proofs.lemmas.List.{take_more}

@@ -1,6 +1,6 @@
 -- An upload that grows by a batch at a time.
-use Rattle.std.proofs.Common.{◌≡◌, ◌∙◌, ◌<◌, ◌≤◌, ℕ, zero, suc, List, [], ◌∷◌, ◌++◌, All, ap}
-use Rattle.std.proofs.Common.{append-nil, append_assoc, arith, length, length-append, refl, subst}
+use Rattle.std.proofs.Common.{◌≡◌, ◌∙◌, ◌<◌, ℕ, zero, suc, List, [], ◌∷◌, ◌++◌, All, ap}
+use Rattle.std.proofs.Common.{append-nil, append_assoc, arith, length, length-append, subst}
 use Rattle.std.proofs.Common.{sym}
 use Rattle.std.specs.Prelude.{slice_index_or}
 use Rattle.tap_views.specs.Encoding.{AreEncodable, Encodes}

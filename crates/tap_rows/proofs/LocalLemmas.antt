@@ -1,5 +1,5 @@
 -- The offsets of a local time are those that its zone gives.
-use Rattle.std.proofs.Common.{◌≡◌, ◌-◌, None, Option, Some, ap, refl, ℕ}
+use Rattle.std.proofs.Common.{◌≡◌, ◌-◌, None, Option, Some, ap, refl}
 use Rattle.std.specs.Prelude.{if◌then◌else◌}
 use Rattle.jiff_core.specs.DateTime.{civil_nanos, civil_seconds}
 use Rattle.jiff_core.specs.declared.Offset.{Offset}

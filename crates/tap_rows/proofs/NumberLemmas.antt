@@ -1,7 +1,7 @@
 -- Decimal digits.
 use Rattle.std.proofs.Common.{◌≡◌, ℕ, zero, suc, ◌<◌, ◌≤◌, List, [], ◌∷◌, length, None, Some, refl}
 use Rattle.std.proofs.Common.{arith, true, false}
-use Rattle.std.specs.Prelude.{◌^◌, ◌&&◌, ◌==◌, Bool, Option, if◌then◌else◌, nat_lt, slice_index}
+use Rattle.std.specs.Prelude.{◌^◌, ◌&&◌, ◌==◌, Bool, if◌then◌else◌, nat_lt, slice_index}
 use Rattle.std.specs.Char.{is_ascii_digit}
 use Rattle.std.specs.Str.Parse.{AllDigits, digits_value}
 use Rattle.std.proofs.lemmas.Str.{digit_value_digit}

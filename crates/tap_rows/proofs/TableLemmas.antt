@@ -1,5 +1,5 @@
 -- A table, read row by row.
-use Rattle.std.proofs.Common.{◌≡◌, ◌∙◌, ◌+◌, ℕ, List, [], ◌∷◌, ◌++◌, ap, append-nil, arith, length}
+use Rattle.std.proofs.Common.{◌≡◌, ◌∙◌, ◌+◌, ℕ, List, [], ◌∷◌, ◌++◌, ap, arith}
 use Rattle.std.proofs.Common.{length-append, refl, subst, sym}
 use Rattle.std.specs.Io.BufRead.{first_line, drop_through}
 use Rattle.tap_views.specs.declared.encoder.TapFields.{TapFields}

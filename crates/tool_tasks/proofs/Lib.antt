@@ -1,13 +1,13 @@
 mod Informing
 pub mod KnownBytes
 mod Loading
+pub mod Corrected
 pub mod Decoding
 mod Encoding
-pub mod Faults
 pub mod Making
 pub mod MergedUploads
-pub mod Opened
-mod Preparing
+pub mod PartsRead
+pub mod Preparing
 pub mod Sorting
-mod TablesLoaded
+pub mod EncodingRows
 pub mod ValidPrefixes

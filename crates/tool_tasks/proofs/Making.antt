@@ -82,7 +82,7 @@ halts_in Right names files note status old new why h right = record {
 }
 
 -- ---- files that are made
-did_files : (old : Run) (files : List Named) → with_files old files ≡ did_making old [] no_answer files
+pub did_files : (old : Run) (files : List Named) → with_files old files ≡ did_making old [] no_answer files
 did_files old files = rw (append-nil old.loads, append-nil old.written, append-nil old.said) refl
 
 -- nothing of it was done

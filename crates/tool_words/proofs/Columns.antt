@@ -2,11 +2,11 @@
 use Rattle.std.proofs.Common.{◌≡◌, ◌∙◌, ◌<◌, ◌+◌, ◌++◌, Bor, List, [], ◌∷◌, ℕ, Option, None, Some}
 use Rattle.std.proofs.Common.{ap, arith, false, get_or, length, lt-ltb, map, refl, sym, take}
 use Rattle.std.proofs.Common.{true}
-use Rattle.std.specs.Prelude.{MatchOption, filter_map, is_some, option_map}
+use Rattle.std.specs.Prelude.{MatchOption, filter_map, is_some, nat_lt, option_map}
 use Rattle.std.specs.List.{after_first, before_first, cons_option, position_or_len}
 use Rattle.std.specs.Option.{option_to_list}
 use Rattle.std.proofs.lemmas.Bool.{le-ltb}
-use Rattle.std.proofs.lemmas.List.{map-append, take_more}
+use Rattle.std.proofs.lemmas.List.{length-map, map-append, take_more}
 use Rattle.std.proofs.lemmas.List.Elements.{filter_map-append}
 use Rattle.std.proofs.lemmas.List.Folds.{list_all-append, list_all-map, list_all_at}
 use Rattle.clap.specs.Words.{Text}
@@ -107,3 +107,9 @@ lacks_parts words position other within none =
     ∙ list_all_at (λ (w : Bor Text). is_some (parts_of w.now)) words position other within
     (ap is_some (sym none)) in
     rw not_all refl
+
+-- several words have several names
+pub many_named : (words : List (Bor Text)) (names : List Text) → texts_of words ≡ names
+    → nat_lt 1 (length words) ≡ nat_lt 1 (length names)
+many_named words names is =
+    ap (nat_lt 1) (sym (length-map words (λ (word : Bor Text). word.now)) ∙ ap length is)

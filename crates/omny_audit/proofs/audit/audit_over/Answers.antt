@@ -6,7 +6,7 @@ use Rattle.world.specs.Writes.{IsCut}
 use Rattle.world.specs.declared.stream.Stream.{Stream}
 use Rattle.omny_audit.specs.declared.fault.Fault.TheVariants.{NoMemory}
 use Rattle.omny_audit.specs.inside.Audits.{GoesOn, IsNext}
-use Rattle.omny_audit.proofs.Audits.{all_found, cut_off, interrupted, went_on, written_none}
+use Rattle.omny_audit.proofs.Audits.{all_found, cut_off, interrupted, nothing_written, went_on}
 use Rattle.omny_audit.proofs.ProgramLemmas.{refused_stream}
 use Rattle.omny_audit.proofs.audit.audit_over.Goals as goal
 
@@ -21,7 +21,7 @@ loop-piece-init g c = record {
     begins = ap (λ (x : Load). x.bytes) c.requires.read.reading ∙ sym (append-nil _);
     ended = λ none. refl;
   };
-  so_far = λ valid has. ([], refl, has, written_none (g.W.Inputs.run c.args.world.now));
+  so_far = λ valid has. ([], refl, has, nothing_written (g.W.Inputs.run c.args.world.now) [] refl);
 }
 
 pub next-requires : goal.next-requires

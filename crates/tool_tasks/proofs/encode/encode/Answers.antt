@@ -1,10 +1,10 @@
 use Rattle.std.proofs.Common.{◌∷◌, [], map, option_map, refl, sym}
 use Rattle.std.proofs.lemmas.Result.{IfErr-weaker, IfOk-weaker}
 use Rattle.world.proofs.Laws.{no_loads}
-use Rattle.tool_tasks.proofs.Encoding.{no_memory, not_loaded, table_named, table_right, word_loaded}
-use Rattle.tool_tasks.proofs.Preparing.{done_after, halted_after_loads}
+use Rattle.tool_tasks.proofs.Encoding.{no_memory, not_loaded, table_right, word_loaded}
+use Rattle.tool_tasks.proofs.Preparing.{done_after, halted_after_loads, no_files_named}
 use Rattle.tool_tasks.specs.Encode.{EncodesTable, load_of}
-use Rattle.tool_tasks.specs.inside.Prepared.{answer_of, file_in, files_of}
+use Rattle.tool_tasks.specs.inside.Prepared.{answer_of, files_of}
 use Rattle.tool_tasks.proofs.encode.encode.Goals as goal
 
 pub returns-in-Err-clause-halted : goal.returns-in-Err-clause-halted
@@ -38,7 +38,7 @@ returns-clause-done g c =
     (run c.carry_out.new.world) (load_of word table ∷ []) (answer_of prepared) (files_of prepared)
     status (word_loaded word old mid _ table c.file_of.ensures c.in-Ok.ensures.loaded)
     (table_right word table c.deref.result.now (answer_of prepared) (files_of prepared) status
-    prepared.status c.in-Ok-prepare.ensures c.deref.ensures.value d.0) d.1) c.carry_out.ensures.done
+    prepared.status c.in-Ok-prepare.ensures.0 c.deref.ensures.value d.0) d.1) c.carry_out.ensures.done
 
 pub returns-clause-halted : goal.returns-clause-halted
 returns-clause-halted g c =
@@ -53,6 +53,6 @@ returns-clause-halted g c =
     (files_of prepared) prepared.status halt.why
     (word_loaded word old mid _ table c.file_of.ensures c.in-Ok.ensures.loaded)
     (table_right word table c.deref.result.now (answer_of prepared) (files_of prepared)
-    prepared.status prepared.status c.in-Ok-prepare.ensures c.deref.ensures.value refl) h)
-    (c.carry_out.ensures.halted (word ∷ []) (table_named (word ∷ []) word c.deref.result.now
-    (answer_of prepared) (file_in prepared) prepared.status c.in-Ok-prepare.ensures))
+    prepared.status prepared.status c.in-Ok-prepare.ensures.0 c.deref.ensures.value refl) h)
+    (c.carry_out.ensures.halted (word ∷ [])
+    (no_files_named (word ∷ []) prepared c.in-Ok-prepare.ensures.1))

@@ -1,22 +1,31 @@
-use Rattle.std.proofs.Common.{inl, inr, refl}
-use Rattle.tool_tasks.proofs.Encoding.{rows_statuses}
-use Rattle.tool_tasks.specs.EncodeRows.{names_of}
+use Rattle.std.proofs.Common.{[], ap, inr, map, refl, sym, true, unwrap_or}
+use Rattle.std.proofs.Common.{List, Option, Some, ℕ}
+use Rattle.world.proofs.Laws.{no_loads}
+use Rattle.tool_tasks.proofs.Encoding.{not_loaded}
+use Rattle.tool_tasks.specs.EncodeRows.{EncodesRows, names_of}
+use Rattle.tool_tasks.specs.Names.{file_named}
 use Rattle.tool_tasks.proofs.encode_rows.encode_rows_over.Goals as goal
 
-pub returns-in-Ok-clause-status : goal.returns-in-Ok-clause-status
-returns-in-Ok-clause-status g c =
-    rows_statuses c.args.words.now c.args.word.now (names_of c.args.words.now c.args.word.now)
-    (g.W.Inputs.run c.args.world.now) (g.W.Inputs.run c.encode.new.world) c.in-Ok.status
-    (inl c.in-Ok.ensures.done)
-
-pub returns-in-Ok-clause-ends : goal.returns-in-Ok-clause-ends
-returns-in-Ok-clause-ends g c = inl c.in-Ok.ensures.done
-
 pub returns-in-Err-clause-ends : goal.returns-in-Err-clause-ends
-returns-in-Err-clause-ends g c = inr (record {
-  why = c.in-Err.halt.why;
-  before = g.W.Inputs.run c.encode.new.world;
-  halted = c.in-Err.ensures.halted;
-  reported = c.report.ensures;
-  failed = refl;
-})
+returns-in-Err-clause-ends g c =
+    let run = g.W.Inputs.run in
+    let old = run c.args.world.now in
+    let new = run c.load_devices.new.world in
+    let words = c.args.words.now in
+    let csvs = map (λ w. w.now) c.args.csvs.now in
+    let (name, named, refused) = c.in-Err.ensures.refused in
+    record {
+      is_there = true;
+      started = old;
+      tried = refl;
+      ends = inr (record {
+        why = c.of-halt.result.why;
+        before = new;
+        halted = not_loaded (EncodesRows words csvs true) (names_of words csvs) 0 name
+            (file_named name) c.in-Err.why c.of-halt.result.why old old new []
+            (ap (λ (w : Option (List ℕ)). Some (unwrap_or w [])) named) refl c.of-halt.ensures
+            (sym (no_loads old)) refused;
+        reported = c.report.ensures;
+        failed = refl;
+      });
+    }

@@ -1,0 +1,136 @@
+use Rattle.std.proofs.Common.{◌∙◌, ◌++◌, [], List, None, Option, ap, inl, inr, refl, subst, sym, ℕ}
+use Rattle.ledger_changes.specs.Given.{IsGivenAfter, new_calls, old_calls}
+use Rattle.ledger_changes.specs.Tokens.{head_of}
+use Rattle.recorded_lines.proofs.Reading.{follows_on}
+use Rattle.world.specs.Run.{with_written}
+use Rattle.tool_tasks.specs.inside.Corrections.{IsHalt}
+use Rattle.tool_tasks.specs.declared.corrections.Halt.{Halt}
+use Rattle.part_texts.proofs.Written.{cut_on, written_none, written_on}
+use Rattle.tool_tasks.proofs.Corrected.{after_started, started_part, given_head, halt_faulted}
+use Rattle.tool_tasks.proofs.corrections.write_all.Goals as goal
+
+pub begin-requires : goal.begin-requires
+begin-requires g c = c.requires.unbegun
+
+pub returns-in-Err-clause-follow : goal.returns-in-Err-clause-follow
+returns-in-Err-clause-follow g c = c.begin.ensures.follow
+
+pub returns-in-Err-clause-halted : goal.returns-in-Err-clause-halted
+returns-in-Err-clause-halted g c = (
+  [],
+  inl refl,
+  subst (λ (h : Halt). IsHalt h (old_calls c.begin.new.self) (new_calls c.begin.new.self)
+      (with_written (g.W.Inputs.run c.args.world.now) []) (g.W.Inputs.run c.args.world.now))
+      (sym c.halt_of.ensures) (halt_faulted c.in-Err.fault _ _ _ _
+      (written_none (g.W.Inputs.run c.args.world.now)) c.in-Err.ensures.wrong),
+)
+
+pub returns-in-Err-write-clause-follow : goal.returns-in-Err-write-clause-follow
+returns-in-Err-write-clause-follow g c = c.begin.ensures.follow
+
+pub returns-in-Err-write-clause-halted : goal.returns-in-Err-write-clause-halted
+returns-in-Err-write-clause-halted g c =
+    let cut = c.in-Err-write.ensures.cut in (
+      cut.front,
+      inr (started_part c.args.is_by_token [] (head_of c.args.is_by_token) cut.front cut.rest _ _
+          (sym c.corrections_head.ensures ∙ cut.whole)
+          (after_started c.begin.new.self c.args.is_by_token None _
+          (given_head c.begin.new.self _ c.args.is_by_token c.requires.by c.in-Ok.ensures.given))),
+      cut.prefix,
+    )
+
+pub loop-init : goal.loop-init
+loop-init g c = record {
+  follow_old = c.begin.ensures.follow.0;
+  follow_new = c.begin.ensures.follow.1;
+  given = (
+    head_of c.args.is_by_token,
+    c.in-Ok-write.ensures.whole
+        ∙ ap (λ (t : List ℕ). with_written (g.W.Inputs.run c.args.world.now) t)
+        c.corrections_head.ensures,
+    given_head c.begin.new.self _ c.args.is_by_token c.requires.by c.in-Ok.ensures.given,
+  );
+}
+
+pub next-requires : goal.next-requires
+next-requires g c = c.clear.ensures.items
+
+pub returns-in-Err-next-clause-follow : goal.returns-in-Err-next-clause-follow
+returns-in-Err-next-clause-follow g c = (
+  follows_on _ _ _ c.loop.invariant.follow_old c.next.ensures.follow.0,
+  follows_on _ _ _ c.loop.invariant.follow_new c.next.ensures.follow.1,
+)
+
+pub returns-in-Err-next-clause-halted : goal.returns-in-Err-next-clause-halted
+returns-in-Err-next-clause-halted g c =
+    let (text, run, has) = c.loop.invariant.given in (
+      text,
+      inr (c.next.ensures.started c.args.is_by_token text has),
+      subst (λ (h : Halt). IsHalt h (old_calls c.next.new.self) (new_calls c.next.new.self)
+          (with_written (g.W.Inputs.run c.args.world.now) text) (g.W.Inputs.run c.loop.world))
+          (sym c.halt_of-in-Err-next.ensures) (halt_faulted c.in-Err-next.fault _ _ _ _ run
+          (c.in-Err-next.ensures.wrong c.args.is_by_token text has)),
+    )
+
+pub returns-in-Err-write-2-clause-follow : goal.returns-in-Err-write-2-clause-follow
+returns-in-Err-write-2-clause-follow g c = (
+  follows_on _ _ _ c.loop.invariant.follow_old c.next.ensures.follow.0,
+  follows_on _ _ _ c.loop.invariant.follow_new c.next.ensures.follow.1,
+)
+
+pub returns-in-Err-write-2-clause-halted : goal.returns-in-Err-write-2-clause-halted
+returns-in-Err-write-2-clause-halted g c =
+    let (text, run, has) = c.loop.invariant.given in
+    let cut = c.in-Err-write-2.ensures.cut in (
+      text ++ cut.front,
+      inr (started_part c.args.is_by_token text c.next.new.piece.items cut.front cut.rest _ _
+          (sym c.deref.ensures.value ∙ cut.whole)
+          (after_started c.next.new.self c.args.is_by_token c.in-Ok-next.next _
+          (c.in-Ok-next.ensures.given c.args.is_by_token text has))),
+      cut_on (g.W.Inputs.run c.args.world.now) (g.W.Inputs.run c.loop.world) _ text
+          c.deref.result.now c.in-Err-write-2.why run cut,
+    )
+
+pub returns-in-Some-clause-follow : goal.returns-in-Some-clause-follow
+returns-in-Some-clause-follow g c = (
+  follows_on _ _ _ c.loop.invariant.follow_old c.next.ensures.follow.0,
+  follows_on _ _ _ c.loop.invariant.follow_new c.next.ensures.follow.1,
+)
+
+pub returns-in-Some-clause-done : goal.returns-in-Some-clause-done
+returns-in-Some-clause-done g c =
+    let (text, run, has) = c.loop.invariant.given in (
+      text ++ c.next.new.piece.items,
+      written_on (g.W.Inputs.run c.args.world.now) (g.W.Inputs.run c.loop.world) _ text
+          c.next.new.piece.items run (c.in-Ok-write-2.ensures.whole
+          ∙ ap (λ (t : List ℕ). with_written (g.W.Inputs.run c.loop.world) t)
+          c.deref.ensures.value),
+      subst (λ (end : Option ℕ). IsGivenAfter c.next.new.self c.args.is_by_token end
+          (text ++ c.next.new.piece.items)) c.in-Some.is
+          (c.in-Ok-next.ensures.given c.args.is_by_token text has),
+    )
+
+pub loop-preserved : goal.loop-preserved
+loop-preserved g c = record {
+  follow_old = follows_on _ _ _ c.loop.invariant.follow_old c.next.ensures.follow.0;
+  follow_new = follows_on _ _ _ c.loop.invariant.follow_new c.next.ensures.follow.1;
+  given =
+      let (text, run, has) = c.loop.invariant.given in (
+        text ++ c.next.new.piece.items,
+        written_on (g.W.Inputs.run c.args.world.now) (g.W.Inputs.run c.loop.world) _ text
+            c.next.new.piece.items run (c.in-Ok-write-2.ensures.whole
+            ∙ ap (λ (t : List ℕ). with_written (g.W.Inputs.run c.loop.world) t)
+            c.deref.ensures.value),
+        subst (λ (end : Option ℕ). IsGivenAfter c.next.new.self c.args.is_by_token end
+            (text ++ c.next.new.piece.items)) c.in_default.is
+            (c.in-Ok-next.ensures.given c.args.is_by_token text has),
+      );
+}
+
+pub returns-clause-follow : goal.returns-clause-follow
+returns-clause-follow g c = (c.loop.invariant.follow_old, c.loop.invariant.follow_new)
+
+pub returns-clause-halted : goal.returns-clause-halted
+returns-clause-halted g c =
+    let (text, run, has) = c.loop.invariant.given in
+    (text, inr (after_started _ _ None text has), run)

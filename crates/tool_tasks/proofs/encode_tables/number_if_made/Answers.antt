@@ -1,0 +1,7 @@
+use Rattle.std.proofs.Common.{refl}
+use Rattle.std.proofs.lemmas.Result.{on_ok_weaker}
+use Rattle.tool_tasks.proofs.encode_tables.number_if_made.Goals as goal
+
+pub returns : goal.returns
+returns c = on_ok_weaker c.number_each.result
+    (λ numbered. rw c.if-not-makes.false (_, refl, numbered)) c.number_each.ensures
