@@ -5,9 +5,14 @@ use Rattle.tariffs.specs.declared.mode.Mode.{Mode}
 use Rattle.account_rule.specs.Kept.{Kept, kept_of}
 use Rattle.account_rule.specs.Reasons.{reason}
 use Rattle.account_rule.specs.TokenRules.{TokenRules, rules_of}
-use Rattle.account_rule.specs.Represents.{KeepsOf, Represents}
+use Rattle.account_rule.specs.Represents as plain
+use Rattle.account_rule.specs.Represents.{KeepsOf}
+use Rattle.fare_caps.specs.CapMeanings.{capped_rules_of}
+use Rattle.fare_caps.specs.CappedReplies.{shown_reason}
+use Rattle.fare_caps.specs.Represents.{Represents}
+use Rattle.fare_caps.specs.declared.capped_account.CappedAccount.{CappedAccount}
+use Rattle.fare_caps.proofs.AnswerLemmas.{shown-transfer}
 use Rattle.account_rule.specs.Taps.{LiveTap, live_at}
-use Rattle.account_rule.specs.declared.account.Account.{Account}
 use Rattle.account_rule.specs.declared.reason.Reason.{Reason}
 use Rattle.account_rule.specs.declared.reason.Reason.TheVariants.{Unknown, Stale, Transfer, Ride}
 use Rattle.account_rule.specs.declared.tap.TapIn.{TapIn}
@@ -30,13 +35,15 @@ within rules kept taps tap moment mode holds is =
     (holds.ride_mode trip (holds.trip ∙ found))
 
 -- the reason for a tap has a mode of the table, if it has one
-pub has_mode : (fares : Fares) (token : List ℕ) (account : Account) (taps : List TapIn)
+pub has_mode : (fares : Fares) (token : List ℕ) (account : CappedAccount) (taps : List TapIn)
     (tap : TapIn) (why : Reason)
-    → Represents (rules_of fares token) account taps → why ≡ reason (rules_of fares token) taps tap
+    → Represents (capped_rules_of fares token) account taps
+    → why ≡ shown_reason (capped_rules_of fares token) taps tap
     → HasModeOf fares why
-unfolding Represents rules_of
+unfolding plain.Represents rules_of capped_rules_of
 has_mode fares token account taps tap Unknown holds is = tt
 has_mode fares token account taps tap (Stale latest) holds is = tt
 has_mode fares token account taps tap (Transfer moment mode) holds is =
-    within (rules_of fares token) (kept_of account) taps tap moment mode holds (sym is)
+    within (rules_of fares token) (kept_of account.account) taps tap moment mode holds.account
+    (shown-transfer (capped_rules_of fares token) taps tap moment mode (sym is))
 has_mode fares token account taps tap (Ride start until charge) holds is = tt

@@ -7,8 +7,8 @@ use Rattle.tariffs.specs.ClockView.{ClockView}
 use Rattle.tariffs.specs.Fares.{Fares, terms_at}
 use Rattle.tariffs.specs.TableMeaning.{TableMeaning}
 use Rattle.tariffs.specs.declared.terms.Terms.{Terms}
-use Rattle.account_rule.specs.TokenRules.{rules_of}
-use Rattle.account_rule.specs.Windows.{last_window}
+use Rattle.fare_caps.specs.CapMeanings.{capped_rules_of}
+use Rattle.fare_caps.specs.CappedReplies.{capped_window}
 use Rattle.account_rule.specs.declared.no_transfer.NoTransfer.{NoTransfer}
 use Rattle.account_rule.specs.declared.no_transfer.NoTransfer.TheVariants.{FirstTap, TooLate}
 use Rattle.account_rule.specs.declared.no_transfer.NoTransfer.TheVariants.{AfterTransfer, NoneGiven}
@@ -210,5 +210,5 @@ abbrev pub json_of : Fares → Token → List Entry → List ℕ
 json_of fares token entries =
     head_json fares token ++ (entries_json fares token [] entries
     ++ (first_sums_json (sums entries) ++ (last_sums_json (sums entries) ++ windows_json fares.zone
-    (earlier_windows (rules_of fares (bytes_of token)) (map (tap_of fares) entries))
-    (last_window (rules_of fares (bytes_of token)) (map (tap_of fares) entries)))))
+    (earlier_windows (capped_rules_of fares (bytes_of token)) (map (tap_of fares) entries))
+    (capped_window (capped_rules_of fares (bytes_of token)) (map (tap_of fares) entries)))))

@@ -4,8 +4,8 @@ use Rattle.std.specs.Prelude.{codes, slice_index_or}
 use Rattle.std.specs.Fmt.{decimal}
 use Rattle.hex.specs.Hex.{encode_lower}
 use Rattle.tariffs.specs.Fares.{Fares, mode_at}
-use Rattle.account_rule.specs.Reasons.{reason}
-use Rattle.account_rule.specs.TokenRules.{rules_of}
+use Rattle.fare_caps.specs.CapMeanings.{capped_rules_of}
+use Rattle.fare_caps.specs.CappedReplies.{shown_reason}
 use Rattle.account_rule.specs.declared.reason.Charge.{Charge}
 use Rattle.account_rule.specs.declared.reason.Charge.TheVariants.{Full, CeilingCut, CeilingReached}
 use Rattle.account_rule.specs.declared.reason.Charge.TheVariants.{RideLimitReached}
@@ -92,7 +92,8 @@ pub record IsLedgerLine (fares : Fares) (token : Token) (number : ℕ) (entry : 
 -- why the token's entry is answered as it is, after its earlier entries
 abbrev pub reason_after : Fares → Token → List Entry → Entry → Reason
 reason_after fares token earlier entry =
-    reason (rules_of fares (bytes_of token)) (map (tap_of fares) earlier) (tap_of fares entry)
+    shown_reason (capped_rules_of fares (bytes_of token)) (map (tap_of fares) earlier)
+    (tap_of fares entry)
 
 -- the line of the token's entry that follows the earlier ones: its number, and its reason
 abbrev pub IsLedgerLineAfter : Fares → Token → List Entry → Entry → List ℕ → Type 0

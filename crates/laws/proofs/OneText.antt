@@ -6,8 +6,9 @@ use Rattle.tariffs.specs.Fares.{Fares, terms_at}
 use Rattle.tariffs.specs.TableMeaning.{TableMeaning}
 use Rattle.tap_views.specs.Token.{bytes_of}
 use Rattle.tap_views.specs.declared.token.Token.{Token}
-use Rattle.account_rule.specs.TokenRules.{TokenRules, rules_of}
-use Rattle.account_rule.specs.Windows.{last_window}
+use Rattle.fare_caps.specs.CapMeanings.{capped_rules_of}
+use Rattle.fare_caps.specs.CappedReplies.{capped_window}
+use Rattle.fare_caps.specs.Caps.{CappedRules}
 use Rattle.account_rule.specs.declared.reason.Charge.{Charge}
 use Rattle.account_rule.specs.declared.reason.Reason.{Reason}
 use Rattle.account_rule.specs.declared.reason.Reason.TheVariants.{Unknown, Stale, Transfer, Ride}
@@ -266,14 +267,14 @@ last_same clocks None a b is also = is ∙ sym also
 last_same clocks (Some window) a b is also =
     explained_window_same clocks (codes "window ") window a b is also
 
-window_lines_same : (clocks : ClockView) (rules : TokenRules) (taps : List TapIn)
+window_lines_same : (clocks : ClockView) (rules : CappedRules) (taps : List TapIn)
     (a b : List ℕ) → AreWindowLines clocks rules taps a → AreWindowLines clocks rules taps b
     → a ≡ b
 window_lines_same clocks rules taps a b is also =
     is.whole ∙ both is.earlier also.earlier is.last also.last
     (earlier_same clocks (earlier_windows rules taps) is.earlier also.earlier is.of_earlier
     also.of_earlier)
-    (last_same clocks (last_window rules taps) is.last also.last is.of_last also.of_last)
+    (last_same clocks (capped_window rules taps) is.last also.last is.of_last also.of_last)
     ∙ sym also.whole
 
 later_terms_same : (token : List ℕ) (later : List (ℕ × TableMeaning)) (a b : List ℕ)
@@ -308,6 +309,7 @@ one_explained fares token entries a b is also =
     (explained_after_same fares token [] entries is.lines also.lines is.of_entries
     also.of_entries)
     ∙ ap (λ ws. head ++ (also.terms ++ (also.lines ++ (totals ++ ws))))
-    (window_lines_same fares.zone (rules_of fares (bytes_of token)) (map (tap_of fares) entries)
+    (window_lines_same fares.zone (capped_rules_of fares (bytes_of token))
+    (map (tap_of fares) entries)
     is.windows also.windows is.of_windows also.of_windows)
     ∙ sym also.whole

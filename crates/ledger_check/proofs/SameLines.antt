@@ -6,8 +6,8 @@ use Rattle.jiff_core.specs.declared.civil.date.Date.{Date}
 use Rattle.jiff_core.proofs.DateLemmas.{epoch_day_injective}
 use Rattle.jiff_fmt.specs.Text.{date_text, pad2, year_text}
 use Rattle.tariffs.specs.Fares.{Fares}
-use Rattle.account_rule.specs.TokenRules.{rules_of}
-use Rattle.account_rule.specs.Replies.{reply}
+use Rattle.fare_caps.specs.CapMeanings.{capped_rules_of}
+use Rattle.fare_caps.specs.CappedReplies.{capped_reply}
 use Rattle.account_rule.specs.declared.reason.Charge.{Charge}
 use Rattle.account_rule.specs.declared.reason.Reason.{Reason}
 use Rattle.account_rule.specs.declared.reason.Reason.TheVariants.{Unknown, Stale, Transfer, Ride}
@@ -101,7 +101,7 @@ entry_from token validator moment replied =
 -- what the rule replies decides an entry
 abbrev ruled : Fares → List Entry → Entry → Reply
 ruled fares earlier entry =
-    reply (rules_of fares (bytes_of entry.token)) (taps_of fares entry.token earlier)
+    capped_reply (capped_rules_of fares (bytes_of entry.token)) (taps_of fares entry.token earlier)
     (tap_of fares entry)
 
 tap_same : (fares : Fares) (a b : Entry) → a.validator ≡ b.validator → a.moment ≡ b.moment
@@ -114,9 +114,10 @@ ruled_same : (fares : Fares) (earlier : List Entry) (a b : Entry) → a.token �
     → ruled fares earlier a ≡ ruled fares earlier b
 ruled_same fares earlier a b token validator moment =
     let taps : tap_of fares a ≡ tap_of fares b = tap_same fares a b validator moment in
-    ap (λ (t : Token). reply (rules_of fares (bytes_of t)) (taps_of fares t earlier)
+    ap (λ (t : Token). capped_reply (capped_rules_of fares (bytes_of t)) (taps_of fares t earlier)
     (tap_of fares a)) token
-    ∙ ap (λ (t : TapIn). reply (rules_of fares (bytes_of b.token)) (taps_of fares b.token earlier)
+    ∙ ap (λ (t : TapIn). capped_reply (capped_rules_of fares (bytes_of b.token))
+    (taps_of fares b.token earlier)
     t) taps
 
 -- entries of the same tap, both with the rule's reply, are the same

@@ -15,7 +15,8 @@ use Rattle.account_rule.specs.declared.reply.Answer.{Answer}
 use Rattle.account_rule.specs.declared.reply.Answer.TheVariants.{Paid, Transfer, Capped, Stale}
 use Rattle.account_rule.specs.declared.reply.Answer.TheVariants.{Unknown}
 use Rattle.account_rule.specs.declared.reply.Reply.{Reply}
-use Rattle.account_rule.proofs.CentsLemmas.{reply_most}
+use Rattle.fare_caps.specs.CapMeanings.{capped_rules_of}
+use Rattle.fare_caps.proofs.AnswerLemmas.{capped_most}
 use Rattle.report_check.specs.inside.RideTerms.{HasRideTerms}
 use Rattle.fare_texts.specs.LedgerLines.{IsLedgerLine, entry_fields, line_head, mode_field}
 use Rattle.ledger_check.specs.Lines.{Lacks}
@@ -91,11 +92,11 @@ terms_at_entry fares entry bounds mode is = by (mode_at fares entry.moment entry
 pub cents_most : (fares : Fares) (earlier : List Entry) (entry : Entry)
     → HasRideTerms fares entry.token entry.moment entry.validator → IsReplied fares earlier entry
     → entry.cents ≤ 100_000
-unfolding IsReplied tap_of
+unfolding IsReplied tap_of capped_rules_of
 cents_most fares earlier entry bounds is =
     let same = ap (λ (r : Reply). r.cents) is in
     subst (λ (n : ℕ). n ≤ 100_000) (sym same)
-    (reply_most (rules_of fares (bytes_of entry.token)) (taps_of fares entry.token earlier)
+    (capped_most (capped_rules_of fares (bytes_of entry.token)) (taps_of fares entry.token earlier)
     (tap_of fares entry) (terms_at_entry fares entry bounds))
 
 -- the text behind a mode, by whatever text is the mode's

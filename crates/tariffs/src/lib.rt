@@ -3,6 +3,7 @@
 //! is in milliseconds since 1970-01-01T00:00Z.
 #![tactic(auto)]
 
+mod cap_terms;
 mod class;
 mod clock;
 mod follow_fault;
@@ -18,6 +19,7 @@ mod validators;
 mod window_span;
 mod zone;
 
+pub use cap_terms::{CapTerms, MAX_CAPS, NO_CEILING};
 pub use class::Class;
 pub use clock::Clock;
 pub use follow_fault::FollowFault;
