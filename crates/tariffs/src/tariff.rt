@@ -26,8 +26,7 @@ use std::collections::BTreeMap;
 use std::marker::Model;
 use tap_views::Token;
 
-/// What one text of a fare table says: the fares that are valid at a moment. Look-ups take no
-/// memory. Those of validators and riders are binary searches, which a hint or a mark mostly saves.
+/// What one text of a fare table says: the fares valid at a moment. Look-ups take no memory.
 #[derive(Drop)]
 pub struct Tariff {
     parts: TariffParts,
