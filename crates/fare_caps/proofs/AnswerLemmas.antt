@@ -24,11 +24,7 @@ use Rattle.tariffs.specs.Terms.{AreBoundedTerms}
 use Rattle.fare_caps.specs.CapStates.{CapStates, after_rides, at_ride, charge_at, no_rides}
 use Rattle.fare_caps.specs.CapStates.{ride_charge, states}
 use Rattle.fare_caps.specs.CappedReplies.{capped_reason, capped_replies, capped_replies_after}
-use Rattle.fare_caps.specs.CappedReplies.{capped_reply, replied_by, ride_on, shown}
-use Rattle.fare_caps.specs.CappedReplies.{shown_charge, shown_reason, under_caps}
-use Rattle.fare_caps.specs.declared.cap_charge.CapCharge.{CapCharge}
-use Rattle.fare_caps.specs.declared.cap_charge.CapCharge.TheVariants.{ByWindow, CapCut, CapReached}
-use Rattle.fare_caps.specs.declared.capped_reason.CappedReason.{CappedReason}
+use Rattle.fare_caps.specs.CappedReplies.{capped_reply, replied_by, ride_on, under_caps}
 use Rattle.fare_caps.specs.declared.capped_reason.CappedReason.TheVariants as capped
 use Rattle.fare_caps.specs.Charges.{cap_paid, least_from}
 use Rattle.fare_caps.specs.Laws.{without_caps}
@@ -83,46 +79,34 @@ capped-stale rules taps tap stale = elim (answered rules taps tap) [
       absurd (ride_not_stale paid (sym (ap (λ r. r.answer) one) ∙ stale))
 ]
 
--- ---- what texts show
-charge-shown : (charge : CapCharge) → paid_by (shown_charge charge) ≡ cap_paid charge
-charge-shown (ByWindow charge) = refl
-charge-shown (CapCut position cents cap) = refl
-charge-shown (CapReached position cap) = refl
-
-reply-shown : (one : CappedReason) → rule.replied_by (shown one) ≡ replied_by one
-reply-shown capped.Unknown = refl
-reply-shown (capped.Stale latest) = refl
-reply-shown (capped.Transfer moment mode) = refl
-reply-shown (capped.Ride start until charge) = ap ride_reply (charge-shown charge)
-
--- the reply follows from the reason that is shown
-pub shown-follows : (rules : CappedRules) (taps : List TapIn) (tap : TapIn)
-    → capped_reply rules taps tap ≡ rule.replied_by (shown_reason rules taps tap)
-unfolding capped_reply shown_reason
-shown-follows rules taps tap = sym (reply-shown (capped_reason rules taps tap))
+-- the reply follows from the reason
+pub capped-follows : (rules : CappedRules) (taps : List TapIn) (tap : TapIn)
+    → capped_reply rules taps tap ≡ replied_by (capped_reason rules taps tap)
+unfolding capped_reply
+capped-follows rules taps tap = refl
 
 ride-no-transfer : (rules : CappedRules) (before : CapStates) (start until moment : ℕ)
     (mode : Option Mode) (at : ℕ) (on : Mode)
-    → shown (ride_on rules before start until moment mode) ≡ reason.Transfer at on → ⊥
+    → ride_on rules before start until moment mode ≡ capped.Transfer at on → ⊥
 ride-no-transfer rules before start until moment None at on is = cc
 ride-no-transfer rules before start until moment (Some mode) at on is = cc
 
 transfer-by : (rules : CappedRules) (before : CapStates) (tap : TapIn) (one : Reason) (moment : ℕ)
     (mode : Mode)
-    → shown (under_caps rules before tap one) ≡ reason.Transfer moment mode
+    → under_caps rules before tap one ≡ capped.Transfer moment mode
     → one ≡ reason.Transfer moment mode
 transfer-by rules before tap reason.Unknown moment mode is = absurd (cc (is))
 transfer-by rules before tap (reason.Stale latest) moment mode is = absurd (cc (is))
-transfer-by rules before tap (reason.Transfer at on) moment mode is = is
+transfer-by rules before tap (reason.Transfer at on) moment mode is = cc (is)
 transfer-by rules before tap (reason.Ride start until charge) moment mode is =
     absurd (ride-no-transfer rules before start until tap.moment tap.mode moment mode is)
 
 -- a transfer is one without caps
-pub shown-transfer : (rules : CappedRules) (taps : List TapIn) (tap : TapIn) (moment : ℕ)
-    (mode : Mode) → shown_reason rules taps tap ≡ reason.Transfer moment mode
+pub capped-transfer : (rules : CappedRules) (taps : List TapIn) (tap : TapIn) (moment : ℕ)
+    (mode : Mode) → capped_reason rules taps tap ≡ capped.Transfer moment mode
     → rule.reason rules.rules taps tap ≡ reason.Transfer moment mode
-unfolding shown_reason capped_reason
-shown-transfer rules taps tap moment mode is =
+unfolding capped_reason
+capped-transfer rules taps tap moment mode is =
     transfer-by rules (states rules taps) tap (rule.reason rules.rules taps tap) moment mode is
 
 -- no reply costs more than a fare may

@@ -1,8 +1,6 @@
 -- The reason of each tap of a token under caps, and the reply, after the taps before it.
 use Rattle.std.specs.Prelude.{ℕ, List, [], ◌∷◌, ◌++◌, Option, Some, None, option_map}
 use Rattle.tariffs.specs.declared.mode.Mode.{Mode}
-use Rattle.account_rule.specs.declared.reason.Charge.{Charge}
-use Rattle.account_rule.specs.declared.reason.Charge.TheVariants.{CeilingCut, CeilingReached}
 use Rattle.account_rule.specs.declared.reason.Reason.{Reason}
 use Rattle.account_rule.specs.declared.reason.Reason.TheVariants as reason
 use Rattle.account_rule.specs.declared.reply.Answer.TheVariants as answer
@@ -16,8 +14,6 @@ use Rattle.account_rule.specs.Windows.{last_window}
 use Rattle.fare_caps.specs.Caps.{CappedRules}
 use Rattle.fare_caps.specs.CapStates.{CapStates, ride_charge, states}
 use Rattle.fare_caps.specs.Charges.{cap_paid}
-use Rattle.fare_caps.specs.declared.cap_charge.CapCharge.{CapCharge}
-use Rattle.fare_caps.specs.declared.cap_charge.CapCharge.TheVariants.{ByWindow, CapCut, CapReached}
 use Rattle.fare_caps.specs.declared.capped_reason.CappedReason.{CappedReason}
 use Rattle.fare_caps.specs.declared.capped_reason.CappedReason.TheVariants.{Ride, Stale, Transfer}
 use Rattle.fare_caps.specs.declared.capped_reason.CappedReason.TheVariants.{Unknown}
@@ -52,23 +48,6 @@ replied_by (Ride start until charge) = ride_reply (cap_paid charge)
 -- the reply to a tap after the earlier ones of its token
 unfoldable pub capped_reply : CappedRules → List TapIn → TapIn → Reply
 capped_reply capped earlier tap = replied_by (capped_reason capped earlier tap)
-
--- what texts show of what decides the cents: a cap cuts or frees a ride as the ceiling does
-abbrev pub shown_charge : CapCharge → Charge
-shown_charge (ByWindow charge) = charge
-shown_charge (CapCut position cents cap) = CeilingCut position cents
-shown_charge (CapReached position cap) = CeilingReached position
-
--- what texts show of the reason
-abbrev pub shown : CappedReason → Reason
-shown Unknown = reason.Unknown
-shown (Stale latest) = reason.Stale latest
-shown (Transfer moment mode) = reason.Transfer moment mode
-shown (Ride start until charge) = reason.Ride start until (shown_charge charge)
-
--- the same of a tap after the earlier ones of its token
-unfoldable pub shown_reason : CappedRules → List TapIn → TapIn → Reason
-shown_reason capped earlier tap = shown (capped_reason capped earlier tap)
 
 -- the replies to the taps that follow the earlier ones
 unfoldable pub capped_replies_after : CappedRules → List TapIn → List TapIn → List Reply

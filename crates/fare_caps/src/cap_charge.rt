@@ -2,7 +2,6 @@
 
 ghost use Rattle.std.specs.Prelude.{◌≡◌};
 ghost use Rattle.fare_caps.specs.Charges as spec;
-ghost use Rattle.fare_caps.specs.CappedReplies.{shown_charge};
 ghost use Rattle.fare_caps.specs.Charges.{cap_cents, cap_paid};
 
 use account_rule::Charge;
@@ -20,21 +19,6 @@ pub enum CapCharge {
 }
 
 impl CapCharge {
-    /// What texts show: a cap cuts or frees a ride as the ceiling of `window` does.
-    pub fn shown(self) -> Charge
-        ensures { result ≡ shown_charge self }
-    {
-        match self {
-            CapCharge::ByWindow { charge } => charge,
-            CapCharge::CapCut {
-                position,
-                cents,
-                cap: _,
-            } => Charge::CeilingCut { position, cents },
-            CapCharge::CapReached { position, cap: _ } => Charge::CeilingReached { position },
-        }
-    }
-
     /// What the ride costs, in cents.
     pub fn cents(self) -> u32
         ensures { result ≡ cap_cents self }

@@ -2,10 +2,10 @@
 
 ghost use Rattle.std.specs.Prelude.{◌≡◌};
 ghost use Rattle.account_rule.specs.Replies.{reply_with, ride_reply};
-ghost use Rattle.fare_caps.specs.CappedReplies.{replied_by, shown};
+ghost use Rattle.fare_caps.specs.CappedReplies.{replied_by};
 
 use crate::cap_charge::CapCharge;
-use account_rule::{Answer, Reason, Reply};
+use account_rule::{Answer, Reply};
 use tariffs::Mode;
 
 /// Why the rule replies to a tap as it does under caps. The reply follows from it.
@@ -31,26 +31,6 @@ pub enum CappedReason {
 }
 
 impl CappedReason {
-    /// What texts show of it.
-    pub fn shown(self) -> Reason
-        ensures { result ≡ shown self }
-    {
-        match self {
-            CappedReason::Unknown => Reason::Unknown,
-            CappedReason::Stale { latest } => Reason::Stale { latest },
-            CappedReason::Transfer { moment, mode } => Reason::Transfer { moment, mode },
-            CappedReason::Ride {
-                start,
-                until,
-                charge,
-            } => Reason::Ride {
-                start,
-                until,
-                charge: charge.shown(),
-            },
-        }
-    }
-
     /// The reply to a tap with this reason.
     pub fn reply(self) -> Reply
         ensures { result ≡ replied_by self }

@@ -8,13 +8,14 @@ use Rattle.account_rule.specs.TokenRules.{TokenRules, rules_of}
 use Rattle.account_rule.specs.Represents as plain
 use Rattle.account_rule.specs.Represents.{KeepsOf}
 use Rattle.fare_caps.specs.CapMeanings.{capped_rules_of}
-use Rattle.fare_caps.specs.CappedReplies.{shown_reason}
+use Rattle.fare_caps.specs.CappedReplies.{capped_reason}
 use Rattle.fare_caps.specs.Represents.{Represents}
 use Rattle.fare_caps.specs.declared.capped_account.CappedAccount.{CappedAccount}
-use Rattle.fare_caps.proofs.AnswerLemmas.{shown-transfer}
+use Rattle.fare_caps.proofs.AnswerLemmas.{capped-transfer}
 use Rattle.account_rule.specs.Taps.{LiveTap, live_at}
-use Rattle.account_rule.specs.declared.reason.Reason.{Reason}
-use Rattle.account_rule.specs.declared.reason.Reason.TheVariants.{Unknown, Stale, Transfer, Ride}
+use Rattle.fare_caps.specs.declared.capped_reason.CappedReason.{CappedReason}
+use Rattle.fare_caps.specs.declared.capped_reason.CappedReason.TheVariants.{Ride, Stale, Transfer}
+use Rattle.fare_caps.specs.declared.capped_reason.CappedReason.TheVariants.{Unknown}
 use Rattle.account_rule.specs.declared.tap.TapIn.{TapIn}
 use Rattle.account_rule.proofs.ReasonLemmas.{giver-ride}
 use Rattle.fare_texts.specs.ReasonWords.{HasModeOf}
@@ -36,14 +37,14 @@ within rules kept taps tap moment mode holds is =
 
 -- the reason for a tap has a mode of the table, if it has one
 pub has_mode : (fares : Fares) (token : List ℕ) (account : CappedAccount) (taps : List TapIn)
-    (tap : TapIn) (why : Reason)
+    (tap : TapIn) (why : CappedReason)
     → Represents (capped_rules_of fares token) account taps
-    → why ≡ shown_reason (capped_rules_of fares token) taps tap
+    → why ≡ capped_reason (capped_rules_of fares token) taps tap
     → HasModeOf fares why
 unfolding plain.Represents rules_of capped_rules_of
 has_mode fares token account taps tap Unknown holds is = tt
 has_mode fares token account taps tap (Stale latest) holds is = tt
 has_mode fares token account taps tap (Transfer moment mode) holds is =
     within (rules_of fares token) (kept_of account.account) taps tap moment mode holds.account
-    (shown-transfer (capped_rules_of fares token) taps tap moment mode (sym is))
+    (capped-transfer (capped_rules_of fares token) taps tap moment mode (sym is))
 has_mode fares token account taps tap (Ride start until charge) holds is = tt

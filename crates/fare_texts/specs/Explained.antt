@@ -9,7 +9,7 @@ use Rattle.tariffs.specs.TableMeaning.{TableMeaning}
 use Rattle.tariffs.specs.declared.terms.Terms.{Terms}
 use Rattle.account_rule.specs.Laws.{is_ride}
 use Rattle.account_rule.specs.declared.no_transfer.NoTransfer.{NoTransfer}
-use Rattle.account_rule.specs.declared.reason.Reason.{Reason}
+use Rattle.fare_caps.specs.declared.capped_reason.CappedReason.{CappedReason}
 use Rattle.account_rule.specs.declared.tap.TapIn.{TapIn}
 use Rattle.account_rule.specs.declared.window.WindowView.{WindowView}
 use Rattle.fare_caps.specs.CapMeanings.{capped_rules_of}
@@ -79,7 +79,7 @@ pub record AreTermsLines (fares : Fares) (token : List ℕ) (text : List ℕ) : 
 -- the entry's line of a statement, then its reason, why a ride is no transfer, and under a zone
 -- what clocks showed, as `2024-03-08T17:00:00.000Z subway 1000 paid 300 because .., no transfer
 -- since .., local 2024-03-08T12:00:00-05:00`
-pub record IsExplainedLine (fares : Fares) (entry : Entry) (why : Reason)
+pub record IsExplainedLine (fares : Fares) (entry : Entry) (why : CappedReason)
     (none : Option NoTransfer) (line : List ℕ) : Type 0 where
   pub moment : List ℕ
   pub is : IsMomentText entry.moment moment

@@ -16,8 +16,8 @@ ghost use Rattle.fare_texts.specs.NoTransferWords.{no_transfer_after};
 ghost use Rattle.fare_texts.specs.ReasonWords.{HasModeOf};
 
 use crate::ledger_line::write_line;
-use account_rule::{NoTransfer, Reason, TapIn, WindowView};
-use fare_caps::CappedAccount;
+use account_rule::{NoTransfer, TapIn, WindowView};
+use fare_caps::{CappedAccount, CappedReason};
 use histories::Entry;
 use std::alloc::AllocError;
 use tap_views::{MOMENT_LIMIT_MS, NoMemory, Token};
@@ -102,7 +102,7 @@ impl Explainer {
         table: &FareTable,
         clock: &Clock,
         entry: &Entry,
-    ) -> Result<Reason, NoMemory>
+    ) -> Result<CappedReason, NoMemory>
         requires clock { clock.now ≡ table.now.zone }
         requires explained { (earlier : List Entry) × HasExplained table.now self.old earlier }
         requires room { self.old.number + 1 < 2 ^ 64 }
@@ -122,8 +122,7 @@ impl Explainer {
     {
         let bytes = self.token.bytes();
         let tap = tap_of(table, entry)?;
-        let why = self.account.explain_step(table, clock, &bytes, tap);
-        let reason = why.shown();
+        let reason = self.account.explain_step(table, clock, &bytes, tap);
         self.number += 1;
         Ok(reason)
     }
@@ -136,7 +135,7 @@ impl Explainer {
         clock: &Clock,
         validator: u32,
         moment: u64,
-    ) -> (Entry, Reason)
+    ) -> (Entry, CappedReason)
         requires clock { clock.now ≡ table.now.zone }
         requires early { moment < 4_102_444_800_000 }
         requires explained { (earlier : List Entry) × HasExplained table.now self.old earlier }
@@ -157,8 +156,7 @@ impl Explainer {
             moment,
             mode: table.mode_of(moment, validator),
         };
-        let why = self.account.explain_step(table, clock, &bytes, tap);
-        let reason = why.shown();
+        let reason = self.account.explain_step(table, clock, &bytes, tap);
         self.number += 1;
         let reply = reason.reply();
         let entry = Entry {

@@ -36,8 +36,7 @@ use Rattle.tariffs.specs.declared.mode.Mode.{Mode}
 use Rattle.fare_caps.specs.CapMeanings.{cap_positions, cap_rules, capped_rules_of}
 use Rattle.fare_caps.specs.CapStates.{CapStates, after_ride, after_rides, at_ride, charge_at}
 use Rattle.fare_caps.specs.CapStates.{no_rides, ride_charge, states, with_charge}
-use Rattle.fare_caps.specs.CappedReplies.{capped_reason, capped_reply, replied_by, shown}
-use Rattle.fare_caps.specs.CappedReplies.{shown_reason, under_caps}
+use Rattle.fare_caps.specs.CappedReplies.{capped_reason, capped_reply, replied_by, under_caps}
 use Rattle.fare_caps.specs.Caps.{CapRules, CappedRules, window_cap}
 use Rattle.histories.specs.Entry.{is_of, own, tap_of, taps_of}
 use Rattle.histories.specs.Keys.{same_token}
@@ -110,7 +109,7 @@ record AnswerAlike (one other : CappedRules) : Type 0 where
   replies : (earlier : List TapIn) (tap : TapIn)
       → capped_reply other earlier tap ≡ capped_reply one earlier tap
   reasons : (earlier : List TapIn) (tap : TapIn)
-      → shown_reason other earlier tap ≡ shown_reason one earlier tap
+      → capped_reason other earlier tap ≡ capped_reason one earlier tap
   windows : (taps : List TapIn) → windows other.rules taps ≡ windows one.rules taps
 
 -- the place of a class matters to what is kept alone
@@ -173,10 +172,10 @@ same_capped rules position earlier tap =
 
 answer_alike : (rules : CappedRules) (position : ℕ → ℕ)
     → AnswerAlike rules (capped_by rules position)
-unfolding capped_reply shown_reason trips windows rides capped_by of_class
+unfolding capped_reply trips windows rides capped_by of_class
 answer_alike rules position = record {
   replies = λ earlier tap. ap replied_by (same_capped rules position earlier tap);
-  reasons = λ earlier tap. ap shown (same_capped rules position earlier tap);
+  reasons = same_capped rules position;
   windows = λ taps. refl;
 }
 

@@ -8,9 +8,10 @@ use Rattle.jiff_fmt.specs.Text.{date_text, pad2, year_text}
 use Rattle.tariffs.specs.Fares.{Fares}
 use Rattle.fare_caps.specs.CapMeanings.{capped_rules_of}
 use Rattle.fare_caps.specs.CappedReplies.{capped_reply}
-use Rattle.account_rule.specs.declared.reason.Charge.{Charge}
-use Rattle.account_rule.specs.declared.reason.Reason.{Reason}
-use Rattle.account_rule.specs.declared.reason.Reason.TheVariants.{Unknown, Stale, Transfer, Ride}
+use Rattle.fare_caps.specs.declared.cap_charge.CapCharge.{CapCharge}
+use Rattle.fare_caps.specs.declared.capped_reason.CappedReason.{CappedReason}
+use Rattle.fare_caps.specs.declared.capped_reason.CappedReason.TheVariants.{Ride, Stale, Transfer}
+use Rattle.fare_caps.specs.declared.capped_reason.CappedReason.TheVariants.{Unknown}
 use Rattle.account_rule.specs.declared.reply.Answer.{Answer}
 use Rattle.account_rule.specs.declared.reply.Reply.{Reply}
 use Rattle.account_rule.specs.declared.tap.TapIn.{TapIn}
@@ -57,8 +58,8 @@ pointing_same words at a b is also =
     is.shown ∙ ap (λ (t : List ℕ). words ++ t) (moment_same at is.moment also.moment is.is also.is)
     ∙ sym also.shown
 
-ride_same : (start until : ℕ) (charge : Charge) (a b : List ℕ) → IsRideFields start until charge a
-    → IsRideFields start until charge b → a ≡ b
+ride_same : (start until : ℕ) (charge : CapCharge) (a b : List ℕ)
+    → IsRideFields start until charge a → IsRideFields start until charge b → a ≡ b
 ride_same start until charge a b is also =
     let rest = ride_rest charge in
     is.shown
@@ -68,15 +69,15 @@ ride_same start until charge a b is also =
     (moment_same until is.to also.to is.ends also.ends)
     ∙ sym also.shown
 
-reason_fields_same : (why : Reason) (a b : List ℕ) → IsReasonFields why a → IsReasonFields why b
-    → a ≡ b
+reason_fields_same : (why : CappedReason) (a b : List ℕ) → IsReasonFields why a
+    → IsReasonFields why b → a ≡ b
 reason_fields_same Unknown a b is also = is ∙ sym also
 reason_fields_same (Stale latest) a b is also = pointing_same _ latest a b is also
 reason_fields_same (Transfer moment mode) a b is also = pointing_same _ moment a b is also
 reason_fields_same (Ride start until charge) a b is also = ride_same start until charge a b is also
 
 -- an entry has one line
-pub line_same : (fares : Fares) (token : Token) (number : ℕ) (entry : Entry) (why : Reason)
+pub line_same : (fares : Fares) (token : Token) (number : ℕ) (entry : Entry) (why : CappedReason)
     (a b : List ℕ)
     → IsLedgerLine fares token number entry why a → IsLedgerLine fares token number entry why b
     → a ≡ b

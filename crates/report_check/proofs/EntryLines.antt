@@ -10,7 +10,7 @@ use Rattle.fare_texts.specs.Moments.{IsMomentText}
 use Rattle.fare_texts.specs.StatementText.{answer_text}
 use Rattle.account_rule.specs.Taps.{live_at}
 use Rattle.account_rule.specs.TokenRules.{rules_of, token_class}
-use Rattle.account_rule.specs.declared.reason.Reason.{Reason}
+use Rattle.fare_caps.specs.declared.capped_reason.CappedReason.{CappedReason}
 use Rattle.account_rule.specs.declared.reply.Answer.{Answer}
 use Rattle.account_rule.specs.declared.reply.Answer.TheVariants.{Paid, Transfer, Capped, Stale}
 use Rattle.account_rule.specs.declared.reply.Answer.TheVariants.{Unknown}
@@ -54,7 +54,7 @@ spelled : (token number moment validator mode answer cents trailing : List ℕ)
     ++ 44 ∷ (cents ++ 44 ∷ trailing))))))
 spelled token number moment validator mode answer cents trailing = simp append_assoc
 
-pub cents_fields : (fares : Fares) (token : Token) (number : ℕ) (entry : Entry) (why : Reason)
+pub cents_fields : (fares : Fares) (token : Token) (number : ℕ) (entry : Entry) (why : CappedReason)
     (line : List ℕ) → IsLedgerLine fares token number entry why line
     → CentsFields fares token number entry line
 unfolding entry_fields line_head

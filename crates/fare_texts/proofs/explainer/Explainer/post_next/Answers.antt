@@ -6,11 +6,10 @@ use Rattle.std.proofs.lemmas.List.{map-append}
 use Rattle.tariffs.specs.Fares.{Fares, mode_at}
 use Rattle.tariffs.specs.declared.mode.Mode.{Mode}
 use Rattle.tap_views.specs.declared.token.Token.{Token}
-use Rattle.account_rule.specs.Reasons.{replied_by}
 use Rattle.fare_caps.specs.CapMeanings.{capped_rules_of}
-use Rattle.fare_caps.specs.CappedReplies.{capped_reply, shown, shown_reason}
+use Rattle.fare_caps.specs.CappedReplies.{capped_reason, capped_reply, replied_by}
 use Rattle.fare_caps.specs.Represents.{Represents, RepresentsSome}
-use Rattle.fare_caps.proofs.AnswerLemmas.{shown-follows}
+use Rattle.fare_caps.proofs.AnswerLemmas.{capped-follows}
 use Rattle.account_rule.specs.declared.reply.Answer.TheVariants.{Unknown}
 use Rattle.account_rule.specs.declared.reply.Reply.{Reply}
 use Rattle.account_rule.specs.declared.tap.TapIn.{TapIn}
@@ -53,9 +52,9 @@ same_tap fares entry mode validator moment known at when =
     sym (tap_of-post fares entry mode (known ∙ (λ i. mode_at fares (moved i) (known_at i)))
     ∙ ap (λ (m : ℕ). record { moment = m; mode = mode }) when)
 
-pub explain_step-why-requires-clause-holds : goal.explain_step-why-requires-clause-holds
+pub explain_step-reason-requires-clause-holds : goal.explain_step-reason-requires-clause-holds
 unfolding RepresentsSome
-explain_step-why-requires-clause-holds c =
+explain_step-reason-requires-clause-holds c =
     rw c.bytes-bytes.ensures
     (map (tap_of c.args.table.now) c.requires.explained.0, c.requires.explained.1.holds)
 
@@ -63,16 +62,13 @@ explain_step-why-requires-clause-holds c =
 reason_of : (c : goal.After-entry-1) (earlier : List Entry) (entry : Entry)
     → HasExplained c.args.table.now c.args.self.now earlier
     → entry.validator ≡ c.args.validator → entry.moment ≡ c.args.moment
-    → c.shown-reason.result
+    → c.explain_step-reason.result
     ≡ reason_after c.args.table.now c.args.self.now.token earlier entry
-unfolding shown_reason
 reason_of c earlier entry explained at when =
     let of = capped_rules_of c.args.table.now (bytes_of c.args.self.now.token) in
     let taps = map (tap_of c.args.table.now) earlier in
-    c.shown-reason.ensures
-    ∙ ap shown ((rw c.bytes-bytes.ensures at c.explain_step-why.ensures.reason) taps
-    explained.holds)
-    ∙ ap (λ (t : TapIn). shown_reason of taps t) (same_tap c.args.table.now entry c.mode_of.result
+    (rw c.bytes-bytes.ensures at c.explain_step-reason.ensures.reason) taps explained.holds
+    ∙ ap (λ (t : TapIn). capped_reason of taps t) (same_tap c.args.table.now entry c.mode_of.result
     c.args.validator c.args.moment c.mode_of.ensures.mode at when)
 
 pub returns-clause-entry : goal.returns-clause-entry
@@ -84,7 +80,7 @@ returns-clause-entry c = λ earlier explained.
     let tap = unreported token c.args.validator c.args.moment in
     let replied : c.reply-reply.result ≡ capped_reply of taps (tap_of fares tap) =
     c.reply-reply.ensures ∙ ap (λ w. replied_by w) (reason_of c earlier tap explained refl refl)
-    ∙ sym (shown-follows of taps (tap_of fares tap)) in
+    ∙ sym (capped-follows of taps (tap_of fares tap)) in
     ap (λ (r : Reply). with_reply tap r) replied
 
 pub returns-clause-reason : goal.returns-clause-reason
@@ -101,8 +97,8 @@ returns-clause-explained c = λ earlier explained.
     c.args.validator c.args.moment c.mode_of.ensures.mode refl refl)
     ∙ sym (map-append (tap_of fares) earlier (entry ∷ [])) in
     record {
-      holds = subst (λ (ts : List TapIn). Represents of c.explain_step-why.new.self ts) longer
-          ((rw c.bytes-bytes.ensures at c.explain_step-why.ensures.holds) taps
+      holds = subst (λ (ts : List TapIn). Represents of c.explain_step-reason.new.self ts) longer
+          ((rw c.bytes-bytes.ensures at c.explain_step-reason.ensures.holds) taps
           explained.holds);
       counted = ap (λ n. n + 1) explained.counted ∙ sym (length-append earlier (entry ∷ []));
     }
