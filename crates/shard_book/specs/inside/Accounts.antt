@@ -89,17 +89,17 @@ pub record StillKept (old new : Accounts) (token : Token) : Type 0 where
   pub further : further_at new token ≡ further_at old token
 
 -- one tap of the token was posted: the reply, and what is kept, are the rule's
-pub record Steps (table : Fares) (token : Token) (tap : TapIn) (old new : Accounts) (reply : Reply)
+pub record Steps (table : Fares) (token : Token) (tap : TapIn) (old new : Accounts) (given : Reply)
     : Type 0 where
   pub reply : (taps : List TapIn) → HasKept table old token taps
-      → reply ≡ capped_reply (capped_rules_of table (bytes_of token)) taps tap
+      → given ≡ capped_reply (capped_rules_of table (bytes_of token)) taps tap
   pub kept : (taps : List TapIn) → HasKept table old token taps
       → HasKept table new token (taps ++ tap ∷ [])
   pub counted : IsCounting new
       → counted (kept_at new token)
-      ≡ add_sums (counted (kept_at old token)) (sums_of_replies (reply ∷ []))
+      ≡ add_sums (counted (kept_at old token)) (sums_of_replies (given ∷ []))
   pub counting : IsCounting new → IsCounting old
-  pub few : reply.cents ≤ 100_000
+  pub few : given.cents ≤ 100_000
   pub others : (other : Token) → token_eq token other ≡ false → StaysKept old new other
 
 -- whether an account has taps; one that was opened ahead has none yet
