@@ -69,6 +69,7 @@ impl CappedAccount {
     }
 
     /// As `step`, but returns the reason, from which the reply follows. Takes no memory.
+    #[inline(never)]
     pub fn explain_step(
         &mut self,
         table: &FareTable,

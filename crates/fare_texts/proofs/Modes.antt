@@ -13,6 +13,7 @@ use Rattle.fare_caps.specs.Represents.{Represents}
 use Rattle.fare_caps.specs.declared.capped_account.CappedAccount.{CappedAccount}
 use Rattle.fare_caps.proofs.AnswerLemmas.{capped-transfer}
 use Rattle.account_rule.specs.Taps.{LiveTap, live_at}
+use Rattle.account_rule.specs.declared.reason.Reason.TheVariants as plain_reason
 use Rattle.fare_caps.specs.declared.capped_reason.CappedReason.{CappedReason}
 use Rattle.fare_caps.specs.declared.capped_reason.CappedReason.TheVariants.{Ride, Stale, Transfer}
 use Rattle.fare_caps.specs.declared.capped_reason.CappedReason.TheVariants.{Unknown}
@@ -28,7 +29,7 @@ same-mode ride moment mode same = ap (λ (t : LiveTap). t.mode) same
 -- the ride of the account's last trip is the ride that gives the transfer
 within : (rules : TokenRules) (kept : Option Kept) (taps : List TapIn) (tap : TapIn) (moment : ℕ)
     (mode : Mode)
-    → KeepsOf rules kept taps → reason rules taps tap ≡ Transfer moment mode
+    → KeepsOf rules kept taps → reason rules taps tap ≡ plain_reason.Transfer moment mode
     → mode.position < rules.modes
 within rules kept taps tap moment mode holds is =
     let (trip, found, ride) = giver-ride rules taps tap moment mode is in
