@@ -65,7 +65,15 @@ impl CappedAccount {
         if !table.has_caps() {
             return self.account.step(table, clock, token, tap);
         }
-        self.explain_step(table, clock, token, tap).reply()
+        // Copies, so that a run without caps has the account in registers.
+        let mut capped = *self;
+        let again = TapIn {
+            moment: tap.moment,
+            mode: tap.mode,
+        };
+        let reply = capped.explain_step(table, clock, token, again).reply();
+        *self = capped;
+        reply
     }
 
     /// As `step`, but returns the reason, from which the reply follows. Takes no memory.

@@ -2,6 +2,7 @@
 use Rattle.std.proofs.Common.{◌≡◌, ℕ, suc, ◌+◌, ◌<◌, arith, List, [], ◌∷◌, ◌++◌, length, refl}
 use Rattle.std.proofs.Common.{Option, Some, None, slice_get, sym, ap, subst, ◌∙◌, Bool, true, false}
 use Rattle.std.proofs.Common.{cond, is_some, ⊎_elim}
+use Rattle.std.specs.Option.{unwrap_or}
 use Rattle.std.specs.Map.{keys_of, lookup}
 use Rattle.std.specs.List.{position_or_len}
 use Rattle.indexmap.specs.IndexMap.{IsUnique, Updates, get, insert_entry, insert_index}
@@ -304,11 +305,22 @@ stays-still old new same further other = record {
   further = further-same old new other further;
 }
 
+-- and of accounts of which the map stayed, and what is stored beside it
+pub stays-beside : (old new : Accounts) → new.map ≡ old.map
+    → new.further.entries ≡ old.further.entries → (other : Token) → StaysKept old new other
+unfolding kept_at further_at
+stays-beside old new same beside other = record {
+  kept = ap (λ map. get token_eq map other) same;
+  further = ap (λ (es : List (Token × Further)).
+      unwrap_or (lookup (token_eq other) es) no_further) beside;
+}
+
 -- what stands at a token's place is what is kept of it
 pub account-at : (accounts : Accounts) (token : Token) (position : ℕ) (here : KeptAccount)
     {there : Token} → IsPosition accounts token position
     → slice_get accounts.map.entries position ≡ Some (there, here)
     → kept_at accounts token ≡ Some here
+unfolding kept_in
 account-at accounts token position here is at =
     is.is ∙ ap (λ (o : Option (Token × KeptAccount)). Some (kept_in o here)) (sym is.at ∙ at)
 

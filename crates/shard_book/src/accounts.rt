@@ -192,7 +192,12 @@ impl Accounts {
     {
         let position = self.position(token, known)?;
         if table.has_caps() {
-            let reply = self.capped_step(table, clock, token, bytes, tap, position)?;
+            // A copy, so that a run without caps has the tap in registers.
+            let again = TapIn {
+                moment: tap.moment,
+                mode: tap.mode,
+            };
+            let reply = self.capped_step(table, clock, token, bytes, again, position)?;
             return Ok((position, reply));
         }
         let reply = self.plain_step(table, clock, token, bytes, tap, position);

@@ -5,8 +5,8 @@ use Rattle.shard_book.specs.inside.Accounts.{capped_of, further_at}
 use Rattle.shard_book.proofs.AccountsLemmas.{account-at, same-kept}
 use Rattle.shard_book.proofs.accounts.Accounts.capped_at.Goals as goal
 
-pub returns-in-Some : goal.returns-in-Some
-returns-in-Some c = λ kept is.
+pub returns : goal.returns
+returns c = λ kept is.
     let here : c.in-Some.kept.now ≡ kept =
     same-kept (sym (account-at c.args.self.now c.args.token c.args.position c.in-Some.kept.now
     c.requires (sym c.in-Some.ensures.entry)) ∙ is) in

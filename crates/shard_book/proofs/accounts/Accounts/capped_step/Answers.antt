@@ -8,7 +8,8 @@ use Rattle.fare_caps.specs.declared.further.Further.{Further}
 use Rattle.histories.specs.Sums.{Sums, add_sums, sums_of_replies}
 use Rattle.shard_book.specs.declared.accounts.KeptAccount.{KeptAccount}
 use Rattle.shard_book.specs.inside.Accounts.{counted, further_at, kept_at}
-use Rattle.shard_book.proofs.AccountsLemmas.{account-at, kept-capped, written}
+use Rattle.shard_book.proofs.AccountsLemmas.{account-at, kept-capped, stays-beside, written}
+use Rattle.shard_book.specs.declared.accounts.Accounts.{Accounts}
 use Rattle.tap_views.proofs.Choices.{OnErr_any}
 use Rattle.tap_views.proofs.TokenBytes.{token_length}
 use Rattle.shard_book.proofs.accounts.Accounts.capped_step.Goals as goal
@@ -28,11 +29,9 @@ step-reply-requires-clause-holds c =
 
 -- an allocation failed: all stayed
 pub returns-in_err-insert-clause-err : goal.returns-in_err-insert-clause-err
-unfolding kept_at further_at
-returns-in_err-insert-clause-err c = OnErr_any _ _ (λ other. record {
-  kept = refl;
-  further = ap (λ o. unwrap_or o no_further) (c.in_err-insert.ensures.err other);
-})
+returns-in_err-insert-clause-err c =
+    let next : Accounts = record c.args.self.now { further = c.insert.new.self } in
+    OnErr_any _ _ (stays-beside c.args.self.now next refl c.in_err-insert.ensures.err)
 
 pub returns-clause-steps : goal.returns-clause-steps
 unfolding kept_at further_at
