@@ -35,4 +35,4 @@ returns-then-not-has_caps-clause-some c = (
 pub returns-clause-reply : goal.returns-clause-reply
 unfolding capped_reply
 returns-clause-reply c = λ taps holds.
-    c.reply.ensures ∙ ap replied_by (c.explain_step.ensures.reason taps holds)
+    c.reply-reply.ensures ∙ ap replied_by (c.explain_step.ensures.reason taps holds)
