@@ -21,7 +21,8 @@ _omny_tools() {
     case $task in
     '') words='-V --version' ;;
     encode)
-        words='--columns --from --validators --only --drop --count --token-hash --token-key --separator --unit --zone --fold --refused'
+        words='--columns --from --validators --validators-make --only --drop --count --token-hash --token-key'
+        words+=' --separator --unit --moment-format --zone --fold --refused --out'
         ending=csv
         ;;
     corrections) words='--tokens' ending=csv ;;
@@ -46,7 +47,7 @@ _omny_tools() {
     uploads--table | table--table) ending=toml ;;
     esac
     case $before in
-    --from | --until | --within | --parts | --columns | --only | --drop | --count | --separator | --unit | --zone | --fold) return ;;
+    --from | --until | --within | --parts | --columns | --only | --drop | --count | --separator | --unit | --moment-format | --zone | --fold) return ;;
     --good-part | --refused | --token-key | --files-from) ending='*' ;;
     --format)
         mapfile -t COMPREPLY < <(compgen -W 'text json csv' -- "$word")

@@ -5,7 +5,7 @@ use Rattle.world.specs.Run.{Load, Run, with_cut, with_said, with_written}
 use Rattle.world.specs.Writes.{IsCut}
 use Rattle.world.specs.declared.faults.WriteFault.{WriteFault}
 use Rattle.frame.specs.Ends.{Answer, IsHalted, IsStarted, did, no_answer, with_more}
-use Rattle.frame.specs.Stops.{IsNamed, IsOfStream, Leaves}
+use Rattle.frame.specs.Stops.{IsNamed, Leaves}
 use Rattle.frame.specs.inside.Taken.{IsHaltedIn}
 use Rattle.frame.specs.Tasks.{Goes, with_piece}
 use Rattle.frame.specs.declared.stop.Stop.{Stop}
@@ -31,13 +31,6 @@ pub did_text : (old new s : Run) (loads : List Load) (a : Answer) (piece : List 
 did_text old new s loads a piece is written =
     written ∙ ap (λ r. with_written r piece) is
     ∙ ap (λ xs. record (did s loads a) { written = xs }) (append_assoc s.written a.text piece)
-
-pub did_note : (old new s : Run) (loads : List Load) (a : Answer) (piece : List ℕ)
-    → old ≡ did s loads a → new ≡ with_said old piece
-    → new ≡ did s loads (with_piece a Note piece)
-did_note old new s loads a piece is said =
-    said ∙ ap (λ r. with_said r piece) is
-    ∙ ap (λ xs. record (did s loads a) { said = xs }) (append_assoc s.said a.note piece)
 
 text_more : (a : Answer) (front rest : List ℕ)
     → with_more (with_piece a Text front) (record { text = rest; note = [] })
@@ -132,22 +125,3 @@ pub goes_more : (Has : List Load → Answer → Type 0) (Right : List Load → A
     → (loads : List Load) × (new ≡ did start loads a) × Has loads (with_piece a use_of piece)
 goes_more Has Right names start a new piece step use_of e goes =
     subst (λ s. Goes Has Right names start a new piece (Ok s)) e goes
-
--- ---- for tasks
--- a file that is read in pieces stops the task
-pub stream_halts : (Has : List Load → Answer → Type 0) (Right : List Load → Answer → ℕ → Type 0)
-    (names : List (List ℕ)) (start new : Run) (loads : List Load) (a : Answer) (piece : List ℕ)
-    (why : Stop) → IsOfStream names why → new ≡ did start loads a → IsStarted Right loads a
-    → Goes Has Right names start a new piece (Err why)
-stream_halts Has Right names start new loads a piece (Unread number why) is same started =
-    (loads, inr (inr same), started, is)
-stream_halts Has Right names start new loads a piece (Unwritten why) is same started = absurd is
-stream_halts Has Right names start new loads a piece (Unmade number why) is same started = absurd is
-stream_halts Has Right names start new loads a piece NoMemory is same started =
-    (loads, same, started, tt)
-
-pub memory_halts : (Has : List Load → Answer → Type 0) (Right : List Load → Answer → ℕ → Type 0)
-    (names : List (List ℕ)) (start new : Run) (loads : List Load) (a : Answer) (piece : List ℕ)
-    → new ≡ did start loads a → IsStarted Right loads a
-    → Goes Has Right names start a new piece (Err NoMemory)
-memory_halts Has Right names start new loads a piece same started = (loads, same, started, tt)

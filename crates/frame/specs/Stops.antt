@@ -1,6 +1,6 @@
 -- What stops a run from outside, and what it leaves.
-use Rattle.std.specs.Prelude.{◌≡◌, ◌⊎◌, ◌<◌, ⊤, ℕ, Bool, true, false, List, IfSome, MatchBool, length, slice_get}
-use Rattle.std.specs.Prelude.{Option, None, Some}
+use Rattle.std.specs.Prelude.{◌≡◌, ◌⊎◌, ◌<◌, ⊤, ℕ, Bool, true, false, List, MatchBool, length, slice_get}
+use Rattle.std.specs.Prelude.{None, Some}
 use Rattle.world.specs.Loads.{IsRefused}
 use Rattle.world.specs.Run.{Run, with_cut}
 use Rattle.world.specs.Writes.{IsSaid, IsUnmade}
@@ -8,11 +8,6 @@ use Rattle.world.specs.declared.faults.WriteFault.{WriteFault}
 use Rattle.world.specs.declared.faults.WriteFault.TheVariants.{Closed, Refused}
 use Rattle.frame.specs.declared.stop.Stop.{Stop}
 use Rattle.frame.specs.declared.stop.Stop.TheVariants.{NoMemory, Unmade, Unread, Unwritten}
-
--- The reader that was opened has all bytes of the file of this name left, if they are known.
-abbrev pub HasKnown : (List ℕ → Option (List ℕ)) → Option (List ℕ) → Option (List ℕ) → Type 0
-HasKnown bytes_under None left = ⊤
-HasKnown bytes_under (Some name) left = IfSome (bytes_under name) (λ bytes. left ≡ Some bytes)
 
 -- What stops a run leaves this of it, of words that name these files. The file of the number, or
 -- standard input, was refused; or it is read in pieces, and nothing of it is recorded.
@@ -30,14 +25,6 @@ IsNamed names (Unread number why) = number < length names
 IsNamed names (Unwritten why) = ⊤
 IsNamed names (Unmade number why) = number < length names
 IsNamed names NoMemory = ⊤
-
--- A file that is read in pieces, one of those that the words name, stopped the run; or an
--- allocation failed. Nothing of it is recorded.
-abbrev pub IsOfStream : List (List ℕ) → Stop → Type 0
-IsOfStream names (Unread number why) = number < length names
-IsOfStream names (Unwritten why) = ⊥
-IsOfStream names (Unmade number why) = ⊥
-IsOfStream names NoMemory = ⊤
 
 -- whether the reader of the output is gone
 abbrev pub is_closed : WriteFault → Bool

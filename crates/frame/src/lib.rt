@@ -4,10 +4,8 @@
 mod run;
 mod step;
 mod stop;
-mod streams;
 mod task;
 
 pub use run::{report, run_task};
 pub use stop::Stop;
-pub use streams::Streams;
 pub use task::{For, Step, Task};

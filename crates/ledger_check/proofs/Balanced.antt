@@ -1,15 +1,14 @@
 -- What a balance is after one tap more, and what it finds.
 use Rattle.std.proofs.Common.{◌≡◌, ℕ, ◌+◌, ◌<◌, Bool, true, false, List, [], ◌∷◌, ◌++◌, cond}
 use Rattle.std.proofs.Common.{Option, Some, None, is_some, refl, sym, ap, ◌∙◌, arith}
-use Rattle.std.proofs.lemmas.List.Sums.{sum_by-append, sum_by-cons}
 use Rattle.std.specs.Prelude.{IfSome, MatchOption}
 use Rattle.std.specs.BTreeMap.{BTreeMap}
 use Rattle.std.specs.Option.{unwrap_or}
 use Rattle.std.specs.List.Sorted.{IsPermutation}
-use Rattle.std.specs.Ordering.{is_eq, is_lt}
+use Rattle.std.specs.Ordering.{is_eq}
 use Rattle.tap_views.specs.declared.encoder.TapFields.{TapFields}
 use Rattle.tap_views.specs.TapOrder.{tap_cmp}
-use Rattle.ledger_check.specs.Balances.{left_at, copies_among, IsFirstMissing, IsFirstSurplus}
+use Rattle.ledger_check.specs.Balances.{IsMore, copies_among, left_at}
 use Rattle.ledger_check.proofs.SameTaps.{same_exact}
 use Rattle.ledger_check.proofs.Times.{one, one_self, permutation_of_times, times_push}
 
@@ -19,18 +18,13 @@ abbrev pub Balances : BTreeMap TapFields ℕ → Option TapFields → List TapFi
 Balances left surplus valid subtracted =
     MatchOption surplus ((tap : TapFields)
     → copies_among tap valid ≡ left_at left tap + copies_among tap subtracted)
-    (IsFirstSurplus valid subtracted)
+    (IsMore valid subtracted)
 
 -- in the one map one more is left of the tap than in the other
 abbrev pub HasOneMore : BTreeMap TapFields ℕ → BTreeMap TapFields ℕ → TapFields → Type 0
 HasOneMore more less key =
     (other : TapFields) → left_at more other
     ≡ left_at less other + cond (is_eq (tap_cmp key other)) 1 0
-
--- no tap stands in a list of none
-pub nowhere : (before after : List TapFields) (tap : TapFields) → [] ≡ before ++ tap ∷ after → ⊥
-nowhere [] after tap is = absurd cc
-nowhere (other ∷ before) after tap is = absurd cc
 
 pub added : (old new : BTreeMap TapFields ℕ) (surplus : Option TapFields) (valid : List TapFields)
     (tap : TapFields) → HasOneMore new old tap
@@ -40,33 +34,22 @@ added old new None valid tap more is = λ t.
     let here = more t in
     let before = is t in
     omega (arith, push, here, before)
-added old new (Some s) valid tap more is = absurd (nowhere is.before is.after s is.holds)
+added old new (Some s) valid tap more is = absurd (omega (arith, is))
 
 pub none_left : (left : BTreeMap TapFields ℕ) (valid subtracted : List TapFields) (tap : TapFields)
     → left_at left tap ≡ 0
-    → Balances left None valid subtracted → IsFirstSurplus valid (subtracted ++ tap ∷ []) tap
+    → Balances left None valid subtracted → IsMore valid (subtracted ++ tap ∷ []) tap
 none_left left valid subtracted tap none is =
     let push = times_push tap subtracted tap in
     let self = one_self tap in
     let here = is tap in
-    record {
-      before = subtracted;
-      after = [];
-      holds = refl;
-      none_before = λ other. let e = is other in omega (arith, e);
-      more = omega (arith, push, self, here, none);
-    }
+    omega (arith, push, self, here, none)
 
--- the first surplus tap is more often among all of the others
-pub surplus_is_more : (valid others : List TapFields) (tap : TapFields)
-    → IsFirstSurplus valid others tap → copies_among tap valid < copies_among tap others
-surplus_is_more valid others tap is =
-    let whole = ap (copies_among tap) is.holds in
-    let cut = sum_by-append (one tap) is.before (tap ∷ is.after) in
-    let next = sum_by-cons (one tap) tap is.after in
-    let push = times_push tap is.before tap in
-    let more = is.more in
-    omega (arith, whole, cut, next, push, more)
+-- a tap that is surplus stays so
+pub still_more : (valid subtracted : List TapFields) (surplus tap : TapFields)
+    → IsMore valid subtracted surplus → IsMore valid (subtracted ++ tap ∷ []) surplus
+still_more valid subtracted surplus tap is =
+    let push = times_push surplus subtracted tap in omega (arith, is, push)
 
 pub all_subtracted : (left : BTreeMap TapFields ℕ) (valid subtracted : List TapFields)
     → ((key : TapFields) → left_at left key ≡ 0)
@@ -75,18 +58,9 @@ all_subtracted left valid subtracted none is =
     permutation_of_times valid subtracted (λ t.
     let here = none t in let before = is t in omega (arith, here, before))
 
--- the first tap of which some are left is the first missing one
 pub some_left : (left : BTreeMap TapFields ℕ) (valid subtracted : List TapFields) (tap : TapFields)
-    → 0 < left_at left tap
-    → ((other : TapFields) → 0 < left_at left other → is_lt (tap_cmp other tap) ≡ false)
-    → Balances left None valid subtracted → IsFirstMissing valid subtracted tap
-some_left left valid subtracted tap some first is =
-    let reported = is tap in
-    record {
-      fewer = omega (arith, some, reported);
-      first = λ other less. let e = is other in first other (omega (arith, less, e));
-      no_surplus = λ other. let e = is other in omega (arith, e);
-    }
+    → 0 < left_at left tap → Balances left None valid subtracted → IsMore subtracted valid tap
+some_left left valid subtracted tap some is = let reported = is tap in omega (arith, some, reported)
 
 pub unfound : (left : BTreeMap TapFields ℕ) (surplus : Option TapFields)
     (valid subtracted : List TapFields)

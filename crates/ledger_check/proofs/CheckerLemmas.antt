@@ -30,7 +30,8 @@ use Rattle.ledger_check.specs.declared.walk.Remark.TheVariants.{Nothing, NoLine,
 use Rattle.tap_views.specs.declared.encoder.TapFields.{TapFields}
 use Rattle.ledger_check.proofs.EndLemmas.{cut_lines, cut_taken, whole_lines}
 use Rattle.ledger_check.proofs.EntryLists.{next-parts}
-use Rattle.ledger_check.proofs.FullCheckLaw.{Right, all_right, legal_step, next_wanted, right}
+use Rattle.ledger_check.proofs.FullCheckLaw.{Legal as LegalLines, Right, all_right, legal_step, legal_taps}
+use Rattle.ledger_check.proofs.FullCheckLaw.{next_wanted, right}
 use Rattle.ledger_check.proofs.FullCheckLemmas.{kept_long, long_taken}
 use Rattle.ledger_check.proofs.LineLemmas.{lines-open}
 use Rattle.ledger_check.proofs.RunLemmas.{State}
@@ -214,14 +215,19 @@ module _ (fares : Fares) (checker : Checker) (balance : Balance) (text : List �
           are = found.legal.are;
           counted = omega (arith, size, counted, found.legal.counted);
           order = λ of nexts. order ∙ ap early_line
-              (all_right fares is.taken is.fed.lines.are of found.lines found.split nexts).legal.taps;
+              (legal_taps fares is.taken of found.lines
+              (all_right fares is.taken is.fed.lines.are of found.lines found.split nexts).legal);
         }
+
+    pub of_ledger : (entries : List Entry) (of : IsLedgerOf fares entries text)
+        → LegalLines fares is.taken entries of.lines
+    of_ledger entries of =
+        (all_right fares is.taken is.fed.lines.are entries of.lines (sym whole ∙ of.split) of.are).legal
 
     pub all_subtracted : (entries : List Entry) → IsLedgerOf fares entries text
         → IsBalance balance valid (map tap_of_entry entries)
     all_subtracted entries of = subst (λ (ts : List TapFields). IsBalance balance valid ts)
-        (all_right fares is.taken is.fed.lines.are entries of.lines (sym whole ∙ of.split)
-        of.are).legal.taps is.subtracted
+        (legal_taps fares is.taken entries of.lines (of_ledger entries of)) is.subtracted
 
 -- ---- pieces
 abbrev pub kept_right : (fares : Fares) (checker after : Checker) (balance : Balance)

@@ -12,6 +12,7 @@ use Rattle.tap_views.specs.declared.encoder.TapFields.{TapFields}
 use Rattle.fare_texts.specs.LedgerLines.{head_text}
 use Rattle.ledger_check.specs.Lines.{Lacks, lines_of}
 use Rattle.ledger_check.specs.FullChecks.{IsTaken, TakenLine, lines_from, no_line_text, taps_from}
+use Rattle.ledger_check.specs.FullChecks.{one_wrong, wrong_count}
 use Rattle.ledger_check.specs.FullChecks.{taps_with, remark_lines, remark_text, with_first}
 use Rattle.ledger_check.specs.FullCheckStates.{AreSums, HasFed, HasFullyChecked}
 use Rattle.ledger_check.specs.inside.FullChecks.{HasEnded}
@@ -60,7 +61,8 @@ pub ended_whole : (fares : Fares) (full_check : FullCheck) (subtracts : Bool) (f
     → HasFullyChecked fares full_check subtracts full text written valid
     → 0 < full_check.fed.so_far.sums.lines
     → full_check.fed.started.items ≡ []
-    → HasEnded fares subtracts full text written valid full_check.fed.so_far.sums reported reported
+    → HasEnded fares full_check.fed subtracts full text written valid full_check.fed.so_far.sums
+    reported reported
 ended_whole fares full_check subtracts full text written valid reported is some none =
     let counted : full_check.fed.so_far.sums.lines ≡ length is.taken = is.fed.lines.sums.lines in
     record {
@@ -77,6 +79,7 @@ ended_whole fares full_check subtracts full text written valid reported is some 
       grown = sym (append-nil reported);
       all = append-nil written ∙ is.reported;
       subtracted = is.subtracted;
+      whole = λ _. is.fed;
     }
 
 -- the text's end cuts a line, or the text has none
@@ -126,7 +129,7 @@ pub ended_cut : (fares : Fares) (full_check : FullCheck) (subtracts : Bool) (ful
     → ((taken : List TakenLine) (next : TakenLine) → next.finding ≡ finding
     → AreSums full_check.fed.so_far.sums taken → AreSums sums (next ∷ taken))
     → reported' ≡ reported ++ no_line_text sums.lines
-    → HasEnded fares subtracts full text written valid sums reported reported'
+    → HasEnded fares full_check.fed subtracts full text written valid sums reported reported'
 ended_cut fares full_check subtracts full text written valid finding sums reported reported' is
     not_whole
     none
@@ -148,8 +151,13 @@ ended_cut fares full_check subtracts full text written valid finding sums report
           ∙ ap (λ (t : List ℕ). remark_lines is.taken ++ t)
           (ap no_line_text number ∙ sym (remark_no_line (length is.taken + 1) finding no_line));
       subtracted = λ subtract. taps_none (is.subtracted subtract);
+      whole = λ right. absurd (some_wrong right);
     }
   where
+    some_wrong : wrong_count is.taken + one_wrong finding.remark ≡ 0 → ⊥
+    some_wrong right =
+        let one : one_wrong finding.remark ≡ 1 = ap one_wrong no_line in omega (arith, right, one)
+
     remark_no_line : (number : ℕ) (finding : LineFinding) → finding.remark ≡ NoLine
         → remark_text number finding.remark [] ≡ no_line_text number
     remark_no_line number finding is_remark_none =

@@ -12,11 +12,11 @@ use Rattle.tap_views.specs.declared.encoder.TapFields.{TapFields}
 use Rattle.tap_views.specs.declared.token.Token.{Token}
 use Rattle.fare_texts.specs.LedgerLines.{head_text, IsLedgerLineAfter}
 use Rattle.fare_texts.specs.Explainers.{next_entry}
-use Rattle.ledger_check.specs.Ledger.{AreNext, IsNext, IsNextLine, token_number}
+use Rattle.ledger_check.specs.Ledger.{AreNext, IsLedgerOf, IsNext, IsNextLine, token_number}
 use Rattle.ledger_check.specs.Lines.{lines_of}
 use Rattle.ledger_check.specs.Orders.{tap_of_entry}
-use Rattle.ledger_check.specs.FullChecks.{AreTaken, IsCounted, IsJudged, IsLineOfTap}
-use Rattle.ledger_check.specs.FullChecks.{FullChecksDecide}
+use Rattle.ledger_check.specs.FullChecks.{AreTaken, IsCounted, IsFullCheck, IsJudged, IsLineOfTap}
+use Rattle.ledger_check.specs.FullChecks.{FullChecksDecide, entries_from, entries_with}
 use Rattle.ledger_check.specs.FullChecks.{TakenLine, decreases_after, lines_from, one_wrong, run_of}
 use Rattle.ledger_check.specs.FullChecks.{run_with, taps_from, taps_with, remark_for, with_first}
 use Rattle.ledger_check.specs.FullChecks.{wrong_count}
@@ -33,7 +33,7 @@ one_zero : ◌≡◌ {A = ℕ} 1 0 → ⊥
 one_zero is = absurd (omega (arith, is))
 
 -- a right line's token does not fall, and the line is the wanted one
-remark_right : (is_decrease same : Bool) → one_wrong (remark_for is_decrease same) ≡ 0
+pub remark_right : (is_decrease same : Bool) → one_wrong (remark_for is_decrease same) ≡ 0
     → (is_decrease ≡ false) × (same ≡ true)
 remark_right true same none = absurd (one_zero none)
 remark_right false true none = (refl, refl)
@@ -44,7 +44,7 @@ pub record Step (fares : Fares) (run entries : List Entry) (line : List ℕ) (ta
     (entry : Entry) : Type 0 where
   pub next : IsNext fares entries entry line
   pub state : State (run_with run tap) (entries ++ entry ∷ [])
-  pub taps : (taps : List TapFields) → taps_with taps tap ≡ taps ++ tap_of_entry entry ∷ []
+  pub more : (earlier : List Entry) → entries_with earlier tap ≡ earlier ++ entry ∷ []
 
 -- what the counted tap's entry is among all entries
 pub record Ruled (fares : Fares) (run entries : List Entry) (tap : CountedTap)
@@ -106,7 +106,7 @@ right_step fares run entries line (Some tap) remark wanted is none state few =
             (next_wanted fares run entries line tap remark wanted is state is_right.0
             (subst (λ (l : List ℕ). length l ≤ 255) line_is is.of_tap.short) few);
         state = state_push run entries entry state is.of_tap.fits is_right.0;
-        taps = λ taps. refl;
+        more = λ earlier. refl;
       },
     )
 
@@ -115,8 +115,27 @@ pub record Legal (fares : Fares) (taken : List TakenLine) (entries : List Entry)
     (lines : List (List ℕ)) : Type 0 where
   pub are : AreNext fares [] entries lines
   pub state : State (run_of taken) entries
-  pub taps : taps_from taken ≡ map tap_of_entry entries
+  pub same : entries_from taken ≡ entries
   pub counted : length taken ≡ length entries + 1
+
+-- the taps of the lines are those of their entries
+taps_more : (taps : List TapFields) (entries : List Entry) (tap : Option CountedTap)
+    → taps ≡ map tap_of_entry entries
+    → taps_with taps tap ≡ map tap_of_entry (entries_with entries tap)
+taps_more taps entries None are = are
+taps_more taps entries (Some tap) are =
+    ap (λ (ts : List TapFields). ts ++ tap_of_entry tap.entry ∷ []) are
+    ∙ sym (map-append tap_of_entry entries (tap.entry ∷ []))
+
+taps_are : (taken : List TakenLine) → taps_from taken ≡ map tap_of_entry (entries_from taken)
+taps_are [] = refl
+taps_are (next ∷ taken) =
+    taps_more (taps_from taken) (entries_from taken) next.finding.tap (taps_are taken)
+
+pub legal_taps : (fares : Fares) (taken : List TakenLine) (entries : List Entry)
+    (lines : List (List ℕ)) → Legal fares taken entries lines
+    → taps_from taken ≡ map tap_of_entry entries
+legal_taps fares taken entries lines legal = taps_are taken ∙ ap (map tap_of_entry) legal.same
 
 legal_push : (fares : Fares) (taken : List TakenLine) (next : TakenLine) (entries : List Entry)
     (lines : List (List ℕ)) (entry : Entry)
@@ -129,9 +148,8 @@ legal_push fares taken next entries lines entry legal step =
     record {
       are = next-push fares [] entries lines entry next.line legal.are step.next;
       state = step.state;
-      taps = step.taps (taps_from taken)
-          ∙ ap (λ (ts : List TapFields). ts ++ tap_of_entry entry ∷ []) legal.taps
-          ∙ sym (map-append tap_of_entry entries (entry ∷ []));
+      same = step.more (entries_from taken)
+          ∙ ap (λ (es : List Entry). es ++ entry ∷ []) legal.same;
       counted = omega (arith, size, before);
     }
 
@@ -145,7 +163,7 @@ legal_head : (fares : Fares) (first : TakenLine) → first.finding.tap ≡ None
 legal_head fares first none = record {
   are = tt;
   state = inl (ap (λ (t : Option CountedTap). run_with [] t) none, refl);
-  taps = ap (λ (t : Option CountedTap). taps_with [] t) none;
+  same = ap (λ (t : Option CountedTap). entries_with [] t) none;
   counted = refl;
 }
 
@@ -236,7 +254,7 @@ legal_step fares run entries line (Some tap) remark wanted entry is state next =
         state = subst
             (λ (e : Entry). State (own tap.entry.token run ++ tap.entry ∷ []) (entries ++ e ∷ []))
             back (state_push run entries tap.entry state is.of_tap.fits up);
-        taps = λ taps. ap (λ (e : Entry). taps ++ tap_of_entry e ∷ []) back;
+        more = λ earlier. ap (λ (e : Entry). earlier ++ e ∷ []) back;
       };
     }
 
@@ -331,6 +349,13 @@ taken_some [] [] is = absurd (cc)
 taken_some (line ∷ lines) [] is = absurd (cc)
 taken_some lines (next ∷ taken) is = omega arith
 
+abbrev found_right : (fares : Fares) (text : List ℕ) (taken : List TakenLine)
+    → IsFullCheck fares text taken → (entries : List Entry) (of : IsLedgerOf fares entries text)
+    → AllRight fares taken entries of.lines
+found_right fares text taken full_check entries of =
+    all_right fares taken full_check.are entries of.lines
+    (sym full_check.split ∙ some_first (lines_of text) head_text of.lines of.split) of.are
+
 pub decides : FullChecksDecide
 decides fares text taken full_check = record {
   right = λ none.
@@ -344,12 +369,8 @@ decides fares text taken full_check = record {
           are = found.legal.are;
         },
       );
-  all_right = λ ledger.
-      let of = ledger.1 in
-      (all_right fares taken full_check.are ledger.0 of.lines
-      (sym full_check.split ∙ some_first (lines_of text) head_text of.lines of.split) of.are).none;
+  all_right = λ ledger. (found_right fares text taken full_check ledger.0 ledger.1).none;
   taps = λ entries of.
-      (all_right fares taken full_check.are entries of.lines
-      (sym full_check.split ∙ some_first (lines_of text) head_text of.lines of.split)
-      of.are).legal.taps;
+      legal_taps fares taken entries of.lines (found_right fares text taken full_check entries of).legal;
+  entries = λ entries of. (found_right fares text taken full_check entries of).legal.same;
 }

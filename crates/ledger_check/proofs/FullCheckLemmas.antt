@@ -12,7 +12,7 @@ use Rattle.fare_texts.specs.LedgerLines.{head_text}
 use Rattle.ledger_check.specs.Lines.{IsLine, Lacks, lines_of}
 use Rattle.ledger_check.specs.FullChecks.{IsJudged, IsLineOfTap, IsTaken, TakenLine, lines_from}
 use Rattle.ledger_check.specs.FullChecks.{run_of, run_with}
-use Rattle.ledger_check.specs.FullCheckStates.{AreSums, HasFed, HasRunExplainer}
+use Rattle.ledger_check.specs.FullCheckStates.{AreSums, HasEntries, HasFed, HasRunExplainer}
 use Rattle.ledger_check.specs.FullCheckStates.{HasTakenLines, IsKept}
 use Rattle.ledger_check.specs.inside.FullChecks.{HasFound, HasJudged, IsFirstFinding, next_taken}
 use Rattle.ledger_check.specs.declared.lines_fed.LinesFed.{LinesFed}
@@ -162,8 +162,9 @@ pub lines_more : (fares : Fares) (so_far after : LinesTaken) (taken : List Taken
     (line : List ℕ) (finding : LineFinding)
     → (lines : HasTakenLines fares so_far taken) → HasFound fares taken line after.walk finding
     → AreSums after.sums (next_taken line finding after ∷ taken)
+    → HasEntries after.entries (next_taken line finding after ∷ taken)
     → HasTakenLines fares after (next_taken line finding after ∷ taken)
-lines_more fares so_far after taken line finding lines found sums = record {
+lines_more fares so_far after taken line finding lines found sums entries = record {
   are = (lines.are, found.is);
   sums = sums;
   run = run_with (run_of taken) finding.tap;
@@ -173,6 +174,7 @@ lines_more fares so_far after taken line finding lines found sums = record {
       (few_with lines.run finding.tap (length taken) lines.few) in
       omega (arith, size);
   explainer = found.explainer;
+  entries = entries;
 }
 
 pub kept_none : (kept started : List ℕ) → IsKept kept started → kept ≡ [] → started ≡ []

@@ -2,14 +2,13 @@
 use Rattle.std.proofs.Common.{◌≡◌, ℕ, ◌⊎◌, inl, inr, ⊎_elim, Bool, true, false, cond}
 use Rattle.std.proofs.Common.{List, [], ◌∷◌, ◌++◌, Option, Some, None, refl, sym, ap, ◌∙◌, arith}
 use Rattle.std.specs.BTreeMap.{BTreeMap}
-use Rattle.std.specs.List.Sorted.{IsSorted}
 use Rattle.std.specs.Ordering.{is_eq}
 use Rattle.tap_views.specs.declared.encoder.TapFields.{TapFields}
 use Rattle.tap_views.specs.TapOrder.{tap_cmp}
 use Rattle.ledger_check.specs.Balances.{copies_among, left_at}
 use Rattle.ledger_check.specs.FullBalances.{AreLacking, IsFullBalance}
 use Rattle.ledger_check.specs.declared.full_balance.FullBalance.{FullBalance}
-use Rattle.ledger_check.proofs.Balanced.{Balances, HasOneMore, nowhere}
+use Rattle.ledger_check.proofs.Balanced.{Balances, HasOneMore}
 use Rattle.ledger_check.proofs.SameTaps.{same_exact}
 use Rattle.ledger_check.proofs.Times.{times_push}
 
@@ -27,8 +26,7 @@ started left None full valid same none is = record {
       omega (arith, here, zero, kept);
   one_side = λ tap. inr (none tap);
 }
-started left (Some s) full valid same none is =
-    absurd (nowhere is.before is.after s is.holds)
+started left (Some s) full valid same none is = absurd (omega (arith, is))
 
 -- one that was left was struck out
 pub subtracted_missing : (old new : FullBalance) (valid subtracted : List TapFields)
@@ -87,29 +85,25 @@ subtracted_surplus old new valid subtracted tap kept none more is = record {
 -- what is left is what the others lack
 pub lacking_missing : (full : FullBalance) (valid subtracted taps : List TapFields)
     → ((tap : TapFields) → copies_among tap taps ≡ left_at full.missing tap)
-    → IsSorted tap_cmp taps
     → IsFullBalance full valid subtracted → AreLacking valid subtracted taps
-lacking_missing full valid subtracted taps copies sorted is = record {
+lacking_missing full valid subtracted taps copies is = record {
   copies = λ tap.
       let here = copies tap in
       let sums = is.sums tap in
       ⊎_elim (λ (z : left_at full.missing tap ≡ 0). omega (arith, here, sums, z))
       (λ (z : left_at full.surplus tap ≡ 0). omega (arith, here, sums, z))
       (is.one_side tap);
-  sorted = sorted;
 }
 
 -- what was struck out beyond is what the good taps lack
 pub lacking_surplus : (full : FullBalance) (valid subtracted taps : List TapFields)
     → ((tap : TapFields) → copies_among tap taps ≡ left_at full.surplus tap)
-    → IsSorted tap_cmp taps
     → IsFullBalance full valid subtracted → AreLacking subtracted valid taps
-lacking_surplus full valid subtracted taps copies sorted is = record {
+lacking_surplus full valid subtracted taps copies is = record {
   copies = λ tap.
       let here = copies tap in
       let sums = is.sums tap in
       ⊎_elim (λ (z : left_at full.missing tap ≡ 0). omega (arith, here, sums, z))
       (λ (z : left_at full.surplus tap ≡ 0). omega (arith, here, sums, z))
       (is.one_side tap);
-  sorted = sorted;
 }

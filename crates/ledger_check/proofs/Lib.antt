@@ -5,11 +5,12 @@ pub mod EndLemmas
 pub mod EntryLists
 pub mod LineEnds
 pub mod FieldLemmas
-mod Firsts
 pub mod FrontLemmas
 mod FullyBalanced
 pub mod LineLemmas
+pub mod LineSums
 pub mod MomentLemmas
+pub mod OpenSums
 pub mod Orders
 pub mod PositionLemmas
 pub mod FullCheckLaw

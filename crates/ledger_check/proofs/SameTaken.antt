@@ -8,19 +8,17 @@ use Rattle.std.specs.Str.{bytes_eq}
 use Rattle.tariffs.specs.Fares.{Fares}
 use Rattle.histories.specs.Entry.{own}
 use Rattle.histories.specs.declared.entry.Entry.{Entry}
-use Rattle.tap_views.specs.declared.encoder.TapFields.{TapFields}
 use Rattle.tap_views.specs.declared.token.Token.{Token}
 use Rattle.fare_texts.specs.Explainers.{next_entry}
 use Rattle.fare_texts.specs.LedgerLines.{IsLedgerLineAfter, head_text, reason_after}
 use Rattle.ledger_check.specs.FirstLines.{FullChecksGoOn}
 use Rattle.ledger_check.specs.Lines.{lines_of}
-use Rattle.ledger_check.specs.Orders.{tap_of_entry}
 use Rattle.ledger_check.specs.FullChecks.{AreTaken, IsCounted, IsJudged, IsTaken, TakenLine}
-use Rattle.ledger_check.specs.FullChecks.{end_text, decreases_after, lines_from, one_wrong}
+use Rattle.ledger_check.specs.FullChecks.{end_text, decreases_after, lines_from}
 use Rattle.ledger_check.specs.FullChecks.{remark_for}
 use Rattle.ledger_check.specs.FullChecks.{remark_lines}
-use Rattle.ledger_check.specs.FullChecks.{remark_text, run_of, run_with, taps_from, taps_with}
-use Rattle.ledger_check.specs.FullChecks.{with_first, wrong_count}
+use Rattle.ledger_check.specs.FullChecks.{remark_text, run_of, run_with}
+use Rattle.ledger_check.specs.FullChecks.{with_first}
 use Rattle.ledger_check.specs.declared.walk.CountedTap.{CountedTap}
 use Rattle.ledger_check.specs.declared.walk.Remark.{Remark}
 use Rattle.ledger_check.specs.declared.walk.Remark.TheVariants.{Nothing, NoLine}
@@ -72,8 +70,6 @@ counted_same fares run line a b remark remark' wanted wanted' is also =
 record SameFinding (run : List Entry) (a b : Option CountedTap) (remark remark' : Remark)
     (wanted wanted' : List ℕ) : Type 0 where
   pub run_is : run_with run a ≡ run_with run b
-  pub taps : (taps : List TapFields) → taps_with taps a ≡ taps_with taps b
-  pub remarks : remark ≡ remark'
   pub text : (number : ℕ) → remark_text number remark wanted ≡ remark_text number remark' wanted'
 
 judged_same : (fares : Fares) (run : List Entry) (line : List ℕ) (a b : Option CountedTap)
@@ -82,8 +78,6 @@ judged_same : (fares : Fares) (run : List Entry) (line : List ℕ) (a b : Option
     → SameFinding run a b remark remark' wanted wanted'
 judged_same fares run line None None remark remark' wanted wanted' is also = record {
   run_is = refl;
-  taps = λ taps. refl;
-  remarks = is.1 ∙ sym also.1;
   text = λ number. ap (λ (r : Remark). remark_text number r wanted) is.1
       ∙ sym (ap (λ (r : Remark). remark_text number r wanted') also.1);
 }
@@ -94,8 +88,6 @@ judged_same fares run line (Some a) None remark remark' wanted wanted' is also =
 judged_same fares run line (Some a) (Some b) remark remark' wanted wanted' is also =
     let same = counted_same fares run line a b remark remark' wanted wanted' is also in record {
       run_is = ap (λ (e : Entry). own e.token run ++ e ∷ []) same.entry;
-      taps = λ taps. ap (λ (e : Entry). taps ++ tap_of_entry e ∷ []) same.entry;
-      remarks = same.remarks;
       text = λ number. ap (λ (r : Remark). remark_text number r wanted) same.remarks
           ∙ ap (λ (w : List ℕ). remark_text number remark' w) same.wants;
     }
@@ -115,8 +107,6 @@ first_same x y fares line is also =
     is.1 ∙ ap (λ (l : List ℕ). if bytes_eq l head_text then Nothing else NoLine) line in
     let tap = is.0 ∙ sym also.0 in record {
       run_is = ap (run_with []) tap;
-      taps = λ taps. ap (taps_with taps) tap;
-      remarks = remark ∙ sym also.1;
       text = λ number. ap (λ (r : Remark). remark_text number r x.wanted) remark
           ∙ head_text_same number (bytes_eq y.line head_text) x.wanted y.wanted
           ∙ sym (ap (λ (r : Remark). remark_text number r y.wanted) also.1);
@@ -127,8 +117,6 @@ first_same x y fares line is also =
 pub record SameTaken (a b : List TakenLine) : Type 0 where
   pub run : run_of a ≡ run_of b
   pub remarks : remark_lines a ≡ remark_lines b
-  pub taps : taps_from a ≡ taps_from b
-  pub wrong : wrong_count a ≡ wrong_count b
   pub counted : length a ≡ length b
 
 taken_same : (fares : Fares) (a b : List TakenLine) (x y : TakenLine) → SameTaken a b
@@ -156,10 +144,6 @@ one_more a b x y same found = record {
       same.remarks
       ∙ ap (λ (t : List ℕ). remark_lines b ++ t) (found.text (length a + 1)
       ∙ ap (λ (n : ℕ). remark_text (n + 1) y.finding.remark y.wanted) same.counted);
-  taps = found.taps (taps_from a)
-      ∙ ap (λ (ts : List TapFields). taps_with ts y.finding.tap) same.taps;
-  wrong = ap (λ (n : ℕ). n + one_wrong x.finding.remark) same.wrong
-      ∙ ap (λ (r : Remark). wrong_count b + one_wrong r) found.remarks;
   counted = ap (λ (n : ℕ). suc n) same.counted;
 }
 
@@ -186,7 +170,7 @@ ends_same (c ∷ a) (d ∷ b) x y is =
 pub same_taken : (fares : Fares) (a b : List TakenLine) → AreTaken fares a → AreTaken fares b
     → lines_from a ≡ lines_from b → SameTaken a b
 same_taken fares [] [] is also same =
-    record { run = refl; remarks = refl; taps = refl; wrong = refl; counted = refl }
+    record { run = refl; remarks = refl; counted = refl }
 same_taken fares [] (y ∷ b) is also same = absurd (no_end (lines_from b) y.line same)
 same_taken fares (x ∷ a) [] is also same = absurd (no_end (lines_from a) x.line (sym same))
 same_taken fares (x ∷ a) (y ∷ b) is also same =

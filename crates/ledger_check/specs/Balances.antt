@@ -1,12 +1,12 @@
 -- What uploads have against what somebody else has of their taps.
-use Rattle.std.specs.Prelude.{◌≡◌, ℕ, ◌+◌, ◌<◌, ◌≤◌, Bool, false, List, [], ◌∷◌, ◌++◌, map}
+use Rattle.std.specs.Prelude.{◌≡◌, ℕ, ◌+◌, ◌<◌, Bool, List, map}
 use Rattle.std.specs.Prelude.{Option, None, Some, MatchOption}
 use Rattle.std.specs.BTreeMap as tree
 use Rattle.std.specs.BTreeMap.{BTreeMap}
 use Rattle.std.specs.List.{count_by}
 use Rattle.std.specs.List.Sorted.{IsPermutation}
 use Rattle.std.specs.Option.{unwrap_or}
-use Rattle.std.specs.Ordering.{is_eq, is_lt}
+use Rattle.std.specs.Ordering.{is_eq}
 use Rattle.tap_views.specs.Encoding.{fields_of}
 use Rattle.tap_views.specs.Files.{AreValidTaps}
 use Rattle.tap_views.specs.Layout.{Tap}
@@ -33,35 +33,21 @@ copies_among tap taps = count_by (λ other. is_same other tap) taps
 abbrev pub left_at : BTreeMap TapFields ℕ → TapFields → ℕ
 left_at left tap = unwrap_or (tree.get tap_cmp left tap) 0
 
--- The tap is at the first place among the others at which a tap is there more often than among
--- the valid taps.
-pub record IsFirstSurplus (valid others : List TapFields) (tap : TapFields) : Type 0 where
-  pub before : List TapFields
-  pub after : List TapFields
-  pub holds : others ≡ before ++ tap ∷ after
-  pub none_before : (other : TapFields) → copies_among other before ≤ copies_among other valid
-  pub more : copies_among tap valid < copies_among tap (before ++ tap ∷ [])
+-- the tap is more often among the others than among the valid taps
+abbrev pub IsMore : List TapFields → List TapFields → TapFields → Type 0
+IsMore valid others tap = copies_among tap valid < copies_among tap others
 
--- The tap is more often among the valid taps. It is the first such tap by token, moment and
--- validator, and no tap is more often among the others.
-pub record IsFirstMissing (valid others : List TapFields) (tap : TapFields) : Type 0 where
-  pub fewer : copies_among tap others < copies_among tap valid
-  pub first : (other : TapFields) → copies_among other others < copies_among other valid
-      → is_lt (tap_cmp other tap) ≡ false
-  pub no_surplus : (other : TapFields) → copies_among other others ≤ copies_among other valid
-
--- of each valid tap some were subtracted, and the rest are left; or the first tap is known that was
--- subtracted more often than the uploads have it
+-- of each valid tap some were subtracted, and the rest are left; or a tap is known that was subtracted
+-- more often than the uploads have it
 abbrev pub IsBalance : Balance → List TapFields → List TapFields → Type 0
 IsBalance balance valid subtracted =
     MatchOption balance.surplus
     ((tap : TapFields) → copies_among tap valid
     ≡ left_at balance.left tap + copies_among tap subtracted)
-    (IsFirstSurplus valid subtracted)
+    (IsMore valid subtracted)
 
--- the others are the valid taps in some order; or the reported tap is the first that they lack, if
--- none is surplus; or it is the first that is surplus among them
+-- the others are the valid taps in some order; or the reported tap is more often on one side
 abbrev pub IsDifference : List TapFields → List TapFields → Option Difference → Type 0
 IsDifference valid others None = IsPermutation valid others
-IsDifference valid others (Some (Missing tap)) = IsFirstMissing valid others tap
-IsDifference valid others (Some (Surplus tap)) = IsFirstSurplus valid others tap
+IsDifference valid others (Some (Missing tap)) = IsMore others valid tap
+IsDifference valid others (Some (Surplus tap)) = IsMore valid others tap

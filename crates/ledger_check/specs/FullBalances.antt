@@ -1,17 +1,14 @@
 -- All taps that one side has more often than the other.
 use Rattle.std.specs.Prelude.{◌≡◌, ◌+◌, ◌-◌, ◌⊎◌, List}
-use Rattle.std.specs.List.Sorted.{IsSorted}
 use Rattle.tap_views.specs.declared.encoder.TapFields.{TapFields}
-use Rattle.tap_views.specs.TapOrder.{tap_cmp}
 use Rattle.ledger_check.specs.Balances.{copies_among, left_at}
 use Rattle.ledger_check.specs.declared.full_balance.FullBalance.{FullBalance}
 
--- The taps that are more often among the valid taps than among the others, each as often as it is
--- there more often, by token, moment and validator.
+-- the taps that are more often among the valid taps than among the others, each as often as it is
+-- there more often
 pub record AreLacking (valid others taps : List TapFields) : Type 0 where
   pub copies : (tap : TapFields)
       → copies_among tap taps ≡ copies_among tap valid - copies_among tap others
-  pub sorted : IsSorted tap_cmp taps
 
 -- of each valid tap some were subtracted and this number is left, or this number more was
 -- subtracted than the uploads have

@@ -1,6 +1,6 @@
 -- What a check knows of the lines that it has read.
 use Rattle.std.specs.Prelude.{◌≡◌, ◌⊎◌, ℕ, ◌+◌, ◌^◌, ◌<◌, ◌≤◌, Bool, true, List, [], ◌∷◌, ◌++◌}
-use Rattle.std.specs.Prelude.{All, Option, None, Some, false, length}
+use Rattle.std.specs.Prelude.{All, IfSome, Option, None, Some, false, length}
 use Rattle.tariffs.specs.Fares.{Fares}
 use Rattle.histories.specs.declared.entry.Entry.{Entry}
 use Rattle.ledger_check.specs.FullBalances.{IsFullBalance}
@@ -11,10 +11,12 @@ use Rattle.fare_texts.specs.Explainers.{HasExplained}
 use Rattle.fare_texts.specs.declared.explainer.Explainer.{Explainer}
 use Rattle.ledger_check.specs.Lines.{Lacks, lines_of}
 use Rattle.ledger_check.specs.Orders.{IsOrderOf}
-use Rattle.ledger_check.specs.FullChecks.{AreTaken, TakenLine, cents_from, last_wrong_token}
+use Rattle.ledger_check.specs.FullChecks.{AreTaken, TakenLine, cents_from, entries_from}
+use Rattle.ledger_check.specs.FullChecks.{last_wrong_token}
 use Rattle.ledger_check.specs.FullChecks.{lines_from, run_of, taps_from, token_count, remark_lines}
 use Rattle.ledger_check.specs.FullChecks.{wanted_cents_from, wrong_count}
 use Rattle.ledger_check.specs.Balances.{IsBalance}
+use Rattle.ledger_check.specs.OpenSums.{AreOpenSums}
 use Rattle.ledger_check.specs.Verdicts.{IsVerdict, is_legal}
 use Rattle.ledger_check.specs.declared.balance.Balance.{Balance}
 use Rattle.ledger_check.specs.declared.checker.Checker.{Checker}
@@ -22,6 +24,7 @@ use Rattle.ledger_check.specs.declared.checker.Verdict.{Verdict}
 use Rattle.ledger_check.specs.declared.full_check.FullCheck.{FullCheck}
 use Rattle.ledger_check.specs.declared.lines_fed.LinesFed.{LinesFed}
 use Rattle.ledger_check.specs.declared.lines_fed.LinesTaken.{LinesTaken}
+use Rattle.ledger_check.specs.declared.open_sums.OpenSums.{OpenSums}
 use Rattle.ledger_check.specs.declared.full_check_sums.FullCheckSums.{FullCheckSums}
 
 -- the explainer represents the entries, which are its token's, and has taken some
@@ -47,6 +50,11 @@ pub record AreSums (sums : FullCheckSums) (taken : List TakenLine) : Type 0 wher
   pub wanted : sums.wanted ≡ wanted_cents_from taken
   pub order : IsOrderOf (taps_from taken) sums.order
 
+-- the sums of the entries, if they are requested and no line is wrong
+abbrev pub HasEntries : Option OpenSums → List TakenLine → Type 0
+HasEntries entries taken =
+    IfSome entries (λ sums. (wrong_count taken ≡ 0) × AreOpenSums (entries_from taken) sums)
+
 -- these lines were taken
 pub record HasTakenLines (fares : Fares) (so_far : LinesTaken) (taken : List TakenLine)
     : Type 0 where
@@ -56,6 +64,7 @@ pub record HasTakenLines (fares : Fares) (so_far : LinesTaken) (taken : List Tak
   pub is_run : run ≡ run_of taken
   pub few : length run ≤ length taken
   pub explainer : HasRunExplainer fares so_far.walk.explainer run
+  pub entries : HasEntries so_far.entries taken
 
 -- of the text all is kept, or more than the longest line has
 abbrev pub IsKept : List ℕ → List ℕ → Type 0

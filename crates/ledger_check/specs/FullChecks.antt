@@ -137,6 +137,15 @@ abbrev pub taps_from : List TakenLine → List TapFields
 taps_from [] = []
 taps_from (taken ∷ earlier) = taps_with (taps_from earlier) taken.finding.tap
 
+-- the entries that the rules give these taps
+abbrev pub entries_with : List Entry → Option CountedTap → List Entry
+entries_with entries None = entries
+entries_with entries (Some tap) = entries ++ tap.entry ∷ []
+
+abbrev pub entries_from : List TakenLine → List Entry
+entries_from [] = []
+entries_from (taken ∷ earlier) = entries_with (entries_from earlier) taken.finding.tap
+
 -- `line 4 is no ledger line`
 unfoldable pub no_line_text : ℕ → List ℕ
 no_line_text number = codes "line " ++ (decimal number ++ codes " is no ledger line\n")
@@ -253,13 +262,14 @@ pub record IsFullCheck (fares : Fares) (text : List ℕ) (taken : List TakenLine
 abbrev pub full_check_text : List TakenLine → List ℕ
 full_check_text taken = remark_lines taken ++ end_text taken
 
--- No line has a remark exactly if the text is, whole, a ledger of legal histories; then the taps
--- that were read are its entries'.
+-- No line has a remark exactly if the text is, whole, a ledger of legal histories; then its entries
+-- are those that the rules give the taps that were read.
 pub record FullCheckDecides (fares : Fares) (text : List ℕ) (taken : List TakenLine) : Type 0 where
   pub right : wrong_count taken ≡ 0 → IsLedger fares text
   pub all_right : IsLedger fares text → wrong_count taken ≡ 0
   pub taps : (entries : List Entry) → IsLedgerOf fares entries text
       → taps_from taken ≡ map tap_of_entry entries
+  pub entries : (entries : List Entry) → IsLedgerOf fares entries text → entries_from taken ≡ entries
 
 -- what a full check finds decides
 abbrev pub FullChecksDecide : Type 0

@@ -4,10 +4,12 @@ pub mod FirstLines
 pub mod FullBalances
 pub mod Ledger
 pub mod Lines
+pub mod OpenSums
 pub mod Orders
 pub mod Positions
 pub mod FullCheckStates
 pub mod FullChecks
+pub mod Sums
 pub mod Taps
 pub mod Verdicts
 pub mod inside

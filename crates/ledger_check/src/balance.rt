@@ -3,7 +3,7 @@
 ghost use Rattle.std.specs.Prelude.{◌≡◌, ◌+◌, ◌<◌, ◌++◌, ◌∷◌, [], ℕ};
 ghost use Rattle.std.specs.Prelude.{List, IfNone, IfSome, OnOk};
 ghost use Rattle.std.specs.Prelude.{if◌then◌else◌, false, map, true};
-ghost use Rattle.std.specs.Ordering.{is_eq, is_lt};
+ghost use Rattle.std.specs.Ordering.{is_eq};
 ghost use Rattle.tap_views.specs.Encoding.{fields_of};
 ghost use Rattle.tap_views.specs.declared.encoder.TapFields.{TapFields};
 ghost use Rattle.tap_views.specs.TapOrder.{tap_cmp};
@@ -57,8 +57,6 @@ pub(crate) fn take_one(left: &mut BTreeMap<TapFields, u64>, tap: TapFields) -> b
 
 fn first_left(left: &BTreeMap<TapFields, u64>) -> Option<TapFields>
     ensures found { IfSome result (λ tap. 0 < left_at left.now tap) }
-    ensures first { IfSome result (λ tap. (other : TapFields) → 0 < left_at left.now other
-        → is_lt (tap_cmp other tap) ≡ false) }
     ensures none { IfNone result ((tap : TapFields) → left_at left.now tap ≡ 0) }
 {
     for (tap, count) in left {

@@ -19,7 +19,7 @@ pub(crate) fn split_at_byte(text: &[u8], byte: u8) -> Option<(&[u8], &[u8])>
 }
 
 /// What is before the first comma of the text, and what is after it.
-pub fn field(text: &[u8]) -> Option<(&[u8], &[u8])>
+pub(crate) fn field(text: &[u8]) -> Option<(&[u8], &[u8])>
     ensures found { (front : List ℕ) (back : List ℕ) → Lacks 44 front
         → text.now ≡ front ++ 44 ∷ back
         → IsSomeAnd result (λ parts. (parts.0.now ≡ front) × (parts.1.now ≡ back)) }

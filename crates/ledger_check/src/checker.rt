@@ -1,6 +1,7 @@
 //! The check of a text that comes in pieces, up to the first wrong line, and the taps of its lines.
 
-ghost use Rattle.std.specs.Prelude.{◌≡◌, ◌++◌, [], ℕ, List, IfOk, IsTrue, map, string_bytes};
+ghost use Rattle.std.specs.Prelude.{◌≡◌, ◌++◌, [], ℕ, List, IfOk, IfSome, IsTrue, map};
+ghost use Rattle.std.specs.Prelude.{string_bytes};
 ghost use Rattle.tariffs.specs.Fares.{Fares};
 ghost use Rattle.histories.specs.declared.entry.Entry.{Entry};
 ghost use Rattle.ledger_check.specs.Balances.{IsBalance};
@@ -11,6 +12,7 @@ ghost use Rattle.ledger_check.specs.FullCheckStates.{IsFed, IsRightSoFar};
 ghost use Rattle.ledger_check.specs.Ledger.{IsLedgerOf};
 ghost use Rattle.ledger_check.specs.Lines.{IsLine, Lacks};
 ghost use Rattle.ledger_check.specs.Orders.{tap_of_entry};
+ghost use Rattle.ledger_check.specs.Sums.{AreSumsOf};
 ghost use Rattle.ledger_check.specs.Verdicts.{IsVerdict, is_legal};
 ghost use Rattle.ledger_check.specs.inside.FullChecks.{IsCalled};
 
@@ -18,7 +20,9 @@ use crate::Balance;
 use crate::bytes::split_line;
 use crate::full_check_sums::one_wrong;
 use crate::lines_fed::{LinesFed, MAX_LINE_BYTES};
+use crate::open_sums::EntrySums;
 use crate::walk::{CountedTap, LineFinding, Remark};
+use histories::HashSeed;
 use std::alloc::{AllocError, Global};
 use tariffs::{Clock, FareTable};
 
@@ -61,13 +65,13 @@ pub struct Checker {
 }
 
 impl Checker {
-    /// Nothing was read.
-    pub fn new(alloc: Global) -> Checker
+    /// Nothing was read. With a seed, which hashes the validators' numbers, entries are summed.
+    pub fn new(alloc: Global, seed: Option<HashSeed>) -> Checker
         ensures { (fares : Fares) (balance : Balance) (valid : List TapFields)
             → IsBalance balance valid [] → IsRightSoFar fares result balance [] valid }
     {
         Checker {
-            fed: LinesFed::new(alloc),
+            fed: LinesFed::new(alloc, seed),
         }
     }
 
@@ -76,6 +80,7 @@ impl Checker {
     /// balance are of no use. The table, its clock and the balance are the same in all calls.
     pub fn feed(
         &mut self,
+        alloc: Global,
         table: &FareTable,
         clock: &Clock,
         piece: &[u8],
@@ -92,7 +97,7 @@ impl Checker {
     {
         let mut rest = piece;
         while let Some((line, trailing)) = split_line(rest) {
-            let reported = self.take(table, clock, line, balance)?;
+            let reported = self.take(alloc, table, clock, line, balance)?;
             if reported.is_some() {
                 return Ok(reported);
             }
@@ -104,6 +109,7 @@ impl Checker {
 
     fn take(
         &mut self,
+        alloc: Global,
         table: &FareTable,
         clock: &Clock,
         line: &[u8],
@@ -117,7 +123,7 @@ impl Checker {
             → IsRightSoFar table.now self.old balance.old text valid
             → IsFed table.now self.new balance.new (text ++ line.now) valid reported) }
     {
-        let finding = self.fed.end_line(table, clock, line)?;
+        let finding = self.fed.end_line(alloc, table, clock, line)?;
         if one_wrong(finding.remark) == 0 {
             subtract_tap(balance, finding.tap);
             return Ok(None);
@@ -143,23 +149,25 @@ impl Checker {
     }
 
     /// The verdict on the text that was read, which ends here. What is left is the balance of the
-    /// taps of the ledger, if the text is one.
-    pub fn finish(&self) -> Verdict
+    /// taps of the ledger, if the text is one; and its sums, if they are requested.
+    pub fn finish(&mut self, alloc: Global) -> Result<(Verdict, Option<EntrySums>), AllocError>
         requires { (fares : Fares) × (balance : Balance) × (text : List ℕ)
-            × (valid : List TapFields) × IsRightSoFar fares self.now balance text valid }
-        ensures verdict { (fares : Fares) (balance : Balance) (text : List ℕ)
-            (valid : List TapFields) → IsRightSoFar fares self.now balance text valid
-            → IsVerdict fares text result }
-        ensures subtracted { (fares : Fares) (balance : Balance) (text : List ℕ)
-            (valid : List TapFields) → IsRightSoFar fares self.now balance text valid
-            → IsTrue (is_legal result) → (entries : List Entry) → IsLedgerOf fares entries text
-            → IsBalance balance valid (map tap_of_entry entries) }
+            × (valid : List TapFields) × IsRightSoFar fares self.old balance text valid }
+        ensures verdict { IfOk result (λ ended. (fares : Fares) (balance : Balance) (text : List ℕ)
+            (valid : List TapFields) → IsRightSoFar fares self.old balance text valid
+            → IsVerdict fares text ended.0) }
+        ensures legal { IfOk result (λ ended. (fares : Fares) (balance : Balance) (text : List ℕ)
+            (valid : List TapFields) → IsRightSoFar fares self.old balance text valid
+            → IsTrue (is_legal ended.0) → (entries : List Entry) → IsLedgerOf fares entries text
+            → IsBalance balance valid (map tap_of_entry entries)
+            × IfSome ended.1 (AreSumsOf entries)) }
     {
         let sums = self.fed.so_far.sums;
         if self.fed.is_whole() {
-            Verdict::Legal(sums.lines - 1, sums.order.early)
-        } else {
-            Verdict::NoLine(sums.lines + 1)
+            let entry_sums = self.fed.entry_sums(alloc)?;
+            let verdict = Verdict::Legal(sums.lines - 1, sums.order.early);
+            return Ok((verdict, entry_sums));
         }
+        Ok((Verdict::NoLine(sums.lines + 1), None))
     }
 }

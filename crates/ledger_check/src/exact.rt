@@ -15,10 +15,10 @@ ghost use Rattle.ledger_check.specs.inside.Fronts.{HasFront, IsFrontOf};
 
 use crate::bytes::{field, same_bytes, split_at_byte};
 use crate::moment::read_moment;
-use crate::tap::{Tap, read_small_number, read_token};
+use crate::tap::{Tap, read_token};
 use fare_texts::write_moment;
-use itoa::Buffer;
 use line_forms::forms::after_word;
+use line_forms::number::number_32_of;
 use std::alloc::AllocError;
 use tap_views::{TapFields, Token};
 
@@ -99,13 +99,7 @@ fn exact_number(digits: &[u8]) -> Option<u32>
         ((number : ℕ) → number < 2 ^ 32 → ¬ (digits.now ≡ decimal number))
         (λ number. (number < 2 ^ 32) × (digits.now ≡ decimal number)) }
 {
-    let number = read_small_number(digits)?;
-    let mut buffer = Buffer::new();
-    if buffer.format(number).as_bytes() == digits {
-        Some(number)
-    } else {
-        None
-    }
+    number_32_of(digits)
 }
 
 fn is_moment_text(text: &[u8], moment: u64, again: &mut String) -> Result<bool, AllocError>

@@ -1,10 +1,8 @@
 //! The multiset difference of the uploads' taps and the other side's.
 
 ghost use Rattle.std.specs.Prelude.{◌≡◌, ◌++◌, ◌∷◌, [], List, IfOk, OnOk};
-ghost use Rattle.std.specs.List.Sorted.{IsSorted};
 ghost use Rattle.std.proofs.Math.ListN.{replicate};
 ghost use Rattle.tap_views.specs.declared.encoder.TapFields.{TapFields};
-ghost use Rattle.tap_views.specs.TapOrder.{tap_cmp};
 ghost use Rattle.ledger_check.specs.Balances.{IsBalance, copies_among, left_at};
 ghost use Rattle.ledger_check.specs.FullBalances.{AreLacking, IsFullBalance};
 
@@ -23,9 +21,8 @@ fn push_times(taps: &mut Vec<TapFields>, tap: &TapFields, times: u64) -> Result<
 }
 
 fn taps_left(alloc: Global, left: &BTreeMap<TapFields, u64>) -> Result<Vec<TapFields>, AllocError>
-    ensures copies { IfOk result (λ taps. (tap : TapFields)
+    ensures { IfOk result (λ taps. (tap : TapFields)
         → copies_among tap taps.items ≡ left_at left.now tap) }
-    ensures sorted { IfOk result (λ taps. IsSorted tap_cmp taps.items) }
 {
     let mut taps = Vec::new(alloc);
     for (tap, count) in left {
@@ -68,7 +65,7 @@ impl FullBalance {
         Ok(())
     }
 
-    /// The taps that the uploads have more often.
+    /// The taps that the uploads have more often, by token, moment and validator.
     pub fn missing(&self, alloc: Global) -> Result<Vec<TapFields>, AllocError>
         ensures { IfOk result (λ taps. (valid subtracted : List TapFields)
             → IsFullBalance self.now valid subtracted → AreLacking valid subtracted taps.items) }
@@ -77,7 +74,7 @@ impl FullBalance {
         Ok(taps)
     }
 
-    /// The taps that the other side has more often.
+    /// The taps that the other side has more often, by token, moment and validator.
     pub fn surplus(&self, alloc: Global) -> Result<Vec<TapFields>, AllocError>
         ensures { IfOk result (λ taps. (valid subtracted : List TapFields)
             → IsFullBalance self.now valid subtracted → AreLacking subtracted valid taps.items) }

@@ -1,23 +1,26 @@
 //! A full check of a text that comes in pieces, past wrong lines.
 
-ghost use Rattle.std.specs.Prelude.{◌≡◌, ◌++◌, [], ℕ, List, IfOk, OnOk, Bool, nat_eq, true};
-ghost use Rattle.std.specs.Prelude.{string_bytes};
+ghost use Rattle.std.specs.Prelude.{◌≡◌, ◌++◌, [], ℕ, List, IfOk, IfSome, OnOk, Bool, nat_eq};
+ghost use Rattle.std.specs.Prelude.{string_bytes, true};
 ghost use Rattle.tariffs.specs.Fares.{Fares};
 ghost use Rattle.ledger_check.specs.FullBalances.{IsFullBalance};
 ghost use Rattle.ledger_check.specs.declared.full_balance.FullBalance.{FullBalance as AFullBalance};
 ghost use Rattle.tap_views.specs.declared.encoder.TapFields.{TapFields};
 ghost use Rattle.ledger_check.specs.Orders.{are_settled};
-ghost use Rattle.ledger_check.specs.FullChecks.{IsFullCheck, TakenLine, full_check_text, taps_from};
-ghost use Rattle.ledger_check.specs.FullChecks.{taps_with, wrong_count};
+ghost use Rattle.ledger_check.specs.FullChecks.{IsFullCheck, TakenLine, entries_from};
+ghost use Rattle.ledger_check.specs.FullChecks.{full_check_text, taps_from, taps_with, wrong_count};
 ghost use Rattle.ledger_check.specs.FullCheckStates.{HasFullyChecked};
 ghost use Rattle.ledger_check.specs.Lines.{IsLine};
+ghost use Rattle.ledger_check.specs.Sums.{AreSumsOf};
 ghost use Rattle.ledger_check.specs.inside.FullChecks.{HasEnded};
 
 use crate::FullBalance;
 use crate::bytes::split_line;
 use crate::full_check_sums::FullCheckSums;
 use crate::lines_fed::LinesFed;
+use crate::open_sums::EntrySums;
 use crate::walk::{LineFinding, NO_LINE, Remark, write_remark};
+use histories::HashSeed;
 use std::alloc::{AllocError, Global};
 use tariffs::{Clock, FareTable};
 
@@ -40,12 +43,14 @@ fn subtract_tap(
 }
 
 /// What a full check finds of a whole text.
-#[derive(Clone, Copy)]
+#[derive(Drop)]
 pub struct FullyChecked {
     /// Whether no line is wrong.
     pub is_legal: bool,
     /// Whether no line is earlier than the line before it.
     pub is_settled: bool,
+    /// The sums of the entries of a legal ledger, if they are requested.
+    pub sums: Option<EntrySums>,
 }
 
 /// A full check under one fare table of a text in pieces. It stores at most the prefix of a line.
@@ -55,14 +60,14 @@ pub struct FullCheck {
 }
 
 impl FullCheck {
-    /// Nothing was read.
-    pub fn new(alloc: Global) -> FullCheck
+    /// Nothing was read. With a seed, which hashes the validators' numbers, entries are summed.
+    pub fn new(alloc: Global, seed: Option<HashSeed>) -> FullCheck
         ensures { (fares : Fares) (subtracts : Bool) (full : AFullBalance) (valid : List TapFields)
             → (subtracts ≡ true → IsFullBalance full valid [])
             → HasFullyChecked fares result subtracts full [] [] valid }
     {
         FullCheck {
-            fed: LinesFed::new(alloc),
+            fed: LinesFed::new(alloc, seed),
         }
     }
 
@@ -71,6 +76,7 @@ impl FullCheck {
     /// table, its clock, the balance and whether taps are subtracted are the same in all calls.
     pub fn feed(
         &mut self,
+        alloc: Global,
         table: &FareTable,
         clock: &Clock,
         piece: &[u8],
@@ -82,6 +88,7 @@ impl FullCheck {
         requires fed { (text : List ℕ) × (written : List ℕ) × (valid : List TapFields)
             × HasFullyChecked table.now self.old subtracts full.old text written valid }
 
+
         // For every text that was read so far.
         ensures { OnOk result ((text written : List ℕ) (valid : List TapFields)
             → HasFullyChecked table.now self.old subtracts full.old text written valid
@@ -91,7 +98,7 @@ impl FullCheck {
     {
         let mut rest = piece;
         while let Some((line, trailing)) = split_line(rest) {
-            self.take(table, clock, line, subtracts, full, reported)?;
+            self.take(alloc, table, clock, line, subtracts, full, reported)?;
             rest = trailing;
         }
         self.fed.keep(rest)?;
@@ -100,6 +107,7 @@ impl FullCheck {
 
     fn take(
         &mut self,
+        alloc: Global,
         table: &FareTable,
         clock: &Clock,
         line: &[u8],
@@ -117,7 +125,7 @@ impl FullCheck {
             × HasFullyChecked table.now self.new subtracts full.new (text ++ line.now)
             (written ++ more) valid) }
     {
-        let finding = self.fed.end_line(table, clock, line)?;
+        let finding = self.fed.end_line(alloc, table, clock, line)?;
         subtract_tap(subtracts, full, finding)?;
         let so_far = &self.fed.so_far;
         write_remark(
@@ -133,7 +141,7 @@ impl FullCheck {
         ensures { IfOk result (λ sums. (fares : Fares) (subtracts : Bool) (full : AFullBalance)
             (text written : List ℕ) (valid : List TapFields)
             → HasFullyChecked fares self.now subtracts full text written valid
-            → HasEnded fares subtracts full text written valid sums
+            → HasEnded fares self.now.fed subtracts full text written valid sums
             (string_bytes reported.old) (string_bytes reported.new)) }
     {
         let sums = self.fed.so_far.sums;
@@ -146,22 +154,33 @@ impl FullCheck {
     }
 
     /// Ends the text that was read, and appends the rest of the report.
-    pub fn finish(&self, reported: &mut String) -> Result<FullyChecked, AllocError>
+    pub fn finish(
+        &mut self,
+        alloc: Global,
+        reported: &mut String,
+    ) -> Result<FullyChecked, AllocError>
+        requires { (fares : Fares) × (subtracts : Bool) × (full : AFullBalance) × (text : List ℕ)
+            × (written : List ℕ) × (valid : List TapFields)
+            × HasFullyChecked fares self.old subtracts full text written valid }
         ensures { IfOk result (λ fully_checked. (fares : Fares) (subtracts : Bool) (full : AFullBalance)
             (text written : List ℕ) (valid : List TapFields)
-            → HasFullyChecked fares self.now subtracts full text written valid
+            → HasFullyChecked fares self.old subtracts full text written valid
             → (taken : List TakenLine) × IsFullCheck fares text taken
             × (fully_checked.is_legal ≡ nat_eq (wrong_count taken) 0)
             × (fully_checked.is_settled ≡ are_settled (taps_from taken))
             × (subtracts ≡ true → IsFullBalance full valid (taps_from taken))
+            × (wrong_count taken ≡ 0
+            → IfSome fully_checked.sums (AreSumsOf (entries_from taken)))
             × (more : List ℕ) × (string_bytes reported.new ≡ string_bytes reported.old ++ more)
             × (written ++ more ≡ full_check_text taken)) }
     {
         let sums = self.end_text(reported)?;
         sums.write_end(reported)?;
+        let entry_sums = self.fed.entry_sums(alloc)?;
         Ok(FullyChecked {
             is_legal: sums.wrong == 0,
             is_settled: sums.order.early.is_none(),
+            sums: entry_sums,
         })
     }
 }

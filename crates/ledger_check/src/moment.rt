@@ -104,7 +104,7 @@ fn read_clock(text: &[u8; 14]) -> Option<u64>
 
 /// The moment of a text as `2024-03-08T17:00:00.000Z`, in milliseconds since 1970-01-01T00:00Z, if
 /// a tap can have it. Every text of such a moment is read.
-pub fn read_moment(text: &[u8]) -> Option<u64>
+pub(crate) fn read_moment(text: &[u8]) -> Option<u64>
     ensures small { IfSome result (λ moment. moment < 4_102_444_800_000) }
     ensures found { (moment : ℕ) → moment < 4_102_444_800_000 → IsMomentText moment text.now
         → result ≡ Some moment }

@@ -1,7 +1,6 @@
 //! The tap that a ledger's line names.
 
-ghost use Rattle.std.specs.Prelude.{◌≡◌, ◌<◌, ◌^◌, ℕ, IfSome, Some};
-ghost use Rattle.std.specs.Fmt.{decimal};
+ghost use Rattle.std.specs.Prelude.{◌≡◌, ◌<◌, ◌^◌, IfSome, Some};
 ghost use Rattle.hex.specs.Hex.{encode_lower};
 ghost use Rattle.tap_views.specs.Token.{Fits, bytes_of};
 ghost use Rattle.tap_views.specs.declared.token.Token.{Token};
@@ -34,7 +33,7 @@ impl Tap {
 }
 
 /// The token of 32 hexadecimal digits.
-pub fn read_token(digits: &[u8]) -> Option<Token>
+pub(crate) fn read_token(digits: &[u8]) -> Option<Token>
     ensures fits { IfSome result Fits }
     ensures found { (token : Token) → Fits token → digits.now ≡ encode_lower (bytes_of token)
         → result ≡ Some token }
@@ -42,17 +41,6 @@ pub fn read_token(digits: &[u8]) -> Option<Token>
     let mut bytes = [0u8; 16];
     match hex::decode_to_slice(digits, &mut bytes) {
         Ok(()) => Some(Token::of(&bytes)),
-        Err(_) => None,
-    }
-}
-
-/// A number of at most 32 bits.
-pub fn read_small_number(digits: &[u8]) -> Option<u32>
-    ensures found { (number : ℕ) → number < 2 ^ 32 → digits.now ≡ decimal number
-        → result ≡ Some number }
-{
-    match std::str::from_utf8(digits) {
-        Ok(digits) => digits.parse::<u32>().ok(),
         Err(_) => None,
     }
 }

@@ -32,9 +32,7 @@ use Rattle.omny_audit.specs.inside.Audits.{EndsAs, HasAudited, HasEnded, IsNext,
 use Rattle.omny_audit.specs.inside.Fault.{IsStreamFault, IsWriteFault}
 use Rattle.omny_audit.specs.inside.Checks.{HasChecked, is_all, is_decided}
 use Rattle.omny_audit.specs.Traced.{ReadLine, Wanted}
-use Rattle.omny_audit.specs.declared.report.ReportWithSums.{ReportWithSums}
 use Rattle.omny_audit.specs.declared.traced.TracedPieces.{TracedPieces}
-use Rattle.omny_audit.specs.inside.Reports.{text_of}
 use Rattle.omny_audit.specs.inside.Traced.{wanted_by}
 use Rattle.omny_audit.proofs.TraceLemmas.{reads_more}
 
@@ -45,13 +43,10 @@ pub given_traced : (audit : Audit) (trace : Option TracedPieces) (text : Vec ℕ
 given_traced audit trace text valid same =
     ap (λ (w : Option Wanted). record (given_in audit valid) { wanted = w }) same
 
-pub given_fed : (audit : Audit) (check : Check) (report : Option ReportWithSums)
-    (valid : List TapFields) → is_all check ≡ is_all audit.check
-    → text_of report ≡ text_of audit.report
-    → given_in (record audit { check = check; report = report }) valid ≡ given_in audit valid
-given_fed audit check report valid all text =
-    ap (λ (b : Bool). record (given_in audit valid) { all = b; report = text_of report }) all
-    ∙ ap (λ (t : Option (List ℕ)). record (given_in audit valid) { report = t }) text
+pub given_fed : (audit : Audit) (check : Check) (valid : List TapFields)
+    → is_all check ≡ is_all audit.check
+    → given_in (record audit { check = check }) valid ≡ given_in audit valid
+given_fed audit check valid all = ap (λ (b : Bool). record (given_in audit valid) { all = b }) all
 
 -- a check of all lines is never decided, nor is one that finds a legal ledger
 pub undecided : (check : Check) (legal : Bool) → (is_decided check ≡ true → legal ≡ false)
@@ -99,7 +94,6 @@ decided_ends audit valid file written more has is =
           audit.check t written) (sym rest.1)
           (checked_more audit.table.now audit.subtracts valid audit.check has.text written
           rest.0 has.taken.checked is);
-      summed = λ no. absurd (true≢false (sym is ∙ no));
       all = λ no. absurd (true≢false (sym is ∙ no));
     }
 

@@ -11,7 +11,7 @@ ghost use Rattle.world.specs.Streams.{HasRead};
 
 use crate::check::{Check, are_both, is_either};
 use crate::fault::Fault;
-use crate::report::{ReportWithSums, add_piece, write_last_lines};
+use crate::report::{HeldReport, write_last_lines};
 use crate::traced::{TracedPieces, read_end, read_piece, write_columns};
 use fare_table::{Clock, FareTable};
 use std::alloc::Global;
@@ -32,13 +32,13 @@ pub(crate) struct Audit<'a> {
     pub(crate) check: Check,
     /// What reads the columns of a traced ledger.
     pub(crate) trace: Option<TracedPieces>,
-    pub(crate) report: Option<ReportWithSums>,
+    pub(crate) report: Option<HeldReport>,
     /// What is checked of the last piece.
     pub(crate) text: Vec<u8>,
 }
 
 impl Audit<'_> {
-    /// Adds what was read of the last piece to the sums, and appends what is reported of it.
+    /// Checks what was read of the last piece, and appends what is reported of it.
     fn take(&mut self, alloc: Global, reported: &mut String) -> Result<(), NoMemory>
         requires { (valid : List TapFields) × (text written : List ℕ)
             × HasTaken self.old valid text written }
@@ -50,9 +50,14 @@ impl Audit<'_> {
             × HasTaken self.new valid (text ++ self.old.text.items) (written ++ more)) }
     {
         let text = self.text.as_slice();
-        self.check
-            .feed(self.table, self.clock, text, self.subtracts, reported)?;
-        add_piece(alloc, self.table, text, &mut self.report)?;
+        self.check.feed(
+            alloc,
+            self.table,
+            self.clock,
+            text,
+            self.subtracts,
+            reported,
+        )?;
         Ok(())
     }
 
@@ -94,15 +99,22 @@ impl Audit<'_> {
             → HasEnded self.old valid file (before ++ string_bytes reported) → (read : List ReadLine)
             × IsAudit (given_in self.old valid) file read (before ++ ended.0.items) ended.1) }
     {
+        let is_all = self.check.is_all();
         let found = self
             .check
             .finish(alloc, self.subtracts, self.live, &mut reported)?;
         let mut text = reported.into_bytes();
-        let is_looked_at = is_either(self.check.is_all(), found.is_legal);
+        let is_looked_at = is_either(is_all, found.is_legal);
         let is_right = write_columns(alloc, &mut text, is_looked_at, &self.trace)?;
         let is_whole = are_both(found.is_legal, is_right);
-        let report = self.report.take();
-        let fits = write_last_lines(alloc, &mut text, is_whole, report, self.ends)?;
+        let fits = write_last_lines(
+            alloc,
+            &mut text,
+            is_whole,
+            &self.report,
+            &found.sums,
+            self.ends,
+        )?;
         let is_after = are_both(is_right, fits);
         Ok((text, are_both(found.is_sound, is_after)))
     }

@@ -1,6 +1,6 @@
 //! The lines of a ledger, checked up to the first wrong one, or all of them.
 
-ghost use Rattle.std.specs.Prelude.{◌≡◌, ◌++◌, ◌↔◌, ◌&&◌, ◌||◌, ℕ, List, [], IfOk, IsTrue};
+ghost use Rattle.std.specs.Prelude.{◌≡◌, ◌++◌, ◌↔◌, ◌&&◌, ◌||◌, ℕ, List, [], IfOk, IfSome, IsTrue};
 ghost use Rattle.std.specs.Prelude.{None, OnOk, Bool, Some, if◌then◌else◌, is_some, map};
 ghost use Rattle.std.specs.Prelude.{string_bytes, true, false};
 ghost use Rattle.tariffs.specs.Fares.{Fares};
@@ -10,6 +10,7 @@ ghost use Rattle.ledger_check.specs.FullBalances.{IsFullBalance};
 ghost use Rattle.ledger_check.specs.Ledger.{IsLedger, IsLedgerOf};
 ghost use Rattle.ledger_check.specs.Orders.{tap_of_entry};
 ghost use Rattle.ledger_check.specs.FullCheckStates.{HasFullyChecked};
+ghost use Rattle.ledger_check.specs.Sums.{AreSumsOf};
 ghost use Rattle.ledger_check.specs.Verdicts.{IsVerdict, early_in, is_legal};
 ghost use Rattle.tap_views.specs.declared.encoder.TapFields.{TapFields as ATap};
 ghost use Rattle.omny_audit.specs.Findings.{IsDifferencesEnd, IsFinding, IsFindingOf, IsFullFinding};
@@ -18,18 +19,21 @@ ghost use Rattle.omny_audit.specs.inside.Checks.{HasChecked, is_all, is_decided}
 
 use crate::text::{are_none, write_difference, write_differences, write_verdict};
 use fare_table::{Clock, FareTable};
+use histories::HashSeed;
 use ledger_check::laws::{full_checks_decide, verdicts_decide};
-use ledger_check::{Balance, Checker, Difference, FullBalance, FullCheck, Verdict};
+use ledger_check::{Balance, Checker, Difference, EntrySums, FullBalance, FullCheck, Verdict};
 use std::alloc::{AllocError, Global};
 use tap_views::NoMemory;
 
 /// What is found of the lines that were checked, and of their taps.
-#[derive(Clone, Copy)]
+#[derive(Drop)]
 pub(crate) struct Found {
     /// Whether they are right, and the taps those of the uploads.
     pub(crate) is_sound: bool,
     /// Whether they are a legal ledger.
     pub(crate) is_legal: bool,
+    /// The sums of a legal ledger's entries, if they are requested.
+    pub(crate) sums: Option<EntrySums>,
 }
 
 /// What checks the lines of a ledger.
@@ -41,16 +45,25 @@ pub(crate) enum Check {
 }
 
 impl Check {
-    /// The taps of the ledger are to be subtracted from the balance.
-    pub(crate) fn new(alloc: Global, all: bool, balance: Balance) -> Check
+    /// The taps of the ledger are to be subtracted from the balance. With a seed, its entries are
+    /// summed.
+    pub(crate) fn new(
+        alloc: Global,
+        all: bool,
+        balance: Balance,
+        seed: Option<HashSeed>,
+    ) -> Check
         ensures all { is_all result ≡ all }
         ensures checked { (fares : Fares) (subtracts : Bool) (valid : List ATap)
             → IsBalance balance valid [] → HasChecked fares subtracts valid result [] [] }
     {
         if all {
-            Check::All(FullCheck::new(alloc), FullBalance::of(alloc, balance))
+            Check::All(
+                FullCheck::new(alloc, seed),
+                FullBalance::of(alloc, balance),
+            )
         } else {
-            Check::First(Checker::new(alloc), balance, None)
+            Check::First(Checker::new(alloc, seed), balance, None)
         }
     }
 
@@ -76,6 +89,7 @@ impl Check {
     /// Appends what is reported of the lines. The taps are subtracted, if there are uploads.
     pub(crate) fn feed(
         &mut self,
+        alloc: Global,
         table: &FareTable,
         clock: &Clock,
         piece: &[u8],
@@ -94,12 +108,12 @@ impl Check {
         match self {
             Check::First(checker, balance, verdict) => {
                 if verdict.is_none() {
-                    *verdict = checker.feed(table, clock, piece, balance)?;
+                    *verdict = checker.feed(alloc, table, clock, piece, balance)?;
                 }
                 Ok(())
             }
             Check::All(full_check, full) => {
-                full_check.feed(table, clock, piece, subtracts, full, reported)?;
+                full_check.feed(alloc, table, clock, piece, subtracts, full, reported)?;
                 Ok(())
             }
         }
@@ -107,28 +121,34 @@ impl Check {
 
     /// Appends the rest of what is found of the lines and, if there are uploads, of their taps.
     pub(crate) fn finish(
-        &self,
+        &mut self,
         alloc: Global,
         subtracts: bool,
         live: bool,
         reported: &mut String,
     ) -> Result<Found, NoMemory>
         requires fed { (fares : Fares) × (valid : List ATap) × (text written : List ℕ)
-            × HasChecked fares subtracts valid self.now text written }
+            × HasChecked fares subtracts valid self.old text written }
         ensures found { IfOk result (λ found. (fares : Fares) (valid : List ATap)
-            (text written : List ℕ) → HasChecked fares subtracts valid self.now text written
+            (text written : List ℕ) → HasChecked fares subtracts valid self.old text written
             → (more : List ℕ) × (string_bytes reported.new ≡ string_bytes reported.old ++ more)
-            × IsFindingOf (is_all self.now) live fares text (if subtracts then Some valid else None)
+            × IsFindingOf (is_all self.old) live fares text (if subtracts then Some valid else None)
             (written ++ more) found.is_sound
             × ((found.is_legal ≡ true) ↔ IsLedger fares text)) }
+        ensures sums { IfOk result (λ found. (fares : Fares) (valid : List ATap)
+            (text written : List ℕ) → HasChecked fares subtracts valid self.old text written
+            → found.is_legal ≡ true → (entries : List Entry) → IsLedgerOf fares entries text
+            → IfSome found.sums (AreSumsOf entries)) }
         ensures decided { IfOk result
-            (λ found. is_decided self.now ≡ true → found.is_legal ≡ false) }
+            (λ found. is_decided self.old ≡ true → found.is_legal ≡ false) }
         ensures unsound { IfOk result
-            (λ found. is_decided self.now ≡ true → found.is_sound ≡ false) }
+            (λ found. is_decided self.old ≡ true → found.is_sound ≡ false) }
     {
         match self {
             Check::First(checker, balance, verdict) => {
-                let found = first_found(checker, balance, verdict, subtracts, live, reported)?;
+                let found = first_found(
+                    alloc, checker, balance, verdict, subtracts, live, reported,
+                )?;
                 Ok(found)
             }
             Check::All(full_check, full) => {
@@ -175,6 +195,7 @@ fn is_even(difference: &Option<Difference>) -> bool
 fn finding(
     verdict: &Verdict,
     balance: &Balance,
+    sums: Option<EntrySums>,
     subtracts: bool,
     live: bool,
     reported: &mut String,
@@ -186,6 +207,7 @@ fn finding(
         → (more : List ℕ) × (string_bytes reported.new ≡ string_bytes reported.old ++ more)
         × IsFinding live fares text (if subtracts then Some valid else None) more found.is_sound) }
     ensures legal { IfOk result (λ found. found.is_legal ≡ is_legal verdict.now) }
+    ensures sums { IfOk result (λ found. found.sums ≡ sums) }
     ensures unsound { IfOk result (λ found. found.is_legal ≡ false → found.is_sound ≡ false) }
 {
     write_verdict(reported, verdict)?;
@@ -193,6 +215,7 @@ fn finding(
         return Ok(Found {
             is_sound: false,
             is_legal: false,
+            sums,
         });
     }
     let in_order = is_either(live, !has_early(verdict));
@@ -200,6 +223,7 @@ fn finding(
         return Ok(Found {
             is_sound: in_order,
             is_legal: true,
+            sums,
         });
     }
     let difference = balance.difference();
@@ -207,11 +231,13 @@ fn finding(
     Ok(Found {
         is_sound: are_both(is_even(&difference), in_order),
         is_legal: true,
+        sums,
     })
 }
 
 fn first_found(
-    checker: &Checker,
+    alloc: Global,
+    checker: &mut Checker,
     balance: &Balance,
     verdict: &Option<Verdict>,
     subtracts: bool,
@@ -219,18 +245,23 @@ fn first_found(
     reported: &mut String,
 ) -> Result<Found, AllocError>
     requires { (fares : Fares) × (valid : List ATap) × (text written : List ℕ)
-        × HasChecked fares subtracts valid (Check.First checker.now balance.now verdict.now) text
+        × HasChecked fares subtracts valid (Check.First checker.old balance.now verdict.now) text
         written }
     ensures found { IfOk result (λ found. (fares : Fares) (valid : List ATap)
         (text written : List ℕ)
-        → HasChecked fares subtracts valid (Check.First checker.now balance.now verdict.now) text
+        → HasChecked fares subtracts valid (Check.First checker.old balance.now verdict.now) text
         written → (more : List ℕ)
         × (string_bytes reported.new ≡ string_bytes reported.old ++ more)
         × IsFinding live fares text (if subtracts then Some valid else None) (written ++ more)
         found.is_sound × ((found.is_legal ≡ true) ↔ IsLedger fares text)) }
+    ensures sums { IfOk result (λ found. (fares : Fares) (valid : List ATap)
+        (text written : List ℕ)
+        → HasChecked fares subtracts valid (Check.First checker.old balance.now verdict.now) text
+        written → found.is_legal ≡ true → (entries : List Entry) → IsLedgerOf fares entries text
+        → IfSome found.sums (AreSumsOf entries)) }
     ensures decided { IfOk result (λ found. is_some verdict.now ≡ true
         → ((fares : Fares) × (valid : List ATap) × (text written : List ℕ)
-        × HasChecked fares subtracts valid (Check.First checker.now balance.now verdict.now) text
+        × HasChecked fares subtracts valid (Check.First checker.old balance.now verdict.now) text
         written) → found.is_legal ≡ false) }
     ensures unsound { IfOk result (λ found. found.is_legal ≡ false → found.is_sound ≡ false) }
 {
@@ -238,12 +269,12 @@ fn first_found(
     verdicts_decide();
     match verdict {
         Some(verdict) => {
-            let found = finding(verdict, balance, subtracts, live, reported)?;
+            let found = finding(verdict, balance, None, subtracts, live, reported)?;
             Ok(found)
         }
         None => {
-            let verdict = checker.finish();
-            let found = finding(&verdict, balance, subtracts, live, reported)?;
+            let (verdict, sums) = checker.finish(alloc)?;
+            let found = finding(&verdict, balance, sums, subtracts, live, reported)?;
             Ok(found)
         }
     }
@@ -275,26 +306,35 @@ fn write_lacking(
 
 fn full_finding(
     alloc: Global,
-    full_check: &FullCheck,
+    full_check: &mut FullCheck,
     full: &FullBalance,
     subtracts: bool,
     live: bool,
     reported: &mut String,
 ) -> Result<Found, AllocError>
-    ensures { IfOk result (λ found. (fares : Fares) (valid : List ATap) (text written : List ℕ)
-        → HasFullyChecked fares full_check.now subtracts full.now text written valid → (more : List ℕ)
-        × (string_bytes reported.new ≡ string_bytes reported.old ++ more)
+    requires { (fares : Fares) × (valid : List ATap) × (text written : List ℕ)
+        × HasFullyChecked fares full_check.old subtracts full.now text written valid }
+    ensures found { IfOk result (λ found. (fares : Fares) (valid : List ATap)
+        (text written : List ℕ)
+        → HasFullyChecked fares full_check.old subtracts full.now text written valid
+        → (more : List ℕ) × (string_bytes reported.new ≡ string_bytes reported.old ++ more)
         × IsFullFinding live fares text (if subtracts then Some valid else None) (written ++ more)
         found.is_sound × ((found.is_legal ≡ true) ↔ IsLedger fares text)) }
+    ensures sums { IfOk result (λ found. (fares : Fares) (valid : List ATap)
+        (text written : List ℕ)
+        → HasFullyChecked fares full_check.old subtracts full.now text written valid
+        → found.is_legal ≡ true → (entries : List Entry) → IsLedgerOf fares entries text
+        → IfSome found.sums (AreSumsOf entries)) }
 {
     // proof: no line is wrong exactly if the text is a ledger
     full_checks_decide();
-    let fully_checked = full_check.finish(reported)?;
+    let fully_checked = full_check.finish(alloc, reported)?;
     let is_even = write_lacking(alloc, full, subtracts, reported)?;
     let in_order = is_either(live, fully_checked.is_settled);
     let is_right = are_both(fully_checked.is_legal, is_even);
     Ok(Found {
         is_sound: are_both(is_right, in_order),
         is_legal: fully_checked.is_legal,
+        sums: fully_checked.sums,
     })
 }

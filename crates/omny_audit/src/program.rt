@@ -12,7 +12,7 @@ ghost use Rattle.omny_audit.specs.inside.Ends.{EndsAudit};
 ghost use Rattle.omny_audit.specs.Options.{AuditRequest, ParsesForAudit, audit_request_by, ledger_name};
 ghost use Rattle.omny_audit.specs.Options.{named_file};
 ghost use Rattle.omny_audit.specs.inside.Options.{audit_request_of};
-ghost use Rattle.omny_audit.specs.inside.Reports.{HasSummedFor, text_of};
+ghost use Rattle.omny_audit.specs.inside.Reports.{text_of};
 ghost use Rattle.omny_audit.specs.Program.{AreWanted, LoadsNamedFiles, LoadsReport};
 ghost use Rattle.omny_audit.specs.inside.Fault.{IsAnswerFault, IsClassFault, IsFileFault};
 ghost use Rattle.omny_audit.specs.inside.Fault.{IsLoadFault, IsNamedClass, IsReported, IsUnopened};
@@ -32,7 +32,7 @@ use crate::fault::{DateLine, Fault};
 use crate::laws::audits_decide;
 use crate::ledger::read_head;
 use crate::options::Options;
-use crate::report::ReportWithSums;
+use crate::report::{HeldReport, seed_of};
 use crate::traced::TracedPieces;
 use clap::Error;
 use clap::error::ErrorKind;
@@ -148,13 +148,11 @@ fn kept_if<T: Drop>(is_kept: bool, value: T) -> Option<T>
 
 fn load_report<'a, R: RandomSource>(
     rt: &R,
-    alloc: Global,
     name: Option<&'a str>,
     files: &mut Files<'_>,
-) -> Result<Option<ReportWithSums>, Fault<'a>>
+) -> Result<Option<HeldReport>, Fault<'a>>
     ensures ok { IfOk result (λ report. LoadsReport (option_map (λ n. n.now) name.entry)
         files.old.loads.trace.run.loads files.new.loads.trace.run.loads (text_of report)) }
-    ensures sums { IfOk result (λ report. (fares : Fares) → HasSummedFor fares report []) }
     ensures fault { IfErr result (IsLoadFault (named_file (option_map (λ n. n.now) name.entry))
         files.new.loads.trace.run.loads (refusal_of files.new.loads.last.value)) }
 {
@@ -168,8 +166,7 @@ fn load_report<'a, R: RandomSource>(
     let Ok(seed) = HashSeed::new(rt) else {
         return Err(Fault::NoMemory);
     };
-    let held = ReportWithSums::new(alloc, seed, text);
-    Ok(Some(held))
+    Ok(Some(HeldReport { text, seed }))
 }
 
 /// The texts were read as fare tables before, so each is TOML and names a default class.
@@ -263,7 +260,7 @@ fn audit<'a, W: World>(
         Ok(uploads) => uploads,
         Err(fault) => return Err(fault),
     };
-    let report = match load_report(rt, alloc, options.report, files) {
+    let report = match load_report(rt, options.report, files) {
         Ok(report) => report,
         Err(fault) => return Err(fault),
     };
@@ -291,7 +288,7 @@ fn audit<'a, W: World>(
         live: options.live,
         subtracts: has_uploads,
         ends: kept_if(has_uploads, ends.as_slice()),
-        check: Check::new(alloc, options.all, balance),
+        check: Check::new(alloc, options.all, balance, seed_of(&report)),
         trace,
         report,
         text: Vec::new(alloc),

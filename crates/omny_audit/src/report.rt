@@ -1,69 +1,40 @@
 //! The report that is compared with the ledger.
 
-ghost use Rattle.std.specs.Prelude.{◌≡◌, ◌++◌, ℕ, List, [], IfOk, OnOk, codes, string_bytes};
+ghost use Rattle.std.specs.Prelude.{◌≡◌, ◌++◌, ℕ, List, IfOk, IfSome, OnOk, codes, string_bytes};
 ghost use Rattle.std.specs.Prelude.{option_map, true};
 ghost use Rattle.std.specs.Fmt.{decimal};
 ghost use Rattle.tariffs.specs.Fares.{Fares};
-ghost use Rattle.ledger_check.specs.Ledger.{IsLedger};
+ghost use Rattle.histories.specs.declared.entry.Entry.{Entry};
+ghost use Rattle.ledger_check.specs.Ledger.{IsLedgerOf};
+ghost use Rattle.ledger_check.specs.Sums.{AreSumsOf};
 ghost use Rattle.omny_audit.specs.Reports.{AreLastLines, IsReportFinding, IsReportLine, are_whole};
 ghost use Rattle.omny_audit.specs.Reports.{damage_line, damage_lines, damage_text, report_text};
 ghost use Rattle.omny_audit.specs.Reports.{uncompared_text};
 ghost use Rattle.tap_views.specs.UploadEnds.{are_posted};
-ghost use Rattle.omny_audit.specs.inside.Reports.{HasSummedFor, text_of};
-ghost use Rattle.report_check.specs.LedgerSums.{HasSummed};
+ghost use Rattle.omny_audit.specs.inside.Reports.{text_of};
 ghost use Rattle.report_check.specs.Reports.{is_of_ledger};
 
 use crate::check::are_both;
-use fare_table::FareTable;
 use histories::HashSeed;
-use report_check::{LedgerSums, ReportVerdict, check_report};
+use ledger_check::EntrySums;
+use report_check::{ReportVerdict, check_report};
 use report_texts::write_upload;
 use std::alloc::{AllocError, Global};
 use tap_views::{NoMemory, UploadEnd};
 
-/// A report, and the sums of the ledger that is read beside it.
+/// A report that is held beside the ledger.
 #[derive(Drop)]
-pub(crate) struct ReportWithSums {
-    text: Vec<u8>,
-    sums: LedgerSums,
+pub(crate) struct HeldReport {
+    pub(crate) text: Vec<u8>,
+    /// What hashes the validators' numbers.
+    pub(crate) seed: HashSeed,
 }
 
-impl ReportWithSums {
-    /// Before anything of the ledger was read. The seed is for hashing the validators' numbers.
-    pub(crate) fn new(alloc: Global, seed: HashSeed, text: Vec<u8>) -> ReportWithSums
-        ensures text { result.text ≡ text }
-        ensures sums { (fares : Fares) → HasSummed fares result.sums [] }
-    {
-        ReportWithSums {
-            text,
-            sums: LedgerSums::new(alloc, seed),
-        }
-    }
-
-    fn add(&mut self, alloc: Global, table: &FareTable, piece: &[u8]) -> Result<(), NoMemory>
-        requires { (text : List ℕ) × HasSummed table.now self.old.sums text }
-        ensures text { self.new.text ≡ self.old.text }
-        ensures sums { OnOk result ((text : List ℕ) → HasSummed table.now self.old.sums text
-            → HasSummed table.now self.new.sums (text ++ piece.now)) }
-    {
-        self.sums.feed(alloc, table, piece)
-    }
-}
-
-pub(crate) fn add_piece(
-    alloc: Global,
-    table: &FareTable,
-    piece: &[u8],
-    report: &mut Option<ReportWithSums>,
-) -> Result<(), NoMemory>
-    requires { (text : List ℕ) × HasSummedFor table.now report.old text }
-    ensures text { text_of report.new ≡ text_of report.old }
-    ensures sums { OnOk result ((text : List ℕ) → HasSummedFor table.now report.old text
-        → HasSummedFor table.now report.new (text ++ piece.now)) }
+pub(crate) fn seed_of(report: &Option<HeldReport>) -> Option<HashSeed>
 {
     match report {
-        Some(report) => report.add(alloc, table, piece),
-        None => Ok(()),
+        Some(report) => Some(report.seed),
+        None => None,
     }
 }
 
@@ -145,24 +116,21 @@ fn write_uncompared(text: &mut Vec<u8>, ends: Option<&[UploadEnd]>) -> Result<()
     }
 }
 
-/// The ledger was read whole. Returns whether the report is its own.
+/// Returns whether the report is that of the ledger with these sums.
 fn write_finding(
     alloc: Global,
     text: &mut Vec<u8>,
-    report: ReportWithSums,
+    report: &[u8],
+    sums: &EntrySums,
     ends: Option<&[UploadEnd]>,
 ) -> Result<bool, NoMemory>
-    requires { (fares : Fares) × (ledger : List ℕ) × HasSummed fares report.sums ledger
-        × IsLedger fares ledger }
     ensures { IfOk result (λ fits. (rest : List ℕ) × (text.new.items ≡ text.old.items ++ rest)
-        × ((fares : Fares) (ledger : List ℕ) → HasSummed fares report.sums ledger
-        → IsReportFinding (option_map (λ e. e.now) ends.entry) fares ledger report.text.items rest fits)) }
+        × ((fares : Fares) (ledger : List ℕ)
+        → ((entries : List Entry) → IsLedgerOf fares entries ledger
+        → AreSumsOf entries sums.now)
+        → IsReportFinding (option_map (λ e. e.now) ends.entry) fares ledger report.now rest fits)) }
 {
-    let ReportWithSums { text: lines, sums } = report;
-    let Some(sums) = sums.finish(alloc)? else {
-        unreachable!();
-    };
-    let verdict = check_report(alloc, ends, &sums, &lines)?;
+    let verdict = check_report(alloc, ends, sums, report)?;
     write_verdict(alloc, text, &verdict)?;
     write_uncompared(text, ends)?;
     Ok(is_of_ledger(&verdict))
@@ -174,16 +142,16 @@ fn write_report_line(
     alloc: Global,
     text: &mut Vec<u8>,
     is_legal: bool,
-    report: Option<ReportWithSums>,
+    report: &Option<HeldReport>,
+    sums: &Option<EntrySums>,
     ends: Option<&[UploadEnd]>,
 ) -> Result<bool, NoMemory>
-    requires { is_legal ≡ true → (fares : Fares) × (ledger : List ℕ)
-        × HasSummedFor fares report ledger × IsLedger fares ledger }
     ensures { IfOk result (λ fits. (rest : List ℕ) × (text.new.items ≡ text.old.items ++ rest)
         × ((fares : Fares) (ledger : List ℕ)
-        → (is_legal ≡ true → HasSummedFor fares report ledger)
+        → (is_legal ≡ true → (entries : List Entry) → IsLedgerOf fares entries ledger
+        → IfSome sums.now (AreSumsOf entries))
         → IsReportLine (option_map (λ e. e.now) ends.entry) fares ledger
-        (text_of report) is_legal rest fits)) }
+        (text_of report.now) is_legal rest fits)) }
 {
     let Some(report) = report else {
         return Ok(true);
@@ -191,7 +159,11 @@ fn write_report_line(
     if !is_legal {
         return Ok(false);
     }
-    write_finding(alloc, text, report, ends)
+    let Some(sums) = sums else {
+        // the entries of a legal ledger are summed wherever there is a report
+        return Err(NoMemory);
+    };
+    write_finding(alloc, text, &report.text, sums, ends)
 }
 
 fn write_damaged(text: &mut String, upload: u64, end: &UploadEnd) -> Result<(), AllocError>
@@ -244,18 +216,18 @@ pub(crate) fn write_last_lines(
     alloc: Global,
     text: &mut Vec<u8>,
     is_legal: bool,
-    report: Option<ReportWithSums>,
+    report: &Option<HeldReport>,
+    sums: &Option<EntrySums>,
     ends: Option<&[UploadEnd]>,
 ) -> Result<bool, NoMemory>
-    requires { is_legal ≡ true → (fares : Fares) × (ledger : List ℕ)
-        × HasSummedFor fares report ledger × IsLedger fares ledger }
     ensures { IfOk result (λ success. (rest : List ℕ) × (text.new.items ≡ text.old.items ++ rest)
         × ((fares : Fares) (ledger : List ℕ)
-        → (is_legal ≡ true → HasSummedFor fares report ledger)
+        → (is_legal ≡ true → (entries : List Entry) → IsLedgerOf fares entries ledger
+        → IfSome sums.now (AreSumsOf entries))
         → AreLastLines (option_map (λ e. e.now) ends.entry) fares ledger
-        (text_of report) is_legal rest success)) }
+        (text_of report.now) is_legal rest success)) }
 {
-    let fits = write_report_line(alloc, text, is_legal, report, ends)?;
+    let fits = write_report_line(alloc, text, is_legal, report, sums, ends)?;
     let is_whole = write_damage(alloc, text, ends)?;
     Ok(are_both(fits, is_whole))
 }

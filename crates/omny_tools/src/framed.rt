@@ -15,6 +15,7 @@ use world::{
 /// said.
 #[derive(Drop)]
 pub(crate) struct Framed<'r, W, E> {
+    rt: &'r HostRuntime,
     system: System<'r, HostRuntime, W, E>,
     counts: Progress<'r>,
     progress: Progress<'r>,
@@ -32,6 +33,7 @@ impl<'r, W, E> Framed<'r, W, E> {
         err: E,
     ) -> Framed<'r, W, E> {
         Framed {
+            rt,
             system: System::new(rt, out, err),
             counts,
             progress,

@@ -3,14 +3,12 @@
 #![tactic(auto)]
 
 mod framed;
-mod lines;
 mod manner;
 mod output;
 mod placed;
 mod progress;
 mod run;
 mod streams;
-mod texts;
 mod whole;
 
 use program_manners::{Complaints, Escaping, take_list, unread_words, words_of};

@@ -5,7 +5,7 @@ use std::fs;
 use std::io::IsTerminal;
 use std::os::unix::fs::MetadataExt;
 use text_forms::Form;
-use tool_words::{SortingWords, Task, named_format, read};
+use tool_words::{RowsWords, SortingWords, Task, is_input, named_format, read};
 use world::folder_of;
 
 /// An upload is not written to a terminal.
@@ -16,6 +16,9 @@ const NO_FORM: &str = "error: --format is text, json or csv";
 
 /// The ends are not made in place of the taps, or of an upload that is read.
 const ENDS_IN_PLACE: &str = "error: --ends names OUT or an upload";
+
+/// A new file of `encode` is not made in place of another one, or of a file that is read.
+const MADE_OVER: &str = "error: --out, --refused and --validators-make name files of their own";
 
 fn name_in_folder(name: &str) -> &str {
     match name.rsplit_once('/') {
@@ -57,13 +60,58 @@ fn has_ends_in_place(rt: &HostRuntime, words: &SortingWords<'_>) -> bool {
     false
 }
 
+/// Whether the file is one of these, of which some may not be named.
+fn is_among(rt: &HostRuntime, name: &str, others: &[Option<&str>]) -> bool {
+    for other in others {
+        if let Some(other) = *other {
+            if are_of_one(rt, name, other) {
+                return true;
+            }
+        }
+    }
+    false
+}
+
+fn has_made_over(rt: &HostRuntime, csvs: &[&str], words: &RowsWords<'_>) -> bool {
+    let (made, read) = if words.makes_devices {
+        (words.devices, None)
+    } else {
+        (None, words.devices)
+    };
+    if let Some(out) = words.out {
+        if is_input(out) || is_among(rt, out, &[made, words.refused, words.key, read]) {
+            return true;
+        }
+    }
+    if let Some(made) = made {
+        if is_input(made) || is_among(rt, made, &[words.refused, words.key]) {
+            return true;
+        }
+    }
+    for csv in csvs {
+        if is_among(rt, csv, &[words.out, made]) {
+            return true;
+        }
+    }
+    false
+}
+
 /// The form in which what the words request is written; else why it is refused.
 pub(crate) fn form_of(rt: &HostRuntime, words: &[String]) -> Result<Form, &'static str> {
     let Ok(task) = read(rt.alloc(), words) else {
         return Ok(Form::Text);
     };
     match &task {
-        Task::Encode(_) | Task::EncodeRows(..) if rt.stdout().is_terminal() => Err(TO_TERMINAL),
+        Task::Encode(_) if rt.stdout().is_terminal() => Err(TO_TERMINAL),
+        Task::EncodeRows(csvs, words) => {
+            if words.out.is_none() && rt.stdout().is_terminal() {
+                return Err(TO_TERMINAL);
+            }
+            if has_made_over(rt, csvs, words) {
+                return Err(MADE_OVER);
+            }
+            Ok(Form::Text)
+        }
         Task::Sort(words) if has_ends_in_place(rt, words) => Err(ENDS_IN_PLACE),
         Task::Uploads(..) | Task::ValidPrefix(_) | Task::Look(..) => {
             match Form::of(named_format(rt.alloc(), words).unwrap_or("text")) {

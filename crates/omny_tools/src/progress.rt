@@ -3,7 +3,7 @@
 use program_manners::{PACE_MS, QUIET_MS, TerminalLine};
 use std::fmt::Display;
 use std::io;
-use std::io::{IsTerminal, Write};
+use std::io::IsTerminal;
 use std::time::Instant;
 
 /// A MiB in bytes.
@@ -90,44 +90,5 @@ impl<'r> Progress<'r> {
 
     pub(crate) fn end(&mut self) {
         self.line.clear();
-    }
-}
-
-/// A writer that shows how much was written.
-#[derive(Drop)]
-pub(crate) struct Watching<'r, W: Write + Drop> {
-    to: W,
-    progress: Progress<'r>,
-    done: u64,
-}
-
-impl<'r, W: Write + Drop> Watching<'r, W> {
-    pub(crate) fn new(to: W, progress: Progress<'r>) -> Watching<'r, W> {
-        Watching {
-            to,
-            progress,
-            done: 0,
-        }
-    }
-}
-
-impl<'r, W: Write + Drop> Write for Watching<'r, W> {
-    fn write(&mut self, bytes: &[u8]) -> io::Result<usize> {
-        match self.to.write(bytes) {
-            Ok(count) => {
-                self.done = self.done.saturating_add(count as u64);
-                self.progress.report_bytes(self.done, "written");
-                Ok(count)
-            }
-            Err(error) => {
-                self.progress.end();
-                Err(error)
-            }
-        }
-    }
-
-    fn flush(&mut self) -> io::Result<()> {
-        self.progress.end();
-        self.to.flush()
     }
 }

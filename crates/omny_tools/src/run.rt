@@ -4,19 +4,17 @@ use crate::framed::Framed;
 use crate::manner::form_of;
 use crate::output::{WRITE_BYTES, collect};
 use crate::placed::FilesByName;
-use crate::progress::{Progress, Watching};
+use crate::progress::Progress;
 use crate::streams::Pieces;
-use crate::texts::Texts;
 use jiff::Timestamp;
-use program_manners::{Complaints, Output};
+use program_manners::Complaints;
 use std::hash::RandomState;
 use std::io;
 use std::io::Write;
 use std::marker::Sync;
 use std::thread::Threads;
 use text_forms::{Shaped, UPLOADS};
-use tool_program::{Fault, main_over, say};
-use world::Recorded;
+use tool_program::{Fault, main_over};
 
 /// What a terminal shows beside a run, by the subcommand.
 #[derive(Clone, Copy)]
@@ -47,7 +45,7 @@ impl Shows {
 }
 
 /// The whole program over the system: reads the words, the program's name first, does what they
-/// request, and writes usage errors and faults to `err`. Returns the status.
+/// request, and writes to `err` what is refused before they are read. Returns the status.
 pub(crate) fn run<R: Threads + Sync, E: Write>(
     threads: &R,
     rt: &HostRuntime,
@@ -62,44 +60,35 @@ pub(crate) fn run<R: Threads + Sync, E: Write>(
         }
     };
     let shows = Shows::of(words);
-    let (progress, framed_progress) = if shows.text {
-        (Progress::beside_text(rt), Progress::beside_text(rt))
+    let progress = if shows.text {
+        Progress::beside_text(rt)
     } else {
-        (Progress::hidden(rt), Progress::hidden(rt))
+        Progress::hidden(rt)
     };
     let Ok(seed) = RandomState::new(rt) else {
-        say(err, &Fault::NoMemory);
+        err.report_line(Fault::NoMemory);
         return 1;
     };
-    let written = Recorded::new(Watching::new(io::writer(rt), progress));
-    let Ok(written) = collect(rt, written, WRITE_BYTES) else {
-        say(err, &Fault::NoMemory);
-        return 1;
-    };
-    let framed_out = Shaped::new(rt.alloc(), io::writer(rt), UPLOADS, form);
+    let out = Shaped::new(rt.alloc(), io::writer(rt), UPLOADS, form);
     let collected = if shows.at_once { 0 } else { WRITE_BYTES };
-    let Ok(framed_out) = collect(rt, framed_out, collected) else {
-        say(err, &Fault::NoMemory);
+    let Ok(out) = collect(rt, out, collected) else {
+        err.report_line(Fault::NoMemory);
         return 1;
     };
-    let mut source = Texts::new(rt);
     let counts = if shows.counts {
         Progress::new(rt)
     } else {
         Progress::beside_text(rt)
     };
-    let mut framed = Framed::new(rt, counts, framed_progress, framed_out, rt.stderr());
+    let mut framed = Framed::new(rt, counts, progress, out, rt.stderr());
     main_over(
         threads,
         rt.alloc(),
         seed,
         Timestamp::now(rt).unwrap_or(Timestamp::UNIX_EPOCH),
         words,
-        &mut source,
         &FilesByName::new(rt),
         &mut Pieces::new(rt),
-        &mut Output::new(written),
-        err,
         &mut framed,
     )
 }

@@ -1,9 +1,9 @@
 -- Reports of parts of a history follow each other, and are merged into the report of the whole.
-use Rattle.std.proofs.Common.{◌≡◌, ◌∙◌, ◌+◌, ◌<◌, ◌≤◌, ◌^◌, ◌||◌, ℕ, Bool, true, false, cond, List}
+use Rattle.std.proofs.Common.{◌≡◌, ◌∙◌, ◌+◌, ◌<◌, ◌≤◌, ◌^◌, ◌||◌, ℕ, Bool, true, false, List}
 use Rattle.std.proofs.Common.{[], ◌∷◌, ◌++◌, length, map}
-use Rattle.std.proofs.Common.{Option, Some, None, Ok, Result, refl, sym, ap, subst, arith}
+use Rattle.std.proofs.Common.{Option, Some, None, Ok, refl, sym, ap, subst, arith}
 use Rattle.std.proofs.Common.{append_assoc, append-nil, length-append, All}
-use Rattle.std.specs.Prelude.{flat_map, nat_eq, nat_lt}
+use Rattle.std.specs.Prelude.{nat_eq, nat_lt}
 use Rattle.std.specs.BTreeSet.{insert_key}
 use Rattle.std.specs.List.{AllByRecursion}
 use Rattle.std.specs.List.Sorted.{IsStrictlySortedBy}
@@ -22,7 +22,7 @@ use Rattle.tap_views.specs.declared.token.Token.{Token}
 use Rattle.tap_views.specs.declared.upload_end.UploadEnd.TheVariants.{Posted}
 use Rattle.tap_views.proofs.TokenLemmas.{token_cmp-total, token_cmp-ties}
 use Rattle.histories.specs.Increasing.{increasing}
-use Rattle.histories.specs.Sums.{Sums, add_all, add_sums, sums, sums_of_replies}
+use Rattle.histories.specs.Sums.{Sums, add_sums, sums, sums_of_replies}
 use Rattle.histories.specs.Entry.{own}
 use Rattle.histories.specs.SumsByKey.{entries_of_validator, sums_by_token, sums_by_validator}
 use Rattle.histories.specs.SumsByKey.{token_of, tokens, validator_of, validators}
@@ -31,13 +31,13 @@ use Rattle.histories.proofs.IncreasingLemmas.{increasing-is}
 use Rattle.histories.proofs.SumsByToken.{by_token_joined}
 use Rattle.histories.proofs.SumsLemmas.{add_assoc, add_none, none_add, sums-append, sums-taps}
 use Rattle.report_texts.specs.Report.{report}
-use Rattle.part_texts.specs.Fronts.{is_above, may_end, no_sums, starts, sums_within, taps_before}
+use Rattle.part_texts.specs.Fronts.{is_above, may_end, no_sums}
 use Rattle.part_texts.specs.HistoryParts.{AreRight, AreIncreasing, Fits, HistoryPart, added}
 use Rattle.part_texts.specs.HistoryParts.{histories_of, numbers_of, report_of, whole_history}
 use Rattle.part_texts.specs.Merged.{merge_of}
-use Rattle.sorted_taps.specs.Positions.{AreWhole, DoJoin, first_position}
+use Rattle.sorted_taps.specs.Positions.{DoJoin, first_position}
 use Rattle.part_texts.specs.Sections.{is_token_above}
-use Rattle.part_texts.specs.Shown.{PartReport, part_text, sum_up}
+use Rattle.part_texts.specs.Shown.{part_text, sum_up}
 use Rattle.part_texts.specs.inside.Shown.{are_joined, is_none_after}
 use Rattle.part_texts.specs.inside.Shown.{IsNextPart, IsRight, SoFar, adds_to, are_next_parts}
 use Rattle.part_texts.specs.inside.Shown.{are_posted_to, are_increasing, are_tokens_increasing}

@@ -9,7 +9,8 @@ use Rattle.std.specs.declared.cmp.Ordering.{Ordering}
 use Rattle.std.specs.declared.cmp.Ordering.TheVariants.{Less, Equal, Greater}
 use Rattle.histories.specs.Sums.{Sums, sums_of}
 use Rattle.histories.specs.declared.sums.totals.Totals.{Totals}
-use Rattle.part_texts.specs.Fronts.{no_sums, shown_sums, sums_within, with_validator}
+use Rattle.part_texts.specs.Fronts.{no_sums, sums_within, with_validator}
+use Rattle.part_texts.specs.inside.Fronts.{shown_sums}
 
 -- what is found, shown
 found_shown : (test : ℕ → Bool) (entries : List (ℕ × Totals))

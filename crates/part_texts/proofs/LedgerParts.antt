@@ -1,9 +1,8 @@
 -- What is merged of ledgers of parts of a history is the ledger of the whole history.
-use Rattle.std.proofs.Common.{◌≡◌, ◌∙◌, ◌+◌, ◌<◌, ◌^◌, ◌||◌, ℕ, Bool, true, false, List, [], ◌∷◌}
+use Rattle.std.proofs.Common.{◌≡◌, ◌∙◌, ◌<◌, ◌^◌, ℕ, true, false, List, [], ◌∷◌}
 use Rattle.std.proofs.Common.{◌++◌, length, map}
-use Rattle.std.proofs.Common.{Option, Some, None, Ok, refl, sym, ap, subst, arith, append_assoc}
+use Rattle.std.proofs.Common.{Option, None, Ok, refl, sym, ap, subst, arith, append_assoc}
 use Rattle.std.proofs.Common.{append-nil, All}
-use Rattle.std.specs.Prelude.{flat_map}
 use Rattle.std.specs.List.{AllByRecursion, AllZip}
 use Rattle.std.specs.declared.cmp.Ordering.TheVariants.{Less}
 use Rattle.std.proofs.lemmas.List.{map-append}
@@ -21,10 +20,9 @@ use Rattle.histories.specs.declared.entry.Entry.{Entry}
 use Rattle.histories.proofs.OwnEntries.{own-append}
 use Rattle.histories.proofs.SumsByToken.{by_token_joined, none_of}
 use Rattle.fare_texts.specs.Ledger.{AreLinesOfEach, IsLedgerOver}
-use Rattle.fare_texts.specs.LedgerLines.{AreLedgerLines, head_text}
+use Rattle.fare_texts.specs.LedgerLines.{AreLedgerLines}
 use Rattle.sorted_taps.specs.Positions.{DoJoin}
 use Rattle.sorted_taps.specs.declared.positions.Position.{Position}
-use Rattle.sorted_taps.specs.declared.positions.FileSpan.{FileSpan}
 use Rattle.part_texts.specs.Heads.{part_head}
 use Rattle.part_texts.specs.HistoryParts.{AreIncreasing, HistoryPart, histories_of, whole_history}
 use Rattle.part_texts.specs.LedgerParts.{DoJoinUp, IsPartLedger}

@@ -1,7 +1,9 @@
 pub mod HeadTexts
 pub mod WholeTexts
-pub mod Opening
-pub mod Copying
+pub mod Written
+pub mod Parts
+pub mod Runs
+pub mod AllParts
 pub mod Kept
 pub mod Leads
 pub mod HeadLines

@@ -1,16 +1,13 @@
 -- Ledgers of parts of a history are merged, if each of their lines has the form of a ledger's line.
-use Rattle.std.proofs.Common.{◌≡◌, ◌∙◌, ◌+◌, ◌≤◌, ℕ, Bool, true, false, not, codes, List, [], ◌∷◌}
+use Rattle.std.proofs.Common.{◌≡◌, ◌∙◌, ◌+◌, ℕ, Bool, true, false, not, codes, List, [], ◌∷◌}
 use Rattle.std.proofs.Common.{◌++◌, length, map}
 use Rattle.std.proofs.Common.{Option, Some, None, Ok, option_map, refl, sym, ap, subst, arith}
 use Rattle.std.proofs.Common.{append_assoc, All}
-use Rattle.std.specs.Prelude.{flat_map}
 use Rattle.std.specs.List.{AllByRecursion, AllZip}
 use Rattle.std.specs.List.Sorted.{IsStrictlySortedBy}
 use Rattle.std.specs.Ordering.{is_lt, ordering_reverse}
-use Rattle.std.specs.declared.cmp.Ordering.{Ordering}
-use Rattle.std.specs.declared.cmp.Ordering.TheVariants.{Less, Equal, Greater}
+use Rattle.std.specs.declared.cmp.Ordering.TheVariants.{Less}
 use Rattle.std.proofs.lemmas.Bool.Decides.{nat_tests}
-use Rattle.std.proofs.lemmas.List.{map-append}
 use Rattle.std.specs.Fmt.{decimal}
 use Rattle.std.proofs.lemmas.List.Elements.{All-cons, All-head, All-nil, All-tail, All-weaker}
 use Rattle.std.proofs.lemmas.List.Elements.{recursion_from_All}
@@ -24,23 +21,23 @@ use Rattle.histories.specs.Increasing.{increasing}
 use Rattle.histories.specs.SumsByKey.{token_of, tokens}
 use Rattle.histories.specs.declared.entry.Entry.{Entry}
 use Rattle.histories.proofs.IncreasingLemmas.{increasing-is}
-use Rattle.fare_texts.specs.Ledger.{AreLinesOfEach, IsLedgerOver}
+use Rattle.fare_texts.specs.Ledger.{AreLinesOfEach}
 use Rattle.fare_texts.specs.LedgerLines.{AreLedgerLinesAfter, IsLedgerLineAfter, entry_fields}
 use Rattle.fare_texts.specs.LedgerLines.{head_text, line_head}
 use Rattle.ledger_fields.specs.Lines.{row_in}
 use Rattle.ledger_fields.specs.Rows.{Row}
 use Rattle.report_texts.specs.Forms.{token_read}
 use Rattle.report_texts.specs.FormLaws.{IsTokenDigits, token_law}
-use Rattle.part_texts.specs.EntryLines.{entry_token_in, first_of, token_with}
+use Rattle.part_texts.specs.EntryLines.{first_of, token_with}
 use Rattle.part_texts.specs.HistoryParts.{AreIncreasing, HistoryPart, histories_of, whole_history}
 use Rattle.part_texts.specs.LedgerParts.{AreReadable, DoJoinUp, IsPartLedger, IsReadableLine}
 use Rattle.part_texts.specs.Merged.{merge_of}
 use Rattle.part_texts.specs.Sections.{may_follow}
-use Rattle.part_texts.specs.inside.ShownLedgers.{EntryLine, IsEntryLine, PartLedger, all_lines}
+use Rattle.part_texts.specs.inside.ShownLedgers.{EntryLine, IsEntryLine, all_lines}
 use Rattle.part_texts.specs.inside.ShownLedgers.{are_read, do_follow, last_entry, lines_of_entries}
 use Rattle.part_texts.proofs.HistoryParts.{LastIsBelow, all_ascending, below_front}
 use Rattle.part_texts.proofs.HistoryParts.{below_increasing, tokens_both}
-use Rattle.part_texts.proofs.LedgerParts.{first_ledgers, ledgers_of, texts_are, whole_lines}
+use Rattle.part_texts.proofs.LedgerParts.{first_ledgers, ledgers_of, texts_are}
 use Rattle.part_texts.proofs.ShownLedgers.{ledgers_read}
 
 -- ---- one line

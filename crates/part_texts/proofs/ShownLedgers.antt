@@ -1,30 +1,24 @@
 -- Ledgers of parts, as they are printed, are merged into the ledger of the whole.
-use Rattle.std.proofs.Common.{◌≡◌, ◌∙◌, ◌+◌, ◌<◌, ◌≤◌, ◌^◌, ◌||◌, ℕ, Bool, true, false, cond, List}
+use Rattle.std.proofs.Common.{◌≡◌, ◌∙◌, ◌+◌, ◌<◌, ◌^◌, ◌||◌, ℕ, Bool, true, false, List}
 use Rattle.std.proofs.Common.{[], ◌∷◌, ◌++◌, length, map}
 use Rattle.std.proofs.Common.{Option, Some, None, Result, Ok, Err, refl, sym, ap, subst, arith}
-use Rattle.std.proofs.Common.{append_assoc, append-nil, length-append, codes}
+use Rattle.std.proofs.Common.{append_assoc, append-nil, codes}
 use Rattle.std.specs.Prelude.{flat_map, nat_eq}
-use Rattle.std.specs.Str.{bytes_eq}
 use Rattle.std.proofs.Math.Bool.{or-true}
-use Rattle.std.proofs.lemmas.Bool.Decides.{nat_tests}
-use Rattle.std.proofs.lemmas.List.Concat.{flat_map-append}
 use Rattle.std.proofs.lemmas.List.Elements.{recursion_from_All}
 use Rattle.std.specs.List.{AllByRecursion}
-use Rattle.histories.specs.Sums.{Sums}
 use Rattle.tap_views.specs.declared.token.Token.{Token}
 use Rattle.fare_texts.specs.LedgerLines.{head_text}
 use Rattle.fare_texts.specs.ReportLines.{number_line}
-use Rattle.line_folds.specs.Folds.{bounded, carry, lines_of, run}
-use Rattle.report_texts.specs.declared.wrong.Wrong.{Wrong}
+use Rattle.line_folds.specs.Folds.{bounded, lines_of, run}
 use Rattle.report_texts.specs.declared.wrong.Wrong.TheVariants.{Form, Order}
 use Rattle.report_texts.proofs.OneLine.{IsOneLine, tested}
-use Rattle.part_texts.specs.Fronts.{FrontsView, no_fronts, no_sums}
+use Rattle.part_texts.specs.Fronts.{FrontsView, no_sums}
 use Rattle.part_texts.specs.FrontSteps.{front_done, front_step, said, where_holds}
-use Rattle.part_texts.specs.EntryLines.{entry_token_in}
 use Rattle.part_texts.specs.Sections.{SectionView, may_follow, section_step}
-use Rattle.part_texts.specs.Merged.{OpenView, WrongLine, and_then, end_or, front_end, front_of}
+use Rattle.part_texts.specs.Merged.{OpenView, and_then, front_end, front_of}
 use Rattle.part_texts.specs.Merged.{fronts_of, is_none_left, lines_left, merge_of, merged}
-use Rattle.part_texts.specs.Merged.{section_ended, section_of, sections_of, whole_front}
+use Rattle.part_texts.specs.Merged.{section_ended, section_of, sections_of}
 use Rattle.part_texts.specs.Heads.{span_lines}
 use Rattle.part_texts.specs.Shown.{SpanFits}
 use Rattle.part_texts.specs.inside.Shown.{are_joined, is_none_after}

@@ -1,7 +1,7 @@
 -- Reports of parts, as they are printed, are merged into the report of the whole.
-use Rattle.std.proofs.Common.{◌≡◌, ◌∙◌, ◌+◌, ◌<◌, ◌||◌, ℕ, Bool, true, false, cond, List, [], ◌∷◌}
+use Rattle.std.proofs.Common.{◌≡◌, ◌∙◌, ◌+◌, ℕ, Bool, true, false, cond, List, [], ◌∷◌}
 use Rattle.std.proofs.Common.{◌++◌, length, map}
-use Rattle.std.proofs.Common.{Option, Some, None, Result, Ok, Err, refl, sym, ap, subst, arith}
+use Rattle.std.proofs.Common.{Option, None, Ok, refl, sym, ap, subst, arith}
 use Rattle.std.proofs.Common.{append_assoc, append-nil, length-append, codes}
 use Rattle.std.specs.Prelude.{◌==◌, flat_map, nat_eq}
 use Rattle.std.proofs.lemmas.Bool.Decides.{nat_tests}
@@ -12,14 +12,13 @@ use Rattle.tap_views.specs.declared.upload_end.UploadEnd.TheVariants.{Posted}
 use Rattle.fare_texts.specs.Counts.{totals_line}
 use Rattle.fare_texts.specs.ReportLines.{number_line, token_line, validator_line}
 use Rattle.line_folds.specs.Folds.{bounded, carry, lines_of, run, to_first}
-use Rattle.report_texts.specs.Report.{report, upload_lines, uploads_section, validators_section}
-use Rattle.report_texts.specs.declared.wrong.Wrong.{Wrong}
+use Rattle.report_texts.specs.Report.{upload_lines, uploads_section, validators_section}
 use Rattle.report_texts.specs.declared.wrong.Wrong.TheVariants.{Form}
-use Rattle.part_texts.specs.Fronts.{FrontsView, no_fronts, no_sums}
+use Rattle.part_texts.specs.Fronts.{FrontsView, no_sums}
 use Rattle.part_texts.specs.FrontSteps.{front_done, front_step}
-use Rattle.part_texts.specs.Sections.{SectionView, section_end, section_step}
-use Rattle.part_texts.specs.Merged.{OpenView, WrongLine, and_then, end_or, front_end, front_of}
-use Rattle.part_texts.specs.Merged.{fronts_of, is_none_left, lines_left, merge_of, merged, opened}
+use Rattle.part_texts.specs.Sections.{SectionView, section_step}
+use Rattle.part_texts.specs.Merged.{OpenView, and_then, end_or, front_end, front_of}
+use Rattle.part_texts.specs.Merged.{fronts_of, is_none_left, lines_left, merge_of, merged}
 use Rattle.part_texts.specs.Merged.{report_front, section_ended, section_of, sections_of}
 use Rattle.part_texts.specs.Merged.{whole_front}
 use Rattle.part_texts.specs.Heads.{span_lines}
@@ -27,11 +26,10 @@ use Rattle.part_texts.specs.Shown.{PartReport, part_text}
 use Rattle.part_texts.specs.inside.Shown.{is_none_after}
 use Rattle.part_texts.specs.inside.Shown.{IsNextPart, SoFar, are_next_parts, last_of}
 use Rattle.part_texts.specs.inside.Shown.{nothing_so_far, tokens_of, whole_text}
-use Rattle.sorted_taps.specs.declared.positions.Position.{Position}
 use Rattle.part_texts.specs.declared.fronts.Stage.{Stage}
 use Rattle.part_texts.specs.declared.fronts.Stage.TheVariants.{Head, Files, Uploads, AfterTotals}
 use Rattle.part_texts.specs.declared.fronts.Stage.TheVariants.{Validators, Tokens}
-use Rattle.part_texts.proofs.Leads.{Leads, by_both}
+use Rattle.part_texts.proofs.Leads.{by_both}
 use Rattle.part_texts.proofs.ShownFronts.{FrontLeads, at, head_taken, last_key, posted_taken}
 use Rattle.part_texts.proofs.ShownFronts.{spans_taken, tokens_head_taken, totals_taken}
 use Rattle.part_texts.proofs.ShownFronts.{uploads_taken, validators_head_taken, validators_taken}

@@ -14,7 +14,7 @@ use Rattle.report_texts.proofs.Lines.{token_complete}
 use Rattle.report_texts.proofs.OneLine.{token_line_is_one}
 use Rattle.report_texts.specs.declared.wrong.Wrong.TheVariants.{Form, Order}
 use Rattle.report_texts.specs.declared.wrong.Wrong.TheVariants.{Totals as OtherTotals}
-use Rattle.part_texts.specs.Fronts.{sums_eq, sums_within}
+use Rattle.part_texts.specs.Fronts.{sums_within}
 use Rattle.part_texts.specs.FrontSteps.{found_or, said, where_holds}
 use Rattle.part_texts.specs.Sections.{SectionView, is_token_above, section_end, section_step}
 use Rattle.part_texts.specs.inside.Shown.{adds_to, are_tokens_increasing, last_of}

@@ -14,7 +14,8 @@ use Rattle.histories.specs.declared.sums.totals.Totals.{Totals}
 use Rattle.report_texts.specs.Report.{upload_line, upload_lines}
 use Rattle.report_texts.proofs.Parts.{upload_lines-push}
 use Rattle.tap_views.specs.declared.upload_end.UploadEnd.TheVariants.{Posted}
-use Rattle.part_texts.specs.Fronts.{FrontsView, shown_sums}
+use Rattle.part_texts.specs.Fronts.{FrontsView}
+use Rattle.part_texts.specs.inside.Fronts.{shown_sums}
 use Rattle.part_texts.specs.Merged.{report_front}
 use denote.Ref.{Bor}
 

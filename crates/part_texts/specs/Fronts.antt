@@ -1,17 +1,15 @@
 -- What the fronts of parts say: each part's text up to its lines of tokens or of entries.
 use Rattle.std.specs.Prelude.{◌+◌, ◌^◌, ◌&&◌, ℕ, Bool, true, false, cond, List, [], ◌∷◌}
 use Rattle.std.specs.Prelude.{Option, Some, None, option_map, unwrap_or, nat_eq, nat_le, nat_lt}
-use Rattle.std.specs.Prelude.{map}
 use Rattle.std.specs.BTreeMap.{insert_entry, is_at}
 use Rattle.std.specs.Map.{lookup}
 use Rattle.std.specs.Ordering.{nat_cmp}
-use Rattle.histories.specs.Sums.{Sums, add_sums, sums_of}
+use Rattle.histories.specs.Sums.{Sums, add_sums}
 use Rattle.tap_views.specs.declared.upload_end.UploadEnd.{UploadEnd}
 use Rattle.tap_views.specs.declared.upload_end.UploadEnd.TheVariants.{Posted}
 use Rattle.sorted_taps.specs.declared.positions.Position.{Position}
 use Rattle.part_texts.specs.declared.fronts.Stage.{Stage}
 use Rattle.part_texts.specs.declared.fronts.Stage.TheVariants.{Head}
-use Rattle.part_texts.specs.declared.fronts.Fronts.{Fronts}
 
 -- what the fronts of the parts say, as far as they are read
 pub record FrontsView : Type 0 where
@@ -42,24 +40,6 @@ no_sums = record {
   stale = 0;
   unknown = 0;
   cents = 0;
-}
-
-abbrev pub shown_sums : {K T : Type 0} → (T → Sums) → List (K × T) → List (K × Sums)
-shown_sums show list = map (λ entry. (entry.0, show entry.1)) list
-
-abbrev pub fronts_view : Fronts → FrontsView
-fronts_view fronts = record {
-  stage = fronts.stage;
-  is_first = fronts.is_first;
-  is_last = fronts.is_last;
-  is_ledger = fronts.is_ledger;
-  ends = fronts.ends.items;
-  taps = fronts.taps.items;
-  part = sums_of fronts.part;
-  so_far = sums_of fronts.so_far;
-  totals = sums_of fronts.totals;
-  validators = shown_sums sums_of fronts.validators.entries;
-  tokens = fronts.tokens;
 }
 
 -- two sums added up, if they have no more taps than any run has

@@ -1,5 +1,5 @@
 -- Parts of a history, and the texts of their reports.
-use Rattle.std.specs.Prelude.{◌≡◌, ◌+◌, ◌<◌, ◌^◌, ℕ, List, [], ◌∷◌, ◌++◌, flat_map, length, map}
+use Rattle.std.specs.Prelude.{◌≡◌, ◌+◌, ◌<◌, ◌^◌, ℕ, List, [], ◌∷◌, flat_map, length, map}
 use Rattle.std.specs.List.{AllByRecursion}
 use Rattle.tap_views.specs.TokenOrder.{AreBelow}
 use Rattle.histories.specs.Sums.{sums}

@@ -1,14 +1,13 @@
 -- What the texts of parts are merged into.
-use Rattle.std.specs.Prelude.{◌≡◌, ◌+◌, ℕ, Bool, true, false, cond, List, [], ◌∷◌, ◌++◌, flat_map}
+use Rattle.std.specs.Prelude.{◌+◌, ℕ, Bool, true, false, cond, List, [], ◌∷◌, ◌++◌, flat_map}
 use Rattle.std.specs.Prelude.{Option, Some, None, Result, Ok, Err, codes, length, map, nat_eq}
-use Rattle.std.specs.Io.KnownBytes.{Appends}
 use Rattle.histories.specs.Sums.{Sums}
 use Rattle.tap_views.specs.declared.token.Token.{Token}
 use Rattle.tap_views.specs.declared.upload_end.UploadEnd.TheVariants.{Posted}
 use Rattle.fare_texts.specs.Counts.{totals_line}
 use Rattle.fare_texts.specs.LedgerLines.{head_text}
 use Rattle.fare_texts.specs.ReportLines.{number_line}
-use Rattle.line_folds.specs.Folds.{AppendsPrefix, bounded, lines_of, run}
+use Rattle.line_folds.specs.Folds.{bounded, lines_of, run}
 use Rattle.report_texts.specs.Report.{uploads_section, validators_section}
 use Rattle.report_texts.specs.declared.wrong.Wrong.{Wrong}
 use Rattle.report_texts.specs.declared.wrong.Wrong.TheVariants.{Form}
@@ -17,9 +16,6 @@ use Rattle.part_texts.specs.FrontSteps.{front_done, front_step}
 use Rattle.part_texts.specs.Sections.{SectionView, section_end, section_step}
 use Rattle.part_texts.specs.declared.fronts.Stage.{Stage}
 use Rattle.part_texts.specs.declared.fronts.Stage.TheVariants.{Head, Tokens}
-use Rattle.part_texts.specs.declared.fault.MergeFault.{MergeFault}
-use Rattle.part_texts.specs.declared.fault.MergeFault.TheVariants.{Line, Unread, Write, NoMemory}
-use Rattle.part_texts.specs.declared.fault.MergeFault.TheVariants.{TooLong}
 
 -- a text, the number of a line of it, and what is wrong with that line
 abbrev pub WrongLine : Type 0
@@ -137,20 +133,3 @@ merged read =
 abbrev pub merge_of : List (List ℕ) → Result (List ℕ) WrongLine
 merge_of [] = Err (0, (1, Form))
 merge_of (text ∷ texts) = and_then (fronts_of no_fronts [] (text ∷ texts)) merged
-
--- the fault is the wrong line, if it is one of the texts
-abbrev pub IsFaultOf : {S : Type 0} → Result S WrongLine → MergeFault → Type 0
-IsFaultOf said (Line text number why) = said ≡ Err (text, (number, why))
-IsFaultOf said (Unread text) = Unit {0}
-IsFaultOf said (TooLong text) = Unit {0}
-IsFaultOf said Write = Unit {0}
-IsFaultOf said NoMemory = Unit {0}
-
--- The merged text is written; or the wrong line is known. If a read, a write or an allocation failed,
--- a prefix of the merged text was written, if there is one.
-abbrev pub MergedAs : Result (List ℕ) WrongLine → Option (List ℕ) → Option (List ℕ)
-    → Result Unit MergeFault → Type 0
-MergedAs said before after (Ok done) =
-    (text : List ℕ) × (said ≡ Ok text) × Appends before after text
-MergedAs said before after (Err fault) =
-    IsFaultOf said fault × ((text : List ℕ) → said ≡ Ok text → AppendsPrefix before after text)

@@ -1,7 +1,7 @@
 //! Why texts of parts are not merged.
 
 use report_texts::Wrong;
-use std::alloc::{AllocError, AllocFailed};
+use world::WriteFault;
 
 /// Why texts of parts are not merged.
 #[derive(Clone, Copy, Debug, PartialEq, Eq)]
@@ -15,34 +15,10 @@ pub enum MergeFault {
         /// What is wrong.
         why: Wrong,
     },
-    /// A read of this text failed.
+    /// A read of this text failed, or it was not opened.
     Unread(usize),
-    /// This text has 2^64 lines or more.
-    TooLong(usize),
     /// A write failed.
-    Write,
+    Write(WriteFault),
     /// An allocation failed.
     NoMemory,
-}
-
-impl From<AllocError> for MergeFault {
-    ghost use Rattle.std.specs.Prelude.{◌≡◌};
-    ghost use Rattle.part_texts.specs.declared.fault.MergeFault.TheVariants.{NoMemory};
-
-    ghost from_gives = { λ _ fault. fault ≡ NoMemory };
-
-    fn from(_refused: AllocError) -> MergeFault {
-        MergeFault::NoMemory
-    }
-}
-
-impl<T: Drop> From<AllocFailed<T>> for MergeFault {
-    ghost use Rattle.std.specs.Prelude.{◌≡◌};
-    ghost use Rattle.part_texts.specs.declared.fault.MergeFault.TheVariants.{NoMemory};
-
-    ghost from_gives = { λ _ fault. fault ≡ NoMemory };
-
-    fn from(_refused: AllocFailed<T>) -> MergeFault {
-        MergeFault::NoMemory
-    }
 }

@@ -8,19 +8,19 @@ ghost use Rattle.std.specs.Str.{bytes_eq};
 ghost use Rattle.fare_texts.specs.LedgerLines.{head_text};
 ghost use Rattle.histories.specs.Shown.{validator_sum};
 ghost use Rattle.histories.specs.Sums.{sums_of};
-ghost use Rattle.line_folds.specs.Folds.{TakesAs};
-ghost use Rattle.part_texts.specs.Fronts.{fronts_view, is_above, may_end, no_fronts, no_sums};
-ghost use Rattle.part_texts.specs.inside.Fronts.{IsWith, started};
-ghost use Rattle.part_texts.specs.Fronts.{position_eq, plus, posted_in, shown_sums, starts, sums_eq};
+ghost use Rattle.part_texts.specs.Fronts.{is_above, may_end, no_fronts, no_sums};
+ghost use Rattle.part_texts.specs.inside.Fronts.{fronts_view};
+ghost use Rattle.part_texts.specs.inside.Fronts.{IsWith, TakesAs, started};
+ghost use Rattle.part_texts.specs.Fronts.{position_eq, plus, posted_in, starts, sums_eq};
+ghost use Rattle.part_texts.specs.inside.Fronts.{shown_sums};
 ghost use Rattle.part_texts.specs.Fronts.{sums_within, taps_before};
-ghost use Rattle.part_texts.specs.FrontSteps.{head_step, kind_step};
+ghost use Rattle.part_texts.specs.FrontSteps.{front_done, front_step, head_step, kind_step};
 ghost use Rattle.part_texts.specs.FrontSteps.{ledger_step, span_step, tokens_step, totals_step};
 ghost use Rattle.part_texts.specs.FrontSteps.{upload_step, uploads_step, validator_step, validators_step};
 
 use crate::head::span_in;
 use fare_texts::head_line;
 use histories::{Totals, ValidatorSum};
-use line_folds::{Fold, Refusal};
 use report_texts::Wrong;
 use report_texts::forms::{head_in, totals_in, upload_in, validator_in};
 use sorted_taps::{FileSpan, Position};
@@ -60,6 +60,23 @@ pub enum Stage {
     },
     /// The front is read, and the lines of a ledger's entries follow.
     Entries,
+}
+
+/// Why a line was not taken: it is wrong, for this reason, or an allocation failed.
+#[derive(Clone, Copy, Debug, PartialEq, Eq)]
+pub enum Refusal {
+    Wrong(Wrong),
+    NoMemory,
+}
+
+impl From<AllocError> for Refusal {
+    ghost use Rattle.part_texts.specs.declared.fronts.Refusal.TheVariants.{NoMemory};
+
+    ghost from_gives = { λ _ refusal. refusal ≡ NoMemory };
+
+    fn from(_refused: AllocError) -> Refusal {
+        Refusal::NoMemory
+    }
 }
 
 /// What the fronts of the parts say, as far as they are read.
@@ -248,7 +265,7 @@ impl Fronts {
         self.is_last = count <= position.saturating_add(1);
     }
 
-    fn take_head(&mut self, line: &[u8]) -> Result<(), Refusal<Wrong>>
+    fn take_head(&mut self, line: &[u8]) -> Result<(), Refusal>
         ensures { TakesAs (head_step (fronts_view self.old) line.now) (fronts_view self.new) result }
     {
         let Some(files) = head_in(line, b"part files ") else {
@@ -261,7 +278,7 @@ impl Fronts {
         Ok(())
     }
 
-    fn take_span(&mut self, files: u64, left: u64, line: &[u8]) -> Result<(), Refusal<Wrong>>
+    fn take_span(&mut self, files: u64, left: u64, line: &[u8]) -> Result<(), Refusal>
         requires { 0 < left }
         ensures { TakesAs (span_step files left (fronts_view self.old) line.now)
             (fronts_view self.new) result }
@@ -288,7 +305,7 @@ impl Fronts {
         Ok(())
     }
 
-    fn take_header(&mut self) -> Result<(), Refusal<Wrong>>
+    fn take_header(&mut self) -> Result<(), Refusal>
         ensures { TakesAs (ledger_step (fronts_view self.old)) (fronts_view self.new) result }
     {
         if !(self.is_first || self.is_ledger) {
@@ -299,7 +316,7 @@ impl Fronts {
         Ok(())
     }
 
-    fn take_uploads(&mut self, files: u64, line: &[u8]) -> Result<(), Refusal<Wrong>>
+    fn take_uploads(&mut self, files: u64, line: &[u8]) -> Result<(), Refusal>
         ensures { TakesAs (uploads_step files (fronts_view self.old) line.now)
             (fronts_view self.new) result }
     {
@@ -318,7 +335,7 @@ impl Fronts {
         Ok(())
     }
 
-    fn take_kind(&mut self, files: u64, line: &[u8]) -> Result<(), Refusal<Wrong>>
+    fn take_kind(&mut self, files: u64, line: &[u8]) -> Result<(), Refusal>
         ensures { TakesAs (kind_step files (fronts_view self.old) line.now)
             (fronts_view self.new) result }
     {
@@ -335,7 +352,7 @@ impl Fronts {
         left: u64,
         posted: u64,
         line: &[u8],
-    ) -> Result<(), Refusal<Wrong>>
+    ) -> Result<(), Refusal>
         requires { 0 < left }
         ensures { TakesAs (upload_step uploads left posted (fronts_view self.old) line.now)
             (fronts_view self.new) result }
@@ -369,7 +386,7 @@ impl Fronts {
         Ok(())
     }
 
-    fn take_totals(&mut self, posted: u64, line: &[u8]) -> Result<(), Refusal<Wrong>>
+    fn take_totals(&mut self, posted: u64, line: &[u8]) -> Result<(), Refusal>
         ensures { TakesAs (totals_step posted (fronts_view self.old) line.now)
             (fronts_view self.new) result }
     {
@@ -389,7 +406,7 @@ impl Fronts {
         Ok(())
     }
 
-    fn take_validators(&mut self, line: &[u8]) -> Result<(), Refusal<Wrong>>
+    fn take_validators(&mut self, line: &[u8]) -> Result<(), Refusal>
         ensures { TakesAs (validators_step (fronts_view self.old) line.now)
             (fronts_view self.new) result }
     {
@@ -400,12 +417,7 @@ impl Fronts {
         Ok(())
     }
 
-    fn take_validator(
-        &mut self,
-        left: u64,
-        last: Option<u32>,
-        line: &[u8],
-    ) -> Result<(), Refusal<Wrong>>
+    fn take_validator(&mut self, left: u64, last: Option<u32>, line: &[u8]) -> Result<(), Refusal>
         requires { 0 < left }
         ensures { TakesAs (validator_step left last (fronts_view self.old) line.now)
             (fronts_view self.new) result }
@@ -430,7 +442,7 @@ impl Fronts {
         Ok(())
     }
 
-    fn take_tokens(&mut self, line: &[u8]) -> Result<(), Refusal<Wrong>>
+    fn take_tokens(&mut self, line: &[u8]) -> Result<(), Refusal>
         ensures { TakesAs (tokens_step (fronts_view self.old) line.now)
             (fronts_view self.new) result }
     {
@@ -447,37 +459,19 @@ impl Fronts {
         self.tokens = all;
         Ok(())
     }
-}
 
-impl Fold for Fronts {
-    type Why = Wrong;
-
-    ghost use Rattle.std.specs.Prelude.{[]};
-    ghost use Rattle.part_texts.specs.Fronts.{FrontsView, fronts_view};
-    ghost use Rattle.part_texts.specs.FrontSteps.{front_done, front_step};
-    ghost use Rattle.report_texts.specs.declared.wrong.Wrong.TheVariants.{Form};
-
-    ghost State = { FrontsView };
-
-    ghost state = { fronts_view };
-
-    ghost step = { front_step };
-
-    ghost done = { front_done };
-
-    ghost long = { Form };
-
-    ghost writes = { λ _ _. [] };
-
-    fn is_done(&self) -> bool {
+    /// Whether no more lines are to be read.
+    pub(crate) fn is_done(&self) -> bool
+        ensures { result ≡ front_done (fronts_view self.now) }
+    {
         matches!(self.stage, Stage::Tokens { .. } | Stage::Entries)
     }
 
-    fn long_line() -> Wrong {
-        Wrong::Form
-    }
-
-    fn take(&mut self, line: &[u8]) -> Result<(), Refusal<Wrong>> {
+    /// Takes the next line, of at most 1,024 bytes. Only a text's last line may lack a line feed.
+    pub(crate) fn take(&mut self, line: &[u8]) -> Result<(), Refusal>
+        ensures { TakesAs (front_step (fronts_view self.old) line.now) (fronts_view self.new)
+            result }
+    {
         match self.stage {
             Stage::Head => self.take_head(line),
             Stage::Files { files, left: 0 } => self.take_kind(files, line),

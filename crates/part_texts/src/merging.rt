@@ -1,38 +1,36 @@
 //! Texts of parts, merged.
 
-ghost use Rattle.std.specs.Prelude.{◌≡◌, ◌++◌, IfOk, IfSome, List, None, OnOk, Some, [], ℕ, map};
+ghost use Rattle.std.specs.Prelude.{◌≡◌, ◌++◌, [], IfErr, IfOk, List, OnOk, All, false, length, ℕ, map};
 ghost use Rattle.std.specs.Prelude.{string_bytes};
-ghost use Rattle.std.specs.List.{flat_map};
+ghost use Rattle.std.specs.List.{AllZip, flat_map};
 ghost use Rattle.fare_texts.specs.LedgerLines.{head_text};
 ghost use Rattle.fare_texts.specs.ReportLines.{validator_line};
 ghost use Rattle.histories.specs.Sums.{sums_of};
 ghost use Rattle.tap_views.specs.declared.upload_end.UploadEnd.TheVariants.{Posted};
+ghost use Rattle.recorded_lines.specs.Texts.{CanBe, Follows, IsEndAt, IsFresh, calls_of, left};
 ghost use Rattle.report_texts.specs.Report.{upload_lines};
-ghost use Rattle.report_texts.specs.Texts.{AreLeft};
-ghost use Rattle.part_texts.specs.Fronts.{fronts_view, shown_sums};
-ghost use Rattle.part_texts.specs.Merged.{MergedAs, OpenView, front_of, fronts_of, left_at};
-ghost use Rattle.part_texts.specs.Merged.{lines_left, merge_of, merged, report_front, section_of};
-ghost use Rattle.part_texts.specs.Merged.{sections_of, whole_front};
-ghost use Rattle.part_texts.specs.inside.Opened.{AreOpen, Copied, FrontRead, FrontsRead, fault_by};
-ghost use Rattle.part_texts.specs.inside.Opened.{open_view};
+ghost use Rattle.part_texts.specs.inside.Fronts.{fronts_view, shown_sums};
+ghost use Rattle.part_texts.specs.Merged.{front_of, fronts_of, left_at, report_front, whole_front};
+ghost use Rattle.part_texts.specs.Reads.{MergesAs};
+ghost use Rattle.part_texts.specs.inside.Opened.{Copies, CopiesAll, FrontRead, FrontsRead};
+ghost use Rattle.part_texts.specs.inside.Opened.{IsUnwritten, LineRead, lines_at};
 
 use crate::fault::MergeFault;
-use crate::fronts::{Fronts, Stage, no_totals};
-use crate::sections::{Section, copy_lines};
-use fare_texts::{head_line, write_out, write_totals};
+use crate::fronts::{Fronts, Refusal, Stage, no_totals};
+use crate::sections::Section;
+use fare_texts::{head_line, write_totals};
 use histories::{Totals, ValidatorSum};
-use line_folds::{Fold, Stop, fold_lines};
+use line_folds::{NextLine, ReadFault};
+use recorded_lines::Lines;
 use report_texts::{Wrong, write_section_head, write_upload, write_validator};
 use std::alloc::{AllocError, Global};
 use std::collections::BTreeMap;
-use std::io::{BufRead, Write};
 use tap_views::{Token, UploadEnd};
+use world::World;
 
 /// A part whose front is read.
-#[derive(Drop)]
-pub struct Open<R> {
-    /// What is left to read.
-    from: R,
+#[derive(Clone, Copy)]
+pub struct Open {
     /// The number of the next line.
     number: u64,
     is_ledger: bool,
@@ -40,22 +38,6 @@ pub struct Open<R> {
     left: u64,
     /// The part's totals.
     part: Totals,
-}
-
-fn fault_by(position: usize, stop: Stop<Wrong>) -> MergeFault
-    ensures { result ≡ fault_by position stop }
-{
-    match stop {
-        Stop::Line { number, why } => MergeFault::Line {
-            text: position,
-            number,
-            why,
-        },
-        Stop::Unread => MergeFault::Unread(position),
-        Stop::TooLong => MergeFault::TooLong(position),
-        Stop::Unwritten => MergeFault::Write,
-        Stop::NoMemory => MergeFault::NoMemory,
-    }
 }
 
 fn left_at(stage: Stage) -> u64
@@ -67,68 +49,120 @@ fn left_at(stage: Stage) -> u64
     }
 }
 
-fn read_front<R: BufRead>(
-    alloc: Global,
-    fronts: &mut Fronts,
-    from: &mut R,
+/// Reads the next line, of this number, of the part at this place. False if there is none.
+fn next_line(
+    from: &mut Lines,
     position: usize,
-) -> Result<u64, MergeFault>
-    ensures { IfSome (R.remaining from.old) (λ text.
-        FrontRead (front_of position (fronts_view fronts.old) text) (fronts_view fronts.new)
-        (R.remaining from.new) result) }
+    number: u64,
+    line: &mut Vec<u8>,
+) -> Result<bool, MergeFault>
+    ensures follows { Follows from.old from.new }
+    ensures read { (whole : List ℕ) → CanBe (calls_of from.new) whole
+        → LineRead (lines_at from.old whole) line.new.items (lines_at from.new whole)
+        (position, number) (calls_of from.new) result }
+    ensures ended { IfOk result (λ some. some ≡ false → IsEndAt from.new) }
+    ensures unwritten { IfErr result IsUnwritten }
 {
-    match fold_lines(alloc, from, 1, fronts) {
-        Ok(number) => {
-            if fronts.is_done() {
-                Ok(number)
-            } else {
-                Err(MergeFault::Line {
-                    text: position,
-                    number,
-                    why: Wrong::Form,
-                })
-            }
-        }
-        Err(stop) => Err(fault_by(position, stop)),
+    match from.read_line(line) {
+        Ok(NextLine::Whole) => Ok(true),
+        Ok(NextLine::End) => Ok(false),
+        Ok(NextLine::Long) => Err(MergeFault::Line {
+            text: position,
+            number,
+            why: Wrong::Form,
+        }),
+        Err(ReadFault::Unread) => Err(MergeFault::Unread(position)),
+        Err(ReadFault::NoMemory) => Err(MergeFault::NoMemory),
     }
 }
 
-fn read_fronts<R: BufRead + Drop>(
+fn read_front(
     alloc: Global,
-    parts: Vec<R>,
     fronts: &mut Fronts,
-) -> Result<Vec<Open<R>>, MergeFault>
-    ensures { (texts : List (List ℕ)) → AreLeft R.remaining parts.items texts
-        → FrontsRead R.remaining (fronts_of (fronts_view fronts.old) [] texts)
-        (fronts_view fronts.new) result }
+    from: &mut Lines,
+    position: usize,
+) -> Result<Open, MergeFault>
+    ensures follows { Follows from.old from.new }
+    ensures read { (whole : List ℕ) → CanBe (calls_of from.new) whole
+        → FrontRead (front_of position (fronts_view fronts.old) (left from.old whole))
+        (fronts_view fronts.new) (lines_at from.new whole) position (calls_of from.new) result }
+    ensures unwritten { IfErr result IsUnwritten }
+{
+    let mut line = Vec::new(alloc);
+    for number in 1..u64::MAX {
+        if fronts.is_done() {
+            return Ok(Open {
+                number,
+                is_ledger: fronts.is_ledger,
+                left: left_at(fronts.stage),
+                part: fronts.part,
+            });
+        }
+        match next_line(from, position, number, &mut line) {
+            Ok(true) => {}
+            Ok(false) => {
+                return Err(MergeFault::Line {
+                    text: position,
+                    number,
+                    why: Wrong::Form,
+                });
+            }
+            Err(fault) => return Err(fault),
+        }
+        match fronts.take(&line) {
+            Ok(()) => {}
+            Err(Refusal::Wrong(why)) => {
+                return Err(MergeFault::Line {
+                    text: position,
+                    number,
+                    why,
+                });
+            }
+            Err(Refusal::NoMemory) => return Err(MergeFault::NoMemory),
+        }
+    }
+    Err(MergeFault::NoMemory)
+}
+
+fn read_fronts(
+    alloc: Global,
+    parts: &mut [Lines],
+    fronts: &mut Fronts,
+) -> Result<Vec<Open>, MergeFault>
+    requires { All IsFresh parts.old }
+    ensures follow { AllZip Follows parts.old parts.new }
+    ensures read { (texts : List (List ℕ)) → AllZip CanBe (map calls_of parts.new) texts
+        → FrontsRead (fronts_of (fronts_view fronts.old) [] texts) (fronts_view fronts.new)
+        parts.new texts result }
+    ensures number { IfOk result (λ opens. length opens.items ≡ length parts.new) }
+    ensures unwritten { IfErr result IsUnwritten }
 {
     let count = parts.len();
     let mut opens = Vec::new(alloc);
-    for mut from in parts {
-        let position = opens.len();
+    for position in 0..count {
         fronts.begin(position, count);
-        let number = read_front(alloc, fronts, &mut from, position)?;
-        opens.push(Open {
-            from,
-            number,
-            is_ledger: fronts.is_ledger,
-            left: left_at(fronts.stage),
-            part: fronts.part,
-        })?;
+        let part = match read_front(alloc, fronts, &mut parts[position], position) {
+            Ok(part) => part,
+            Err(fault) => return Err(fault),
+        };
+        let Ok(()) = opens.push(part) else {
+            return Err(MergeFault::NoMemory);
+        };
     }
     Ok(opens)
 }
 
-fn copy_section<R: BufRead, W: Write>(
+fn copy_section<W: World>(
     alloc: Global,
-    part: &mut Open<R>,
+    from: &mut Lines,
+    part: &Open,
     position: usize,
     last: Option<Token>,
-    out: &mut W,
+    world: &mut W,
 ) -> Result<Option<Token>, MergeFault>
-    ensures { (view : OpenView) → open_view R.remaining part.old ≡ Some view
-        → Copied (λ s. s.last) (section_of position last view) (flat_map (λ line. line) view.lines)
-        (W.contents out.old) (W.contents out.new) result }
+    ensures follows { Follows from.old from.new }
+    ensures copied { Copies position last part.now from.old from.new (W.run world.old)
+        (W.run world.new) result }
 {
     let mut section = Section {
         is_ledger: part.is_ledger,
@@ -138,33 +172,64 @@ fn copy_section<R: BufRead, W: Write>(
         part: part.part,
         so_far: no_totals(),
     };
-    match copy_lines(alloc, &mut part.from, part.number, &mut section, out) {
-        Ok(number) => match section.end() {
-            None => Ok(section.last),
-            Some(why) => Err(MergeFault::Line {
-                text: position,
-                number,
-                why,
-            }),
-        },
-        Err(stop) => Err(fault_by(position, stop)),
+    let mut line = Vec::new(alloc);
+    for number in part.number..u64::MAX {
+        match next_line(from, position, number, &mut line) {
+            Ok(true) => {}
+            Ok(false) => match section.end() {
+                None => return Ok(section.last),
+                Some(why) => {
+                    return Err(MergeFault::Line {
+                        text: position,
+                        number,
+                        why,
+                    });
+                }
+            },
+            Err(fault) => return Err(fault),
+        }
+        match section.trailing(&line) {
+            Ok(next) => section = next,
+            Err(why) => {
+                return Err(MergeFault::Line {
+                    text: position,
+                    number,
+                    why,
+                });
+            }
+        }
+        match world.write(&line) {
+            Ok(()) => {}
+            Err(why) => return Err(MergeFault::Write(why)),
+        }
     }
+    Err(MergeFault::NoMemory)
 }
 
-fn copy_sections<R: BufRead + Drop, W: Write>(
+fn copy_sections<W: World>(
     alloc: Global,
-    opens: Vec<Open<R>>,
-    out: &mut W,
+    parts: &mut [Lines],
+    opens: &[Open],
+    world: &mut W,
 ) -> Result<(), MergeFault>
-    ensures { (views : List OpenView) → AreOpen R.remaining opens.items views
-        → Copied (λ s. tt) (sections_of 0 None views) (lines_left views)
-        (W.contents out.old) (W.contents out.new) result }
+    requires { length opens.now ≡ length parts.old }
+    ensures follow { AllZip Follows parts.old parts.new }
+    ensures copied { CopiesAll opens.now parts.old parts.new (W.run world.old) (W.run world.new)
+        result }
 {
     let mut last = None;
-    let mut position: usize = 0;
-    for mut part in opens {
-        last = copy_section(alloc, &mut part, position, last, out)?;
-        position = position.saturating_add(1);
+    for position in 0..parts.len() {
+        last = match copy_section(
+            alloc,
+            &mut parts[position],
+            &opens[position],
+            position,
+            last,
+            world,
+        ) {
+            Ok(next) => next,
+            Err(fault) => return Err(fault),
+        };
     }
     Ok(())
 }
@@ -223,32 +288,12 @@ fn whole_front(alloc: Global, fronts: Fronts) -> Result<Vec<u8>, AllocError>
     }
 }
 
-fn write_whole<R: BufRead + Drop, W: Write>(
-    alloc: Global,
-    fronts: Fronts,
-    opens: Vec<Open<R>>,
-    out: &mut W,
-) -> Result<(), MergeFault>
-    ensures { (views : List OpenView) → AreOpen R.remaining opens.items views
-        → MergedAs (merged (fronts_view fronts, views)) (W.contents out.old) (W.contents out.new)
-        result }
-{
-    let text = whole_front(alloc, fronts)?;
-    match write_out(&text, out) {
-        Ok(()) => copy_sections(alloc, opens, out),
-        Err(_) => Err(MergeFault::Write),
-    }
-}
-
 /// Merges the texts of parts, in their order: all reports, or all ledgers. All fronts are read
 /// before the first byte is written.
-pub fn merge<R: BufRead + Drop, W: Write>(
-    alloc: Global,
-    parts: Vec<R>,
-    out: &mut W,
-) -> Result<(), MergeFault>
-    ensures { (texts : List (List ℕ)) → AreLeft R.remaining parts.items texts
-        → MergedAs (merge_of texts) (W.contents out.old) (W.contents out.new) result }
+pub fn merge<W: World>(alloc: Global, parts: &mut [Lines], world: &mut W) -> Result<(), MergeFault>
+    requires { All IsFresh parts.old }
+    ensures follow { AllZip Follows parts.old parts.new }
+    ensures merges { MergesAs (map calls_of parts.new) (W.run world.old) (W.run world.new) result }
 {
     if parts.is_empty() {
         return Err(MergeFault::Line {
@@ -258,6 +303,16 @@ pub fn merge<R: BufRead + Drop, W: Write>(
         });
     }
     let mut fronts = Fronts::new(alloc);
-    let opens = read_fronts(alloc, parts, &mut fronts)?;
-    write_whole(alloc, fronts, opens, out)
+    let opens = match read_fronts(alloc, parts, &mut fronts) {
+        Ok(opens) => opens,
+        Err(fault) => return Err(fault),
+    };
+    let Ok(text) = whole_front(alloc, fronts) else {
+        return Err(MergeFault::NoMemory);
+    };
+    match world.write(&text) {
+        Ok(()) => {}
+        Err(why) => return Err(MergeFault::Write(why)),
+    }
+    copy_sections(alloc, parts, &opens, world)
 }

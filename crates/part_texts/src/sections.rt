@@ -1,25 +1,19 @@
 //! The lines of a part after its front: those of tokens, or those of a ledger's entries.
 
-ghost use Rattle.std.specs.Prelude.{◌≡◌, IfSome, false, option_map};
-ghost use Rattle.line_folds.specs.Folds.{HasWritten, StopsAs, bounded, lines_of, run, written};
+ghost use Rattle.std.specs.Prelude.{◌≡◌, option_map};
 ghost use Rattle.part_texts.specs.EntryLines.{entry_token_in, first_of};
 ghost use Rattle.part_texts.specs.Sections.{entry_step, is_token_above, may_follow};
 ghost use Rattle.part_texts.specs.inside.Sections.{IsNext};
 ghost use Rattle.part_texts.specs.Sections.{section_end, section_step, token_step};
 ghost use Rattle.part_texts.specs.inside.Sections.{section_view};
 ghost use Rattle.report_texts.specs.Forms.{token_read};
-ghost use Rattle.report_texts.specs.declared.wrong.Wrong.TheVariants.{Form};
 
 use crate::fronts::{added, are_same};
-use fare_texts::write_out;
 use histories::Totals;
 use ledger_fields::row_fields;
-use line_folds::{NextLine, ReadFault, Stop, next_line};
 use line_forms::form::FormOf;
 use report_texts::Wrong;
 use report_texts::forms::{TokenDigits, token_line_in};
-use std::alloc::Global;
-use std::io::{BufRead, Write};
 use tap_views::Token;
 
 /// What the lines of a part so far leave.
@@ -148,43 +142,4 @@ impl Section {
             Some(Wrong::Totals)
         }
     }
-}
-
-pub(crate) fn copy_lines<R: BufRead, W: Write>(
-    alloc: Global,
-    from: &mut R,
-    first: u64,
-    section: &mut Section,
-    out: &mut W,
-) -> Result<u64, Stop<Wrong>>
-    ensures stops { IfSome (R.remaining from.old) (λ text.
-        StopsAs (run (λ s. false) (bounded Form section_step) first (section_view section.old)
-        (lines_of text)) (section_view section.new) (R.remaining from.new) result) }
-    ensures written { IfSome (R.remaining from.old) (λ text.
-        HasWritten (W.contents out.old) (W.contents out.new)
-        (written (λ s. false) (bounded Form section_step) (λ s line. line)
-        (section_view section.old) (lines_of text)) result) }
-{
-    let mut line = Vec::new(alloc);
-    for number in first..u64::MAX {
-        match next_line(from, &mut line) {
-            Ok(NextLine::Whole) => {}
-            Ok(NextLine::Long) => {
-                let why = Wrong::Form;
-                return Err(Stop::Line { number, why });
-            }
-            Ok(NextLine::End) => return Ok(number),
-            Err(ReadFault::Unread) => return Err(Stop::Unread),
-            Err(ReadFault::NoMemory) => return Err(Stop::NoMemory),
-        }
-        match section.trailing(&line) {
-            Ok(next) => *section = next,
-            Err(why) => return Err(Stop::Line { number, why }),
-        }
-        match write_out(&line, out) {
-            Ok(()) => {}
-            Err(_) => return Err(Stop::Unwritten),
-        }
-    }
-    Err(Stop::TooLong)
 }

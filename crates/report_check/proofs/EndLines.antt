@@ -100,9 +100,6 @@ at_by upload line (Some found) is end e = at (nat_eq found.0 upload) e
     at false e = absurd (cc)
 
 -- ---- all lines
-Read : ℕ → List UploadEnd → List UploadEnd → Type 0
-Read left ends all = All IsReportEnd all × (length all ≡ length ends + left)
-
 sound_step : (left : ℕ) (ends all : List UploadEnd) (line : List ℕ) (lines : List (List ℕ))
     → ((end : UploadEnd) → IsReportEnd end → ends_from left (ends ++ end ∷ []) lines ≡ Ok all
     → All IsReportEnd all × (length all ≡ length (ends ++ end ∷ []) + left))
@@ -247,22 +244,6 @@ pub no_line : (uploads upload : ℕ) (ends : List UploadEnd) → upload < upload
 no_line uploads upload ends below =
     let left : uploads - upload ≡ suc (uploads - (upload + 1)) = omega (arith, below) in
     ap (λ (n : ℕ). ends_from n ends []) left
-
-pub first_lines : (text head trailing : List ℕ) (uploads : ℕ) (ends : List UploadEnd)
-    → lines_of text ≡ head ∷ lines_of trailing → Some uploads ≡ head_in (codes "uploads ") head
-    → ends ≡ [] → uploads_in (lines_of text) ≡ ends_from (uploads - 0) ends (lines_of trailing)
-first_lines text head trailing uploads ends lines is none =
-    let all : uploads ≡ uploads - 0 = omega arith in
-    ap uploads_in lines
-    ∙ ap (λ (o : Option ℕ). found_or 1 o (λ n. ends_from n [] (lines_of trailing))) (sym is)
-    ∙ ap (λ (n : ℕ). ends_from n [] (lines_of trailing)) all
-    ∙ ap (λ (es : List UploadEnd). ends_from (uploads - 0) es (lines_of trailing)) (sym none)
-
-pub last_lines : (uploads upload : ℕ) (ends : List UploadEnd) (lines : List (List ℕ))
-    → uploads ≤ upload → ends_from (uploads - upload) ends lines ≡ Ok ends
-last_lines uploads upload ends lines over =
-    let none : uploads - upload ≡ 0 = omega (arith, over) in
-    ap (λ (n : ℕ). ends_from n ends lines) none
 
 pub no_uploads : (text : List ℕ) → length text ≤ 0 → uploads_in (lines_of text) ≡ Err 1
 unfolding lines_of

@@ -10,9 +10,9 @@ use Rattle.ledger_check.specs.Lines.{lines_of}
 use Rattle.tap_views.specs.UploadEnds.{taps_of_end}
 use Rattle.tap_views.specs.declared.upload_end.UploadEnd.{UploadEnd}
 use Rattle.report_check.specs.Reports.{IsDifferenceFrom, IsVerdictBy, IsVerdictOn, report_of}
-use Rattle.report_check.specs.Sums.{AreSumsOf}
+use Rattle.ledger_check.specs.Sums.{AreSumsOf}
 use Rattle.report_check.specs.Uploads.{uploads_in}
-use Rattle.report_check.specs.declared.open_sums.EntrySums.{EntrySums}
+use Rattle.ledger_check.specs.declared.open_sums.EntrySums.{EntrySums}
 use Rattle.report_check.specs.declared.verdict.ReportVerdict.{ReportVerdict}
 use Rattle.report_check.specs.declared.verdict.ReportVerdict.TheVariants.{Taps}
 

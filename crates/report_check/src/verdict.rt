@@ -2,11 +2,11 @@
 
 ghost use Rattle.std.specs.Prelude.{◌≡◌, List, IfOk, None, option_map};
 ghost use Rattle.histories.specs.declared.entry.Entry.{Entry};
-ghost use Rattle.report_check.specs.Sums.{AreSumsOf};
+ghost use Rattle.ledger_check.specs.Sums.{AreSumsOf};
 ghost use Rattle.report_check.specs.Reports.{IsDifferenceFrom, IsReportVerdictBeside, report_of};
 
-use crate::open_sums::EntrySums;
 use crate::uploads::{UploadLines, first_line, taps_of, upload_lines};
+use ledger_check::EntrySums;
 use line_forms::forms::after_word;
 use report_texts::write_report;
 use std::alloc::Global;

@@ -7,6 +7,7 @@ mod FieldLemmas
 mod GoingLemmas
 mod GrowingLemmas
 mod LocalLemmas
+mod NumberingLemmas
 pub mod MomentLemmas
 mod OneDeviceTable
 mod UniqueParse

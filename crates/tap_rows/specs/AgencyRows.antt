@@ -10,8 +10,8 @@ use Rattle.csv.specs.Records.{field_at}
 use Rattle.sha2.specs.Sha256.{sha256}
 use Rattle.uuid.specs.Text.{parsed}
 use Rattle.tap_views.specs.declared.encoder.TapFields.{TapFields}
-use Rattle.tap_rows.specs.AgencyMoments.{moment_in}
 use Rattle.tap_rows.specs.Devices.{devices_of, validator_of}
+use Rattle.tap_rows.specs.Formats.{moment_under}
 use Rattle.tap_rows.specs.Keys.{code_by}
 use Rattle.tap_rows.specs.Numbers.{whole_number_in}
 use Rattle.tap_rows.specs.declared.agency.choice.Choice.{Choice}
@@ -134,7 +134,8 @@ kept_reading choice layout row =
     if is_one_rider layout.count row
     then tap_from (token_in choice.key choice.columns.now.has_hashes (field row layout.token))
     (validator_in choice.devices (field row layout.validator))
-    (moment_in choice.columns.now.unit choice.clock (field row layout.moment))
+    (moment_under choice.columns.now.format choice.columns.now.unit choice.clock
+    (field row layout.moment))
     else read.Refused why.Riders
 
 -- what a row is read as, if the columns are here: a tap that is kept, a row that is not, or one

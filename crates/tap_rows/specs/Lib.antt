@@ -5,9 +5,11 @@ pub mod AgencyTexts
 pub mod Decoded
 pub mod Devices
 pub mod Fields
+pub mod Formats
 pub mod Keys
 pub mod LocalTimes
 pub mod Moments
+pub mod Numbering
 pub mod Numbers
 pub mod Rows
 pub mod TapTables

@@ -2,6 +2,7 @@
 pub mod DeviceRows
 pub mod Goings
 pub mod Growing
+pub mod Numbering
 pub mod Positions
 pub mod RecordReaders
 pub mod TapTables

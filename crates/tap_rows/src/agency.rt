@@ -3,6 +3,7 @@
 
 mod choice;
 mod fault;
+mod formatted;
 mod instant;
 mod key;
 mod local;
@@ -18,9 +19,10 @@ mod writing;
 pub use choice::{Choice, Columns, Condition, Fold, LocalClock, Separator, Unit};
 pub use fault::{AgencyFault, Wanted};
 pub use key::{TokenKey, WrongKey};
-pub(crate) use positions::has_at;
-pub(crate) use reading::field_in;
+pub(crate) use positions::{Positions, has_at, positions_of};
+pub(crate) use reading::{field_in, is_kept};
 pub use reading::{Reading, Reason};
 pub(crate) use records::{next_record, records_of};
+pub(crate) use refusals::text_of;
 pub use summary::Summary;
 pub use writing::{EncodedRows, encode_rows};

@@ -19,7 +19,7 @@ pub use agency::{
     Separator, Summary, TokenKey, Unit, Wanted, WrongKey, encode_rows,
 };
 pub use column::Column;
-pub use devices::{DeviceTable, DevicesFault, WrongDevice, read_devices};
+pub use devices::{DeviceTable, DevicesFault, WrongDevice, device_text, number_devices, read_devices};
 pub use fault::RowsFault;
 pub use into_table::{decode, push_head};
 pub use into_upload::encode;

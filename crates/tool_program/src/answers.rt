@@ -1,79 +1,79 @@
 //! What clap answers if there is nothing to do.
-ghost use Rattle.std.specs.Prelude.{◌≡◌, ◌≢◌, ◌≤◌, ◌⊎◌, IfErr};
+ghost use Rattle.std.specs.Prelude.{◌≡◌, ◌≤◌, OnOk};
 ghost use Rattle.clap.specs.Words.{kind_of};
 ghost use Rattle.program_manners.specs.Words.{IsRequest};
-ghost use Rattle.tool_tasks.specs.Fault.{IsFaultReported, failed_as};
-ghost use Rattle.tool_tasks.specs.declared.fault.Fault.TheVariants.{NoMemory};
+ghost use Rattle.tool_program.specs.Program.{IsPrinted, IsRefused};
+ghost use Rattle.world.specs.Writes.{IsSaid};
 
 use clap::Error;
 use clap::error::ErrorKind;
-use program_manners::{Complaints, Output};
-use std::alloc::Global;
-use std::io::Write;
-use tool_tasks::{Escaped, Fault, finish, say};
+use frame::{Stop, report};
+use std::alloc::{AllocError, Global};
+use tool_tasks::{Escaped, Fault};
+use world::{World, WriteFault};
 
 /// Other control characters of the lines are escaped, since they may have words of the command
 /// line.
-fn write_safely<E: Write>(err: &mut Complaints<E>, text: &str) {
+fn escaped(alloc: Global, error: &Error) -> Result<String, AllocError> {
+    let text = format!(in alloc; "{error}")?;
+    let mut lines = String::new(alloc);
     for line in text.split_inclusive("\n") {
         match line.strip_suffix("\n") {
-            Some(line) => err.report_line(Escaped(line)),
-            None => err.report(Escaped(line)),
+            Some(line) => write!(lines, "{}\n", Escaped(line))?,
+            None => write!(lines, "{}", Escaped(line))?,
         }
     }
+    Ok(lines)
 }
 
-fn print<'a, W: Write>(error: &Error, out: &mut Output<W>) -> Result<(), Fault<'a>>
-    ensures { IfErr result (λ fault. fault ≡ failed_as out.new.end) }
-{
-    match write!(out, "{error}") {
-        Ok(()) => finish(out),
-        Err(_) => Err(Fault::of_write(out.end())),
-    }
-}
-
-pub(crate) fn report<E: Write>(err: &mut Complaints<E>, fault: &Fault<'_>) -> u8
+pub(crate) fn refuse_memory<W: World>(world: &mut W) -> u8
     ensures status { result ≡ 1 }
-    ensures reported { IsFaultReported fault.now (E.contents err.old.writer)
-        (E.contents err.new.writer) err.new.failed }
+    ensures said { IsSaid (W.run world.old) (W.run world.new) }
 {
-    say(err, fault);
+    let _ = world.report_line(Fault::NoMemory);
     1
 }
 
-/// Shows help and the version on `out`, a usage error on `err`. The status is 0 for help and
-/// version, 2 for a usage error, 1 if an allocation or a write failed.
-pub(crate) fn show<W: Write, E: Write>(
-    alloc: Global,
-    error: &Error,
-    out: &mut Output<W>,
-    err: &mut Complaints<E>,
-) -> u8
-    ensures help { result ≡ 0 → IsRequest (kind_of error.now) × (err.new ≡ err.old) }
-    ensures unwritten { IsRequest (kind_of error.now) → (result ≡ 0) ⊎ ((result ≡ 1)
-        × IsFaultReported (failed_as out.new.end) (E.contents err.old.writer)
-        (E.contents err.new.writer) err.new.failed) }
-    ensures refused { (¬ IsRequest (kind_of error.now)) → ((result ≡ 2)
-        × (kind_of error.now ≢ ErrorKind.OutOfMemory)) ⊎ ((result ≡ 1)
-        × IsFaultReported NoMemory (E.contents err.old.writer)
-        (E.contents err.new.writer) err.new.failed) }
-    ensures memory { kind_of error.now ≡ ErrorKind.OutOfMemory → result ≡ 1 }
-    ensures usage_error { result ≡ 2 → ¬ IsRequest (kind_of error.now) }
-    ensures untouched { result ≡ 2 → out.new ≡ out.old }
+/// Shows help and the version on the output, a usage error on the standard error. The status is 0
+/// for help and version, 2 for a usage error, 1 if an allocation or a write failed.
+pub(crate) fn show<W: World>(alloc: Global, error: &Error, world: &mut W) -> u8
+    ensures help { result ≡ 0
+        → IsRequest (kind_of error.now) × IsPrinted (W.run world.old) (W.run world.new) }
+    ensures refused { ¬ IsRequest (kind_of error.now)
+        → IsRefused (W.run world.old) (W.run world.new) result }
+    ensures memory { kind_of error.now ≡ ErrorKind.OutOfMemory
+        → (result ≡ 1) × IsSaid (W.run world.old) (W.run world.new) }
     ensures status { result ≤ 2 }
 {
     match error.kind() {
-        ErrorKind::OutOfMemory => report(err, &Fault::NoMemory),
-        ErrorKind::DisplayHelp | ErrorKind::DisplayVersion => match print(error, out) {
-            Ok(()) => 0,
-            Err(fault) => report(err, &fault),
-        },
-        _ => match format!(in alloc; "{error}") {
+        ErrorKind::OutOfMemory => refuse_memory(world),
+        ErrorKind::DisplayHelp | ErrorKind::DisplayVersion => {
+            let Ok(text) = format!(in alloc; "{error}") else {
+                return refuse_memory(world);
+            };
+            match print(text.as_bytes(), world) {
+                Ok(()) => 0,
+                Err(why) => {
+                    report(Stop::Unwritten(why), Fault::Write, world);
+                    1
+                }
+            }
+        }
+        _ => match escaped(alloc, error) {
             Ok(text) => {
-                write_safely(err, &text);
+                world.say(text.as_bytes());
                 2
             }
-            Err(_) => report(err, &Fault::NoMemory),
+            Err(_) => refuse_memory(world),
         },
+    }
+}
+
+fn print<W: World>(text: &[u8], world: &mut W) -> Result<(), WriteFault>
+    ensures { OnOk result (IsPrinted (W.run world.old) (W.run world.new)) }
+{
+    match world.write(text) {
+        Ok(()) => world.flush(),
+        Err(why) => Err(why),
     }
 }

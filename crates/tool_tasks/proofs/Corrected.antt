@@ -13,34 +13,15 @@ use Rattle.ledger_changes.specs.declared.fault.Bill.TheVariants.{New, Old}
 use Rattle.ledger_changes.specs.declared.fault.CorrectionsFault.{CorrectionsFault}
 use Rattle.ledger_changes.specs.declared.fault.CorrectionsFault.TheVariants as fault
 use Rattle.ledger_changes.proofs.Walking.{begun}
+use Rattle.part_texts.proofs.Written.{written_none}
 use Rattle.recorded_lines.specs.Texts.{CanBe, Follows, calls_of}
 use Rattle.recorded_lines.specs.declared.text.Lines.{Lines}
 use Rattle.world.specs.Run.{Calls, Run, with_cut, with_flushed, with_said, with_written}
-use Rattle.world.specs.Writes.{IsCut}
 use Rattle.world.specs.declared.faults.WriteFault.{WriteFault}
 use Rattle.tool_tasks.specs.Corrections.{AreRead, IsCalled, IsPart, IsStopped}
 use Rattle.tool_tasks.specs.Names.{file_named}
 use Rattle.tool_tasks.specs.inside.Corrections.{IsHalt, IsStopBy, IsUnopenedAt, Stopped, halt_of}
 use Rattle.tool_words.specs.Request.{CorrectionsRequest}
-
-pub written_none : (r : Run) → r ≡ with_written r []
-written_none r = ap (λ t. record r { written = t }) (sym (append-nil r.written))
-
-pub written_more : (r : Run) (a b : List ℕ)
-    → with_written (with_written r a) b ≡ with_written r (a ++ b)
-written_more r a b = ap (λ t. record r { written = t }) (append_assoc r.written a b)
-
-pub written_on : (r now next : Run) (text piece : List ℕ) → now ≡ with_written r text
-    → next ≡ with_written now piece → next ≡ with_written r (text ++ piece)
-written_on r now next text piece is more =
-    more ∙ ap (λ (x : Run). with_written x piece) is ∙ written_more r text piece
-
-pub cut_on : (r now next : Run) (text piece : List ℕ) (why : WriteFault)
-    → now ≡ with_written r text → (cut : IsCut now next piece why)
-    → next ≡ with_cut (with_written r (text ++ cut.front)) why
-cut_on r now next text piece why is cut =
-    cut.prefix ∙ ap (λ (x : Run). with_cut x why)
-    (written_on r now (with_written now cut.front) text cut.front is refl)
 
 -- what was written and said
 pub flushed_said : (r now next : Run) (text said note : List ℕ) → now ≡ with_written r text
@@ -77,7 +58,7 @@ begun_part by_token text piece front rest old new is has o n can_o can_n =
     )
     by (inr wrong) = inr wrong
 
-all_read : (calls : Calls) (whole : List ℕ) → calls.run.loads ≡ calls.reading ∷ []
+pub all_read : (calls : Calls) (whole : List ℕ) → calls.run.loads ≡ calls.reading ∷ []
     → CanBe calls whole → whole ≡ calls.reading.bytes
 all_read calls whole is can =
     can.begins ∙ ap (λ (l : List ℕ). calls.reading.bytes ++ l) (can.ends is)
@@ -132,7 +113,7 @@ are_read request r0 r1 r2 r3 r4 o n old new first second third fourth is_o is_n 
 -- what stopped it is in the calls
 pub called_by : (request : CorrectionsRequest) (before after : List Calls) (old new : Calls)
     (why : Stop) (run run' : Run) → AreRead request before after old new
-    → IsStopBy why old new run run' → IsCalled request (old ∷ new ∷ []) why
+    → IsStopBy why old new run run' → IsCalled (request.old ∷ request.new ∷ []) (old ∷ new ∷ []) why
 called_by request before after old new (Unread number why) run run' read (same, inl (at, unread)) = (
   request.old,
   old,
@@ -165,7 +146,7 @@ stopped_by NoMemory old new run run' r text is same = same ∙ is ∙ did_writte
 pub called_unopened : (request : CorrectionsRequest) (calls : List Calls) (number : ℕ)
     (name : List ℕ) (failed : Calls) (why : Stop)
     → slice_get (request.old ∷ request.new ∷ []) number ≡ Some name → Contains calls failed
-    → IsUnopenedAt number (file_named name) failed why → IsCalled request calls why
+    → IsUnopenedAt number (file_named name) failed why → IsCalled (request.old ∷ request.new ∷ []) calls why
 called_unopened request calls number name failed (Unread at why) is has (same, unread) = (
   name,
   failed,

@@ -4,11 +4,10 @@ mod Loading
 pub mod Corrected
 pub mod Decoding
 mod Encoding
-pub mod Faults
 pub mod Making
 pub mod MergedUploads
-pub mod Opened
-mod Preparing
+pub mod PartsRead
+pub mod Preparing
 pub mod Sorting
-mod TablesLoaded
+pub mod EncodingRows
 pub mod ValidPrefixes

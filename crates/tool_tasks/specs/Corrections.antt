@@ -82,13 +82,13 @@ pub record RefusesLedger (request : CorrectionsRequest) (before after : List Cal
 
 -- A file that was not opened or read is one that the words name, of which a call failed. Memory may
 -- be refused at any time.
-abbrev pub IsCalled : CorrectionsRequest → List Calls → Stop → Type 0
-IsCalled request calls (Unread number why) = (name : List ℕ) × (failed : Calls)
-    × (slice_get (request.old ∷ request.new ∷ []) number ≡ Some name) × Contains calls failed
+abbrev pub IsCalled : List (List ℕ) → List Calls → Stop → Type 0
+IsCalled words calls (Unread number why) = (name : List ℕ) × (failed : Calls)
+    × (slice_get words number ≡ Some name) × Contains calls failed
     × (failed.run.unread ≡ file_named name ∷ [])
-IsCalled request calls (Unwritten why) = ⊤
-IsCalled request calls (Unmade number why) = ⊥
-IsCalled request calls NoMemory = ⊤
+IsCalled words calls (Unwritten why) = ⊤
+IsCalled words calls (Unmade number why) = ⊥
+IsCalled words calls NoMemory = ⊤
 
 -- what stopped a run leaves this of it
 abbrev pub IsStopped : Stop → Run → Run → Type 0
@@ -103,7 +103,7 @@ pub record StopsCorrecting (request : CorrectionsRequest) (before after : List C
   pub why : Stop
   pub calls : List Calls
   pub all : after ≡ before ++ calls
-  pub event : IsCalled request calls why
+  pub event : IsCalled (request.old ∷ request.new ∷ []) calls why
   pub text : List ℕ
   pub part : IsPart request before after text
   pub stopped_run : Run

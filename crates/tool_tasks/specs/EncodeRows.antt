@@ -1,14 +1,16 @@
--- What `encode` of an agency's own CSV does: of the word of its file, and of the words that say how
--- it is read.
-use Rattle.std.specs.Prelude.{◌≡◌, ◌⊎◌, ⊤, ◌+◌, ◌==◌, ℕ, Err, List, [], ◌∷◌, ◌++◌, Option, None, Some}
-use Rattle.std.specs.Prelude.{IfSome, if◌then◌else◌, codes, decimal, option_map, slice_get}
-use Rattle.std.specs.Prelude.{unwrap_or}
+-- What `encode` of an agency's own CSVs does: of the words of their files, and of the words that say
+-- how they are read.
+use Rattle.std.specs.Prelude.{◌≡◌, ◌⊎◌, ⊤, ◌+◌, ◌==◌, ◌||◌, ℕ, Bool, Contains, Err, List, [], ◌∷◌}
+use Rattle.std.specs.Prelude.{◌++◌, Option, None, Some, IfSome, if◌then◌else◌, codes, decimal, false}
+use Rattle.std.specs.Prelude.{length, map, nat_lt, not, option_map, slice_get, true, unwrap_or}
 use Rattle.std.specs.Borrow.{Bor}
 use Rattle.frame.specs.Ends.{Answer}
+use Rattle.frame.specs.Making.{EndsMaking}
 use Rattle.tap_rows.specs.Agencies.{IsFirstRefused, IsRowsEncoded, IsWanting}
 use Rattle.tap_rows.specs.AgencyTexts.{first_record}
 use Rattle.tap_rows.specs.Devices.{AreDevices, Device, IsDevicesFault, devices_of}
 use Rattle.tap_rows.specs.Keys.{key_of}
+use Rattle.tap_rows.specs.Numbering.{IsNumbered, device_table_text}
 use Rattle.tap_rows.specs.declared.agency.choice.Choice.{Choice}
 use Rattle.tap_rows.specs.declared.agency.choice.Columns.{Columns}
 use Rattle.tap_rows.specs.declared.agency.choice.Condition.{Condition}
@@ -19,9 +21,9 @@ use Rattle.tap_rows.specs.declared.agency.key.WrongKey.{WrongKey}
 use Rattle.tap_rows.specs.declared.agency.summary.Summary.{Summary}
 use Rattle.tap_rows.specs.declared.devices.fault.DevicesFault.TheVariants as devices
 use Rattle.tool_tasks.specs.Encode.{Refuses, load_of}
-use Rattle.tool_tasks.specs.EncodeTables.{AreClockLoads, AreKeyLoads, IsNoZone, zone_file}
+use Rattle.tool_tasks.specs.EncodeTables.{IsClock, IsKey, IsNoZone, zone_file, zone_loaded}
 use Rattle.tool_tasks.specs.Fault.{key_line, wrong_line}
-use Rattle.tool_tasks.specs.Names.{file_named}
+use Rattle.tool_tasks.specs.Names.{called, file_named}
 use Rattle.tool_tasks.specs.Uploads.{IsMomentOrDash}
 use Rattle.tool_tasks.specs.WrongTables.{devices_text, rows_text}
 use Rattle.tool_tasks.specs.declared.wrong_tables.WrongDevices.{WrongDevices}
@@ -29,47 +31,94 @@ use Rattle.tool_tasks.specs.declared.wrong_tables.WrongDevices.TheVariants as wr
 use Rattle.tool_tasks.specs.declared.wrong_tables.WrongRows.{WrongRows}
 use Rattle.tool_tasks.specs.declared.wrong_tables.WrongRows.TheVariants as wrong_rows
 use Rattle.tool_words.specs.declared.task.RowsWords.{RowsWords}
-use Rattle.world.specs.Run.{Load, Named}
+use Rattle.world.specs.Run.{Load, Named, Run, with_unread}
 
 -- the word, if there is one
 abbrev pub word_in : Option (Bor (List ℕ)) → Option (List ℕ)
 word_in word = option_map (λ w. w.now) word
 
--- the files that the words name: the CSV, the device table, the file of the refused rows, the key
--- and the file of the zone
-abbrev pub names_of : RowsWords → List ℕ → List (List ℕ)
-names_of words word = word ∷ unwrap_or (word_in words.devices) word
-    ∷ unwrap_or (word_in words.refused) word ∷ unwrap_or (word_in words.key) word
-    ∷ unwrap_or (option_map zone_file (word_in words.zone)) word ∷ []
+-- the files that the words name: the device table, the file of the refused rows, the key, the file
+-- of the zone, the file of the upload, and the CSVs. What has no word has no name.
+abbrev pub names_of : RowsWords → List (List ℕ) → List (List ℕ)
+names_of words csvs = unwrap_or (word_in words.devices) []
+    ∷ unwrap_or (word_in words.refused) [] ∷ unwrap_or (word_in words.key) []
+    ∷ unwrap_or (option_map zone_file (word_in words.zone)) []
+    ∷ unwrap_or (word_in words.out) [] ∷ csvs
+
+-- ---- what is read
+-- a CSV: its word, and its text
+abbrev pub Csv : Type 0
+Csv = List ℕ × List ℕ
+
+-- the texts of the device table, the key and the zone, each empty if it is not loaded, and the CSVs
+pub record Texts : Type 0 where
+  pub devices : List ℕ
+  pub key : List ℕ
+  pub zone : List ℕ
+  pub csvs : List Csv
+
+-- the load of a text, if it has a word
+abbrev pub loads_in : Option (List ℕ) → List ℕ → List Load
+loads_in None text = []
+loads_in (Some word) text = load_of word text ∷ []
+
+abbrev pub load_csv : Csv → Load
+load_csv csv = load_of csv.0 csv.1
+
+-- the word of the device table, if it is there
+abbrev pub devices_word : RowsWords → Bool → Option (List ℕ)
+devices_word words true = word_in words.devices
+devices_word words false = None
+
+-- what is loaded after the device table
+abbrev pub later_loads : RowsWords → Texts → List Load
+later_loads words texts = loads_in (word_in words.key) texts.key
+    ++ (loads_in (zone_loaded (word_in words.zone)) texts.zone ++ map load_csv texts.csvs)
+
+-- all that is loaded, in order
+abbrev pub loads_of : RowsWords → Bool → Texts → List Load
+loads_of words is_there texts =
+    loads_in (devices_word words is_there) texts.devices ++ later_loads words texts
 
 -- ---- how the rows are read
--- The device table, if it has a word, was read to its end beside rows with this separator, and has
--- these devices.
-abbrev pub AreDeviceLoads : Option (List ℕ) → Separator → List Load → Option (List Device) → Type 0
-AreDeviceLoads None separator loads None = loads ≡ []
-AreDeviceLoads (Some word) separator loads (Some devices) =
-    (text : List ℕ) × (loads ≡ load_of word text ∷ []) × AreDevices separator text devices
-AreDeviceLoads word separator loads devices = ⊥
+-- the devices of a table that is there, and none of one that is not
+abbrev pub AreOldDevices : Bool → Separator → List ℕ → List Device → Type 0
+AreOldDevices true separator text devices = AreDevices separator text devices
+AreOldDevices false separator text devices = devices ≡ []
 
--- the device table was loaded, and then the key, as the words name them
-pub record AreKeyedLoads (words : RowsWords) (devices : Option (List Device))
-    (block : Option (List ℕ)) (loads : List Load) : Type 0 where
-  pub first : List Load
-  pub rest : List Load
-  pub of_devices : AreDeviceLoads (word_in words.devices) words.columns.separator first devices
-  pub of_key : AreKeyLoads (word_in words.key) rest block
-  pub in_order : loads ≡ first ++ rest
+-- the devices of the CSVs were numbered, one CSV after the other
+abbrev pub AreNumbered : Choice → List Csv → List Device → List Device → Type 0
+AreNumbered choice [] old new = new ≡ old
+AreNumbered choice (csv ∷ csvs) old new = (mid : List Device) × IsNumbered choice csv.1 old mid
+    × AreNumbered choice csvs mid new
 
--- The choice is that of the words, and what it has of files was loaded: devices, then the key, then
--- the zone.
-pub record IsChoice (words : RowsWords) (choice : Choice) (loads : List Load) : Type 0 where
+-- the devices that are used: the old ones, or with those of the rows, if the table is made
+abbrev pub AreUsedDevices : Bool → Columns → List Csv → List Device → List Device → Type 0
+AreUsedDevices false columns csvs old new = new ≡ old
+AreUsedDevices true columns csvs old new =
+    (choice : Choice) × (choice.columns.now ≡ columns) × AreNumbered choice csvs old new
+
+abbrev pub AreDevicesOf : Option (List ℕ) → (makes is_there : Bool) → Columns → Texts
+    → Option (List Device) → Type 0
+AreDevicesOf None makes is_there columns texts None = Unit {0}
+AreDevicesOf (Some word) makes is_there columns texts (Some devices) = (old : List Device)
+    × AreOldDevices is_there columns.separator texts.devices old
+    × AreUsedDevices makes columns texts.csvs old devices
+AreDevicesOf word makes is_there columns texts devices = ⊥
+
+-- the devices, if they have a word
+abbrev pub HasDevices : RowsWords → Bool → Texts → Option (List Device) → Type 0
+HasDevices words is_there texts devices = AreDevicesOf (word_in words.devices) words.makes_devices
+    is_there words.columns texts devices
+
+-- The choice is that of the words, and what it has beside columns is in these texts.
+pub record IsChoice (words : RowsWords) (is_there : Bool) (texts : Texts) (choice : Choice)
+    : Type 0 where
   pub columns : choice.columns.now ≡ words.columns
-  pub first : List Load
-  pub rest : List Load
-  pub of_tables : AreKeyedLoads words (option_map (λ table. devices_of table.now) choice.devices)
-      (option_map (λ key. key.now.block) choice.key) first
-  pub of_clock : AreClockLoads (word_in words.zone) words.fold rest choice.clock
-  pub in_order : loads ≡ first ++ rest
+  pub has_devices : HasDevices words is_there texts
+      (option_map (λ table. devices_of table.now) choice.devices)
+  pub is_key : IsKey (word_in words.key) texts.key (option_map (λ key. key.now.block) choice.key)
+  pub is_clock : IsClock (word_in words.zone) words.fold texts.zone choice.clock
 
 -- ---- all is well
 -- the beginning of a summary's line
@@ -88,28 +137,100 @@ pub record IsSummaryLine (summary : Summary) (line : List ℕ) : Type 0 where
   pub is_last : IsMomentOrDash (option_map (λ span. span.last) summary.span) last
   pub shown : line ≡ rows_counts summary ++ (first ++ (codes " last " ++ last))
 
+-- what follows the line: with several CSVs it ends with what its own is called
+abbrev pub line_end : Bool → List ℕ → List ℕ
+line_end false word = codes "\n"
+line_end true word = codes " " ++ (called word ++ codes "\n")
+
+-- what CSVs are encoded as
+pub record Encoded : Type 0 where
+  pub upload : List ℕ
+  pub rows : List ℕ
+  pub note : List ℕ
+  pub has_taps : Bool
+  pub has_refused : Bool
+
+abbrev pub nothing_encoded : Encoded
+nothing_encoded = record {
+  upload = [];
+  rows = [];
+  note = [];
+  has_taps = false;
+  has_refused = false;
+}
+
+-- with the upload, the refused rows and the summary of one more, and its line
+abbrev pub with_csv : Encoded → (upload rows note : List ℕ) → Summary → Encoded
+with_csv old upload rows note summary = record {
+  upload = old.upload ++ upload;
+  rows = old.rows ++ rows;
+  note = old.note ++ note;
+  has_taps = old.has_taps || not (summary.taps == 0);
+  has_refused = old.has_refused || not (summary.refused == 0);
+}
+
+-- What one more CSV adds is the upload of exactly its rows that are kept, its refused rows and its
+-- line. If the refused rows have no file, there are none.
+pub record AddsCsv (words : RowsWords) (is_many : Bool) (choice : Choice) (csv : Csv)
+    (old new : Encoded) : Type 0 where
+  pub upload : List ℕ
+  pub rows : List ℕ
+  pub summary : Summary
+  pub encoded : IsRowsEncoded choice csv.1 upload rows summary
+  pub whole : word_in words.refused ≡ None → summary.first_refused ≡ None
+  pub line : List ℕ
+  pub is_line : IsSummaryLine summary line
+  pub new_is : new ≡ with_csv old upload rows (line ++ line_end is_many csv.0) summary
+
+-- CSVs one after the other
+abbrev pub AddsCsvs : RowsWords → Bool → Choice → List Csv → Encoded → Encoded → Type 0
+AddsCsvs words is_many choice [] old new = new ≡ old
+AddsCsvs words is_many choice (csv ∷ csvs) old new =
+    (mid : Encoded) × AddsCsv words is_many choice csv old mid
+    × AddsCsvs words is_many choice csvs mid new
+
 -- the status: whether a row is a tap, and none is refused
-abbrev pub rows_status : Summary → ℕ
-rows_status summary = if summary.taps == 0 then 1 else (if summary.refused == 0 then 0 else 3)
+abbrev pub rows_status : Encoded → ℕ
+rows_status all = if all.has_taps then (if all.has_refused then 3 else 0) else 1
+
+-- what is written of an upload, and what is made: nothing is written if it has a file, and none is
+-- made of an upload without a tap
+abbrev pub upload_text : Option (List ℕ) → List ℕ → List ℕ
+upload_text None upload = upload
+upload_text (Some name) upload = []
+
+abbrev pub upload_files : Option (List ℕ) → List ℕ → List Named
+upload_files None upload = []
+upload_files (Some name) [] = []
+upload_files (Some name) (byte ∷ bytes) = record { name = name; bytes = byte ∷ bytes } ∷ []
 
 -- the file of the refused rows, if it has a name
 abbrev pub refused_files : Option (List ℕ) → List ℕ → List Named
 refused_files None rows = []
 refused_files (Some name) rows = record { name = name; bytes = rows } ∷ []
 
--- What is written is the upload of exactly the rows that are kept, the file of the refused rows is
--- made, if it has a name, and the summary is noted. If it has none, no row is refused.
-pub record IsRowsUpload (refused : Option (List ℕ)) (choice : Choice) (text : List ℕ)
-    (answer : Answer) (files : List Named) (status : ℕ) : Type 0 where
-  pub rows : List ℕ
-  pub summary : Summary
-  pub encoded : IsRowsEncoded choice text answer.text rows summary
-  pub line : List ℕ
-  pub is_line : IsSummaryLine summary line
-  pub noted : answer.note ≡ line ++ codes "\n"
-  pub made : files ≡ refused_files refused rows
-  pub whole : refused ≡ None → summary.first_refused ≡ None
-  pub status_is : status ≡ rows_status summary
+-- the device table, if it is made
+abbrev pub device_files : Bool → Option (List ℕ) → Option (List Device) → List Named
+device_files true (Some name) (Some devices) =
+    record { name = name; bytes = device_table_text devices } ∷ []
+device_files makes name devices = []
+
+-- the files that are made, in order
+abbrev pub files_made : RowsWords → Choice → Encoded → List Named
+files_made words choice all = (device_files words.makes_devices (word_in words.devices)
+    (option_map (λ table. devices_of table.now) choice.devices)
+    ++ upload_files (word_in words.out) all.upload)
+    ++ refused_files (word_in words.refused) all.rows
+
+-- The upload of all CSVs is written or made, the other files are made, and the lines are noted.
+pub record IsRowsUpload (words : RowsWords) (choice : Choice) (csvs : List Csv) (answer : Answer)
+    (files : List Named) (status : ℕ) : Type 0 where
+  pub all : Encoded
+  pub encoded : AddsCsvs words (nat_lt 1 (length csvs)) choice csvs nothing_encoded all
+  pub answered : answer
+      ≡ record { text = upload_text (word_in words.out) all.upload; note = all.note }
+  pub made : files ≡ files_made words choice all
+  pub status_is : status ≡ rows_status all
 
 -- ---- a wrong file
 -- the name is that of the column of the condition at this position
@@ -145,66 +266,80 @@ IsWrongDevices separator text (wrong_devices.Row number why) =
     IsDevicesFault separator text (devices.Row number why)
 
 -- ---- THE rule
--- it is the upload of the rows; or the text is wrong: its line is noted, with more after it
-abbrev pub IsRowsAnswer : RowsWords → List ℕ → Choice → List ℕ → Answer → List Named → ℕ → Type 0
-IsRowsAnswer words word choice text answer files status =
-    IsRowsUpload (word_in words.refused) choice text answer files status
-    ⊎ ((wrong : WrongRows) × IsWrongRows words choice text wrong × (more : List ℕ)
-    × Refuses (wrong_line word (rows_text wrong)) more answer files status)
+-- it is the upload of the rows; or one of the CSVs is wrong: its line is noted, with more after it
+abbrev pub IsRowsAnswer : RowsWords → Choice → List Csv → Answer → List Named → ℕ → Type 0
+IsRowsAnswer words choice csvs answer files status =
+    IsRowsUpload words choice csvs answer files status
+    ⊎ ((csv : Csv) × Contains csvs csv × (wrong : WrongRows) × IsWrongRows words choice csv.1 wrong
+    × (more : List ℕ) × Refuses (wrong_line csv.0 (rows_text wrong)) more answer files status)
 
--- what the words name was loaded, the CSV was read to its end, and this is the answer
-pub record EncodesText (words : RowsWords) (word : List ℕ) (loads : List Load) (answer : Answer)
+-- the rows are read as the words say, and this is the answer
+pub record EncodesCsvs (words : RowsWords) (is_there : Bool) (texts : Texts) (answer : Answer)
     (files : List Named) (status : ℕ) : Type 0 where
-  pub before : List Load
   pub choice : Choice
-  pub is_choice : IsChoice words choice before
-  pub text : List ℕ
-  pub loaded : loads ≡ before ++ load_of word text ∷ []
-  pub answered : IsRowsAnswer words word choice text answer files status
+  pub is_choice : IsChoice words is_there texts choice
+  pub answered : IsRowsAnswer words choice texts.csvs answer files status
 
--- the words name a device table, its file was loaded, and it is none
-pub record RefusesDevices (words : RowsWords) (loads : List Load) (answer : Answer)
+-- the words name a device table that is there, and is none
+pub record RefusesDevices (words : RowsWords) (is_there : Bool) (texts : Texts) (answer : Answer)
     (files : List Named) (status : ℕ) : Type 0 where
   pub name : List ℕ
   pub named : word_in words.devices ≡ Some name
-  pub text : List ℕ
-  pub loaded : loads ≡ load_of name text ∷ []
+  pub there : is_there ≡ true
   pub wrong : WrongDevices
-  pub is_wrong : IsWrongDevices words.columns.separator text wrong
+  pub is_wrong : IsWrongDevices words.columns.separator texts.devices wrong
   pub answered : Refuses (wrong_line name (devices_text wrong)) [] answer files status
 
--- the words name a key, its file was loaded after the devices, and it is none
-pub record RefusesKey (words : RowsWords) (loads : List Load) (answer : Answer)
+-- the devices are right, the words name a key, and its file is none
+pub record RefusesKey (words : RowsWords) (is_there : Bool) (texts : Texts) (answer : Answer)
     (files : List Named) (status : ℕ) : Type 0 where
-  pub before : List Load
   pub devices : Option (List Device)
-  pub of_devices : AreDeviceLoads (word_in words.devices) words.columns.separator before devices
+  pub has_devices : HasDevices words is_there texts devices
   pub name : List ℕ
   pub named : word_in words.key ≡ Some name
-  pub text : List ℕ
-  pub loaded : loads ≡ before ++ load_of name text ∷ []
   pub wrong : WrongKey
-  pub is_wrong : key_of text ≡ Err wrong
+  pub is_wrong : key_of texts.key ≡ Err wrong
   pub answered : Refuses (key_line name wrong) [] answer files status
 
--- the words name a zone, and after the key it was found that there is none
-pub record RefusesZone (words : RowsWords) (loads : List Load) (answer : Answer)
+-- the devices and the key are right, the words name a zone, and there is none
+pub record RefusesZone (words : RowsWords) (is_there : Bool) (texts : Texts) (answer : Answer)
     (files : List Named) (status : ℕ) : Type 0 where
-  pub before : List Load
   pub devices : Option (List Device)
+  pub has_devices : HasDevices words is_there texts devices
   pub block : Option (List ℕ)
-  pub of_tables : AreKeyedLoads words devices block before
+  pub is_key : IsKey (word_in words.key) texts.key block
   pub name : List ℕ
   pub named : word_in words.zone ≡ Some name
-  pub rest : List Load
-  pub loaded : loads ≡ before ++ rest
   pub line : List ℕ
-  pub is_none : IsNoZone name rest line
+  pub is_none : IsNoZone name texts.zone line
   pub answered : Refuses line [] answer files status
 
--- THE rule of `encode` of an agency's own CSV
-abbrev pub EncodesRows : RowsWords → List ℕ → List Load → Answer → List Named → ℕ → Type 0
-EncodesRows words word loads answer files status =
-    EncodesText words word loads answer files status
-    ⊎ (RefusesDevices words loads answer files status
-    ⊎ (RefusesKey words loads answer files status ⊎ RefusesZone words loads answer files status))
+-- the answer to the texts
+abbrev pub AnswersTexts : RowsWords → Bool → Texts → Answer → List Named → ℕ → Type 0
+AnswersTexts words is_there texts answer files status =
+    EncodesCsvs words is_there texts answer files status
+    ⊎ (RefusesDevices words is_there texts answer files status
+    ⊎ (RefusesKey words is_there texts answer files status
+    ⊎ RefusesZone words is_there texts answer files status))
+
+-- what the words name was read to its end, in order, and this is the answer
+pub record EncodesRows (words : RowsWords) (csvs : List (List ℕ)) (is_there : Bool)
+    (loads : List Load) (answer : Answer) (files : List Named) (status : ℕ) : Type 0 where
+  pub texts : Texts
+  pub loaded : loads ≡ loads_of words is_there texts
+  pub named : map (λ csv. csv.0) texts.csvs ≡ csvs
+  pub answered : AnswersTexts words is_there texts answer files status
+
+-- A device table that is made may be missing: then its load was refused before anything else.
+abbrev pub HasTried : RowsWords → Bool → Run → Run → Type 0
+HasTried words true old new = new ≡ old
+HasTried words false old new = (words.makes_devices ≡ true) × (name : List ℕ)
+    × (word_in words.devices ≡ Some name) × (new ≡ with_unread old (file_named name))
+
+-- THE rule of `encode` of an agency's own CSVs
+pub record EndsRows (words : RowsWords) (csvs : List (List ℕ)) (old new : Run) (status : ℕ)
+    : Type 0 where
+  pub is_there : Bool
+  pub started : Run
+  pub tried : HasTried words is_there old started
+  pub ends : EndsMaking (EncodesRows words csvs is_there) (names_of words csvs) started new status

@@ -1,6 +1,6 @@
--- The key of tokens and the zone of local times, which `encode` loads beside an agency's rows.
-use Rattle.std.specs.Prelude.{◌≡◌, ◌⊎◌, ◌==◌, ◌||◌, ◌++◌, ℕ, Bool, List, [], ◌∷◌, None, Ok, Option}
-use Rattle.std.specs.Prelude.{Some, codes, false, true}
+-- What `encode` reads beside an agency's rows: the key of tokens, and the zone of local times.
+use Rattle.std.specs.Prelude.{◌≡◌, ◌⊎◌, ◌==◌, ◌||◌, ◌&&◌, ◌++◌, ℕ, Bool, List, None, Ok, Option, Some}
+use Rattle.std.specs.Prelude.{codes, false, if◌then◌else◌, is_none, true}
 use Rattle.std.specs.Char.{is_ascii_alphanumeric}
 use Rattle.std.specs.List.{list_all}
 use Rattle.jiff_core.specs.declared.error.Error.TheVariants.{Tzif as TzifError}
@@ -14,16 +14,13 @@ use Rattle.jiff_tz.specs.declared.timezone.TimeZone.TheVariants as zones
 use Rattle.tap_rows.specs.Keys.{key_of}
 use Rattle.tap_rows.specs.declared.agency.choice.Fold.{Fold}
 use Rattle.tap_rows.specs.declared.agency.choice.LocalClock.{LocalClock}
-use Rattle.tool_tasks.specs.Encode.{load_of}
 use Rattle.tool_tasks.specs.Fault.{no_zone_line, zone_file_line}
-use Rattle.world.specs.Run.{Load}
 
--- The file of the key, if it has a word, was read to its end, and this is the key's block.
-abbrev pub AreKeyLoads : Option (List ℕ) → List Load → Option (List ℕ) → Type 0
-AreKeyLoads None loads None = loads ≡ []
-AreKeyLoads (Some word) loads (Some block) =
-    (text : List ℕ) × (loads ≡ load_of word text ∷ []) × (key_of text ≡ Ok block)
-AreKeyLoads word loads block = ⊥
+-- the key that the text of a file has, if it has a word, and its block
+abbrev pub IsKey : Option (List ℕ) → List ℕ → Option (List ℕ) → Type 0
+IsKey None text None = Unit {0}
+IsKey (Some word) text (Some block) = key_of text ≡ Ok block
+IsKey word text block = ⊥
 
 -- a byte of the name of a zone: there is no dot, so that a name is of a file below the folder
 abbrev pub is_name_byte : ℕ → Bool
@@ -37,27 +34,29 @@ is_zone_name word = list_all is_name_byte word
 abbrev pub zone_file : List ℕ → List ℕ
 zone_file word = codes "/usr/share/zoneinfo/" ++ word
 
--- The zone is the rule that the word writes, and nothing was loaded; or the word is no rule but a
--- name, and the zone is what its file has, which was read to its end.
-abbrev pub IsZone : List ℕ → List Load → TimeZone → Type 0
-IsZone word loads (zones.Posix rule) = (loads ≡ []) × (read_whole word ≡ Some (tz_view rule))
-IsZone word loads (zones.Tzif table) = (read_whole word ≡ None) × (is_zone_name word ≡ true)
-    × (text : List ℕ) × (loads ≡ load_of (zone_file word) text ∷ [])
+-- the file that is loaded for a zone: that of its name, if it is a name and no rule
+abbrev pub zone_loaded : Option (List ℕ) → Option (List ℕ)
+zone_loaded None = None
+zone_loaded (Some word) =
+    if is_none (read_whole word) && is_zone_name word then Some (zone_file word) else None
+
+-- The zone is the rule that the word writes; or the word is no rule but a name, and the zone is what
+-- the text of its file has.
+abbrev pub IsZone : (word text : List ℕ) → TimeZone → Type 0
+IsZone word text (zones.Posix rule) = read_whole word ≡ Some (tz_view rule)
+IsZone word text (zones.Tzif table) = (read_whole word ≡ None) × (is_zone_name word ≡ true)
     × (read_tzif text ≡ Ok (tzif_view table.now))
-IsZone word loads zone = ⊥
+IsZone word text zone = ⊥
 
--- The clock, if its zone has a word, is of this fold, and its zone was found.
-abbrev pub AreClockLoads : Option (List ℕ) → Fold → List Load → Option LocalClock → Type 0
-AreClockLoads None fold loads None = loads ≡ []
-AreClockLoads (Some word) fold loads (Some clock) =
-    (clock.fold ≡ fold) × IsZone word loads clock.zone
-AreClockLoads word fold loads clock = ⊥
+-- the clock, if its zone has a word, is of this fold and of that zone
+abbrev pub IsClock : Option (List ℕ) → Fold → List ℕ → Option LocalClock → Type 0
+IsClock None fold text None = Unit {0}
+IsClock (Some word) fold text (Some clock) = (clock.fold ≡ fold) × IsZone word text clock.zone
+IsClock word fold text clock = ⊥
 
--- The line says why the word has no zone: it is neither a rule nor a name, and nothing was loaded;
--- or the file of its name was read to its end, and is none.
-abbrev pub IsNoZone : List ℕ → List Load → (line : List ℕ) → Type 0
-IsNoZone word loads line = (read_whole word ≡ None)
-    × (((is_zone_name word ≡ false) × (loads ≡ []) × (line ≡ no_zone_line word))
-    ⊎ ((text : List ℕ) × (loads ≡ load_of (zone_file word) text ∷ [])
-    × ((fault : TzifFault) × IsParseFailure (TzifError fault) text)
+-- the line says why the word has no zone: it is neither a rule nor a name, or its file is none
+abbrev pub IsNoZone : (word text line : List ℕ) → Type 0
+IsNoZone word text line = (read_whole word ≡ None)
+    × (((is_zone_name word ≡ false) × (line ≡ no_zone_line word))
+    ⊎ ((is_zone_name word ≡ true) × ((fault : TzifFault) × IsParseFailure (TzifError fault) text)
     × (line ≡ zone_file_line word)))

@@ -7,10 +7,10 @@ pub mod Fault
 pub mod ValidPrefix
 pub mod Informs
 pub mod Layout
+pub mod Merge
 pub mod MergeSorted
 pub mod Names
 pub mod Sort
-pub mod Source
 pub mod Uploads
 pub mod WrongTables
 pub mod inside

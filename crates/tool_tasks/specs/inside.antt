@@ -2,9 +2,10 @@
 pub mod Corrections
 pub mod Decode
 pub mod Decoded
-pub mod EncodeTables
+pub mod EncodeRows
 pub mod Informs
 pub mod Loads
+pub mod Merge
 pub mod Prepared
 pub mod Sort
 pub mod ValidPrefix

@@ -152,7 +152,7 @@ fn wrong_line(
 }
 
 /// Flushes the output and then says the note.
-fn finish<W: World>(note: &[u8], status: u8, world: &mut W) -> Result<u8, Stop>
+pub(crate) fn finish<W: World>(note: &[u8], status: u8, world: &mut W) -> Result<u8, Stop>
     ensures done { IfOk result (λ end. (end ≡ status)
         × (W.run world.new ≡ with_said (with_flushed (W.run world.old)) note.now)) }
     ensures halted { IfErr result (λ why. (fault : AWriteFault) × (why ≡ Unwritten fault)

@@ -2,7 +2,7 @@
 ghost use Rattle.std.specs.Prelude.{◌≤◌, ◌∷◌, [], IfErr, IfOk};
 ghost use Rattle.frame.specs.Making.{EndsMaking, IsDoneMaking, IsHaltedMaking};
 ghost use Rattle.tool_tasks.specs.Encode.{EncodesTable, IsTableAnswer};
-ghost use Rattle.tool_tasks.specs.inside.Prepared.{answer_of, files_of};
+ghost use Rattle.tool_tasks.specs.inside.Prepared.{HasNoFiles, answer_of, files_of};
 
 use crate::counted::Counted;
 use crate::fault::Fault;
@@ -17,12 +17,14 @@ use world::World;
 
 fn prepare<'a>(alloc: Global, word: &str, table: &[u8]) -> Result<Prepared<'a>, AllocError>
     ensures { IfOk result (λ prepared. IsTableAnswer word.now table.now (answer_of prepared)
-        (files_of prepared) prepared.status) }
+        (files_of prepared) prepared.status × HasNoFiles prepared) }
 {
     match tap_rows::encode(alloc, table) {
         Ok(upload) => Ok(Prepared {
             text: upload,
-            file: None,
+            devices: None,
+            upload: None,
+            refused: None,
             note: String::new(alloc),
             status: 0,
         }),

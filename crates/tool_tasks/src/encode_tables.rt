@@ -1,80 +1,32 @@
-//! What `encode` loads beside the rows of an agency: the key of tokens, and the zone of local times.
-ghost use Rattle.std.specs.Prelude.{◌≡◌, ◌++◌, [], ℕ, IfErr, IfOk, List, None, Some, codes};
-ghost use Rattle.std.specs.Prelude.{option_map, string_bytes};
-ghost use Rattle.frame.specs.Making.{did_making};
+//! How `encode` reads an agency's own CSVs: the devices, the key and the zone of what it loaded.
+ghost use Rattle.std.specs.Prelude.{◌≡◌, [], ℕ, IfOk, List, None, OnOk, Some, map, option_map};
 ghost use Rattle.jiff_tz.specs.PosixReader.{read_whole};
-ghost use Rattle.jiff_tz.specs.PosixText.{tz_view};
-ghost use Rattle.tap_rows.specs.Devices.{devices_of};
-ghost use Rattle.tool_tasks.specs.EncodeRows.{AreDeviceLoads, AreKeyedLoads, word_in};
-ghost use Rattle.tool_tasks.specs.EncodeTables.{is_name_byte, is_zone_name, zone_file};
-ghost use Rattle.tool_tasks.specs.Fault.{fault_text};
-ghost use Rattle.tool_tasks.specs.inside.EncodeTables.{IsDoneAfter, IsHaltedAfter, IsMade};
-ghost use Rattle.tool_tasks.specs.inside.EncodeTables.{IsTableClock};
-ghost use Rattle.tool_tasks.specs.inside.Prepared.{HaltsPart};
-ghost use Rattle.world.specs.Run.{with_flushed};
+ghost use Rattle.tap_rows.specs.Devices.{IsDevicesFault, devices_of};
+ghost use Rattle.tap_rows.specs.declared.agency.choice.Separator.{Separator};
+ghost use Rattle.tool_tasks.specs.EncodeRows.{AreNumbered, AreOldDevices, AreUsedDevices, HasDevices};
+ghost use Rattle.tool_tasks.specs.EncodeRows.{IsWrongDevices, word_in};
+ghost use Rattle.tool_tasks.specs.EncodeTables.{IsKey};
+ghost use Rattle.tool_tasks.specs.Fault.{wrong_line};
+ghost use Rattle.tool_tasks.specs.WrongTables.{devices_text};
+ghost use Rattle.tool_tasks.specs.declared.wrong_tables.WrongDevices.{WrongDevices as AWrong};
+ghost use Rattle.tool_tasks.specs.inside.EncodeRows.{IsMade, IsTableClock, Prepares, csv_of};
+ghost use Rattle.tool_tasks.specs.inside.EncodeRows.{texts_in};
+ghost use Rattle.tool_tasks.specs.inside.Prepared.{IsRefusal};
 
-use crate::counted::Counted;
-use crate::encode_rows::encode_table;
+use crate::encode_csvs::prepare_csvs;
+use crate::encode_loads::{Csv, Texts, is_zone_name, rule_of};
 use crate::fault::Fault;
-use crate::loads::load_word;
-use crate::prepared::{carry_out, refusal};
-use crate::stops::Halt;
-use frame::Stop;
+use crate::prepared::{Prepared, refusal};
+use crate::wrong_tables::WrongDevices;
 use jiff_core::Error;
-use jiff_tz::{TimeZone, Tzif, posix};
+use jiff_tz::{TimeZone, Tzif};
 use std::alloc::{AllocError, Global};
-use tap_rows::{Choice, DeviceTable, Fold, LocalClock, TokenKey};
+use std::hash::RandomState;
+use tap_rows::{
+    Choice, Columns, DeviceTable, DevicesFault, Fold, LocalClock, TokenKey, number_devices,
+    read_devices,
+};
 use tool_words::RowsWords;
-use world::{LoadFault, World};
-
-/// The numbers of the key and of the file of the zone among the words that name files.
-const KEY_NUMBER: usize = 3;
-
-const ZONE_NUMBER: usize = 4;
-
-/// Notes the line of the fault, and nothing else.
-fn refuse<'a, W: World>(alloc: Global, fault: Fault<'_>, world: &mut W) -> Result<u8, Halt<'a>>
-    ensures done { IfOk result (λ status. (status ≡ 1) × (W.run world.new
-        ≡ with_flushed (did_making (W.run world.old) [] (record {
-          text = [];
-          note = fault_text fault.entry ++ codes "\n";
-        }) []))) }
-    ensures halted { (names : List (List ℕ)) → IfErr result (λ halt.
-        HaltsPart names [] [] halt.why (W.run world.old) (W.run world.new)) }
-{
-    match refusal(alloc, fault, "") {
-        Err(AllocError) => Err(Halt::of(Stop::NoMemory, None)),
-        Ok(prepared) => carry_out(&prepared, world),
-    }
-}
-
-fn is_name_byte(byte: u8) -> bool
-    ensures { result ≡ is_name_byte byte }
-{
-    byte.is_ascii_alphanumeric() || byte == b'_' || byte == b'+' || byte == b'-' || byte == b'/'
-}
-
-/// So that it is a file below the folder of zones.
-fn is_zone_name(word: &str) -> bool
-    ensures { result ≡ is_zone_name word.now }
-{
-    word.as_bytes().iter().all(|byte| is_name_byte(*byte))
-}
-
-fn zone_path(alloc: Global, word: &str) -> Result<String, AllocError>
-    ensures { IfOk result (λ path. string_bytes path ≡ zone_file word.now) }
-{
-    format!(in alloc; "/usr/share/zoneinfo/{word}")
-}
-
-fn rule_of(word: &str) -> Option<posix::TimeZone>
-    ensures { option_map tz_view result ≡ read_whole word.now }
-{
-    match posix::TimeZone::parse(word.as_bytes()) {
-        Ok(rule) => Some(rule),
-        Err(_) => None,
-    }
-}
 
 fn clock_of<'c>(table: &'c Tzif, fold: Fold) -> LocalClock<'c>
     ensures { IsTableClock table.entry.now fold result }
@@ -101,83 +53,60 @@ fn choice<'c>(
     }
 }
 
-/// The file of the zone of this name was not loaded.
-fn unread_zone<'a>(word: &'a str, why: LoadFault) -> Halt<'a>
-    ensures { result.why ≡ Stop.Unread ZONE_NUMBER why }
-{
-    let line = match why {
-        LoadFault::Unread => Fault::Zone(word),
-        LoadFault::TooLong => Fault::ZoneFile(word),
-        LoadFault::NoMemory => Fault::NoMemory,
-    };
-    Halt {
-        why: Stop::Unread(ZONE_NUMBER, why),
-        line,
-    }
-}
-
-/// The same as `encode_by_zone`, with the zone in the file of this name.
-fn encode_by_zone_file<'a, W: World + Counted>(
+/// With the zone whose file was loaded.
+fn prepare_by_zone_file<'a>(
     alloc: Global,
     words: &RowsWords<'a>,
-    word: &'a str,
-    name: &'a str,
+    is_there: bool,
+    texts: &Texts<'a>,
+    name: &str,
     devices: Option<&DeviceTable>,
     key: Option<&TokenKey>,
-    world: &mut W,
-) -> Result<u8, Halt<'a>>
+) -> Result<Prepared<'a>, AllocError>
     requires named { word_in words.now.zone ≡ Some name.now }
     requires no_rule { read_whole name.now ≡ None }
-    ensures done { IfOk result (IsDoneAfter (AreKeyedLoads words.now
-        (option_map (λ d. devices_of d.now) devices.entry) (option_map (λ k. k.now.block) key.entry))
-        words.now word.entry.now (W.run world.old) (W.run world.new)) }
-    ensures halted { IfErr result (λ halt. IsHaltedAfter (AreKeyedLoads words.now
-        (option_map (λ d. devices_of d.now) devices.entry) (option_map (λ k. k.now.block) key.entry))
-        words.now word.entry.now (W.run world.old) (W.run world.new) halt.why) }
+    requires devices { HasDevices words.now is_there (texts_in texts.now)
+        (option_map (λ d. devices_of d.now) devices.entry) }
+    requires key { IsKey (word_in words.now.key) (texts_in texts.now).key
+        (option_map (λ k. k.now.block) key.entry) }
+    ensures { IfOk result (Prepares words.now is_there (texts_in texts.now)) }
 {
     if !is_zone_name(name) {
-        return refuse(alloc, Fault::Zone(name), world);
+        return refusal(alloc, Fault::Zone(name), "");
     }
-    match zone_path(alloc, name) {
-        Err(AllocError) => Err(Halt::of(Stop::NoMemory, None)),
-        Ok(path) => match load_word(world, path.as_str()) {
-            Err(why) => Err(unread_zone(name, why)),
-            Ok(text) => match Tzif::parse(alloc, None, &text) {
-                Ok(table) => {
-                    let clock = clock_of(&table, words.fold);
-                    let choice = choice(words, devices, key, Some(clock));
-                    encode_table(alloc, words, word, &choice, world)
-                }
-                Err(Error::Tzif(_)) => refuse(alloc, Fault::ZoneFile(name), world),
-                Err(_) => Err(Halt::of(Stop::NoMemory, None)),
-            },
-        },
+    match Tzif::parse(alloc, None, &texts.zone) {
+        Ok(table) => {
+            let clock = clock_of(&table, words.fold);
+            let choice = choice(words, devices, key, Some(clock));
+            prepare_csvs(alloc, words, is_there, &choice, &texts.csvs)
+        }
+        Err(Error::Tzif(_)) => refusal(alloc, Fault::ZoneFile(name), ""),
+        Err(_) => Err(AllocError),
     }
 }
 
-/// Finds the zone, if the words name one, by its rule or its name, and goes on with the rows.
-fn encode_by_zone<'a, 'c, W: World + Counted>(
+/// With the zone that the words name, by its rule or its name.
+fn prepare_by_zone<'a>(
     alloc: Global,
-    words: &'c RowsWords<'a>,
-    word: &'a str,
-    devices: Option<&'c DeviceTable>,
-    key: Option<&'c TokenKey>,
-    world: &mut W,
-) -> Result<u8, Halt<'a>>
-    ensures done { IfOk result (IsDoneAfter (AreKeyedLoads words.now
-        (option_map (λ d. devices_of d.now) devices.entry) (option_map (λ k. k.now.block) key.entry))
-        words.now word.entry.now (W.run world.old) (W.run world.new)) }
-    ensures halted { IfErr result (λ halt. IsHaltedAfter (AreKeyedLoads words.now
-        (option_map (λ d. devices_of d.now) devices.entry) (option_map (λ k. k.now.block) key.entry))
-        words.now word.entry.now (W.run world.old) (W.run world.new) halt.why) }
+    words: &RowsWords<'a>,
+    is_there: bool,
+    texts: &Texts<'a>,
+    devices: Option<&DeviceTable>,
+    key: Option<&TokenKey>,
+) -> Result<Prepared<'a>, AllocError>
+    requires devices { HasDevices words.now is_there (texts_in texts.now)
+        (option_map (λ d. devices_of d.now) devices.entry) }
+    requires key { IsKey (word_in words.now.key) (texts_in texts.now).key
+        (option_map (λ k. k.now.block) key.entry) }
+    ensures { IfOk result (Prepares words.now is_there (texts_in texts.now)) }
 {
     match words.zone {
         None => {
             let choice = choice(words, devices, key, None);
-            encode_table(alloc, words, word, &choice, world)
+            prepare_csvs(alloc, words, is_there, &choice, &texts.csvs)
         }
         Some(name) => match rule_of(name) {
-            None => encode_by_zone_file(alloc, words, word, name, devices, key, world),
+            None => prepare_by_zone_file(alloc, words, is_there, texts, name, devices, key),
             Some(rule) => {
                 let zone = TimeZone::Posix(rule);
                 let clock = LocalClock {
@@ -185,57 +114,135 @@ fn encode_by_zone<'a, 'c, W: World + Counted>(
                     fold: words.fold,
                 };
                 let choice = choice(words, devices, key, Some(clock));
-                encode_table(alloc, words, word, &choice, world)
+                prepare_csvs(alloc, words, is_there, &choice, &texts.csvs)
             }
         },
     }
 }
 
-/// The same as `encode_by_key`, with the key of the file that this word names.
-fn encode_by_key_file<'a, W: World + Counted>(
+/// With the key that the words name.
+fn prepare_by_key<'a>(
     alloc: Global,
     words: &RowsWords<'a>,
-    word: &'a str,
-    name: &'a str,
+    is_there: bool,
+    texts: &Texts<'a>,
     devices: Option<&DeviceTable>,
-    world: &mut W,
-) -> Result<u8, Halt<'a>>
-    requires { word_in words.now.key ≡ Some name.now }
-    ensures done { IfOk result (IsDoneAfter (λ before. AreDeviceLoads (word_in words.now.devices)
-        words.now.columns.separator before (option_map (λ d. devices_of d.now) devices.entry))
-        words.now word.entry.now (W.run world.old) (W.run world.new)) }
-    ensures halted { IfErr result (λ halt. IsHaltedAfter (λ before.
-        AreDeviceLoads (word_in words.now.devices) words.now.columns.separator before
-        (option_map (λ d. devices_of d.now) devices.entry))
-        words.now word.entry.now (W.run world.old) (W.run world.new) halt.why) }
+) -> Result<Prepared<'a>, AllocError>
+    requires { HasDevices words.now is_there (texts_in texts.now)
+        (option_map (λ d. devices_of d.now) devices.entry) }
+    ensures { IfOk result (Prepares words.now is_there (texts_in texts.now)) }
 {
-    match load_word(world, name) {
-        Err(why) => Err(Halt::of(Stop::Unread(KEY_NUMBER, why), Some(name))),
-        Ok(text) => match TokenKey::of_file(&text) {
-            Ok(key) => encode_by_zone(alloc, words, word, devices, Some(&key), world),
-            Err(wrong) => refuse(alloc, Fault::Key(name, wrong), world),
+    match words.key {
+        None => prepare_by_zone(alloc, words, is_there, texts, devices, None),
+        Some(name) => match TokenKey::of_file(&texts.key) {
+            Ok(key) => prepare_by_zone(alloc, words, is_there, texts, devices, Some(&key)),
+            Err(wrong) => refusal(alloc, Fault::Key(name, wrong), ""),
         },
     }
 }
 
-/// Loads the key, if the words name one, and goes on with the zone. The device table was loaded.
-pub(crate) fn encode_by_key<'a, W: World + Counted>(
+/// Of the file that the word names, which is not a device table.
+fn refuse_devices<'a>(
+    alloc: Global,
+    word: &str,
+    fault: DevicesFault,
+) -> Result<Prepared<'a>, AllocError>
+    ensures { (separator : Separator) (text : List ℕ) → IsDevicesFault separator text fault
+        → IfOk result (λ prepared. (wrong : AWrong) × IsWrongDevices separator text wrong
+        × IsRefusal (wrong_line word.now (devices_text wrong)) [] prepared) }
+{
+    match fault {
+        DevicesFault::Head => refusal(alloc, Fault::Devices(word, WrongDevices::Head), ""),
+        DevicesFault::Row { number, wrong } => {
+            let wrong = WrongDevices::Row(number, wrong);
+            refusal(alloc, Fault::Devices(word, wrong), "")
+        }
+        DevicesFault::NoMemory => Err(AllocError),
+    }
+}
+
+fn number_each(
+    alloc: Global,
+    choice: &Choice<'_>,
+    csvs: &[Csv<'_>],
+    devices: &mut DeviceTable,
+) -> Result<(), AllocError>
+    ensures { OnOk result (AreNumbered choice.now (map csv_of csvs.now)
+        (devices_of devices.old) (devices_of devices.new)) }
+{
+    for csv in csvs {
+        number_devices(alloc, choice, &csv.text, devices)?;
+    }
+    Ok(())
+}
+
+/// Numbers the devices of the rows, if the device table is made.
+fn number_if_made(
+    alloc: Global,
+    makes: bool,
+    columns: &Columns<'_>,
+    csvs: &[Csv<'_>],
+    devices: &mut DeviceTable,
+) -> Result<(), AllocError>
+    ensures { OnOk result (AreUsedDevices makes columns.now (map csv_of csvs.now)
+        (devices_of devices.old) (devices_of devices.new)) }
+{
+    if !makes {
+        return Ok(());
+    }
+    let choice = Choice {
+        columns,
+        devices: None,
+        key: None,
+        clock: None,
+    };
+    number_each(alloc, &choice, csvs, devices)
+}
+
+/// With these devices, and those of the rows.
+fn prepare_by_devices<'a>(
     alloc: Global,
     words: &RowsWords<'a>,
-    word: &'a str,
-    devices: Option<&DeviceTable>,
-    world: &mut W,
-) -> Result<u8, Halt<'a>>
-    ensures done { IfOk result (IsDoneAfter (λ before. AreDeviceLoads (word_in words.now.devices)
-        words.now.columns.separator before (option_map (λ d. devices_of d.now) devices.entry))
-        words.now word.entry.now (W.run world.old) (W.run world.new)) }
-    ensures halted { IfErr result (λ halt. IsHaltedAfter (λ before.
-        AreDeviceLoads (word_in words.now.devices) words.now.columns.separator before
-        (option_map (λ d. devices_of d.now) devices.entry))
-        words.now word.entry.now (W.run world.old) (W.run world.new) halt.why) }
+    is_there: bool,
+    texts: &Texts<'a>,
+    old: DeviceTable,
+) -> Result<Prepared<'a>, AllocError>
+    requires named { (name : List ℕ) × (word_in words.now.devices ≡ Some name) }
+    requires old { AreOldDevices is_there words.now.columns.separator (texts_in texts.now).devices
+        (devices_of old) }
+    ensures { IfOk result (Prepares words.now is_there (texts_in texts.now)) }
 {
-    match words.key {
-        Some(name) => encode_by_key_file(alloc, words, word, name, devices, world),
-        None => encode_by_zone(alloc, words, word, devices, None, world),
+    let mut devices = old;
+    number_if_made(
+        alloc,
+        words.makes_devices,
+        &words.columns,
+        &texts.csvs,
+        &mut devices,
+    )?;
+    prepare_by_key(alloc, words, is_there, texts, Some(&devices))
+}
+
+/// What is written, made and noted of these texts. `seed` is random, so that no file can choose
+/// names of devices that are found slowly.
+pub(crate) fn prepare<'a>(
+    alloc: Global,
+    seed: RandomState,
+    words: &RowsWords<'a>,
+    is_there: bool,
+    texts: &Texts<'a>,
+) -> Result<Prepared<'a>, AllocError>
+    ensures { IfOk result (Prepares words.now is_there (texts_in texts.now)) }
+{
+    match words.devices {
+        None => prepare_by_key(alloc, words, is_there, texts, None),
+        Some(_) if !is_there => {
+            let none = DeviceTable::new(alloc, seed);
+            prepare_by_devices(alloc, words, is_there, texts, none)
+        }
+        Some(name) => match read_devices(alloc, seed, words.columns.separator, &texts.devices) {
+            Ok(old) => prepare_by_devices(alloc, words, is_there, texts, old),
+            Err(fault) => refuse_devices(alloc, name, fault),
+        },
     }
 }

@@ -1,22 +1,15 @@
 //! Why a subcommand is given up, and the line that says so.
-ghost use Rattle.std.specs.Prelude.{◌≡◌, ◌≢◌, ◌⊎◌, ℕ, Err, IfErr, IfOk, List, None, Ok, OnErr};
-ghost use Rattle.std.specs.Prelude.{OnOk, Option, Some, false, true};
-ghost use Rattle.std.specs.Io.KnownBytes.{Keeps};
-ghost use Rattle.program_manners.specs.Refusals.{IsOneOf, Refuses};
-ghost use Rattle.world.specs.declared.faults.LoadFault.{LoadFault as ALoadFault};
-ghost use Rattle.tool_tasks.specs.Fault.{IsFaultReported, IsRefusal, failed_as};
-ghost use Rattle.tool_tasks.specs.Fault.{fault_text, is_quiet, wrong_key_text, wrong_text};
-ghost use Rattle.tool_tasks.specs.Names.{file_named};
+ghost use Rattle.std.specs.Prelude.{◌≡◌, Some};
+ghost use Rattle.tool_tasks.specs.Fault.{fault_text, wrong_key_text, wrong_text};
 
 use crate::layout::{Cause, Remedy};
 use crate::names::{Escaped, Name};
 use crate::wrong_tables::{WrongDevices, WrongFareTable, WrongRows, WrongTapTable};
 use fare_table::TableFault;
-use program_manners::{Complaints, LoadFault, Output, WriteEnd};
+use program_manners::LoadFault;
 use report_texts::Wrong;
 use std::alloc::{AllocError, AllocFailed};
 use std::fmt;
-use std::io::Write;
 use tap_rows::WrongKey;
 use tap_views::{LayoutFault, NoMemory};
 
@@ -56,10 +49,6 @@ pub enum Fault<'a> {
     FareTable(&'a str, TableFault),
     /// A file was another one when it was read again.
     SomeChanged,
-    /// The line of this number, from 1, in this text of a part, is wrong.
-    Line(&'a str, u64, Wrong),
-    /// The line of this number, from 1, in this ledger, belongs before the line before it.
-    Unsettled(&'a str, u64),
     /// A write failed.
     Write,
     /// A write failed since the reader is gone: nothing is said of it.
@@ -70,35 +59,12 @@ pub enum Fault<'a> {
 
 impl<'a> Fault<'a> {
     /// Why the file that the word names was not opened.
-    pub fn of_load(word: &'a str, fault: LoadFault) -> Fault<'a>
-        ensures { (refused : Option (Option (List ℕ) × ALoadFault)) (words : List (List ℕ))
-            → IsOneOf word.entry.now words → Refuses refused (file_named word.entry.now) fault
-            → IsRefusal refused words result }
-    {
+    pub fn of_load(word: &'a str, fault: LoadFault) -> Fault<'a> {
         match fault {
             LoadFault::Unread => Fault::Unread(word),
             LoadFault::TooLong => Fault::TooLong(word),
             LoadFault::NoMemory => Fault::NoMemory,
         }
-    }
-
-    /// Why a text was not written, as its writer remembers it. Of one that remembers nothing it is
-    /// said that an allocation failed.
-    pub fn of_write(end: Option<WriteEnd>) -> Fault<'a>
-        ensures { result ≡ failed_as end }
-    {
-        match end {
-            Some(WriteEnd::Closed) => Fault::Closed,
-            Some(WriteEnd::Refused) => Fault::Write,
-            None => Fault::NoMemory,
-        }
-    }
-
-    /// Whether nothing is said of it.
-    fn is_quiet(&self) -> bool
-        ensures { result ≡ is_quiet self.now }
-    {
-        matches!(self, Fault::Closed)
     }
 }
 
@@ -133,7 +99,7 @@ impl From<NoMemory> for Fault<'_> {
 }
 
 /// What is wrong with a line of a part's text.
-fn wrong_text(wrong: Wrong) -> &'static str
+pub(crate) fn wrong_text(wrong: Wrong) -> &'static str
     ensures { result.now ≡ wrong_text wrong }
 {
     match wrong {
@@ -200,49 +166,8 @@ impl fmt::Display for Fault<'_> {
                 write!(f, "fault: {}: {why}", Name(word))
             }
             Fault::SomeChanged => f.write_str("fault: a file changed while it was read"),
-            Fault::Line(word, number, wrong) => {
-                write!(
-                    f,
-                    "fault: {} line {number}: {}",
-                    Name(word),
-                    wrong_text(*wrong)
-                )
-            }
-            Fault::Unsettled(word, number) => {
-                let name = Name(word);
-                write!(
-                    f,
-                    "fault: {name} line {number}: out of order; is the ledger settled?"
-                )
-            }
             Fault::Write | Fault::Closed => f.write_str("fault: cannot write"),
             Fault::NoMemory => f.write_str("fault: out of memory"),
         }
-    }
-}
-
-/// Writes the line of a fault, unless the reader of the text is gone.
-pub fn say<E: Write>(err: &mut Complaints<E>, fault: &Fault<'_>)
-    ensures reported { IsFaultReported fault.now (E.contents err.old.writer)
-        (E.contents err.new.writer) err.new.failed }
-    ensures kept { err.new.failed ≡ false → err.old.failed ≡ false }
-{
-    if !fault.is_quiet() {
-        err.report_line(*fault);
-    }
-}
-
-/// Lets all that was written go out.
-pub fn finish<'a, W: Write>(out: &mut Output<W>) -> Result<(), Fault<'a>>
-    ensures kept { Keeps (W.contents out.old.writer) (W.contents out.new.writer) }
-    ensures success { OnOk result (out.new.end ≡ out.old.end) }
-    ensures flushed { OnOk result (out.new.is_flushed ≡ true) }
-    ensures fault { IfErr result (λ fault. fault ≡ failed_as out.new.end) }
-    // It is not said that an allocation failed.
-    ensures noted { OnErr result (out.new.end ≢ None) }
-{
-    match out.finish() {
-        Ok(()) => Ok(()),
-        Err(end) => Err(Fault::of_write(Some(end))),
     }
 }

@@ -1,11 +1,9 @@
-//! Subcommands of the tools over any source of bytes and any writers: each from the words that name
-//! its files to the status, with its text and its fault line. Those that merge what parts of a run
-//! wrote are in `tool_program`.
+//! Subcommands of the tools over any world: each from the words that name its files to the status,
+//! with its text and its fault line.
 //!
 //! | module | what it does |
 //! |---|---|
 //! | `names` | words that name files, as they are opened and shown |
-//! | `source` | where the texts of parts come from |
 //! | `loads`, `counted` | files that a task loads, and what is shown of them |
 //! | `informs` | what only informs, as a task |
 //! | `prepared` | what is written, made and noted of what `encode` reads |
@@ -14,8 +12,10 @@
 //! | `stops` | fault lines of what stops a task from outside |
 //! | `layout`, `wrong_tables` | what is wrong with an upload, or with a table, in words |
 //! | `encode` | `encode` of a tap table |
-//! | `encode_rows` | `encode` of an agency's own CSV |
-//! | `encode_tables` | what it loads beside the rows and the devices: a key, a zone |
+//! | `encode_rows` | `encode` of an agency's own CSVs |
+//! | `encode_loads` | what it loads: devices, a key, a zone, the CSVs |
+//! | `encode_tables` | how the rows are read by them |
+//! | `encode_csvs` | what the rows are encoded as |
 //! | `decode` | `decode` |
 //! | `placed` | files that are read at any offset |
 //! | `sort` | `sort` of uploads that are loaded |
@@ -27,6 +27,7 @@
 //! | `look` | `uploads --look`: what each upload has, and what is found in them |
 //! | `streams` | files that are read in pieces |
 //! | `corrections` | `corrections` |
+//! | `merge` | `merge` of parts |
 //! | `table` | `table` |
 //! | `refused_text` | why a text is none of a fare table, in words |
 #![tactic(auto)]
@@ -36,6 +37,8 @@ mod corrections;
 mod counted;
 mod decode;
 mod encode;
+mod encode_csvs;
+mod encode_loads;
 mod encode_rows;
 mod encode_tables;
 mod fault;
@@ -44,6 +47,7 @@ mod known;
 mod layout;
 mod loads;
 mod look;
+mod merge;
 mod merge_sorted;
 mod names;
 mod placed;
@@ -51,7 +55,6 @@ mod prepared;
 mod quotes;
 mod refused_text;
 mod sort;
-mod source;
 mod stops;
 mod streams;
 mod table;
@@ -66,14 +69,14 @@ pub use counted::Counted;
 pub use decode::decode_over;
 pub use encode::encode_over;
 pub use encode_rows::encode_rows_over;
-pub use fault::{Fault, finish, say};
+pub use fault::Fault;
 pub use layout::{AtTap, Cause, Remedy};
 pub use look::look_over;
+pub use merge::merge_over;
 pub use merge_sorted::merge_sorted_over;
-pub use names::{Escaped, Name, word_at};
+pub use names::{Escaped, Name};
 pub use placed::PlacedFiles;
 pub use sort::sort_over;
-pub use source::{Source, open_all};
 pub use streams::Streams;
 pub use table::table_over;
 pub use uploads::uploads_over;

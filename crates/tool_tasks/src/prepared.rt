@@ -1,13 +1,12 @@
-//! What a subcommand prepared, before any of it is done.
-ghost use Rattle.std.specs.Prelude.{◌≡◌, [], ℕ, List, IfErr, IfOk, OnOk, Some, slice_get};
-ghost use Rattle.std.specs.Prelude.{string_bytes};
+//! What `encode` prepared, before any of it is done.
+ghost use Rattle.std.specs.Prelude.{◌≡◌, ◌++◌, [], ℕ, List, IfErr, IfOk, OnOk, Some, string_bytes};
 ghost use Rattle.frame.specs.Making.{did_making};
-ghost use Rattle.tool_tasks.specs.Encode.{Refuses};
 ghost use Rattle.tool_tasks.specs.Fault.{fault_text};
-ghost use Rattle.tool_tasks.specs.inside.Prepared.{HaltsEnd, HaltsPart, IsNamedIn, answer_of};
-ghost use Rattle.tool_tasks.specs.inside.Prepared.{file_in, files_of};
-ghost use Rattle.tool_tasks.specs.inside.Sort.{HaltsMade};
-ghost use Rattle.world.specs.Run.{Named, with_flushed, with_made, with_said, with_written};
+ghost use Rattle.tool_tasks.specs.inside.Prepared.{AreNamed, HaltsEnd, HaltsFile, HaltsPart};
+ghost use Rattle.tool_tasks.specs.inside.Prepared.{IsNamedIn, IsRefusal, answer_of, files_first};
+ghost use Rattle.tool_tasks.specs.inside.Prepared.{files_in, files_of, text_of};
+ghost use Rattle.tool_tasks.specs.inside.Sort.{HaltsMade, with_files};
+ghost use Rattle.world.specs.Run.{with_flushed, with_said};
 
 use crate::fault::Fault;
 use crate::stops::Halt;
@@ -16,14 +15,31 @@ use frame::Stop;
 use std::alloc::{AllocError, Global};
 use world::World;
 
-/// The number of the new file among the words that name files.
-const FILE_NUMBER: usize = 2;
+/// The numbers of the new files among the words that name files.
+pub(crate) const DEVICES_NUMBER: usize = 0;
 
-/// The text of the output, a new file with its name, a note, and the status.
+const REFUSED_NUMBER: usize = 1;
+
+const UPLOAD_NUMBER: usize = 4;
+
+/// A file that is to be made; one that is not to be new replaces another.
+#[derive(Drop)]
+pub(crate) struct NewFile<'a> {
+    pub(crate) name: &'a str,
+    pub(crate) bytes: Vec<u8>,
+    pub(crate) is_new: bool,
+}
+
+/// The text of the output, new files, a note, and the status.
 #[derive(Drop)]
 pub(crate) struct Prepared<'a> {
     pub(crate) text: Vec<u8>,
-    pub(crate) file: Option<(&'a str, Vec<u8>)>,
+    /// The device table, made before anything is given out that has its numbers.
+    pub(crate) devices: Option<NewFile<'a>>,
+    /// The upload, if it is no text.
+    pub(crate) upload: Option<NewFile<'a>>,
+    /// The rows that are not taps.
+    pub(crate) refused: Option<NewFile<'a>>,
     pub(crate) note: String,
     pub(crate) status: u8,
 }
@@ -34,33 +50,83 @@ pub(crate) fn refusal<'a>(
     fault: Fault<'_>,
     more: &str,
 ) -> Result<Prepared<'a>, AllocError>
-    ensures { IfOk result (λ prepared. Refuses (fault_text fault.entry) more.now
-        (answer_of prepared) (files_of prepared) prepared.status) }
+    ensures { IfOk result (IsRefusal (fault_text fault.entry) more.now) }
 {
     Ok(Prepared {
         text: Vec::new(alloc),
-        file: None,
+        devices: None,
+        upload: None,
+        refused: None,
         note: format!(in alloc; "{fault}{more}\n")?,
         status: 1,
     })
 }
 
-/// Begins the file, which no file may have the name of, and writes its bytes.
-fn begin<'a, W: World>(name: &'a str, bytes: &[u8], world: &mut W) -> Result<W::File, Halt<'a>>
-    ensures bytes { IfOk result (λ file. W.File.contents file ≡ Some bytes.now) }
+/// Begins the file, and writes its bytes.
+fn begin<'a, W: World>(
+    file: &NewFile<'a>,
+    number: usize,
+    world: &mut W,
+) -> Result<W::File, Halt<'a>>
+    ensures bytes { IfOk result (λ started. W.File.contents started ≡ Some file.now.bytes.items) }
     ensures unchanged { OnOk result (W.run world.new ≡ W.run world.old) }
-    ensures halted { IfErr result (λ halt. HaltsMade name.entry.now FILE_NUMBER halt.why
+    ensures halted { IfErr result (λ halt. HaltsMade file.now.name.now number halt.why
         (W.run world.old) (W.run world.new)) }
 {
-    match world.begin(name, true) {
-        Err(why) => Err(Halt::of(Stop::Unmade(FILE_NUMBER, why), Some(name))),
-        Ok(file) => {
-            let mut file = file;
-            match write_bytes(bytes, &mut file) {
-                Ok(()) => Ok(file),
-                Err(_) => Err(Halt::unfinished(FILE_NUMBER, world.fail(name, file))),
+    match world.begin(file.name, file.is_new) {
+        Err(why) => Err(Halt::of(Stop::Unmade(number, why), Some(file.name))),
+        Ok(started) => {
+            let mut started = started;
+            match write_bytes(&file.bytes, &mut started) {
+                Ok(()) => Ok(started),
+                Err(_) => Err(Halt::unfinished(number, world.fail(file.name, started))),
             }
         }
+    }
+}
+
+/// Makes the file, if there is one.
+#[tactic(auto, using(crate::proofs::Preparing::no_files))]
+fn make<'a, W: World>(
+    file: &Option<NewFile<'a>>,
+    number: usize,
+    world: &mut W,
+) -> Result<(), Halt<'a>>
+    ensures done { OnOk result (W.run world.new ≡ with_files (W.run world.old) (files_in file.now)) }
+    ensures halted { IfErr result (λ halt.
+        HaltsFile file.now number halt.why (W.run world.old) (W.run world.new)) }
+{
+    match file {
+        None => Ok(()),
+        Some(file) => match begin(file, number, world) {
+            Err(halt) => Err(halt),
+            Ok(started) => match world.finish(file.name, started) {
+                Ok(()) => Ok(()),
+                Err(why) => Err(Halt::unfinished(number, why)),
+            },
+        },
+    }
+}
+
+/// Makes the device table and the upload, if they are files, and writes the text.
+fn give<'a, W: World>(prepared: &Prepared<'a>, world: &mut W) -> Result<(), Halt<'a>>
+    ensures done { OnOk result (W.run world.new ≡ did_making (W.run world.old) []
+        (text_of prepared.now.text.items) (files_first prepared.now)) }
+    ensures halted { (names : List (List ℕ))
+        → IsNamedIn names DEVICES_NUMBER prepared.now.devices
+        → IsNamedIn names UPLOAD_NUMBER prepared.now.upload → IfErr result (λ halt.
+        HaltsPart names prepared.now.text.items (files_first prepared.now) halt.why
+        (W.run world.old) (W.run world.new)) }
+{
+    match make(&prepared.devices, DEVICES_NUMBER, world) {
+        Err(halt) => Err(halt),
+        Ok(()) => match make(&prepared.upload, UPLOAD_NUMBER, world) {
+            Err(halt) => Err(halt),
+            Ok(()) => match world.write(&prepared.text) {
+                Err(why) => Err(Halt::of(Stop::Unwritten(why), None)),
+                Ok(()) => Ok(()),
+            },
+        },
     }
 }
 
@@ -79,34 +145,35 @@ fn end<'a, W: World>(note: &String, world: &mut W) -> Result<(), Halt<'a>>
     }
 }
 
-/// Writes the text, and gives the file its name.
-fn write<'a, W: World>(
-    text: &[u8],
-    name: &'a str,
-    file: W::File,
-    world: &mut W,
-) -> Result<(), Halt<'a>>
-    ensures done { (bytes : List ℕ) → W.File.contents file ≡ Some bytes → OnOk result
-        (W.run world.new ≡ with_made (with_written (W.run world.old) text.now)
-        (record { name = name.entry.now; bytes = bytes })) }
-    ensures halted { (names : List (List ℕ)) (files : List Named)
-        → slice_get names FILE_NUMBER ≡ Some name.entry.now → IfErr result (λ halt.
-        HaltsPart names text.now files halt.why (W.run world.old) (W.run world.new)) }
+/// Does all but the note. The file of the refused rows is started before anything is given out, and
+/// has its name after it.
+fn give_all<'a, W: World>(prepared: &Prepared<'a>, world: &mut W) -> Result<(), Halt<'a>>
+    ensures done { OnOk result (W.run world.new ≡ did_making (W.run world.old) []
+        (text_of prepared.now.text.items) (files_of prepared.now)) }
+    ensures halted { (names : List (List ℕ)) → AreNamed names prepared.now
+        → IfErr result (λ halt. HaltsPart names prepared.now.text.items (files_of prepared.now)
+        halt.why (W.run world.old) (W.run world.new)) }
 {
-    match world.write(text) {
-        Err(why) => {
-            world.discard(file);
-            Err(Halt::of(Stop::Unwritten(why), None))
-        }
-        Ok(()) => match world.finish(name, file) {
-            Ok(()) => Ok(()),
-            Err(why) => Err(Halt::unfinished(FILE_NUMBER, why)),
+    match &prepared.refused {
+        None => give(prepared, world),
+        Some(file) => match begin(file, REFUSED_NUMBER, world) {
+            Err(halt) => Err(halt),
+            Ok(started) => match give(prepared, world) {
+                Err(halt) => {
+                    world.discard(started);
+                    Err(halt)
+                }
+                Ok(()) => match world.finish(file.name, started) {
+                    Ok(()) => Ok(()),
+                    Err(why) => Err(Halt::unfinished(REFUSED_NUMBER, why)),
+                },
+            },
         },
     }
 }
 
-/// Writes the text, makes the file if there is one, and gives the note, in this order. No text is
-/// written if a file has the name.
+/// Writes the text, makes the files, and gives the note, in this order. No text is written if a file
+/// has the name of that of the refused rows.
 pub(crate) fn carry_out<'a, W: World>(
     prepared: &Prepared<'a>,
     world: &mut W,
@@ -114,27 +181,15 @@ pub(crate) fn carry_out<'a, W: World>(
     ensures done { IfOk result (λ status. (status ≡ prepared.now.status) × (W.run world.new
         ≡ with_flushed (did_making (W.run world.old) [] (answer_of prepared.now)
         (files_of prepared.now)))) }
-    ensures halted { (names : List (List ℕ)) → IsNamedIn names (file_in prepared.now)
+    ensures halted { (names : List (List ℕ)) → AreNamed names prepared.now
         → IfErr result (λ halt. HaltsPart names prepared.now.text.items (files_of prepared.now)
         halt.why (W.run world.old) (W.run world.new)) }
 {
-    match &prepared.file {
-        None => match world.write(&prepared.text) {
-            Err(why) => Err(Halt::of(Stop::Unwritten(why), None)),
-            Ok(()) => match end(&prepared.note, world) {
-                Ok(()) => Ok(prepared.status),
-                Err(halt) => Err(halt),
-            },
-        },
-        Some((name, bytes)) => match begin(*name, bytes, world) {
+    match give_all(prepared, world) {
+        Err(halt) => Err(halt),
+        Ok(()) => match end(&prepared.note, world) {
+            Ok(()) => Ok(prepared.status),
             Err(halt) => Err(halt),
-            Ok(file) => match write(&prepared.text, *name, file, world) {
-                Err(halt) => Err(halt),
-                Ok(()) => match end(&prepared.note, world) {
-                    Ok(()) => Ok(prepared.status),
-                    Err(halt) => Err(halt),
-                },
-            },
         },
     }
 }

@@ -1,7 +1,7 @@
 -- What the words of the tools ask for.
 use Rattle.std.specs.Prelude.{ℕ, Bool, ◌&&◌, ◌||◌, if◌then◌else◌, nat_lt}
 use Rattle.std.specs.Prelude.{List, [], ◌∷◌, ◌++◌, Option, Some, None, codes, false}
-use Rattle.std.specs.Prelude.{unwrap_or}
+use Rattle.std.specs.Prelude.{length, unwrap_or}
 use Rattle.std.specs.List.{count_by, list_any}
 use Rattle.std.specs.Option.{option_map_or, option_or, option_to_list}
 use Rattle.std.specs.Str.{bytes_eq}
@@ -16,7 +16,7 @@ use Rattle.tool_words.specs.ToolLine.{breaks_rule, has_value, program}
 use Rattle.tool_words.specs.declared.usage_error.UsageError.{UsageError}
 use Rattle.tool_words.specs.declared.usage_error.UsageError.TheVariants as wrong
 
--- what `encode` is asked for with columns, beside the file
+-- what `encode` is asked for with columns, beside the files
 pub record RowsRequest : Type 0 where
   pub separator : Separator
   pub token : Text
@@ -26,6 +26,8 @@ pub record RowsRequest : Type 0 where
   pub has_hashes : Bool
   -- what a plain number of the column of moments counts
   pub unit : Unit
+  -- the format by which moments are read, if there is one
+  pub format : Option Text
   -- the column and the value of each condition that rows are kept by, and left out by
   pub only : List (Text × Text)
   pub without : List (Text × Text)
@@ -33,6 +35,8 @@ pub record RowsRequest : Type 0 where
   pub count : Option Text
   -- the file of devices and their validators, if the rows have no validators' numbers
   pub devices : Option Text
+  -- whether this file is made, with the devices of the rows that it lacks
+  pub makes_devices : Bool
   -- the file of the key under which any text is a token, if there is one
   pub key : Option Text
   -- the zone of local times, if they are read, and which of two moments such a time is
@@ -40,6 +44,8 @@ pub record RowsRequest : Type 0 where
   pub fold : Fold
   -- the file of the rows that are no taps, if one is made
   pub refused : Option Text
+  -- the file of the upload, if one is made
+  pub out : Option Text
 
 -- what `uploads --good-part` is asked for
 pub record ValidPrefixRequest : Type 0 where
@@ -66,8 +72,8 @@ pub record CorrectionsRequest : Type 0 where
 -- What is asked for.
 pub data Request : Type 0 where
   encode : Text → Request
-  -- the file of an agency's CSV, and how it is read
-  encode_rows : Text → RowsRequest → Request
+  -- the files of an agency's CSVs, and how they are read
+  encode_rows : List Text → RowsRequest → Request
   decode : List Text → Request
   valid_prefix : ValidPrefixRequest → Request
   sort : SortRequest → Request
@@ -104,7 +110,7 @@ abbrev pub or_input : List Text → List Text
 or_input [] = codes "-" ∷ []
 or_input (word ∷ words) = word ∷ words
 
--- the file of the tap table, or of the agency's CSV
+-- the file of the tap table
 abbrev pub encoded_file : List Row → Text
 encoded_file rows = unwrap_or (first_of (codes "FILE") rows) (codes "-")
 
@@ -112,11 +118,18 @@ encoded_file rows = unwrap_or (first_of (codes "FILE") rows) (codes "-")
 abbrev pub has_input_at : Text → List Row → Bool
 has_input_at name rows = option_map_or is_input (first_of name rows) false
 
--- two of the agency's CSV, the devices and the key are standard input
+-- the files of the agency's CSVs
+abbrev pub encoded_files : List Row → List Text
+encoded_files rows = or_input (named (codes "FILE") rows)
+
+-- so many of the agency's CSVs, the devices and the key are standard input: two of all
+abbrev pub is_twice : ℕ → Bool → Bool → Bool
+is_twice inputs devices key =
+    nat_lt 1 inputs || ((nat_lt 0 inputs && (devices || key)) || (devices && key))
+
 abbrev pub has_table_twice : List Row → Bool
-has_table_twice rows = if has_input_at (codes "validators") rows
-    then is_input (encoded_file rows) || has_input_at (codes "token-key") rows
-    else is_input (encoded_file rows) && has_input_at (codes "token-key") rows
+has_table_twice rows = is_twice (inputs_in (encoded_files rows))
+    (has_input_at (codes "validators") rows) (has_input_at (codes "token-key") rows)
 
 -- the words name a kind of export, or else the columns
 abbrev pub export_in : List Row → Option Export
@@ -140,21 +153,25 @@ rows_by (Some export) (Some separator) (Some unit) (Some fold) (Some only) None 
     usage_error wrong.DropCondition
 rows_by (Some export) (Some separator) (Some unit) (Some fold) (Some only) (Some without) rows =
     if has_table_twice rows then usage_error wrong.InputTwice
-    else encode_rows (encoded_file rows) (record {
+    else encode_rows (encoded_files rows) (record {
       separator = separator;
       token = export.token;
       validator = export.validator;
       moment = export.moment;
       has_hashes = export.has_hashes || is_given (codes "token-hash") rows;
       unit = unit;
+      format = first_of (codes "moment-format") rows;
       only = only ++ option_to_list export.only;
       without = without ++ option_to_list export.without;
       count = option_or (first_of (codes "count") rows) export.count;
-      devices = first_of (codes "validators") rows;
+      devices = option_or (first_of (codes "validators") rows)
+          (first_of (codes "validators-make") rows);
+      makes_devices = has_value (codes "validators-make") rows;
       key = first_of (codes "token-key") rows;
       zone = first_of (codes "zone") rows;
       fold = fold;
       refused = first_of (codes "refused") rows;
+      out = first_of (codes "out") rows;
     })
 
 -- the rows of an agency's CSV
@@ -180,7 +197,11 @@ table_request rows =
     || (is_given (codes "token-hash") rows || (has_value (codes "token-key") rows
     || (has_value (codes "zone") rows || has_value (codes "fold") rows))))
     then usage_error wrong.NoColumnsForOthers
-    else encode (encoded_file rows))))
+    else (if has_value (codes "moment-format") rows
+    || (has_value (codes "validators-make") rows
+    || (has_value (codes "out") rows || nat_lt 1 (length (named (codes "FILE") rows))))
+    then usage_error wrong.NoColumnsForFiles
+    else encode (encoded_file rows)))))
 
 -- the rows of an agency's CSV, or a tap table
 abbrev pub encode_request : List Row → Request

@@ -33,14 +33,17 @@ rows_words_of words = record {
   moment = words.columns.moment.now;
   has_hashes = words.columns.has_hashes;
   unit = words.columns.unit;
+  format = text_in words.columns.format;
   only = map condition_of words.columns.only.items;
   without = map condition_of words.columns.without.items;
   count = text_in words.columns.count;
   devices = text_in words.devices;
+  makes_devices = words.makes_devices;
   key = text_in words.key;
   zone = text_in words.zone;
   fold = words.fold;
   refused = text_in words.refused;
+  out = text_in words.out;
 }
 
 abbrev pub valid_prefix_of : ValidPrefixWords → ValidPrefixRequest
@@ -68,7 +71,7 @@ corrections_of words = record {
 -- what a task is
 abbrev pub request_of : Task → Request
 request_of (task.Encode word) = encode word.now
-request_of (task.EncodeRows word words) = encode_rows word.now (rows_words_of words)
+request_of (task.EncodeRows files words) = encode_rows (texts_of files.items) (rows_words_of words)
 request_of (task.Decode words) = decode (texts_of words.items)
 request_of (task.Uploads words has_tokens) = shows
 request_of (task.ValidPrefix words) = valid_prefix (valid_prefix_of words)

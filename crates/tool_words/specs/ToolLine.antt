@@ -28,16 +28,19 @@ word_rule name = positional_rule name Set
 abbrev pub words_rule : Text → Rule
 words_rule name = positional_rule name Append
 
--- `encode [--columns NAMES] [--from EXPORT] [--validators DEVICES] [--only COLUMN=VALUE]..
--- [--drop COLUMN=VALUE].. [--count COLUMN] [--token-hash] [--token-key KEY] [--separator S]
--- [--unit UNIT] [--zone ZONE] [--fold FOLD] [--refused OUT] [FILE]`
+-- `encode [--columns NAMES] [--from EXPORT] [--validators DEVICES] [--validators-make DEVICES]
+-- [--only COLUMN=VALUE].. [--drop COLUMN=VALUE].. [--count COLUMN] [--token-hash] [--token-key KEY]
+-- [--separator S] [--unit UNIT] [--moment-format FORMAT] [--zone ZONE] [--fold FOLD]
+-- [--refused REFUSED] [--out OUT] [FILE]..`
 abbrev pub encode_rules : List Rule
 encode_rules = option_rule (codes "columns") ∷ option_rule (codes "from")
-    ∷ option_rule (codes "validators") ∷ repeated_rule (codes "only") ∷ repeated_rule (codes "drop")
+    ∷ option_rule (codes "validators") ∷ option_rule (codes "validators-make")
+    ∷ repeated_rule (codes "only") ∷ repeated_rule (codes "drop")
     ∷ option_rule (codes "count") ∷ flag_rule (codes "token-hash")
     ∷ option_rule (codes "token-key") ∷ option_rule (codes "separator")
-    ∷ option_rule (codes "unit") ∷ option_rule (codes "zone") ∷ option_rule (codes "fold")
-    ∷ option_rule (codes "refused") ∷ word_rule (codes "FILE") ∷ []
+    ∷ option_rule (codes "unit") ∷ option_rule (codes "moment-format")
+    ∷ option_rule (codes "zone") ∷ option_rule (codes "fold")
+    ∷ option_rule (codes "refused") ∷ option_rule (codes "out") ∷ words_rule (codes "FILE") ∷ []
 
 -- `decode [--files-from LIST [-0]] [FILE]..`
 abbrev pub decode_rules : List Rule
@@ -129,6 +132,11 @@ abbrev pub breaks_table : List Row → Bool
 breaks_table rows = is_given (codes "sql") rows
     && (is_given (codes "riders") rows || has_value (codes "from") rows)
 
+-- `encode` with both `--validators` and `--validators-make`
+abbrev pub breaks_encode : List Row → Bool
+breaks_encode rows =
+    has_value (codes "validators") rows && has_value (codes "validators-make") rows
+
 -- what is given to the subcommand of this name breaks a rule between its arguments
 abbrev pub breaks_rule : Text → List Row → Bool
 breaks_rule name rows =
@@ -136,7 +144,8 @@ breaks_rule name rows =
     else (if bytes_eq name (codes "table") then breaks_table rows
     else (if bytes_eq name (codes "sort") then lacks_files (codes "UPLOAD") rows
     else (if bytes_eq name (codes "merge") then lacks_files (codes "PART") rows
-    else (bytes_eq name (codes "bounds") && lacks_files (codes "FILE") rows))))
+    else (if bytes_eq name (codes "bounds") then lacks_files (codes "FILE") rows
+    else (bytes_eq name (codes "encode") && breaks_encode rows)))))
 
 -- the same of what a parse entered
 abbrev pub breaks : Option (Text × List Row) → Bool

@@ -18,6 +18,8 @@ usage_error_text wrong.Separator =
     codes "error: --separator is one byte, not a quote, or tab"
 usage_error_text wrong.NoColumnsForOthers =
     codes "error: --drop, --count, --token-hash, --token-key, --zone, --fold need --columns"
+usage_error_text wrong.NoColumnsForFiles =
+    codes "error: --moment-format, --validators-make, --out, several FILEs need --columns"
 usage_error_text wrong.NoColumnsForUnit = codes "error: --unit needs --columns"
 usage_error_text wrong.Unit = codes "error: --unit is s, ms or us"
 usage_error_text wrong.Fold = codes "error: --fold is first or second, beside --zone"

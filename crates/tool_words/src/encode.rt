@@ -13,6 +13,8 @@ const ENCODE_NOTES: &str = "Examples:
   omny_tools encode --columns token=card,validator=reader,moment=tapped_at
     --only result=ok --validators readers.csv --refused refused.csv
     export.csv > day.tap
+  omny_tools encode --from tides --validators-make readers.csv --out day.tap
+    bus.csv tram.csv
 
 Exit status:
   0  the upload is written
@@ -39,23 +41,32 @@ too, and a moment may have an offset, as 2024-03-08 12:00:00-05:00. The last
 line on the standard error reports how many rows were read, how many are taps,
 left out and refused, and the first and the last moment. The header is row 1.
 
+Several CSVs make one upload, each with its own header, and a last line for
+each. With --out the upload is the file OUT, whole, and none if there is no tap.
+
 With --columns a plain number is a moment in milliseconds. Moments before 2000
 are refused, since they may be seconds: --unit s reads plain numbers as
 seconds, --unit ms as milliseconds of any year, --unit us as microseconds.
 
 With --validators the column of validators has the names of devices. DEVICES is
 CSV with the header device,validator and a row for each device, which gives it
-its number. A row of another device is no tap.
+its number. A row of another device is no tap. --validators-make also numbers
+the devices that DEVICES lacks, from its greatest number on, and makes it anew.
+Without the file it begins with 1. Keep it, so that numbers stay the same.
 
 With --token-key any text is a token: the first 16 bytes of its HMAC-SHA-256.
 The key is the bytes of the file KEY, without a line feed at its end, 1 to
 65536. Keep it: other keys make other tokens. Whoever has it can try numbers.
 
+With --moment-format moments are read by this format of strptime: a date of
+year, month and day, at least hour and minute, and an offset (%z) or --zone; or
+seconds since 1970 (%s). Weekdays are passed over.
+
 With --zone times without an offset are of this zone: a name as
 America/New_York, of the system's zone files, or a POSIX rule. A time that
 clocks show twice is refused without --fold, and one that they skip always.";
 
-const ENCODE_HELP: &str = "The tap table [default: standard input, as -]";
+const ENCODE_HELP: &str = "The tap table, or CSVs [default: standard input, as -]";
 
 const COLUMNS_HELP: &str = "As token=NAME,validator=NAME,moment=NAME";
 
@@ -77,13 +88,19 @@ const FOLD_HELP: &str = "Which time is meant of two: first or second";
 
 const VALIDATORS_HELP: &str = "A file with the validator of each device";
 
+const VALIDATORS_MAKE_HELP: &str = "The same; new devices get the next numbers";
+
+const FORMAT_HELP: &str = "How moments are written, as %d/%m/%Y %H:%M:%S";
+
+const OUT_HELP: &str = "Make the file OUT of the upload, or replace it";
+
 const SEPARATOR_HELP: &str = "The byte between two fields, or tab [default: ,]";
 
 const UNIT_HELP: &str = "Plain numbers are s, ms or us, of any year";
 
-const REFUSED_HELP: &str = "Make OUT of the rows that are no taps, and go on";
+const REFUSED_HELP: &str = "Make REFUSED of the rows that are no taps, and go on";
 
-/// `encode [--columns NAMES | --from EXPORT [OPTION...]] [FILE]`
+/// `encode [--columns NAMES | --from EXPORT [OPTION...]] [FILE...]`
 pub(crate) fn encode_command<'a>(alloc: Global, is_whole: bool) -> Result<Command<'a>, AllocError>
     ensures { is_whole ≡ false → IfOk result
         (λ command. app_of command ≡ leaf (codes "encode") encode_rules) }
@@ -94,6 +111,10 @@ pub(crate) fn encode_command<'a>(alloc: Global, is_whole: bool) -> Result<Comman
         Row::One(
             Takes::Value("validators", "DEVICES", VALIDATORS_HELP),
             Need::Never,
+        ),
+        Row::One(
+            Takes::Value("validators-make", "DEVICES", VALIDATORS_MAKE_HELP),
+            Need::Apart(&["validators"]),
         ),
         Row::One(
             Takes::Values("only", "COLUMN=VALUE", ONLY_HELP),
@@ -111,10 +132,15 @@ pub(crate) fn encode_command<'a>(alloc: Global, is_whole: bool) -> Result<Comman
             Need::Never,
         ),
         Row::One(Takes::Value("unit", "UNIT", UNIT_HELP), Need::Never),
+        Row::One(
+            Takes::Value("moment-format", "FORMAT", FORMAT_HELP),
+            Need::Never,
+        ),
         Row::One(Takes::Value("zone", "ZONE", ZONE_HELP), Need::Never),
         Row::One(Takes::Value("fold", "FOLD", FOLD_HELP), Need::Never),
-        Row::One(Takes::Value("refused", "OUT", REFUSED_HELP), Need::Never),
-        Row::One(Takes::Word("FILE", ENCODE_HELP), Need::Never),
+        Row::One(Takes::Value("refused", "REFUSED", REFUSED_HELP), Need::Never),
+        Row::One(Takes::Value("out", "OUT", OUT_HELP), Need::Never),
+        Row::One(Takes::Words("FILE", ENCODE_HELP), Need::Never),
     ];
     subcommand(alloc, "encode", ENCODE_ABOUT, ENCODE_NOTES, &rows, is_whole)
 }

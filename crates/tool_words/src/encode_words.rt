@@ -2,8 +2,8 @@
 ghost use Rattle.std.specs.Prelude.{◌≡◌, ◌++◌, IfOk, codes, filter_map, map, option_map};
 ghost use Rattle.std.specs.Option.{option_or, option_to_list};
 ghost use Rattle.clap.specs.Words.{first_of, found_of, rows_of};
-ghost use Rattle.tool_words.specs.Request.{encoded_file, export_in, has_table_twice};
-ghost use Rattle.tool_words.specs.Request.{rows_request, wrong_export};
+ghost use Rattle.tool_words.specs.Request.{encoded_file, encoded_files, export_in, has_input_at};
+ghost use Rattle.tool_words.specs.Request.{inputs_in, is_twice, rows_request, wrong_export};
 ghost use Rattle.tool_words.specs.Columns.{between_commas, columns_among, columns_in};
 ghost use Rattle.tool_words.specs.Columns.{conditions_in, export_named, export_of, littlepay};
 ghost use Rattle.tool_words.specs.Columns.{fold_in, name_given, only_name, parts_of, separator_in};
@@ -11,7 +11,7 @@ ghost use Rattle.tool_words.specs.Columns.{separator_of, tides, unit_in};
 ghost use Rattle.tool_words.specs.Tasks.{request_of, condition_of, text_in, texts_of};
 ghost use Rattle.tool_words.specs.inside.Columns.{export_by};
 
-use crate::reading::{has_value, is_input, is_input_given, value_in};
+use crate::reading::{has_value, inputs_in, is_input_given, value_in};
 use crate::task::{RowsWords, Task};
 use crate::usage_error::UsageError;
 use clap::ArgMatches;
@@ -267,15 +267,41 @@ pub(crate) fn encoded_file<'a>(matches: &ArgMatches<'a>) -> &'a str
     value_in(matches, "FILE").unwrap_or("-")
 }
 
-fn has_table_twice(matches: &ArgMatches<'_>) -> bool
-    ensures { result ≡ has_table_twice (rows_of (found_of matches.now)) }
+/// Standard input, if no file is named.
+pub(crate) fn files_in<'a>(
+    alloc: Global,
+    matches: &ArgMatches<'a>,
+) -> Result<Vec<&'a str>, AllocError>
+    ensures { IfOk result (λ files. texts_of files.items
+        ≡ encoded_files (rows_of (found_of matches.now))) }
 {
-    let is_rows = is_input(encoded_file(matches));
+    let mut files = names_in(alloc, matches, "FILE")?;
+    if files.is_empty() {
+        files.push("-")?;
+    }
+    Ok(files)
+}
+
+fn has_table_twice(matches: &ArgMatches<'_>, files: &[&str]) -> bool
+    ensures { result ≡ is_twice (inputs_in (texts_of files.now))
+        (has_input_at (codes "validators") (rows_of (found_of matches.now)))
+        (has_input_at (codes "token-key") (rows_of (found_of matches.now))) }
+{
+    let inputs = inputs_in(files);
+    let is_devices = is_input_given(value_in(matches, "validators"));
     let is_key = is_input_given(value_in(matches, "token-key"));
-    if is_input_given(value_in(matches, "validators")) {
-        is_rows || is_key
-    } else {
-        is_rows && is_key
+    inputs > 1 || inputs > 0 && (is_devices || is_key) || is_devices && is_key
+}
+
+/// The device table that is read, or made.
+fn devices_in<'a>(matches: &ArgMatches<'a>) -> Option<&'a str>
+    ensures { text_in result
+        ≡ option_or (first_of (codes "validators") (rows_of (found_of matches.now)))
+        (first_of (codes "validators-make") (rows_of (found_of matches.now))) }
+{
+    match value_in(matches, "validators") {
+        Some(name) => Some(name),
+        None => value_in(matches, "validators-make"),
     }
 }
 
@@ -308,6 +334,7 @@ fn count_in<'a>(matches: &ArgMatches<'a>, count: Option<&'a str>) -> Option<&'a 
 pub(crate) fn rows_task<'a>(alloc: Global, matches: &ArgMatches<'a>) -> Result<Task<'a>, AllocError>
     ensures { IfOk result (λ task. request_of task ≡ rows_request (rows_of (found_of matches.now))) }
 {
+    let files = files_in(alloc, matches)?;
     let export = export_in(alloc, matches)?;
     let only = names_in(alloc, matches, "only")?;
     let only = conditions_in(alloc, &only)?;
@@ -331,7 +358,7 @@ pub(crate) fn rows_task<'a>(alloc: Global, matches: &ArgMatches<'a>) -> Result<T
     let Some(without) = without else {
         return Ok(Task::UsageError(UsageError::DropCondition));
     };
-    if has_table_twice(matches) {
+    if has_table_twice(matches, &files) {
         return Ok(Task::UsageError(UsageError::InputTwice));
     }
     let columns = Columns {
@@ -341,17 +368,20 @@ pub(crate) fn rows_task<'a>(alloc: Global, matches: &ArgMatches<'a>) -> Result<T
         moment: export.moment,
         has_hashes: export.has_hashes || flag_in(matches, "token-hash"),
         unit,
+        format: value_in(matches, "moment-format"),
         only: with_one(only, export.only)?,
         without: with_one(without, export.without)?,
         count: count_in(matches, export.count),
     };
     let words = RowsWords {
         columns,
-        devices: value_in(matches, "validators"),
+        devices: devices_in(matches),
+        makes_devices: has_value(matches, "validators-make"),
         key: value_in(matches, "token-key"),
         zone: value_in(matches, "zone"),
         fold,
         refused: value_in(matches, "refused"),
+        out: value_in(matches, "out"),
     };
-    Ok(Task::EncodeRows(encoded_file(matches), words))
+    Ok(Task::EncodeRows(files, words))
 }

@@ -1,8 +1,8 @@
 //! The rules between the arguments of a subcommand.
 ghost use Rattle.std.specs.Prelude.{◌≡◌};
 ghost use Rattle.clap.specs.Words.{found_of, rows_of};
-ghost use Rattle.tool_words.specs.ToolLine.{breaks_rule, breaks_table, breaks_uploads, lacks_files};
-ghost use Rattle.tool_words.specs.ToolLine.{looks};
+ghost use Rattle.tool_words.specs.ToolLine.{breaks_encode, breaks_rule, breaks_table};
+ghost use Rattle.tool_words.specs.ToolLine.{breaks_uploads, lacks_files, looks};
 
 use crate::reading::has_value;
 use clap::ArgMatches;
@@ -42,6 +42,13 @@ fn breaks_table(matches: &ArgMatches<'_>) -> bool
     flag_in(matches, "sql") && (flag_in(matches, "riders") || has_value(matches, "from"))
 }
 
+/// `encode` has both `--validators` and `--validators-make`.
+fn breaks_encode(matches: &ArgMatches<'_>) -> bool
+    ensures { result ≡ breaks_encode (rows_of (found_of matches.now)) }
+{
+    has_value(matches, "validators") && has_value(matches, "validators-make")
+}
+
 pub(crate) fn breaks_rule(name: &str, matches: &ArgMatches<'_>) -> bool
     ensures { result ≡ breaks_rule name.now (rows_of (found_of matches.now)) }
 {
@@ -57,5 +64,8 @@ pub(crate) fn breaks_rule(name: &str, matches: &ArgMatches<'_>) -> bool
     if name == "merge" {
         return lacks_files(matches, "PART");
     }
-    name == "bounds" && lacks_files(matches, "FILE")
+    if name == "bounds" {
+        return lacks_files(matches, "FILE");
+    }
+    name == "encode" && breaks_encode(matches)
 }

@@ -13,6 +13,8 @@ pub struct RowsWords<'a> {
     pub columns: Columns<'a>,
     /// The file of devices and their validators; none if the rows have the validators' numbers.
     pub devices: Option<&'a str>,
+    /// Whether this file is made anew, with the devices of the rows that it lacks.
+    pub makes_devices: bool,
     /// The file of the key under which any text is a token, if there is one.
     pub key: Option<&'a str>,
     /// The zone of local times, by its name or its rule; none if they are refused.
@@ -20,6 +22,8 @@ pub struct RowsWords<'a> {
     pub fold: Fold,
     /// The file of the rows that are not taps; none if the first of them ends the encoding.
     pub refused: Option<&'a str>,
+    /// The file of the upload; none if it is written to the output.
+    pub out: Option<&'a str>,
 }
 
 /// What `uploads --good-part` requests.
@@ -100,8 +104,8 @@ pub struct CorrectionsWords<'a> {
 pub enum Task<'a> {
     /// The upload of a tap table.
     Encode(&'a str),
-    /// The upload of the rows of an agency's CSV.
-    EncodeRows(&'a str, RowsWords<'a>),
+    /// The upload of the rows of an agency's CSVs.
+    EncodeRows(Vec<&'a str>, RowsWords<'a>),
     /// The tap table of uploads.
     Decode(Vec<&'a str>),
     /// What uploads have, and whether their tokens are counted.

@@ -16,6 +16,7 @@ pub enum UsageError {
     NoColumnsForValidators,
     NoColumnsForUnit,
     NoColumnsForOthers,
+    NoColumnsForFiles,
     /// `--columns` and `--from` say twice how a CSV is read.
     ColumnsTwice,
     /// What `--from` gives is not a kind of export.
@@ -76,6 +77,9 @@ impl fmt::Display for UsageError {
             }
             UsageError::NoColumnsForOthers => f.write_str(
                 "error: --drop, --count, --token-hash, --token-key, --zone, --fold need --columns",
+            ),
+            UsageError::NoColumnsForFiles => f.write_str(
+                "error: --moment-format, --validators-make, --out, several FILEs need --columns",
             ),
             UsageError::NoColumnsForUnit => f.write_str("error: --unit needs --columns"),
             UsageError::Unit => f.write_str("error: --unit is s, ms or us"),

@@ -1,6 +1,6 @@
 //! From the words to what they request.
-ghost use Rattle.std.specs.Prelude.{◌≡◌, ◌⊎◌, ◌≢◌, IfErr, IfOk, IfSome, [], codes, map, option_map};
-ghost use Rattle.std.specs.Prelude.{string_bytes};
+ghost use Rattle.std.specs.Prelude.{◌≡◌, ◌⊎◌, ◌≢◌, IfErr, IfOk, IfSome, [], codes, length, map};
+ghost use Rattle.std.specs.Prelude.{nat_lt, option_map, string_bytes};
 ghost use Rattle.clap.specs.Words.{FailsBy, fault_of, found_of, kind_of, matches_of, rows_of};
 ghost use Rattle.clap.specs.Words.{subcommand_of, subcommand_rows_of};
 ghost use Rattle.program_manners.specs.Words.{IsRequest};
@@ -11,7 +11,7 @@ ghost use Rattle.tool_words.specs.Request.{or_input, shows, sort_request, upload
 ghost use Rattle.tool_words.specs.Tasks.{request_of, corrections_of, texts_of};
 ghost use Rattle.tool_words.specs.ToolLine.{AsksForText, Parses, program};
 
-use crate::encode_words::{encoded_file, rows_task};
+use crate::encode_words::{encoded_file, files_in, rows_task};
 use crate::program::command;
 use crate::reading::{
     as_parts, has_input_twice, has_value, inputs_in, is_input, number_in, value_in,
@@ -37,7 +37,9 @@ fn export_task<'a>(alloc: Global, matches: &ArgMatches<'a>) -> Result<Task<'a>, 
 }
 
 /// Of a tap table, unless the words are of the rows of an agency's CSV.
-fn table_rows_task<'a>(matches: &ArgMatches<'a>) -> Task<'a>
+fn table_rows_task<'a>(matches: &ArgMatches<'a>, has_files: bool) -> Task<'a>
+    requires { has_files
+        ≡ nat_lt 1 (length (named (codes "FILE") (rows_of (found_of matches.now)))) }
     ensures { request_of result ≡ table_request (rows_of (found_of matches.now)) }
 {
     if has_value(matches, "only")
@@ -61,6 +63,13 @@ fn table_rows_task<'a>(matches: &ArgMatches<'a>) -> Task<'a>
     {
         return Task::UsageError(UsageError::NoColumnsForOthers);
     }
+    if has_value(matches, "moment-format")
+        || has_value(matches, "validators-make")
+        || has_value(matches, "out")
+        || has_files
+    {
+        return Task::UsageError(UsageError::NoColumnsForFiles);
+    }
     Task::Encode(encoded_file(matches))
 }
 
@@ -70,19 +79,15 @@ fn encode_task<'a>(alloc: Global, matches: &ArgMatches<'a>) -> Result<Task<'a>, 
     if has_value(matches, "columns") || has_value(matches, "from") {
         return export_task(alloc, matches);
     }
-    Ok(table_rows_task(matches))
+    let files = names_in(alloc, matches, "FILE")?;
+    Ok(table_rows_task(matches, files.len() > 1))
 }
 
-/// Standard input, if no upload is named.
 fn decode_task<'a>(alloc: Global, matches: &ArgMatches<'a>) -> Result<Task<'a>, AllocError>
     ensures { IfOk result (λ task. request_of task
         ≡ decode (or_input (named (codes "FILE") (rows_of (found_of matches.now))))) }
 {
-    let mut words = names_in(alloc, matches, "FILE")?;
-    if words.is_empty() {
-        words.push("-")?;
-    }
-    Ok(Task::Decode(words))
+    Ok(Task::Decode(files_in(alloc, matches)?))
 }
 
 fn uploads_task<'a>(alloc: Global, matches: &ArgMatches<'a>) -> Result<Task<'a>, AllocError>

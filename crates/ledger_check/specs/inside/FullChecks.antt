@@ -1,5 +1,5 @@
 -- Full checks: what private functions alone cite.
-use Rattle.std.specs.Prelude.{◌≡◌, ℕ, ◌≤◌, Bool, true, List, [], ◌∷◌, ◌++◌, length, None, Some}
+use Rattle.std.specs.Prelude.{◌≡◌, ℕ, ◌≤◌, Bool, true, List, [], ◌∷◌, ◌++◌, length, IfSome, None, Some}
 use Rattle.std.specs.Prelude.{if◌then◌else◌, string_bytes}
 use Rattle.std.specs.Str.{bytes_eq}
 use Rattle.tariffs.specs.Fares.{Fares}
@@ -11,11 +11,13 @@ use Rattle.tap_views.specs.declared.encoder.TapFields.{TapFields}
 use Rattle.fare_texts.specs.LedgerLines.{IsLedgerLineAfter, head_text}
 use Rattle.fare_texts.specs.Explainers.{next_entry}
 use Rattle.ledger_check.specs.FullChecks.{IsJudged, IsFullCheck, IsTaken, TakenLine, decreases_after}
-use Rattle.ledger_check.specs.FullChecks.{run_of, run_with, taps_from, remark_lines}
-use Rattle.ledger_check.specs.FullCheckStates.{AreSums, HasRunExplainer}
+use Rattle.ledger_check.specs.FullChecks.{one_wrong, run_of, run_with, taps_from, remark_lines}
+use Rattle.ledger_check.specs.FullChecks.{wrong_count}
+use Rattle.ledger_check.specs.FullCheckStates.{AreSums, HasFed, HasRunExplainer}
 use Rattle.ledger_check.specs.declared.checker.Verdict.{Verdict}
 use Rattle.ledger_check.specs.declared.checker.Verdict.TheVariants.{Legal, Wants as Asks, NoLine as Refuses}
 use Rattle.ledger_check.specs.declared.full_check_sums.FullCheckSums.{FullCheckSums}
+use Rattle.ledger_check.specs.declared.lines_fed.LinesFed.{LinesFed}
 use Rattle.ledger_check.specs.declared.lines_fed.LinesTaken.{LinesTaken}
 use Rattle.ledger_check.specs.declared.tap.Tap.{Tap}
 use Rattle.ledger_check.specs.declared.walk.CountedTap.{CountedTap}
@@ -52,6 +54,10 @@ pub record HasJudged (fares : Fares) (run : List Entry) (line : List ℕ) (walk 
   pub is : IsJudged fares run line finding.tap finding.remark (string_bytes walk.wanted)
   pub explainer : HasRunExplainer fares walk.explainer (run_with run finding.tap)
 
+-- the tap of a right line is such
+abbrev pub IfRight : LineFinding → (CountedTap → Type 0) → Type 0
+IfRight finding Is = one_wrong finding.remark ≡ 0 → IfSome finding.tap Is
+
 -- what is found of the first line
 abbrev pub IsFirstFinding : List ℕ → LineFinding → Type 0
 IsFirstFinding line finding = (finding.tap ≡ None)
@@ -70,8 +76,9 @@ next_taken line finding so_far =
     record { line = line; finding = finding; wanted = string_bytes so_far.walk.wanted }
 
 -- all lines of the text were taken, the last one too, and the remarks were written
-pub record HasEnded (fares : Fares) (subtracts : Bool) (full : FullBalance) (text written : List ℕ)
-    (valid : List TapFields) (sums : FullCheckSums) (reported reported' : List ℕ) : Type 0 where
+pub record HasEnded (fares : Fares) (fed : LinesFed) (subtracts : Bool) (full : FullBalance)
+    (text written : List ℕ) (valid : List TapFields) (sums : FullCheckSums)
+    (reported reported' : List ℕ) : Type 0 where
   pub taken : List TakenLine
   pub full_check : IsFullCheck fares text taken
   pub sums_are : AreSums sums taken
@@ -79,3 +86,4 @@ pub record HasEnded (fares : Fares) (subtracts : Bool) (full : FullBalance) (tex
   pub grown : reported' ≡ reported ++ more
   pub all : written ++ more ≡ remark_lines taken
   pub subtracted : subtracts ≡ true → IsFullBalance full valid (taps_from taken)
+  pub whole : wrong_count taken ≡ 0 → HasFed fares fed text taken

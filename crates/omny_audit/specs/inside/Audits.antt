@@ -13,7 +13,7 @@ use Rattle.omny_audit.specs.declared.audit.Audit.{Audit}
 use Rattle.omny_audit.specs.declared.fault.Fault.{Fault}
 use Rattle.omny_audit.specs.inside.Checks.{HasChecked, is_all, is_decided}
 use Rattle.omny_audit.specs.inside.Fault.{IsStreamFault}
-use Rattle.omny_audit.specs.inside.Reports.{HasSummedFor, text_of}
+use Rattle.omny_audit.specs.inside.Reports.{text_of}
 use Rattle.omny_audit.specs.inside.Traced.{HasReadAll, HasReadAs, wanted_by}
 
 -- what the ledger is audited by, if these are the valid taps of the uploads
@@ -28,11 +28,10 @@ given_in audit valid = record {
   report = text_of audit.report;
 }
 
--- this text was checked, and summed, and this reported of it
+-- this text was checked, and this reported of it
 pub record HasTaken (audit : Audit) (valid : List TapFields) (text written : List ℕ) : Type 0 where
   pub clock : audit.clock.now ≡ audit.table.now.zone
   pub checked : HasChecked audit.table.now audit.subtracts valid audit.check text written
-  pub summed : HasSummedFor audit.table.now audit.report text
 
 -- the file was read so far, and this reported of it
 pub record HasAudited (audit : Audit) (valid : List TapFields) (file written : List ℕ) : Type 0 where
@@ -44,8 +43,6 @@ pub record HasAudited (audit : Audit) (valid : List TapFields) (file written : L
 pub record HasEnded (audit : Audit) (valid : List TapFields) (file written : List ℕ) : Type 0 where
   pub checked : HasChecked audit.table.now audit.subtracts valid audit.check
       (ledger_in (given_in audit valid) file) written
-  pub summed : is_decided audit.check ≡ false
-      → HasSummedFor audit.table.now audit.report (ledger_in (given_in audit valid) file)
   pub all : is_decided audit.check ≡ false → HasReadAll audit.trace file
 
 -- The next piece of the file was read, and this was reported so far. An audit that has ended has

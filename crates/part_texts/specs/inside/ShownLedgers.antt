@@ -1,6 +1,6 @@
 -- Ledgers of parts as they are printed, and what they are merged into.
 use Rattle.std.specs.Prelude.{◌≡◌, ◌<◌, ◌≤◌, ◌^◌, ◌||◌, ℕ, Bool, true, false, List, [], ◌∷◌, ◌++◌, All, length}
-use Rattle.std.specs.Prelude.{Option, Some, None, flat_map, nat_eq}
+use Rattle.std.specs.Prelude.{Option, Some, flat_map, nat_eq}
 use Rattle.std.specs.List.{AllByRecursion}
 use Rattle.tap_views.specs.declared.token.Token.{Token}
 use Rattle.fare_texts.specs.LedgerLines.{head_text}

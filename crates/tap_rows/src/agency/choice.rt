@@ -54,6 +54,8 @@ pub struct Columns<'a> {
     pub has_hashes: bool,
     /// What a plain number in the column of moments counts.
     pub unit: Unit,
+    /// The format of `strptime` by which moments are read; none for plain numbers and RFC 3339.
+    pub format: Option<&'a str>,
     /// A row is kept only if, in each column that these name, it has one of their values.
     pub only: Vec<Condition<'a>>,
     /// A row that has one of these values is not kept.

@@ -57,7 +57,7 @@ fn with_part(text: ArrayVec<u8, 29>, part: &[u8]) -> ArrayVec<u8, 29>
 }
 
 /// Texts one after the other, as long as the longest clock with an offset at most.
-fn joined(first: &[u8], second: &[u8], third: &[u8]) -> ArrayVec<u8, 29>
+pub(crate) fn joined(first: &[u8], second: &[u8], third: &[u8]) -> ArrayVec<u8, 29>
     requires { length first.now + length second.now + length third.now ≤ 29 }
     ensures { result.items ≡ first.now ++ (second.now ++ third.now) }
 {
@@ -80,7 +80,7 @@ fn offset_in(text: &[u8]) -> Option<ArrayVec<u8, 29>>
     }
 }
 
-fn whole_ms(nanoseconds: i128) -> Option<u64>
+pub(crate) fn whole_ms(nanoseconds: i128) -> Option<u64>
     ensures { result ≡ whole_ms nanoseconds }
 {
     match u128::try_from(nanoseconds) {
@@ -108,7 +108,7 @@ fn earliest_ms(unit: Unit) -> u64
     }
 }
 
-fn moment_of(unit: Unit, time: Option<u64>) -> Result<u64, Reason>
+pub(crate) fn moment_of(unit: Unit, time: Option<u64>) -> Result<u64, Reason>
     ensures moment { result ≡ moment_of unit time }
     ensures early { IfOk result (λ moment. moment < moment_limit) }
 {
@@ -209,7 +209,7 @@ fn local_moment(unit: Unit, clock: Option<LocalClock<'_>>, text: &[u8]) -> Resul
 }
 
 #[tactic(auto, using(crate::proofs::AgencyMomentLemmas::with_offset))]
-fn clock_moment(unit: Unit, clock: Option<LocalClock<'_>>, text: &[u8]) -> Result<u64, Reason>
+pub(crate) fn clock_moment(unit: Unit, clock: Option<LocalClock<'_>>, text: &[u8]) -> Result<u64, Reason>
     requires { 19 ≤ length text.now }
     ensures moment { result ≡ clock_moment unit clock.entry text.now }
     ensures early { IfOk result (λ moment. moment < moment_limit) }

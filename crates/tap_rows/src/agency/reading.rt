@@ -16,7 +16,7 @@ ghost use Rattle.tap_rows.specs.inside.Positions.{ArePositions, layout_of, test_
 ghost use Rattle.tap_views.specs.Layout.{moment_limit};
 
 use crate::agency::choice::Choice;
-use crate::agency::instant::moment_in;
+use crate::agency::formatted::moment_under;
 use crate::agency::key::TokenKey;
 use crate::agency::numbers::whole_number_in;
 use crate::agency::positions::{Positions, Test};
@@ -113,7 +113,7 @@ fn passes_any(row: &ByteRecord, tests: &[Test<'_>]) -> bool
     }
 }
 
-fn is_kept(positions: &Positions<'_>, row: &ByteRecord) -> bool
+pub(crate) fn is_kept(positions: &Positions<'_>, row: &ByteRecord) -> bool
     ensures { result ≡ is_kept (layout_of positions.now) (fields_of row.now) }
 {
     passes_each(row, &positions.only, &positions.only) && !passes_any(row, &positions.without)
@@ -250,7 +250,8 @@ fn kept_reading(choice: &Choice<'_>, positions: &Positions<'_>, row: &ByteRecord
     let token = token_in(choice.key, choice.columns.has_hashes, text);
     let validator = validator_in(choice.devices, field_in(row, positions.validator));
     let text = field_in(row, positions.moment);
-    let moment = moment_in(choice.columns.unit, choice.clock, text);
+    let columns = choice.columns;
+    let moment = moment_under(columns.format, columns.unit, choice.clock, text);
     tap_from(token, validator, moment)
 }
 

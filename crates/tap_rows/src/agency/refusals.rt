@@ -28,7 +28,11 @@ fn word_of(reason: Reason) -> &'static str
     }
 }
 
-fn text_of(alloc: Global, separator: Separator, row: &ByteRecord) -> Result<Vec<u8>, AllocError>
+pub(crate) fn text_of(
+    alloc: Global,
+    separator: Separator,
+    row: &ByteRecord,
+) -> Result<Vec<u8>, AllocError>
     ensures { IfOk result (λ text. text.items ≡ record_text separator (fields_of row.now)) }
 {
     let mut writer = WriterBuilder::new()

@@ -52,7 +52,7 @@ pub record Stopped (request : CorrectionsRequest) (before after : List Calls) (r
     (why : Stop) : Type 0 where
   pub calls : List Calls
   pub all : after ≡ before ++ calls
-  pub event : IsCalled request calls why
+  pub event : IsCalled (request.old ∷ request.new ∷ []) calls why
   pub text : List ℕ
   pub part : IsPart request before after text
   pub stopped : IsStopped why (did run [] (record { text = text; note = [] })) run'

@@ -9,9 +9,12 @@ use Rattle.std.proofs.lemmas.Map.Iter.{btree_map_turn}
 use Rattle.tap_views.specs.TapOrder.{tap_cmp}
 use Rattle.tap_views.specs.declared.encoder.TapFields.{TapFields}
 use Rattle.ledger_check.proofs.Balanced.{zero_or_none}
-use Rattle.ledger_check.proofs.Firsts.{Zero, none_before}
 use Rattle.tap_views.proofs.TapOrders.{tap_cmp_total}
 use Rattle.ledger_check.proofs.balance.first_left.Goals as goal
+
+-- none is left by this entry
+abbrev pub Zero : TapFields × ℕ → Type 0
+Zero e = e.1 ≡ 0
 
 pub loop-tap-init : goal.loop-tap-init
 loop-tap-init c = record {
@@ -42,14 +45,6 @@ returns-then-count-gt0-clause-found c =
     (c.in-Some.tap, c.in-Some.count) c.loop-tap.yielded_by c.in-Some.is c.next.ensures.steps
     tap_cmp_total c.args.left.now (search rules) (search rules) in
     subst (λ (o : Option ℕ). 0 < unwrap_or o 0) (sym turn.1) c.if-count-gt0.true
-
-pub returns-then-count-gt0-clause-first : goal.returns-then-count-gt0-clause-first
-returns-then-count-gt0-clause-first c = λ other some.
-    let zero = c.loop-tap.invariant.zero in
-    let entry : TapFields × ℕ = (c.in-Some.tap.now, c.in-Some.count.now) in
-    none_before c.args.left.now zero.0 entry c.next.new.self
-    (zero.1 ∙ ap (λ (left : List (TapFields × ℕ)). zero.0 ++ left) c.in-Some.ensures.steps)
-    (search rules) zero.2 other some
 
 pub returns-clause-none : goal.returns-clause-none
 returns-clause-none c = λ tap.

@@ -4,7 +4,6 @@ use Rattle.tap_views.specs.declared.encoder.TapFields.{TapFields}
 use Rattle.ledger_check.specs.Balances.{IsDifference}
 use Rattle.ledger_check.specs.declared.balance.Difference.{Difference}
 use Rattle.ledger_check.specs.declared.balance.Difference.TheVariants.{Missing, Surplus}
-use Rattle.ledger_check.proofs.Balanced.{surplus_is_more}
 use Rattle.ledger_check.proofs.SameTaps.{same_exact, same_of}
 use Rattle.ledger_check.proofs.Times.{times_permutation}
 use Rattle.ledger_check.proofs.balance_laws.differences_are_real.Goals as goal
@@ -15,11 +14,9 @@ returns-clause-same c = λ tap other. (same_exact tap other, same_of tap other)
 differ : (valid others : List TapFields) (difference : Difference)
     → IsDifference valid others (Some difference) → IsPermutation valid others → ⊥
 differ valid others (Missing tap) is moved = let e = times_permutation tap valid others moved in
-    let fewer = is.fewer in
-    absurd (omega (arith, fewer, e))
+    absurd (omega (arith, is, e))
 differ valid others (Surplus tap) is moved = let e = times_permutation tap valid others moved in
-    let more = surplus_is_more valid others tap is in
-    absurd (omega (arith, more, e))
+    absurd (omega (arith, is, e))
 
 pub returns-clause-apart : goal.returns-clause-apart
 returns-clause-apart c = differ

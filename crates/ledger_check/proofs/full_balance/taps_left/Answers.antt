@@ -1,13 +1,12 @@
 use Rattle.std.proofs.Common.{◌≡◌, ◌++◌, ◌∷◌, [], ℕ, List}
-use Rattle.std.proofs.Common.{ap, sym, subst, ◌∙◌, append_assoc, append-nil, rules}
+use Rattle.std.proofs.Common.{ap, sym, ◌∙◌, append_assoc, append-nil, rules}
 use Rattle.std.proofs.Math.ListN.{replicate}
-use Rattle.std.specs.List.Sorted.{IsSorted}
 use Rattle.std.specs.BTreeMap.{IsOrdered}
 use Rattle.std.proofs.lemmas.List.{flat_map_more}
 use Rattle.tap_views.specs.declared.encoder.TapFields.{TapFields}
 use Rattle.tap_views.specs.TapOrder.{tap_cmp}
 use Rattle.ledger_check.specs.Balances.{copies_among}
-use Rattle.ledger_check.proofs.Spread.{copies-spread, sorted-spread, spread, times}
+use Rattle.ledger_check.proofs.Spread.{copies-spread, spread, times}
 use Rattle.ledger_check.proofs.full_balance.taps_left.Goals as goal
 
 pub loop-tap-preserved : goal.loop-tap-preserved
@@ -28,8 +27,8 @@ loop-tap-preserved c =
       );
     }
 
-pub returns-clause-copies : goal.returns-clause-copies
-returns-clause-copies c = λ tap.
+pub returns : goal.returns
+returns c = λ tap.
     let before = c.loop-tap.invariant.spread_is in
     let all : c.args.left.now.entries ≡ before.0 =
     before.1 ∙ ap (λ (left : List (TapFields × ℕ)). before.0 ++ left) c.in-None.ensures.steps.0
@@ -37,13 +36,3 @@ returns-clause-copies c = λ tap.
     let ordered : IsOrdered tap_cmp c.args.left.now = search rules in
     ap (copies_among tap) (before.2 ∙ ap spread (sym all))
     ∙ copies-spread c.args.left.now.entries tap ordered
-
-pub returns-clause-sorted : goal.returns-clause-sorted
-returns-clause-sorted c =
-    let before = c.loop-tap.invariant.spread_is in
-    let all : c.args.left.now.entries ≡ before.0 =
-    before.1 ∙ ap (λ (left : List (TapFields × ℕ)). before.0 ++ left) c.in-None.ensures.steps.0
-    ∙ append-nil before.0 in
-    let ordered : IsOrdered tap_cmp c.args.left.now = search rules in
-    subst (λ (ts : List TapFields). IsSorted tap_cmp ts)
-    (sym (before.2 ∙ ap spread (sym all))) (sorted-spread c.args.left.now.entries ordered)

@@ -1,14 +1,16 @@
-use Rattle.std.proofs.Common.{◌≡◌, ◌∙◌, ◌++◌, ℕ, Bool, List, [], None, Some, append-nil}
+use Rattle.std.proofs.Common.{◌≡◌, ◌∙◌, ◌++◌, ℕ, Bool, List, [], None, Option, Some, append-nil}
 use Rattle.std.proofs.Common.{if◌then◌else◌, subst, sym, true}
-use Rattle.std.specs.Prelude.{◌↔◌}
+use Rattle.std.specs.Prelude.{◌↔◌, IfSome}
 use Rattle.std.proofs.lemmas.Bool.{true≢false}
 use Rattle.ledger_check.specs.Ledger.{IsLedger}
+use Rattle.ledger_check.specs.Sums.{AreSumsOf}
+use Rattle.ledger_check.specs.declared.open_sums.EntrySums.{EntrySums}
 use Rattle.ledger_check.specs.Verdicts.{IsVerdict}
 use Rattle.omny_audit.specs.Findings.{IsFinding}
 use Rattle.omny_audit.proofs.check.first_found.Goals as goal
 
-pub finish-verdict-requires : goal.finish-verdict-requires
-finish-verdict-requires c = (
+pub finish-requires : goal.finish-requires
+finish-requires c = (
   c.requires.0,
   c.args.balance.now,
   c.requires.2,
@@ -40,10 +42,10 @@ returns-in_ok-found-in-Some-clause-decided c = λ some given.
 pub returns-in_ok-found-in-None-clause-found : goal.returns-in_ok-found-in-None-clause-found
 returns-in_ok-found-in-None-clause-found c = λ fares valid text written has.
     let known = rw c.in-None.is at has in
-    let is = c.finish-verdict.ensures.verdict fares c.args.balance.now text valid known.0 in
+    let is = c.in_ok-sums.ensures.verdict fares c.args.balance.now text valid known.0 in
     let found = c.in_ok-found-in-None.ensures.found fares text valid is
-    (λ legal. c.finish-verdict.ensures.subtracted fares c.args.balance.now text valid known.0
-    legal) in (
+    (λ legal entries of. (c.in_ok-sums.ensures.legal fares c.args.balance.now text valid known.0
+    legal entries of).0) in (
       found.0,
       found.1,
       subst (λ (w : List ℕ). IsFinding c.args.live fares text
@@ -51,5 +53,18 @@ returns-in_ok-found-in-None-clause-found c = λ fares valid text written has.
           c.in_ok-found-in-None.found.is_sound) (sym known.1) found.2,
       subst (λ (b : Bool). (b ≡ true) ↔ IsLedger fares text)
           (sym c.in_ok-found-in-None.ensures.legal)
-          (c.verdicts_decide.ensures fares text c.finish-verdict.result is),
+          (c.verdicts_decide.ensures fares text c.in_ok-sums.verdict is),
     )
+
+pub returns-in_ok-found-in-Some-clause-sums : goal.returns-in_ok-found-in-Some-clause-sums
+returns-in_ok-found-in-Some-clause-sums c = λ fares valid text written has legal.
+    let known = rw c.in-Some.is at has in
+    absurd (true≢false (sym legal ∙ c.in_ok-found-in-Some.ensures.legal ∙ known.1))
+
+pub returns-in_ok-found-in-None-clause-sums : goal.returns-in_ok-found-in-None-clause-sums
+returns-in_ok-found-in-None-clause-sums c = λ fares valid text written has legal entries of.
+    let known = rw c.in-None.is at has in
+    subst (λ (s : Option EntrySums). IfSome s (AreSumsOf entries))
+    (sym c.in_ok-found-in-None.ensures.sums)
+    (c.in_ok-sums.ensures.legal fares c.args.balance.now text valid known.0
+    (sym c.in_ok-found-in-None.ensures.legal ∙ legal) entries of).1

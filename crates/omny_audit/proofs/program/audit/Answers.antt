@@ -132,7 +132,6 @@ audit_over-requires-clause-audited g c =
         taken = record {
           clock = c.in-Ok-clock.ensures.zone;
           checked = c.new.ensures.checked c.in-Ok.tables.fares _ loaded.1 loaded.4.balance;
-          summed = c.in-Ok-load_report.ensures.sums c.in-Ok.tables.fares;
         };
       },
     )
@@ -211,6 +210,5 @@ returns g c =
       taken = record {
         clock = c.in-Ok-clock.ensures.zone;
         checked = c.new.ensures.checked tables.fares _ loaded.1 loaded.4.balance;
-        summed = c.in-Ok-load_report.ensures.sums tables.fares;
       };
     })))

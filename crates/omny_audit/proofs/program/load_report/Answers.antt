@@ -1,4 +1,4 @@
-use Rattle.std.proofs.Common.{◌∷◌, []}
+use Rattle.std.proofs.Common.{◌∷◌, [], refl}
 use Rattle.std.proofs.lemmas.List.Elements.{Contains-push}
 use Rattle.program_manners.specs.Refusals.{refusal_of}
 use Rattle.omny_audit.proofs.Causes.{file_fault}
@@ -6,7 +6,7 @@ use Rattle.omny_audit.proofs.program.load_report.Goals as goal
 
 pub returns-clause-ok : goal.returns-clause-ok
 returns-clause-ok g c =
-    rw c.in-Some.is (c.in-Ok.text.items, c.in-Ok.ensures.ok, rw c.new-held.ensures.text)
+    rw c.in-Some.is (c.in-Ok.text.items, c.in-Ok.ensures.ok, refl)
 
 pub returns-in-Err-clause-fault : goal.returns-in-Err-clause-fault
 returns-in-Err-clause-fault g c =

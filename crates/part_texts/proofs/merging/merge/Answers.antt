@@ -1,35 +1,65 @@
-use Rattle.std.proofs.Common.{◌≡◌, ◌<◌, length, arith}
+use Rattle.std.proofs.Common.{◌∙◌, List, ap, arith, refl, subst, ℕ}
 use Rattle.std.proofs.lemmas.Bool.Decides.{nat_tests}
 use Rattle.std.proofs.lemmas.List.{nil_from_length}
-use Rattle.std.proofs.lemmas.Result.{err_from_is_err_and}
-use Rattle.part_texts.specs.Fronts.{fronts_view}
-use Rattle.part_texts.proofs.Copying.{merge_fault, merge_none, merge_whole}
+use Rattle.world.specs.Run.{with_written}
+use Rattle.world.specs.Writes.{IsCut}
+use Rattle.part_texts.specs.inside.Fronts.{fronts_view}
+use Rattle.part_texts.specs.inside.Opened.{CopiesAll}
+use Rattle.part_texts.specs.declared.fault.MergeFault.TheVariants.{NoMemory}
+use Rattle.part_texts.proofs.AllParts.{front_cut, lines_merged, no_fronts_read, no_parts}
+use Rattle.part_texts.proofs.Parts.{follow_on, follow_self}
 use Rattle.part_texts.proofs.merging.merge.Goals as goal
 
-pub returns-then-is_empty : goal.returns-then-is_empty
-returns-then-is_empty g c = λ texts are.
-    let none : length c.args.parts.items ≡ 0 =
-    grind (arith, nat_tests, c.is_empty.ensures, c.if-is_empty.true) in
-    merge_none g.R.Read.remaining c.args.parts.items texts (g.W.Write.contents c.args.out.now)
-    (nil_from_length c.args.parts.items none) are
+pub returns-then-is_empty-clause-follow : goal.returns-then-is_empty-clause-follow
+returns-then-is_empty-clause-follow g c = follow_self c.args.parts.now
 
-pub returns-in_err-opens : goal.returns-in_err-opens
-returns-in_err-opens g c = λ texts are.
-    let p = err_from_is_err_and c.from_residual.result c.from_residual.ensures.1 in
-    let some : 0 < length c.args.parts.items =
-    grind (arith, nat_tests, c.is_empty.ensures, c.if-is_empty.false) in
-    rw (p.1, p.2) (merge_fault g.R.Read.remaining c.args.parts.items texts
-    (g.W.Write.contents c.args.out.now) (fronts_view c.new-fronts.result) c.in_err-opens.field-0.0
-    some
-    are c.new-fronts.ensures (c.in_err-opens.ensures texts are))
+pub returns-then-is_empty-clause-merges : goal.returns-then-is_empty-clause-merges
+returns-then-is_empty-clause-merges g c =
+    no_parts c.args.parts.now (g.W.Inputs.run c.args.world.now)
+    (nil_from_length c.args.parts.now
+    (grind (arith, nat_tests, c.is_empty.ensures, c.if-is_empty.true)))
 
-pub returns : goal.returns
-returns g c = λ texts are.
-    let some : 0 < length c.args.parts.items =
-    grind (arith, nat_tests, c.is_empty.ensures, c.if-is_empty.false) in
-    let (views, opens, said) = c.in_ok-opens.ensures texts are in
-    merge_whole g.R.Read.remaining c.args.parts.items texts (g.W.Write.contents c.args.out.now)
-    (g.W.Write.contents c.write_whole.new.out) (fronts_view c.new-fronts.result)
-    (fronts_view c.read_fronts.new.fronts) views c.write_whole.result some are c.new-fronts.ensures
-    said
-    (c.write_whole.ensures views opens)
+pub returns-in-Err-clause-merges : goal.returns-in-Err-clause-merges
+returns-in-Err-clause-merges g c =
+    no_fronts_read c.read_fronts.new.parts (fronts_view c.new-fronts.result)
+    (g.W.Inputs.run c.args.world.now) c.in-Err.fault
+    (grind (arith, nat_tests, c.is_empty.ensures, c.if-is_empty.false))
+    c.new-fronts.ensures c.in-Err.ensures.unwritten c.in-Err.ensures.read
+
+pub returns-in_default-clause-merges : goal.returns-in_default-clause-merges
+returns-in_default-clause-merges g c =
+    no_fronts_read c.read_fronts.new.parts (fronts_view c.new-fronts.result)
+    (g.W.Inputs.run c.args.world.now) NoMemory
+    (grind (arith, nat_tests, c.is_empty.ensures, c.if-is_empty.false))
+    c.new-fronts.ensures (λ r. refl) (λ texts can. tt)
+
+pub returns-in-Err-write-clause-merges : goal.returns-in-Err-write-clause-merges
+returns-in-Err-write-clause-merges g c =
+    let run = g.W.Inputs.run c.args.world.now in
+    front_cut c.read_fronts.new.parts c.read_fronts.new.parts (fronts_view c.new-fronts.result)
+    (fronts_view c.read_fronts.new.fronts) c.in-Ok.opens.items run
+    (g.W.Inputs.run c.write.new.self)
+    (grind (arith, nat_tests, c.is_empty.ensures, c.if-is_empty.false)) c.new-fronts.ensures
+    c.in-Ok.ensures.read c.in-Err-write.why
+    (subst (λ (l : List ℕ). IsCut run (g.W.Inputs.run c.write.new.self) l c.in-Err-write.why)
+    (c.deref.ensures.value ∙ c.in-Ok-whole_front.ensures) c.in-Err-write.ensures.cut)
+
+pub returns-clause-follow : goal.returns-clause-follow
+returns-clause-follow g c =
+    follow_on c.args.parts.now c.read_fronts.new.parts c.copy_sections.new.parts
+    c.read_fronts.ensures.follow c.copy_sections.ensures.follow
+
+pub returns-clause-merges : goal.returns-clause-merges
+returns-clause-merges g c =
+    let run = g.W.Inputs.run c.args.world.now in
+    lines_merged c.read_fronts.new.parts c.copy_sections.new.parts (fronts_view c.new-fronts.result)
+    (fronts_view c.read_fronts.new.fronts) c.in-Ok.opens.items run
+    (g.W.Inputs.run c.write.new.self)
+    (grind (arith, nat_tests, c.is_empty.ensures, c.if-is_empty.false)) c.new-fronts.ensures
+    c.in-Ok.ensures.read (g.W.Inputs.run c.copy_sections.new.world) c.copy_sections.result
+    c.copy_sections.ensures.follow
+    (c.in-Ok-write.ensures.whole ∙ ap (λ (l : List ℕ). with_written run l)
+    (c.deref.ensures.value ∙ c.in-Ok-whole_front.ensures))
+    (subst (λ os. CopiesAll os c.read_fronts.new.parts c.copy_sections.new.parts
+    (g.W.Inputs.run c.write.new.self) (g.W.Inputs.run c.copy_sections.new.world)
+    c.copy_sections.result) c.deref-2.ensures.value c.copy_sections.ensures.copied)

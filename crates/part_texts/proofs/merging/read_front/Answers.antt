@@ -1,29 +1,94 @@
-use Rattle.std.proofs.Common.{◌∙◌, subst, sym}
-use Rattle.part_texts.specs.Fronts.{fronts_view}
-use Rattle.part_texts.specs.Merged.{IsFaultOf, front_of}
-use Rattle.sorted_taps.proofs.Known.{known_map}
-use Rattle.part_texts.proofs.Opening.{front_fault, front_ok, front_short}
+use Rattle.std.proofs.Common.{◌≡◌, ◌∙◌, Err, List, Ok, ap, refl, subst, sym, ℕ}
+use Rattle.recorded_lines.proofs.Reading.{follows_on, follows_self}
+use Rattle.part_texts.specs.inside.Fronts.{fronts_view}
+use Rattle.part_texts.specs.FrontSteps.{front_step}
+use Rattle.part_texts.specs.Merged.{front_end}
+use Rattle.part_texts.proofs.Runs.{front_line, front_short, front_unread, front_whole}
 use Rattle.part_texts.proofs.merging.read_front.Goals as goal
 
-pub returns-then-is_done : goal.returns-then-is_done
-returns-then-is_done g c =
-    known_map _ _ (g.R.Read.remaining c.args.from.now) (λ text stops.
-    front_ok c.args.position c.in-Ok.number (fronts_view c.args.fronts.now)
-    (fronts_view c.fold_lines.new.fold) text (g.R.Read.remaining c.fold_lines.new.from) stops
-    (sym c.is_done.ensures ∙ c.if-is_done.true)) c.in-Ok.ensures.stops
+pub loop-number-init : goal.loop-number-init
+loop-number-init c = record { follows = follows_self c.args.from.now; same = λ whole can. refl }
 
-pub returns-else-is_done : goal.returns-else-is_done
-returns-else-is_done g c =
-    known_map _ _ (g.R.Read.remaining c.args.from.now) (λ text stops.
-    front_short c.args.position c.in-Ok.number (fronts_view c.args.fronts.now)
-    (fronts_view c.fold_lines.new.fold) text (g.R.Read.remaining c.fold_lines.new.from) stops
-    (sym c.is_done.ensures ∙ c.if-is_done.false)) c.in-Ok.ensures.stops
+pub returns-then-is_done-clause-follows : goal.returns-then-is_done-clause-follows
+returns-then-is_done-clause-follows c = c.loop-number.invariant.follows
 
-pub returns-in-Err : goal.returns-in-Err
-returns-in-Err g c =
-    known_map _ _ (g.R.Read.remaining c.args.from.now) (λ text stops.
-    subst (IsFaultOf (front_of c.args.position (fronts_view c.args.fronts.now) text))
-    (sym c.fault_by.ensures)
-    (front_fault c.args.position (fronts_view c.args.fronts.now) (fronts_view c.fold_lines.new.fold)
-    text
-    (g.R.Read.remaining c.fold_lines.new.from) c.in-Err.stop stops)) c.in-Err.ensures.stops
+pub returns-then-is_done-clause-read : goal.returns-then-is_done-clause-read
+returns-then-is_done-clause-read c = λ whole can.
+    front_whole c.args.position (fronts_view c.args.fronts.now) (fronts_view c.loop-number.fronts)
+    c.args.from.now c.loop-number.from c.loop-number.number (record {
+      number = c.loop-number.number;
+      is_ledger = c.loop-number.fronts.is_ledger;
+      left = c.left_at.result;
+      part = c.loop-number.fronts.part;
+    }) whole c.loop-number.invariant can (sym c.is_done.ensures ∙ c.if-is_done.true)
+    (λ lines i. record {
+      is_ledger = c.loop-number.fronts.is_ledger;
+      left = sym c.left_at.ensures i;
+      part = (fronts_view c.loop-number.fronts).part;
+      number = c.loop-number.number;
+      lines = lines;
+    })
+
+pub returns-in-Ok-false-clause-follows : goal.returns-in-Ok-false-clause-follows
+returns-in-Ok-false-clause-follows c =
+    follows_on c.args.from.now c.loop-number.from c.next_line.new.from
+    c.loop-number.invariant.follows c.next_line.ensures.follows
+
+pub returns-in-Ok-false-clause-read : goal.returns-in-Ok-false-clause-read
+returns-in-Ok-false-clause-read c = λ whole can.
+    front_short c.args.position (fronts_view c.args.fronts.now) (fronts_view c.loop-number.fronts)
+    c.args.from.now c.loop-number.from c.next_line.new.from c.loop-number.number whole
+    c.loop-number.invariant c.next_line.ensures.follows can
+    (sym c.is_done.ensures ∙ c.if-is_done.false)
+    (rw c.in-Ok-false.field-0-test at (c.in-Ok-false.ensures.read whole can)).0
+
+pub returns-in-Err-clause-follows : goal.returns-in-Err-clause-follows
+returns-in-Err-clause-follows c =
+    follows_on c.args.from.now c.loop-number.from c.next_line.new.from
+    c.loop-number.invariant.follows c.next_line.ensures.follows
+
+pub returns-in-Err-clause-read : goal.returns-in-Err-clause-read
+returns-in-Err-clause-read c = λ whole can.
+    front_unread c.args.position (fronts_view c.args.fronts.now)
+    (fronts_view c.loop-number.fronts) c.args.from.now c.loop-number.from c.next_line.new.from
+    c.loop-number.number c.next_line.new.line.items whole c.in-Err.fault c.loop-number.invariant
+    c.next_line.ensures.follows can (sym c.is_done.ensures ∙ c.if-is_done.false)
+    (c.in-Err.ensures.read whole can)
+
+pub returns-in-Err-Wrong-clause-follows : goal.returns-in-Err-Wrong-clause-follows
+returns-in-Err-Wrong-clause-follows c =
+    follows_on c.args.from.now c.loop-number.from c.next_line.new.from
+    c.loop-number.invariant.follows c.next_line.ensures.follows
+
+pub returns-in-Err-Wrong-clause-read : goal.returns-in-Err-Wrong-clause-read
+returns-in-Err-Wrong-clause-read c = λ whole can.
+    ap (front_end c.args.position) (front_line (fronts_view c.args.fronts.now)
+    (fronts_view c.loop-number.fronts) c.args.from.now c.loop-number.from c.next_line.new.from
+    c.loop-number.number c.next_line.new.line.items whole (Err c.in-Err-Wrong.why)
+    c.loop-number.invariant c.next_line.ensures.follows can
+    (sym c.is_done.ensures ∙ c.if-is_done.false)
+    (rw c.in-Ok-true.field-0-test at (c.in-Ok-true.ensures.read whole can))
+    (subst (λ (l : List ℕ). front_step (fronts_view c.loop-number.fronts) l ≡ Err c.in-Err-Wrong.why)
+    c.deref.ensures.value (rw c.in-Err-Wrong.field-0-is at c.in-Err-Wrong.ensures)))
+
+pub returns-in-Err-NoMemory-clause-follows : goal.returns-in-Err-NoMemory-clause-follows
+returns-in-Err-NoMemory-clause-follows c =
+    follows_on c.args.from.now c.loop-number.from c.next_line.new.from
+    c.loop-number.invariant.follows c.next_line.ensures.follows
+
+pub loop-number-preserved : goal.loop-number-preserved
+loop-number-preserved c = record {
+  follows = follows_on c.args.from.now c.loop-number.from c.next_line.new.from
+      c.loop-number.invariant.follows c.next_line.ensures.follows;
+  same = λ whole can. front_line (fronts_view c.args.fronts.now)
+      (fronts_view c.loop-number.fronts) c.args.from.now c.loop-number.from c.next_line.new.from
+      c.loop-number.number c.next_line.new.line.items whole (Ok (fronts_view c.take.new.self))
+      c.loop-number.invariant c.next_line.ensures.follows can
+      (sym c.is_done.ensures ∙ c.if-is_done.false)
+      (rw c.in-Ok-true.field-0-test at (c.in-Ok-true.ensures.read whole can))
+      (subst (λ (l : List ℕ). front_step (fronts_view c.loop-number.fronts) l
+      ≡ Ok (fronts_view c.take.new.self)) c.deref.ensures.value c.in-Ok.ensures);
+}
+
+pub returns-clause-follows : goal.returns-clause-follows
+returns-clause-follows c = c.loop-number.invariant.follows

@@ -1,15 +1,8 @@
-use Rattle.std.proofs.Common.{◌≡◌, ◌++◌, length}
-use Rattle.part_texts.specs.Fronts.{fronts_view}
-use Rattle.part_texts.proofs.Opening.{OpensAt}
+use Rattle.part_texts.specs.inside.Fronts.{fronts_view}
+use Rattle.part_texts.proofs.AllParts.{AreOpened}
 use Rattle.part_texts.proofs.merging.read_fronts.Given as goal
 
-abbrev pub invariant-loop-from : goal.invariant-loop-from
-invariant-loop-from g l = record {
-  may : (goal.iterator-loop-from g).can_next l.from-iterator;
-  ends : (goal.iterator-loop-from g).is_finite l.from-iterator;
-  all : l.yielded ++ l.from-iterator.rest.items ≡ l.fn.parts.items;
-  number : length l.opens.items ≡ length l.yielded;
-  opens : OpensAt g.R.Read.remaining l.fn.parts.items (fronts_view l.fn.fronts)
-      (fronts_view l.fronts)
-      l.opens.items l.from-iterator.rest.items;
-}
+abbrev pub invariant-loop-position : goal.invariant-loop-position
+invariant-loop-position l =
+    AreOpened (fronts_view l.fn.fronts) (fronts_view l.fronts) l.opens.items l.fn.parts l.parts
+    l.position

@@ -3,7 +3,7 @@ use Rattle.std.proofs.Common.{sym}
 use Rattle.fare_texts.specs.ReportLines.{number_line}
 use Rattle.report_texts.specs.Report.{upload_lines}
 use Rattle.tap_views.specs.declared.upload_end.UploadEnd.TheVariants.{Posted}
-use Rattle.part_texts.specs.Fronts.{fronts_view}
+use Rattle.part_texts.specs.inside.Fronts.{fronts_view}
 use Rattle.part_texts.proofs.WholeTexts.{front_joined, map_length}
 use Rattle.part_texts.proofs.merging.report_front.Goals as goal
 

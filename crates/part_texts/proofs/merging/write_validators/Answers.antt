@@ -5,7 +5,7 @@ use Rattle.std.specs.Map.Iter.{deref_pair}
 use Rattle.std.proofs.lemmas.Map.Iter.{iter_end}
 use Rattle.fare_texts.specs.ReportLines.{validator_line}
 use Rattle.histories.specs.Sums.{sums_of}
-use Rattle.part_texts.specs.Fronts.{shown_sums}
+use Rattle.part_texts.specs.inside.Fronts.{shown_sums}
 use Rattle.part_texts.proofs.WholeTexts.{line_written}
 use Rattle.part_texts.proofs.merging.write_validators.Goals as goal
 

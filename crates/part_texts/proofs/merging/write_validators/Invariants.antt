@@ -4,7 +4,7 @@ use Rattle.std.specs.String.{string_bytes}
 use Rattle.std.specs.Map.Iter.{deref_pair}
 use Rattle.fare_texts.specs.ReportLines.{validator_line}
 use Rattle.histories.specs.Sums.{sums_of}
-use Rattle.part_texts.specs.Fronts.{shown_sums}
+use Rattle.part_texts.specs.inside.Fronts.{shown_sums}
 use Rattle.part_texts.proofs.merging.write_validators.Given as goal
 
 abbrev pub invariant-loop-validator : goal.invariant-loop-validator

@@ -5,8 +5,8 @@ use Rattle.recorded_lines.proofs.Reading.{follows_on}
 use Rattle.world.specs.Run.{with_written}
 use Rattle.tool_tasks.specs.inside.Corrections.{IsHalt}
 use Rattle.tool_tasks.specs.declared.corrections.Halt.{Halt}
-use Rattle.tool_tasks.proofs.Corrected.{after_begun, begun_part, cut_on, given_head}
-use Rattle.tool_tasks.proofs.Corrected.{halt_faulted, written_none, written_on}
+use Rattle.part_texts.proofs.Written.{cut_on, written_none, written_on}
+use Rattle.tool_tasks.proofs.Corrected.{after_begun, begun_part, given_head, halt_faulted}
 use Rattle.tool_tasks.proofs.corrections.write_all.Goals as goal
 
 pub begin-requires : goal.begin-requires

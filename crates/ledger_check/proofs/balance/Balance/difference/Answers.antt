@@ -7,10 +7,9 @@ returns-in_default-first_left c = λ valid subtracted is.
     all_subtracted c.args.self.now.left valid subtracted
     (rw c.in_default-first_left.is at c.first_left.ensures.none) (rw c.in_default.is at is)
 
--- the first that is left is the first missing one, and nothing was struck out that is not there
 pub returns : goal.returns
 returns c = λ valid subtracted is.
     let one : Balances c.args.self.now.left c.args.self.now.surplus valid subtracted = is in
     let none : Balances c.args.self.now.left None valid subtracted = rw c.in_default.is at one in
     some_left c.args.self.now.left valid subtracted c.in-Some-first_left.tap
-    c.in-Some-first_left.ensures.found c.in-Some-first_left.ensures.first none
+    c.in-Some-first_left.ensures.found none

@@ -8,6 +8,11 @@ twice : (b : Bool) → b ≡ not (not b)
 twice true = refl
 twice false = refl
 
+pub entry_sums-requires : goal.entry_sums-requires
+entry_sums-requires c =
+    let (fares, subtracts, full, text, written, valid, is) = c.requires in
+    (fares, text, is.taken, is.fed)
+
 pub returns : goal.returns
 returns c = λ fares subtracts full text written valid is.
     let ended = c.in_ok-sums.ensures fares subtracts full text written valid is in
@@ -18,6 +23,7 @@ returns c = λ fares subtracts full text written valid is.
       twice c.is_none.result ∙ ap not (sym c.is_none.ensures)
           ∙ ap (λ (e : Option ℕ). not (is_some e)) ended.sums_are.order.early,
       ended.subtracted,
+      λ none. c.in_ok-entry_sums.ensures fares text ended.taken (ended.whole none),
       ended.more ++ end,
       c.in_ok-write_end.ensures ended.taken ended.sums_are
           ∙ ap (λ (t : List ℕ). t ++ end) ended.grown

@@ -1,4 +1,4 @@
-use Rattle.std.proofs.Common.{◌≡◌, ◌≤◌, [], inl, refl, arith}
+use Rattle.std.proofs.Common.{◌≤◌, [], inl, refl, arith}
 use Rattle.ledger_check.proofs.lines_fed.LinesFed.new.Goals as goal
 
 pub returns : goal.returns
@@ -10,6 +10,7 @@ returns c = λ fares. record {
     is_run = refl;
     few = omega arith;
     explainer = c.new.ensures fares;
+    entries = c.open_sums.ensures;
   };
   started = [];
   kept = inl c.new-3.ensures.items;

@@ -1,14 +1,11 @@
-use Rattle.std.proofs.Common.{◌++◌, ◌∙◌, ℕ, Bool, List, Option, ap, append_assoc}
+use Rattle.std.proofs.Common.{◌++◌, ◌∙◌, ℕ, Bool, List, ap, append_assoc}
 use Rattle.std.proofs.Common.{Global, Vec, string_bytes, subst, sym, true}
 use Rattle.std.specs.Prelude.{◌&&◌, ◌||◌}
-use Rattle.std.proofs.Math.Bool.{or-true}
 use Rattle.std.proofs.lemmas.Bool.{and_parts}
 use Rattle.omny_audit.specs.Reports.{AreLastLines, ledger_in}
 use Rattle.omny_audit.specs.Traced.{AreColumnsReported}
-use Rattle.omny_audit.specs.declared.report.ReportWithSums.{ReportWithSums}
 use Rattle.omny_audit.specs.inside.Audits.{given_in}
-use Rattle.omny_audit.specs.inside.Checks.{is_all}
-use Rattle.omny_audit.specs.inside.Reports.{HasSummedFor, text_of}
+use Rattle.omny_audit.specs.inside.Reports.{text_of}
 use Rattle.omny_audit.specs.inside.Traced.{wanted_by}
 use Rattle.omny_audit.proofs.Audits.{undecided}
 use Rattle.omny_audit.proofs.audit.Audit.end.Goals as goal
@@ -18,24 +15,6 @@ finish-requires c =
     let has = c.requires.3 in record {
       fed = (c.args.self.now.table.now, c.requires.0, _, c.requires.2, has.checked);
     }
-
-pub write_last_lines-requires : goal.write_last_lines-requires
-write_last_lines-requires c = λ yes.
-    let audit = c.args.self.now in
-    let has = c.requires.3 in
-    let found = c.in_ok-found.ensures.found audit.table.now c.requires.0 _ c.requires.2 has.checked
-    in
-    let legal = (and_parts c.in_ok-found.found.is_legal c.in_ok-is_right.is_right
-    (sym c.are_both-is_whole.ensures ∙ yes)).0 in
-    let summed = has.summed (undecided audit.check true
-    (λ is. sym legal ∙ c.in_ok-found.ensures.decided is) (or-true (is_all audit.check))) in (
-      audit.table.now,
-      ledger_in (given_in audit c.requires.0) c.requires.1,
-      subst (λ (r : Option ReportWithSums). HasSummedFor audit.table.now r
-          (ledger_in (given_in audit c.requires.0) c.requires.1)) (sym c.take-report.ensures.value)
-          summed,
-      found.3.0 legal,
-    )
 
 pub returns-clause-decided : goal.returns-clause-decided
 returns-clause-decided c = λ is.
@@ -59,12 +38,9 @@ returns-clause-ended c = λ valid file before has.
     let whole = c.are_both-is_whole.ensures in
     let reported = columns.2 file (λ look. has.all (undecided audit.check legal
     c.in_ok-found.ensures.decided (sym looked ∙ look))) in
-    let last = wrote.2 audit.table.now (ledger_in given file) (λ yes.
-    subst (λ (r : Option ReportWithSums). HasSummedFor audit.table.now r (ledger_in given file))
-    (sym c.take-report.ensures.value)
-    (has.summed (undecided audit.check legal c.in_ok-found.ensures.decided
-    (ap (λ (b : Bool). is_all audit.check || b) (and_parts legal right (sym whole ∙ yes)).0
-    ∙ or-true (is_all audit.check))))) in (
+    let last = wrote.2 audit.table.now (ledger_in given file) (λ yes entries of.
+    c.in_ok-found.ensures.sums audit.table.now valid (ledger_in given file) written has.checked
+    (and_parts legal right (sym whole ∙ yes)).0 entries of) in (
       reported.0,
       record {
         found = written ++ found.0;
@@ -79,10 +55,7 @@ returns-clause-ended c = λ valid file before has.
         rest = wrote.0;
         fits = fits;
         last = subst (λ (b : Bool). AreLastLines given.ends audit.table.now (ledger_in given file)
-            (text_of audit.report) b wrote.0 fits) whole
-            (subst (λ (r : Option ReportWithSums). AreLastLines given.ends audit.table.now
-            (ledger_in given file) (text_of r) c.are_both-is_whole.result wrote.0 fits)
-            c.take-report.ensures.value last);
+            (text_of audit.report) b wrote.0 fits) whole last;
         shown = ap (λ (t : List ℕ). before ++ t)
             (wrote.1 ∙ ap (λ (t : List ℕ). t ++ wrote.0)
             (columns.1 ∙ ap (λ (t : List ℕ). t ++ columns.0)

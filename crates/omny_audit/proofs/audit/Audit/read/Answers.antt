@@ -9,7 +9,7 @@ take-requires c = let has = c.requires.3 in (
   c.requires.0,
   has.text,
   c.requires.2,
-  record { clock = has.taken.clock; checked = has.taken.checked; summed = has.taken.summed },
+  record { clock = has.taken.clock; checked = has.taken.checked },
 )
 
 pub returns : goal.returns
@@ -20,7 +20,6 @@ returns c = λ valid file written has.
     let taken = c.in_ok-take.ensures.taken valid has.text written (record {
       clock = has.taken.clock;
       checked = has.taken.checked;
-      summed = has.taken.summed;
     }) in (
       taken.0,
       taken.1,

@@ -3,7 +3,6 @@ use Rattle.std.specs.Prelude.{is_some}
 use Rattle.ledger_check.specs.Columns.{read_as}
 use Rattle.omny_audit.specs.declared.traced.TracedPieces.{TracedPieces}
 use Rattle.omny_audit.specs.inside.Checks.{HasChecked}
-use Rattle.omny_audit.specs.inside.Reports.{HasSummedFor}
 use Rattle.omny_audit.specs.inside.Traced.{HasReadAll, wanted_by}
 use Rattle.omny_audit.proofs.Audits.{given_traced}
 use Rattle.omny_audit.proofs.audit.Audit.read_end.Goals as goal
@@ -13,7 +12,7 @@ take-requires c = let has = c.requires.3 in (
   c.requires.0,
   has.text,
   c.requires.2,
-  record { clock = has.taken.clock; checked = has.taken.checked; summed = has.taken.summed },
+  record { clock = has.taken.clock; checked = has.taken.checked },
 )
 
 pub returns : goal.returns
@@ -24,7 +23,6 @@ returns c = λ valid file written has.
     let taken = c.in_ok-take.ensures.taken valid has.text written (record {
       clock = has.taken.clock;
       checked = has.taken.checked;
-      summed = has.taken.summed;
     }) in
     let read = c.in_ok-read_end.ensures.read file has.text has.as_text in
     let whole : has.text ++ text.items ≡ read_as (is_some (wanted_by after.trace)) file = read.0
@@ -37,8 +35,6 @@ returns c = λ valid file written has.
         checked = subst
             (λ (t : List ℕ). HasChecked after.table.now after.subtracts valid after.check t
             (written ++ taken.0)) whole taken.3.checked;
-        summed = λ open_still. subst (λ (t : List ℕ). HasSummedFor after.table.now after.report t)
-            whole taken.3.summed;
         all = λ open_still. subst (λ (t : Option TracedPieces). HasReadAll t file)
             (sym c.take.ensures.trace) read.1;
       },

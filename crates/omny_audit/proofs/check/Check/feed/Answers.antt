@@ -16,5 +16,5 @@ returns-in_ok-verdict-in-First-clause-fed c = λ valid text written has.
           (text ++ c.args.piece.now) w) (sym (append-nil written))
           (first_fed c.args.table.now c.args.subtracts valid c.in-First.checker c.feed.new.self
           c.in-First.balance c.feed.new.balance c.in-First.verdict c.in_ok-verdict-in-First.field-0
-          text c.args.piece.now written none (c.in_ok-verdict-in-First.ensures text valid) before),
+          text c.args.piece.now written none (c.in_ok-verdict-in-First.ensures.fed text valid) before),
     )

@@ -1,0 +1,98 @@
+-- What an encoding of CSVs has loaded and made so far: what private functions alone cite.
+use Rattle.std.specs.Prelude.{◌≡◌, ⊤, ℕ, Bool, List, None, Option, Some, map, option_map, string_bytes}
+use Rattle.jiff_tz.specs.declared.timezone.TimeZone.{TimeZone}
+use Rattle.jiff_tz.specs.declared.timezone.TimeZone.TheVariants as zones
+use Rattle.jiff_tz.specs.declared.tzif.Tzif.{Tzif}
+use Rattle.tap_rows.specs.Devices.{Device, devices_of}
+use Rattle.tap_rows.specs.declared.agency.choice.Choice.{Choice}
+use Rattle.tap_rows.specs.declared.agency.choice.Fold.{Fold}
+use Rattle.tap_rows.specs.declared.agency.choice.LocalClock.{LocalClock}
+use Rattle.tool_tasks.specs.EncodeRows.{AnswersTexts, Csv, Encoded, IsRowsAnswer, IsWrongRows}
+use Rattle.tool_tasks.specs.EncodeRows.{Texts, later_loads, load_csv, word_in}
+use Rattle.tool_tasks.specs.Fault.{wrong_line}
+use Rattle.tool_tasks.specs.WrongTables.{rows_text}
+use Rattle.tool_tasks.specs.declared.encode_csvs.Encoded.{Encoded as Held}
+use Rattle.tool_tasks.specs.declared.encode_loads.Csv.{Csv as HeldCsv}
+use Rattle.tool_tasks.specs.declared.encode_loads.Texts.{Texts as HeldTexts}
+use Rattle.tool_tasks.specs.declared.prepared.NewFile.{NewFile}
+use Rattle.tool_tasks.specs.declared.prepared.Prepared.{Prepared}
+use Rattle.tool_tasks.specs.declared.wrong_tables.WrongRows.{WrongRows}
+use Rattle.tool_tasks.specs.inside.Prepared.{IsRefusal, answer_of, files_of}
+use Rattle.tool_words.specs.declared.task.RowsWords.{RowsWords}
+use Rattle.world.specs.Origins.{with_loads}
+use Rattle.world.specs.Run.{Run}
+
+-- ---- values, as contracts see them
+abbrev pub csv_of : HeldCsv → Csv
+csv_of csv = (csv.word.now, csv.text.items)
+
+abbrev pub texts_in : HeldTexts → Texts
+texts_in texts = record {
+  devices = texts.devices.items;
+  key = texts.key.items;
+  zone = texts.zone.items;
+  csvs = map csv_of texts.csvs.items;
+}
+
+abbrev pub encoded_of : Held → Encoded
+encoded_of all = record {
+  upload = all.upload.items;
+  rows = all.rows.items;
+  note = string_bytes all.note;
+  has_taps = all.has_taps;
+  has_refused = all.has_refused;
+}
+
+-- ---- loads
+-- these CSVs were loaded, each by its word
+abbrev pub AreLoaded : List (List ℕ) → List Csv → Run → Run → Type 0
+AreLoaded words csvs old new =
+    (map (λ csv. csv.0) csvs ≡ words) × (new ≡ with_loads old (map load_csv csvs))
+
+-- the texts after this device table were loaded
+abbrev pub HasLoaded : RowsWords → List (List ℕ) → List ℕ → Texts → Run → Run → Type 0
+HasLoaded words csvs devices texts old new = (map (λ csv. csv.0) texts.csvs ≡ csvs)
+    × (texts.devices ≡ devices) × (new ≡ with_loads old (later_loads words texts))
+
+-- ---- how rows are read
+-- the zone is this table
+abbrev pub IsTable : Tzif → TimeZone → Type 0
+IsTable table (zones.Tzif held) = held.now ≡ table
+IsTable table zone = ⊥
+
+abbrev pub IsTableClock : Tzif → Fold → LocalClock → Type 0
+IsTableClock table fold clock = (clock.fold ≡ fold) × IsTable table clock.zone
+
+-- the choice has the columns of the words, these devices, the key of this block, and this clock
+pub record IsMade (words : RowsWords) (devices : Option (List Device)) (block : Option (List ℕ))
+    (clock : Option LocalClock) (choice : Choice) : Type 0 where
+  pub columns : choice.columns.now ≡ words.columns
+  pub has_devices : option_map (λ table. devices_of table.now) choice.devices ≡ devices
+  pub has_key : option_map (λ key. key.now.block) choice.key ≡ block
+  pub has_clock : choice.clock ≡ clock
+
+-- the file, if there is one, has the name of this word
+abbrev pub IsOf : Option (List ℕ) → Option NewFile → Type 0
+IsOf word None = ⊤
+IsOf word (Some file) = word ≡ Some file.name.now
+
+-- each file that was prepared has the name of its word
+pub record AreOf (words : RowsWords) (prepared : Prepared) : Type 0 where
+  pub devices : IsOf (word_in words.devices) prepared.devices
+  pub upload : IsOf (word_in words.out) prepared.upload
+  pub refused : IsOf (word_in words.refused) prepared.refused
+
+-- what was prepared is the answer to the CSVs, if they are read so
+abbrev pub PreparesCsvs : RowsWords → Choice → List Csv → Prepared → Type 0
+PreparesCsvs words choice csvs prepared = AreOf words prepared
+    × IsRowsAnswer words choice csvs (answer_of prepared) (files_of prepared) prepared.status
+
+-- what was prepared is the answer to the texts
+abbrev pub Prepares : RowsWords → Bool → Texts → Prepared → Type 0
+Prepares words is_there texts prepared = AreOf words prepared
+    × AnswersTexts words is_there texts (answer_of prepared) (files_of prepared) prepared.status
+
+-- what was prepared says what is wrong with this CSV
+abbrev pub IsWrongCsv : RowsWords → Choice → Csv → Prepared → Type 0
+IsWrongCsv words choice csv prepared = (wrong : WrongRows) × IsWrongRows words choice csv.1 wrong
+    × (more : List ℕ) × IsRefusal (wrong_line csv.0 (rows_text wrong)) more prepared

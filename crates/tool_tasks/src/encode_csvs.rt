@@ -1,0 +1,306 @@
+//! What `encode` makes of an agency's own CSVs, once they are loaded and it is known how they are read.
+ghost use Rattle.std.specs.Prelude.{◌≡◌, ◌++◌, ℕ, IfOk, IfSome, List, None, OnOk, map, option_map};
+ghost use Rattle.std.specs.Prelude.{string_bytes};
+ghost use Rattle.tap_rows.specs.Devices.{devices_of};
+ghost use Rattle.tool_tasks.specs.EncodeRows.{AddsCsv, IsColumnName, IsConditionName};
+ghost use Rattle.tool_tasks.specs.EncodeRows.{IsSummaryLine, device_files, files_made, line_end};
+ghost use Rattle.tool_tasks.specs.EncodeRows.{nothing_encoded};
+ghost use Rattle.tool_tasks.specs.EncodeRows.{refused_files, rows_status, upload_files};
+ghost use Rattle.tool_tasks.specs.EncodeRows.{upload_text, with_csv, word_in};
+ghost use Rattle.tool_tasks.specs.Fault.{wrong_line};
+ghost use Rattle.tool_tasks.specs.WrongTables.{rows_text};
+ghost use Rattle.tool_tasks.specs.inside.EncodeRows.{AreOf, IsWrongCsv, PreparesCsvs, csv_of};
+ghost use Rattle.tool_tasks.specs.inside.EncodeRows.{encoded_of};
+ghost use Rattle.tool_tasks.specs.inside.Prepared.{IsRefusal, answer_of, files_in, files_of};
+
+use crate::encode_loads::Csv;
+use crate::fault::Fault;
+use crate::names::Name;
+use crate::prepared::{NewFile, Prepared, refusal};
+use crate::quotes::open_quote;
+use crate::uploads::push_moment;
+use crate::wrong_tables::WrongRows;
+use std::alloc::{AllocError, Global};
+use tap_rows::{
+    AgencyFault, Choice, Columns, Condition, EncodedRows, Summary, Wanted, device_text, encode_rows,
+};
+use tool_words::RowsWords;
+
+/// The name of the column of the condition at this position.
+fn condition_name<'a>(conditions: &[Condition<'a>], position: usize) -> &'a str
+    ensures { IsConditionName conditions.now position result.now }
+{
+    match conditions.get(position) {
+        Some(condition) => condition.column,
+        None => "",
+    }
+}
+
+/// The name of a column.
+fn name_of<'a>(columns: &Columns<'a>, wanted: Wanted) -> &'a str
+    ensures { IsColumnName columns.now wanted result.now }
+{
+    match wanted {
+        Wanted::Token => columns.token,
+        Wanted::Validator => columns.validator,
+        Wanted::Moment => columns.moment,
+        Wanted::Only(position) => condition_name(&columns.only, position),
+        Wanted::Without(position) => condition_name(&columns.without, position),
+        Wanted::Count => columns.count.unwrap_or(""),
+    }
+}
+
+/// The line of how many rows there are of each kind, and of the first and the last moment, without
+/// its line feed.
+fn summary_line(alloc: Global, summary: &Summary) -> Result<String, AllocError>
+    ensures { IfOk result (λ line. IsSummaryLine summary.now (string_bytes line)) }
+{
+    let read = summary.rows();
+    let taps = summary.taps;
+    let left_out = summary.left_out;
+    let refused = summary.refused;
+    let mut line = format!(in alloc;
+        "read {read} taps {taps} left out {left_out} refused {refused} first "
+    )?;
+    push_moment(&mut line, summary.span.map(|span| span.first))?;
+    line.push_str(" last ")?;
+    push_moment(&mut line, summary.span.map(|span| span.last))?;
+    Ok(line)
+}
+
+/// Ends the line; with several CSVs it says first what its own is called.
+fn push_end(note: &mut String, is_many: bool, word: &str) -> Result<(), AllocError>
+    ensures { OnOk result (string_bytes note.new
+        ≡ string_bytes note.old ++ line_end is_many word.now) }
+{
+    if is_many {
+        let name = Name(word);
+        write!(note, " {name}\n")
+    } else {
+        note.push_str("\n")
+    }
+}
+
+/// What CSVs are encoded as.
+#[derive(Drop)]
+pub(crate) struct Encoded {
+    pub(crate) upload: Vec<u8>,
+    pub(crate) rows: Vec<u8>,
+    pub(crate) note: String,
+    pub(crate) has_taps: bool,
+    pub(crate) has_refused: bool,
+}
+
+impl Encoded {
+    fn new(alloc: Global) -> Encoded
+        ensures { encoded_of result ≡ nothing_encoded }
+    {
+        Encoded {
+            upload: Vec::new(alloc),
+            rows: Vec::new(alloc),
+            note: String::new(alloc),
+            has_taps: false,
+            has_refused: false,
+        }
+    }
+
+    /// Appends one more CSV, and its line.
+    fn add(
+        &mut self,
+        alloc: Global,
+        is_many: bool,
+        word: &str,
+        csv: &EncodedRows,
+    ) -> Result<(), AllocError>
+        ensures { OnOk result ((line : List ℕ) × IsSummaryLine csv.now.summary line
+            × (encoded_of self.new ≡ with_csv (encoded_of self.old) csv.now.upload.items
+            csv.now.refused.items (line ++ line_end is_many word.now) csv.now.summary)) }
+    {
+        let line = summary_line(alloc, &csv.summary)?;
+        self.upload.extend_from_slice(&csv.upload)?;
+        self.rows.extend_from_slice(&csv.refused)?;
+        self.note.push_str(&line)?;
+        push_end(&mut self.note, is_many, word)?;
+        self.has_taps |= csv.summary.taps != 0;
+        self.has_refused |= csv.summary.refused != 0;
+        Ok(())
+    }
+}
+
+/// The lines of a quote that nothing closes.
+fn open_quote_refusal<'a>(alloc: Global, word: &str, line: u64) -> Result<Prepared<'a>, AllocError>
+    ensures { IfOk result (λ prepared. (more : List ℕ)
+        × IsRefusal (wrong_line word.now (rows_text (WrongRows.Quote line))) more prepared) }
+{
+    let name = Name(word);
+    let more = format!(in alloc; "\nfault: cannot read {name}")?;
+    refusal(alloc, Fault::Rows(word, WrongRows::Quote(line)), &more)
+}
+
+/// Encodes one more CSV, or says why it is not.
+fn encode_csv<'a>(
+    alloc: Global,
+    words: &RowsWords<'a>,
+    is_many: bool,
+    choice: &Choice<'_>,
+    csv: &Csv<'a>,
+    all: &mut Encoded,
+) -> Result<Option<Prepared<'a>>, AllocError>
+    ensures added { IfOk result (λ refused. refused ≡ None → AddsCsv words.now is_many choice.now
+        (csv_of csv.now) (encoded_of all.old) (encoded_of all.new)) }
+    ensures refused { IfOk result (λ refused. IfSome refused
+        (IsWrongCsv words.now choice.now (csv_of csv.now))) }
+{
+    if let Some(line) = open_quote(&csv.text, words.columns.separator.byte) {
+        return Ok(Some(open_quote_refusal(alloc, csv.word, line)?));
+    }
+    let mut note = String::new(alloc);
+    match encode_rows(alloc, choice, &csv.text, &mut note) {
+        Err(AgencyFault::NoMemory) => Err(AllocError),
+        Err(AgencyFault::Column(wanted)) => {
+            let wrong = WrongRows::Column(name_of(&words.columns, wanted));
+            Ok(Some(refusal(alloc, Fault::Rows(csv.word, wrong), &note)?))
+        }
+        Ok(encoded) => match (words.refused, encoded.summary.first_refused) {
+            (None, Some((number, reason))) => {
+                let wrong = WrongRows::Row(number, reason);
+                Ok(Some(refusal(alloc, Fault::Rows(csv.word, wrong), &note)?))
+            }
+            _ => {
+                all.add(alloc, is_many, csv.word, &encoded)?;
+                Ok(None)
+            }
+        },
+    }
+}
+
+fn refused_file<'a>(name: Option<&'a str>, rows: Vec<u8>) -> Option<NewFile<'a>>
+    ensures { files_in result ≡ refused_files (word_in name.entry) rows.items }
+{
+    match name {
+        Some(name) => Some(NewFile {
+            name,
+            bytes: rows,
+            is_new: true,
+        }),
+        None => None,
+    }
+}
+
+/// What is written of an upload, and the file that is made of it.
+fn upload_file<'a>(
+    alloc: Global,
+    name: Option<&'a str>,
+    upload: Vec<u8>,
+) -> (Vec<u8>, Option<NewFile<'a>>)
+    ensures text { result.0.items ≡ upload_text (word_in name.entry) upload.items }
+    ensures file { files_in result.1 ≡ upload_files (word_in name.entry) upload.items }
+{
+    match name {
+        None => (upload, None),
+        Some(_) if upload.is_empty() => (Vec::new(alloc), None),
+        Some(name) => {
+            let file = NewFile {
+                name,
+                bytes: upload,
+                is_new: false,
+            };
+            (Vec::new(alloc), Some(file))
+        }
+    }
+}
+
+/// The device table that is made; a table that was not there may not come in between.
+fn device_file<'a>(
+    alloc: Global,
+    words: &RowsWords<'a>,
+    is_there: bool,
+    choice: &Choice<'_>,
+) -> Result<Option<NewFile<'a>>, AllocError>
+    ensures { IfOk result (λ file. files_in file ≡ device_files words.now.makes_devices
+        (word_in words.now.devices)
+        (option_map (λ table. devices_of table.now) choice.now.devices)) }
+{
+    if !words.makes_devices {
+        return Ok(None);
+    }
+    match (words.devices, choice.devices) {
+        (Some(name), Some(devices)) => Ok(Some(NewFile {
+            name,
+            bytes: device_text(alloc, devices)?,
+            is_new: !is_there,
+        })),
+        _ => Ok(None),
+    }
+}
+
+fn status_of(all: &Encoded) -> u8
+    ensures { result ≡ rows_status (encoded_of all.now) }
+{
+    if !all.has_taps {
+        1
+    } else if all.has_refused {
+        3
+    } else {
+        0
+    }
+}
+
+/// What is written, made and noted of CSVs that are encoded.
+fn prepare_encoded<'a>(
+    alloc: Global,
+    words: &RowsWords<'a>,
+    is_there: bool,
+    choice: &Choice<'_>,
+    all: Encoded,
+) -> Result<Prepared<'a>, AllocError>
+    ensures named { IfOk result (AreOf words.now) }
+    ensures answered { IfOk result (λ prepared. answer_of prepared
+        ≡ record {
+          text = upload_text (word_in words.now.out) (encoded_of all.entry).upload;
+          note = (encoded_of all.entry).note;
+        }) }
+    ensures made { IfOk result
+        (λ prepared. files_of prepared ≡ files_made words.now choice.now (encoded_of all.entry)) }
+    ensures status { IfOk result
+        (λ prepared. prepared.status ≡ rows_status (encoded_of all.entry)) }
+{
+    let status = status_of(&all);
+    let devices = device_file(alloc, words, is_there, choice)?;
+    let Encoded {
+        upload,
+        rows,
+        note,
+        has_taps: _,
+        has_refused: _,
+    } = all;
+    let (text, upload) = upload_file(alloc, words.out, upload);
+    Ok(Prepared {
+        text,
+        devices,
+        upload,
+        refused: refused_file(words.refused, rows),
+        note,
+        status,
+    })
+}
+
+/// What is written, made and noted of CSVs.
+pub(crate) fn prepare_csvs<'a>(
+    alloc: Global,
+    words: &RowsWords<'a>,
+    is_there: bool,
+    choice: &Choice<'_>,
+    csvs: &[Csv<'a>],
+) -> Result<Prepared<'a>, AllocError>
+    ensures { IfOk result (PreparesCsvs words.now choice.now (map csv_of csvs.now)) }
+{
+    let is_many = csvs.len() > 1;
+    let mut all = Encoded::new(alloc);
+    for csv in csvs {
+        if let Some(refused) = encode_csv(alloc, words, is_many, choice, csv, &mut all)? {
+            return Ok(refused);
+        }
+    }
+    prepare_encoded(alloc, words, is_there, choice, all)
+}

@@ -1,0 +1,229 @@
+//! What `encode` of an agency's own CSVs loads, in order: a device table, a key, a zone, the CSVs.
+ghost use Rattle.std.specs.Prelude.{◌≡◌, ◌∷◌, ◌++◌, ℕ, IfErr, IfOk, List, OnOk, Some, [], length};
+ghost use Rattle.std.specs.Prelude.{map, option_map, string_bytes};
+ghost use Rattle.jiff_tz.specs.PosixReader.{read_whole};
+ghost use Rattle.jiff_tz.specs.PosixText.{tz_view};
+ghost use Rattle.tool_tasks.specs.EncodeRows.{HasTried, devices_word};
+ghost use Rattle.tool_tasks.specs.EncodeRows.{loads_in, names_of, word_in};
+ghost use Rattle.tool_tasks.specs.EncodeTables.{is_name_byte, is_zone_name, zone_file};
+ghost use Rattle.tool_tasks.specs.EncodeTables.{zone_loaded};
+ghost use Rattle.tool_tasks.specs.Names.{file_named};
+ghost use Rattle.tool_tasks.specs.inside.EncodeRows.{AreLoaded, HasLoaded, csv_of, texts_in};
+ghost use Rattle.tool_tasks.specs.inside.Sort.{HaltsLoading};
+ghost use Rattle.world.specs.Loads.{IsRefused};
+ghost use Rattle.world.specs.Origins.{with_loads};
+ghost use Rattle.world.specs.Run.{Run};
+
+use crate::counted::Counted;
+use crate::fault::Fault;
+use crate::loads::load_word;
+use crate::names::file_of;
+use crate::stops::Halt;
+use frame::Stop;
+use jiff_tz::posix;
+use std::alloc::{AllocError, Global};
+use tool_words::RowsWords;
+use world::{LoadFault, World};
+
+/// The numbers of these files among the names, and how many names are before those of the CSVs.
+const KEY_NUMBER: usize = 2;
+
+const ZONE_NUMBER: usize = 3;
+
+const NAMES_BEFORE: usize = 5;
+
+/// A CSV that was loaded.
+#[derive(Drop)]
+pub(crate) struct Csv<'a> {
+    pub(crate) word: &'a str,
+    pub(crate) text: Vec<u8>,
+}
+
+/// What was loaded; empty texts of what has no word, and of a device table that is not there.
+#[derive(Drop)]
+pub(crate) struct Texts<'a> {
+    pub(crate) devices: Vec<u8>,
+    pub(crate) key: Vec<u8>,
+    pub(crate) zone: Vec<u8>,
+    pub(crate) csvs: Vec<Csv<'a>>,
+}
+
+/// The device table, and whether it is there: one that is made need not be.
+pub(crate) fn load_devices<W: World>(
+    alloc: Global,
+    words: &RowsWords<'_>,
+    world: &mut W,
+) -> Result<(bool, Vec<u8>), LoadFault>
+    ensures loaded { IfOk result (λ found. (started : Run)
+        × HasTried words.now found.0 (W.run world.old) started × (W.run world.new
+        ≡ with_loads started (loads_in (devices_word words.now found.0) found.1.items))) }
+    ensures refused { IfErr result (λ why. (name : List ℕ)
+        × (word_in words.now.devices ≡ Some name)
+        × IsRefused (W.run world.old) (W.run world.new) (file_named name) why) }
+{
+    match words.devices {
+        None => Ok((true, Vec::new(alloc))),
+        Some(name) => match load_word(world, name) {
+            Ok(text) => Ok((true, text)),
+            Err(LoadFault::Unread) if words.makes_devices => Ok((false, Vec::new(alloc))),
+            Err(why) => Err(why),
+        },
+    }
+}
+
+fn is_name_byte(byte: u8) -> bool
+    ensures { result ≡ is_name_byte byte }
+{
+    byte.is_ascii_alphanumeric() || byte == b'_' || byte == b'+' || byte == b'-' || byte == b'/'
+}
+
+/// So that it is a file below the folder of zones.
+pub(crate) fn is_zone_name(word: &str) -> bool
+    ensures { result ≡ is_zone_name word.now }
+{
+    word.as_bytes().iter().all(|byte| is_name_byte(*byte))
+}
+
+fn zone_path(alloc: Global, word: &str) -> Result<String, AllocError>
+    ensures { IfOk result (λ path. string_bytes path ≡ zone_file word.now) }
+{
+    format!(in alloc; "/usr/share/zoneinfo/{word}")
+}
+
+pub(crate) fn rule_of(word: &str) -> Option<posix::TimeZone>
+    ensures { option_map tz_view result ≡ read_whole word.now }
+{
+    match posix::TimeZone::parse(word.as_bytes()) {
+        Ok(rule) => Some(rule),
+        Err(_) => None,
+    }
+}
+
+/// The file that is loaded for the zone.
+fn zone_loaded(alloc: Global, zone: Option<&str>) -> Result<Option<String>, AllocError>
+    ensures { IfOk result (λ path. option_map string_bytes path ≡ zone_loaded (word_in zone.entry)) }
+{
+    match zone {
+        Some(word) if rule_of(word).is_none() && is_zone_name(word) => {
+            Ok(Some(zone_path(alloc, word)?))
+        }
+        _ => Ok(None),
+    }
+}
+
+/// The file of the zone was not loaded.
+fn unread_zone<'a>(word: Option<&'a str>, why: LoadFault) -> Halt<'a>
+    ensures { result.why ≡ Stop.Unread ZONE_NUMBER why }
+{
+    let word = word.unwrap_or("");
+    let line = match why {
+        LoadFault::Unread => Fault::Zone(word),
+        LoadFault::TooLong => Fault::ZoneFile(word),
+        LoadFault::NoMemory => Fault::NoMemory,
+    };
+    Halt {
+        why: Stop::Unread(ZONE_NUMBER, why),
+        line,
+    }
+}
+
+/// All bytes of the file that the word names, if there is one.
+#[tactic(auto, using(crate::proofs::EncodingRows::nothing_loaded))]
+fn load_named<W: World>(
+    alloc: Global,
+    name: Option<&str>,
+    world: &mut W,
+) -> Result<Vec<u8>, LoadFault>
+    ensures loaded { IfOk result (λ text. W.run world.new
+        ≡ with_loads (W.run world.old) (loads_in (word_in name.entry) text.items)) }
+    ensures refused { IfErr result (λ why. (word : List ℕ) × (word_in name.entry ≡ Some word)
+        × IsRefused (W.run world.old) (W.run world.new) (file_named word) why) }
+{
+    match name {
+        Some(name) => load_word(world, name),
+        None => Ok(Vec::new(alloc)),
+    }
+}
+
+fn push<'a>(
+    csvs: &mut Vec<Csv<'a>>,
+    word: &'a str,
+    text: Vec<u8>,
+) -> Result<(), AllocError>
+    ensures { OnOk result (map csv_of csvs.new.items
+        ≡ map csv_of csvs.old.items ++ (word.entry.now, text.items) ∷ []) }
+{
+    csvs.push(Csv { word, text })?;
+    Ok(())
+}
+
+fn load_csvs<'a, W: Counted>(
+    alloc: Global,
+    words: &[&'a str],
+    world: &mut W,
+) -> Result<Vec<Csv<'a>>, Halt<'a>>
+    ensures loaded { IfOk result (λ csvs. AreLoaded (map (λ w. w.now) words.now)
+        (map csv_of csvs.items) (W.run world.old) (W.run world.new)) }
+    ensures halted { (front : List (List ℕ)) → length front ≡ NAMES_BEFORE → IfErr result
+        (λ halt. HaltsLoading (front ++ map (λ w. w.now) words.now) halt.why (W.run world.old)
+        (W.run world.new)) }
+{
+    let mut csvs = Vec::new(alloc);
+    for number in 0..words.len() {
+        let word = words[number];
+        let text = match world.load_whole(file_of(word)) {
+            Ok(text) => text,
+            Err(why) => {
+                return Err(Halt::of(
+                    Stop::Unread(number + NAMES_BEFORE, why),
+                    Some(word),
+                ));
+            }
+        };
+        if let Err(AllocError) = push(&mut csvs, word, text) {
+            return Err(Halt::of(Stop::NoMemory, None));
+        }
+    }
+    Ok(csvs)
+}
+
+/// What is loaded after this device table.
+pub(crate) fn load_later<'a, W: World + Counted>(
+    alloc: Global,
+    words: &RowsWords<'a>,
+    csvs: &[&'a str],
+    devices: Vec<u8>,
+    world: &mut W,
+) -> Result<Texts<'a>, Halt<'a>>
+    ensures loaded { IfOk result (λ texts. HasLoaded words.now (map (λ w. w.now) csvs.now)
+        devices.entry.items (texts_in texts) (W.run world.old) (W.run world.new)) }
+    ensures halted { IfErr result (λ halt. HaltsLoading
+        (names_of words.now (map (λ w. w.now) csvs.now)) halt.why (W.run world.old)
+        (W.run world.new)) }
+{
+    let path = match zone_loaded(alloc, words.zone) {
+        Ok(path) => path,
+        Err(AllocError) => return Err(Halt::of(Stop::NoMemory, None)),
+    };
+    let key = match load_named(alloc, words.key, world) {
+        Ok(key) => key,
+        Err(why) => return Err(Halt::of(Stop::Unread(KEY_NUMBER, why), words.key)),
+    };
+    let zone_file = match &path {
+        Some(path) => Some(path.as_str()),
+        None => None,
+    };
+    let zone = match load_named(alloc, zone_file, world) {
+        Ok(zone) => zone,
+        Err(why) => return Err(unread_zone(words.zone, why)),
+    };
+    match load_csvs(alloc, csvs, world) {
+        Ok(csvs) => Ok(Texts {
+            devices,
+            key,
+            zone,
+            csvs,
+        }),
+        Err(halt) => Err(halt),
+    }
+}
