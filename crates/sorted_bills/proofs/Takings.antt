@@ -1,7 +1,7 @@
 -- Taps that are taken one after the other, and more behind them.
 use Rattle.std.proofs.Common.{◌≡◌, ℕ, ◌<◌, List, [], ◌∷◌, ◌++◌, Option}
 use Rattle.std.proofs.Common.{refl, sym, ap, subst, ◌∙◌, Bool, true, ◌==◌, Vec, Global, vec_len}
-use Rattle.std.proofs.Common.{append-nil, arith}
+use Rattle.std.proofs.Common.{append-nil, append_assoc, arith}
 use Rattle.std.proofs.lemmas.Bool.{eqb-true}
 use Rattle.std.proofs.lemmas.List.{nil_from_length}
 use Rattle.std.proofs.lemmas.List.Elements.{All-append, All-cons, All-nil}
@@ -14,7 +14,7 @@ use Rattle.settlement.specs.Posted.{HasName, token_of_tap}
 use Rattle.settlement.proofs.TokenRuns.{named_token}
 use Rattle.settled_texts.specs.ExplainedTaps.{TapsNondecreasingFrom, last_token}
 use Rattle.settled_texts.proofs.TapsExplained.{last_append}
-use Rattle.sorted_taps.specs.Merges.{TakesTaps}
+use Rattle.sorted_taps.specs.Merges.{AreTaken, TakesTaps}
 use Rattle.sorted_taps.specs.declared.reader.TapReader.{TapReader}
 use Rattle.sorted_taps.proofs.Spans.{taken_append}
 use Rattle.sorted_bills.specs.inside.Taken.{AreFollowing, AreTapsTaken}
@@ -91,13 +91,28 @@ none_there taps is_empty test empty =
     let zero : vec_len taps ≡ 0 = eqb-true (vec_len taps) 0 (sym test ∙ empty) in
     nil_from_length taps.items (grind arith)
 
--- taps that a run took, which can come one after another
-pub run_taken : (known : List (Option (List ℕ))) (old new : List TapReader)
-    (before after : List TapFields) (from last : Token)
-    → (takes : TakesTaps known old before after new) → AreFollowing from takes.more last
-    → AreTapsTaken known old takes.more new
-run_taken known old new before after from last takes are =
-    record { taken = takes.taken; early = are.early; named = are.named }
+-- what a run took, and then another
+pub runs_taken : (known : List (Option (List ℕ))) (old mid new : List TapReader)
+    (before between after : List TapFields) → TakesTaps known old before between mid
+    → TakesTaps known mid between after new → TakesTaps known old before after new
+runs_taken known old mid new before between after first then = record {
+  more = first.more ++ then.more;
+  items = then.items ∙ ap (λ (ts : List TapFields). ts ++ then.more) first.items
+      ∙ append_assoc before first.more then.more;
+  taken = λ files are. taken_append files old mid new first.more then.more
+      (first.taken files are) (then.taken files are);
+}
+
+-- taps that runs took, which can come one after another
+pub all_taken : (known : List (Option (List ℕ))) (old new : List TapReader)
+    (taps : List TapFields) (from last : Token) → TakesTaps known old [] taps new
+    → AreFollowing from taps last → AreTapsTaken known old taps new
+all_taken known old new taps from last takes are = record {
+  taken = λ files is. subst (λ (ts : List TapFields). AreTaken files old ts new)
+      (sym takes.items) (takes.taken files is);
+  early = are.early;
+  named = are.named;
+}
 
 -- the last turn takes no tap
 pub last_taken : (known : List (Option (List ℕ))) (old mid new : List TapReader)

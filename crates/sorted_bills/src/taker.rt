@@ -7,7 +7,7 @@ ghost use Rattle.tap_views.specs.TokenOrder.{IsUpTo};
 ghost use Rattle.settlement.specs.Posted.{HasName, token_of_tap};
 ghost use Rattle.settled_texts.specs.ExplainedTaps.{TapsNondecreasingFrom};
 ghost use Rattle.sorted_taps.specs.Heads.{IsRanked};
-ghost use Rattle.sorted_taps.specs.Merges.{AreAtEnd, AreStarted};
+ghost use Rattle.sorted_taps.specs.Merges.{AreAtEnd, AreStarted, TakesTaps};
 ghost use Rattle.sorted_taps.specs.Reading.{window_bytes};
 ghost use Rattle.sorted_bills.specs.inside.Taken.{AreFollowing, AreTapsTaken, IsReady};
 
@@ -69,6 +69,39 @@ fn last_of(taps: &[TapFields], last: Token) -> Option<Token>
 }
 
 /// 512 taps, or all that are left, or all with tokens below the bound.
+fn take_runs<F: Placed>(
+    merge: &mut Merge,
+    files: &[F],
+    window: &mut [u8],
+    below: Option<Token>,
+    taps: &mut Vec<TapFields>,
+) -> Result<(), SortedFault>
+    requires readers { length merge.old.readers.items ≡ length files.now }
+    requires ranked { IsRanked merge.old.readers.items merge.old.heads.items }
+    requires window { window_bytes ≤ length window.old }
+    requires none { taps.old.items ≡ [] }
+    ensures readers { OnOk result (length merge.new.readers.items ≡ length files.now) }
+    ensures ranked { OnOk result (IsRanked merge.new.readers.items merge.new.heads.items) }
+    ensures taken { OnOk result (TakesTaps (map F.bytes files.now) merge.old.readers.items
+        [] taps.new.items merge.new.readers.items) }
+    ensures end { OnOk result
+        (below ≡ None → taps.new.items ≡ [] → AreAtEnd merge.new.readers.items) }
+    ensures few { OnOk result (length taps.new.items ≤ 512) }
+{
+    for _run in 0..TAKEN_TAPS {
+        let before = taps.len();
+        if before >= TAKEN_TAPS {
+            return Ok(());
+        }
+        merge.take_run(files, window, below, TAKEN_TAPS, taps)?;
+        if taps.len() == before {
+            return Ok(());
+        }
+    }
+    Ok(())
+}
+
+/// A tap that cannot come next after the one before it is refused.
 fn take_some<F: Placed>(
     merge: &mut Merge,
     files: &[F],
@@ -90,23 +123,12 @@ fn take_some<F: Placed>(
     ensures few { OnOk result (length taps.new.items ≤ 512) }
 {
     taps.clear();
-    let mut last = from;
-    for _run in 0..TAKEN_TAPS {
-        let before = taps.len();
-        if before >= TAKEN_TAPS {
-            return Ok(());
-        }
-        merge.take_run(files, window, below, TAKEN_TAPS, taps)?;
-        // proof: no batch has a later moment, and no reader goes back
-        let Some(token) = last_of(&taps[before..], last) else {
-            return Err(SortedFault::Unread);
-        };
-        if taps.len() == before {
-            return Ok(());
-        }
-        last = token;
+    take_runs(merge, files, window, below, taps)?;
+    // proof: no batch has a later moment, and no reader goes back
+    match last_of(taps, from) {
+        Some(_) => Ok(()),
+        None => Err(SortedFault::Unread),
     }
-    Ok(())
 }
 
 fn merge_from<F: Placed>(

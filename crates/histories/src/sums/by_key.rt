@@ -8,6 +8,7 @@ ghost use Rattle.histories.specs.SumsBy.{sums_by};
 ghost use Rattle.histories.specs.TalliesByKey.{AreByKey, HasRoom, HaveRoom, kept_sums};
 ghost use Rattle.histories.specs.Increasing.{increasing};
 ghost use Rattle.std.specs.HashMap.{get};
+ghost use Rattle.histories.specs.Entry.{reply_of};
 ghost use Rattle.histories.specs.Sums.{Sums, add_sums, sums_of};
 ghost use Rattle.histories.specs.Tally.{sums_of_tally};
 
@@ -15,6 +16,7 @@ use crate::entry::Entry;
 use crate::sums::tally::Tally;
 use crate::sums::totals::Totals;
 use crate::token_hash::HashSeed;
+use account_rule::Reply;
 use indexmap::IndexMap;
 use std::alloc::Global;
 use std::hash::Hash;
@@ -43,6 +45,24 @@ pub trait SumKey: Copy + Ord + Hash + Drop {
     ghost same: { (a b : Self) → Self.eq a b ≡ true → a ≡ b };
 }
 
+/// Adds an entry with this key and this reply, and reads no other part of it.
+#[inline]
+pub(crate) fn add_reply<K: SumKey>(
+    tallies: &mut IndexMap<K, Tally, HashSeed>,
+    key: K,
+    reply: Reply,
+) -> Result<(), NoMemory>
+    requires { HasRoom K.eq K.key_of tallies.old.entries 1 }
+    ensures { OnOk result ((before : List Entry) (entry : Entry)
+        → key ≡ K.key_of entry → reply ≡ reply_of entry
+        → AreByKey K.eq K.key_of before tallies.old.entries
+        → AreByKey K.eq K.key_of (before ++ entry ∷ []) tallies.new.entries) }
+{
+    let kept = tallies.entry(key)?.or_insert(Tally::new());
+    kept.add(reply);
+    Ok(())
+}
+
 /// Adds one entry to the tally of its key.
 #[inline]
 pub fn add_entry<K: SumKey>(
@@ -54,8 +74,7 @@ pub fn add_entry<K: SumKey>(
         → AreByKey K.eq K.key_of before tallies.old.entries
         → AreByKey K.eq K.key_of (before ++ entry.now ∷ []) tallies.new.entries) }
 {
-    let kept = tallies.entry(K::of(entry))?.or_insert(Tally::new());
-    kept.add(entry.reply());
+    add_reply(tallies, K::of(entry), entry.reply())?;
     Ok(())
 }
 

@@ -2,15 +2,17 @@
 
 ghost use Rattle.std.specs.Prelude.{◌≡◌, ◌==◌, List, [], ◌∷◌, ◌++◌, map, IfOk, OnOk};
 ghost use Rattle.histories.specs.declared.entry.Entry.{Entry};
+ghost use Rattle.histories.specs.Entry.{reply_of};
 ghost use Rattle.histories.specs.Shown.{validator_sum};
 ghost use Rattle.histories.specs.SumsByKey.{sums_by_validator, validator_of};
 ghost use Rattle.histories.specs.TalliesByKey.{AreByKey, HasRoom, HaveRoom};
 
 use crate::entry::Entry;
 use crate::sums::ValidatorSum;
-use crate::sums::by_key::{add_at, add_entry, add_tallies, listed};
+use crate::sums::by_key::{add_at, add_reply, add_tallies, listed};
 use crate::sums::tally::Tally;
 use crate::token_hash::HashSeed;
+use account_rule::Reply;
 use indexmap::IndexMap;
 use std::alloc::Global;
 use std::marker::Model;
@@ -70,20 +72,20 @@ impl ValidatorTallies {
         if add_at(&mut self.tallies, position, entry) {
             return Ok(());
         }
-        // a copy, so that the entry itself stays in registers
-        let unhinted = *entry;
-        self.look_up(&unhinted)
+        self.look_up(entry.validator, entry.reply())
     }
 
+    /// Of an entry with this validator and this reply: a caller reads no other part of it.
     #[inline(never)]
-    fn look_up(&mut self, entry: &Entry) -> Result<(), NoMemory>
+    fn look_up(&mut self, validator: u32, reply: Reply) -> Result<(), NoMemory>
         requires { HasRoom ◌==◌ validator_of self.old 1 }
-        ensures { OnOk result ((before : List Entry)
+        ensures { OnOk result ((before : List Entry) (entry : Entry)
+            → validator ≡ entry.validator → reply ≡ reply_of entry
             → AreByKey ◌==◌ validator_of before self.old
-            → AreByKey ◌==◌ validator_of (before ++ entry.now ∷ []) self.new) }
+            → AreByKey ◌==◌ validator_of (before ++ entry ∷ []) self.new) }
     {
-        add_entry(&mut self.tallies, entry)?;
-        self.keep_hint(entry.validator)
+        add_reply(&mut self.tallies, validator, reply)?;
+        self.keep_hint(validator)
     }
 
     fn keep_hint(&mut self, validator: u32) -> Result<(), NoMemory>
