@@ -40,6 +40,7 @@ impl Lines {
         }
     }
 
+    /// The stream that is read, with its calls so far.
     pub fn stream(&self) -> &Stream
         ensures { result.now ≡ self.now.stream }
     {
