@@ -7,17 +7,16 @@ use Rattle.account_rule.specs.declared.reply.Answer.TheVariants.{Unknown}
 use Rattle.fare_texts.specs.StatementText.{answer_text}
 
 -- what stands before the mode
-pub start_shown : (none one two three four five six seven eight : List ℕ)
+pub start_shown : (old one two three four five six seven eight : List ℕ)
     (comma validator moment number token : List ℕ)
-    → none ≡ [] → one ≡ comma ++ none → two ≡ validator ++ one → three ≡ comma ++ two
+    → one ≡ comma ++ old → two ≡ validator ++ one → three ≡ comma ++ two
     → four ≡ moment ++ three → five ≡ comma ++ four → six ≡ number ++ five
     → seven ≡ comma ++ six → eight ≡ token ++ seven
-    → eight ≡ (token ++ (comma ++ (number ++ comma)))
-    ++ (moment ++ (comma ++ (validator ++ comma)))
-start_shown none one two three four five six seven eight comma validator moment number token
-    empty a b c d e f g h =
-    let last : one ≡ comma = a ∙ ap (λ (back : List ℕ). comma ++ back) empty ∙ append-nil comma in
-    simp append_assoc (rw (g, f, e, d, c, b, last) at h)
+    → eight ≡ ((token ++ (comma ++ (number ++ comma)))
+    ++ (moment ++ (comma ++ (validator ++ comma)))) ++ old
+start_shown old one two three four five six seven eight comma validator moment number token
+    a b c d e f g h =
+    simp append_assoc (rw (g, f, e, d, c, b, a) at h)
 
 -- what stands behind it
 pub end_shown : (none one two three four five six seven : List ℕ)
@@ -37,22 +36,28 @@ pub ride_shown : (old one two three four rest to from : List ℕ)
 ride_shown old one two three four rest to from a b c d =
     simp append_assoc (rw (c, b, a) at d)
 
--- the whole line, which was appended in three parts
-pub line_shown : (old one two three start mode end : List ℕ)
-    (head moment comma validator answer cents fields feed : List ℕ)
-    → start ≡ head ++ (moment ++ (comma ++ (validator ++ comma)))
-    → end ≡ comma ++ (answer ++ (comma ++ (cents ++ (comma ++ (fields ++ feed)))))
-    → one ≡ old ++ start → two ≡ one ++ mode → three ≡ two ++ end
-    → three ≡ old ++ (head ++ (moment ++ ((comma ++ (validator ++ (comma ++ (mode
+-- the whole line: what stands before the mode, the mode, and the end
+pub line_shown : (old new mode end : List ℕ)
+    (head moment comma validator answer cents fields feed : List ℕ) {named : List ℕ}
+    → mode ≡ named → end ≡ comma ++ (answer ++ (comma ++ (cents ++ (comma ++ (fields ++ feed)))))
+    → new ≡ old ++ ((head ++ (moment ++ (comma ++ (validator ++ comma)))) ++ (mode ++ end))
+    → new ≡ old ++ (head ++ (moment ++ ((comma ++ (validator ++ (comma ++ (named
     ++ (comma ++ (answer ++ (comma ++ (cents ++ comma)))))))) ++ (fields ++ feed))))
-line_shown old one two three start mode end head moment comma validator answer cents fields feed
-    a b c d e =
-    let joined : ((old ++ (head ++ (moment ++ (comma ++ (validator ++ comma))))) ++ mode)
-    ++ (comma ++ (answer ++ (comma ++ (cents ++ (comma ++ (fields ++ feed))))))
-    ≡ old ++ (head ++ (moment ++ ((comma ++ (validator ++ (comma ++ (mode
+line_shown old new mode end head moment comma validator answer cents fields feed {named} is a b =
+    let joined : old ++ ((head ++ (moment ++ (comma ++ (validator ++ comma)))) ++ (named
+    ++ (comma ++ (answer ++ (comma ++ (cents ++ (comma ++ (fields ++ feed))))))))
+    ≡ old ++ (head ++ (moment ++ ((comma ++ (validator ++ (comma ++ (named
     ++ (comma ++ (answer ++ (comma ++ (cents ++ comma)))))))) ++ (fields ++ feed)))) =
     simp append_assoc refl in
-    (rw (d, c, b, a) at e) ∙ joined
+    (rw (is, a) at b) ∙ joined
+
+-- the three parts, appended one after the other
+pub parts_shown : (old one two three start mode end : List ℕ) → one ≡ old ++ start
+    → two ≡ one ++ mode → three ≡ two ++ end → three ≡ old ++ (start ++ (mode ++ end))
+parts_shown old one two three start mode end a b c =
+    let joined : ((old ++ start) ++ mode) ++ end ≡ old ++ (start ++ (mode ++ end)) =
+    simp append_assoc refl in
+    (rw (b, a) at c) ∙ joined
 
 -- the longest word is that of a transfer
 pub answer_short : (answer : Answer) → length (answer_text answer) ≤ 8

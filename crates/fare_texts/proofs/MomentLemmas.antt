@@ -1,26 +1,52 @@
 -- The digits of dates and times of day.
-use Rattle.std.specs.Prelude.{ℕ, ◌≡◌, ◌+◌, ◌/◌, ◌%◌, pos, [], ◌∷◌, ◌++◌}
-use Rattle.std.proofs.Common.{◌∙◌, ap, sym}
-use Rattle.jiff_core.specs.declared.civil.date.Date.{Date}
-use Rattle.jiff_fmt.specs.Text.{date_text, year_text, pad2, pad4}
-use Rattle.fare_texts.specs.inside.Clocks.{clock_of}
+use Rattle.std.proofs.Common.{ℕ, zero, suc, ◌≡◌, ◌≢◌, ◌⊎◌, ◌+◌, ◌*◌, ◌/◌, ◌%◌, ◌<◌, ◌++◌, ◌&&◌}
+use Rattle.std.proofs.Common.{Bool, List, true, eqb, get_or, append_assoc, arith, inl, inr, refl}
+use Rattle.std.proofs.lemmas.Bool.{and_parts, cases_eq, eqb-true}
+use Rattle.fare_texts.specs.declared.pairs.TheConstants.{PAIRS}
 
--- the fourteen characters of a time of day
-pub clock_shown : (hour minute second ms a b c d e f g h i : ℕ) → a ≡ 48 + hour / 10
-    → b ≡ 48 + hour % 10 → c ≡ 48 + minute / 10 → d ≡ 48 + minute % 10 → e ≡ 48 + second / 10
-    → f ≡ 48 + second % 10 → g ≡ 48 + ms / 100 → h ≡ 48 + ms % 100 / 10 → i ≡ 48 + ms % 100 % 10
-    → 84 ∷ a ∷ b ∷ 58 ∷ c ∷ d ∷ 58 ∷ e ∷ f ∷ 46 ∷ g ∷ h ∷ i ∷ 90 ∷ []
-    ≡ clock_of hour minute second ms
-clock_shown hour minute second ms a b c d e f g h i ea eb ec ed ee ef eg eh ei = cc
+-- the table has the digits of each number below this one
+abbrev are_pairs : ℕ → Bool
+are_pairs zero = true
+are_pairs (suc p) =
+    (eqb (get_or PAIRS (p * 2) 0) (48 + p / 10) && eqb (get_or PAIRS (p * 2 + 1) 0) (48 + p % 10))
+    && are_pairs p
 
--- the ten characters of a date whose year is not negative
-pub date_shown : (date : Date) (year a b c d e f g h : ℕ) → date.year ≡ pos year
-    → a ≡ 48 + year / 100 / 10 → b ≡ 48 + year / 100 % 10 → c ≡ 48 + year % 100 / 10
-    → d ≡ 48 + year % 100 % 10 → e ≡ 48 + date.month / 10 → f ≡ 48 + date.month % 10
-    → g ≡ 48 + date.day / 10 → h ≡ 48 + date.day % 10
-    → a ∷ b ∷ c ∷ d ∷ 45 ∷ e ∷ f ∷ 45 ∷ g ∷ h ∷ [] ≡ date_text date
-date_shown date year a b c d e f g h is ea eb ec ed ee ef eg eh =
-    let digits : a ∷ b ∷ c ∷ d ∷ 45 ∷ e ∷ f ∷ 45 ∷ g ∷ h ∷ []
-    ≡ pad4 year ++ 45 ∷ [] ++ pad2 date.month ++ 45 ∷ [] ++ pad2 date.day = cc in
-    digits
-    ∙ ap (λ y. year_text y ++ 45 ∷ [] ++ pad2 date.month ++ 45 ∷ [] ++ pad2 date.day) (sym is)
+pairs_below : (n p : ℕ) → are_pairs n ≡ true → p < n
+    → (get_or PAIRS (p * 2) 0 ≡ 48 + p / 10) × (get_or PAIRS (p * 2 + 1) 0 ≡ 48 + p % 10)
+pairs_below zero p all low = absurd (omega (arith, low))
+pairs_below (suc n) p all low =
+    let both = and_parts _ (are_pairs n) all in
+    by_place (cases_eq p n) (and_parts _ _ both.0) (pairs_below n p both.1)
+  where
+    by_place : (p ≡ n) ⊎ (p ≢ n)
+        → (eqb (get_or PAIRS (n * 2) 0) (48 + n / 10) ≡ true)
+        × (eqb (get_or PAIRS (n * 2 + 1) 0) (48 + n % 10) ≡ true)
+        → (p < n → (get_or PAIRS (p * 2) 0 ≡ 48 + p / 10)
+        × (get_or PAIRS (p * 2 + 1) 0 ≡ 48 + p % 10))
+        → (get_or PAIRS (p * 2) 0 ≡ 48 + p / 10) × (get_or PAIRS (p * 2 + 1) 0 ≡ 48 + p % 10)
+    by_place (inl same) (tens, ones) rest = rw same (eqb-true _ _ tens, eqb-true _ _ ones)
+    by_place (inr apart) both rest = rest (omega (arith, low, apart))
+
+-- the digits that the table has of a number
+pub pairs_at : (p : ℕ) → p < 100
+    → (get_or PAIRS (p * 2) 0 ≡ 48 + p / 10) × (get_or PAIRS (p * 2 + 1) 0 ≡ 48 + p % 10)
+pairs_at p low = pairs_below 100 p refl low
+
+-- the parts of a time of day, put from the last to the first
+pub clock_put : (old a b c d e f g h i j : List ℕ)
+    (zulu low high dot second colon minute hour letter : List ℕ)
+    → a ≡ zulu ++ old → b ≡ low ++ a → c ≡ high ++ b → d ≡ dot ++ c → e ≡ second ++ d
+    → f ≡ colon ++ e → g ≡ minute ++ f → h ≡ colon ++ g → i ≡ hour ++ h → j ≡ letter ++ i
+    → j ≡ (letter ++ (hour ++ (colon ++ (minute ++ (colon ++ (second ++ (dot ++ ((high ++ low)
+    ++ zulu)))))))) ++ old
+clock_put old a b c d e f g h i j zulu low high dot second colon minute hour letter
+    ea eb ec ed ee ef eg eh ei ej =
+    simp append_assoc (rw (ei, eh, eg, ef, ee, ed, ec, eb, ea) at ej)
+
+-- the parts of a date
+pub date_put : (old a b c d e f : List ℕ) (day dash month low high : List ℕ)
+    → a ≡ day ++ old → b ≡ dash ++ a → c ≡ month ++ b → d ≡ dash ++ c → e ≡ low ++ d
+    → f ≡ high ++ e
+    → f ≡ ((high ++ low) ++ (dash ++ (month ++ (dash ++ day)))) ++ old
+date_put old a b c d e f day dash month low high ea eb ec ed ee ef =
+    simp append_assoc (rw (ee, ed, ec, eb, ea) at ef)

@@ -18,6 +18,9 @@ use std::alloc::AllocError;
 use tap_views::Token;
 use tariffs::FareTable;
 
+/// A longer name of a mode is appended on its own, since a line has no room for it.
+const MODE_BYTES: usize = 36;
+
 /// Appends the line of a token's entry, whose number among the token's lines counts from 1.
 pub fn write_line(
     text: &mut String,
@@ -31,13 +34,40 @@ pub fn write_line(
         × IsLedgerLine table.now token number entry.now reason.now line
         × (string_bytes text.new ≡ string_bytes text.old ++ line)) }
 {
+    let mode = mode_field(table, entry.moment, entry.validator);
     let mut line = Line::new();
+    put_end(&mut line, entry, reason);
+    if mode.len() > MODE_BYTES {
+        append_apart(text, token, number, entry, mode, &line)?;
+        return Ok(());
+    }
+    line.put(mode.as_bytes());
     put_start(&mut line, token, number, entry);
     line.append_to(text)?;
-    text.push_str(mode_field(table, entry.moment, entry.validator))?;
-    line.clear();
-    put_end(&mut line, entry, reason);
-    line.append_to(text)?;
+    Ok(())
+}
+
+/// Appends what a line has before its mode, the mode, and the end.
+#[cold]
+#[inline(never)]
+fn append_apart(
+    text: &mut String,
+    token: Token,
+    number: u64,
+    entry: &Entry,
+    mode: &str,
+    end: &Line,
+) -> Result<(), AllocError>
+    ensures { OnOk result ((moment : List ℕ) × IsMomentText entry.now.moment moment
+        × (string_bytes text.new ≡ string_bytes text.old ++ ((line_head token number
+        ++ (moment ++ (codes "," ++ (decimal entry.now.validator ++ codes ","))))
+        ++ (mode.now ++ end.now)))) }
+{
+    let mut start = Line::new();
+    put_start(&mut start, token, number, entry);
+    start.append_to(text)?;
+    text.push_str(mode)?;
+    end.append_to(text)?;
     Ok(())
 }
 
@@ -45,10 +75,10 @@ pub fn write_line(
 #[inline(always)]
 #[tactic(auto, unfolding(crate::specs::LedgerLines::line_head))]
 fn put_start(line: &mut Line, token: Token, number: u64, entry: &Entry)
-    requires { line.old ≡ [] }
+    requires { length line.old + 156 ≤ 384 }
     ensures { (moment : List ℕ) × IsMomentText entry.now.moment moment
-        × (line.new ≡ line_head token number
-        ++ (moment ++ (codes "," ++ (decimal entry.now.validator ++ codes ",")))) }
+        × (line.new ≡ (line_head token number
+        ++ (moment ++ (codes "," ++ (decimal entry.now.validator ++ codes ",")))) ++ line.old) }
 {
     line.put(b",");
     line.put_short(u64::from(entry.validator));
@@ -64,9 +94,10 @@ fn put_start(line: &mut Line, token: Token, number: u64, entry: &Entry)
 #[inline(always)]
 fn put_end(line: &mut Line, entry: &Entry, reason: &Reason)
     requires { line.old ≡ [] }
-    ensures { (fields : List ℕ) × IsReasonFields reason.now fields
+    ensures put { (fields : List ℕ) × IsReasonFields reason.now fields
         × (line.new ≡ codes "," ++ (answer_text entry.now.answer
         ++ (codes "," ++ (decimal entry.now.cents ++ (codes "," ++ (fields ++ codes "\n")))))) }
+    ensures short { length line.new ≤ 192 }
 {
     line.put(b"\n");
     put_reason_fields(line, reason);

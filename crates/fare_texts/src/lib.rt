@@ -16,6 +16,7 @@ mod local;
 mod moment;
 mod names;
 mod no_transfer_words;
+mod pairs;
 mod print_fault;
 mod reason_fields;
 mod reason_words;

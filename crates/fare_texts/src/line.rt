@@ -132,7 +132,7 @@ impl Line {
     pub(crate) fn append_to(&self, text: &mut String) -> Result<(), AllocError>
         ensures { OnOk result (string_bytes text.new ≡ string_bytes text.old ++ self.now) }
     {
-        match std::str::from_utf8(self.bytes()) {
+        match simdutf8::compat::from_utf8(self.bytes()) {
             Ok(line) => text.push_str(line),
             Err(_) => Err(AllocError),
         }

@@ -7,6 +7,7 @@ ghost use Rattle.fare_texts.specs.Moments.{IsCivilText, IsMomentText};
 ghost use Rattle.fare_texts.specs.inside.Clocks.{clock_of};
 
 use crate::line::Line;
+use crate::pairs::pair;
 use jiff_core::civil::Date;
 use std::alloc::AllocError;
 
@@ -55,69 +56,51 @@ fn put_civil(line: &mut Line, moment: u64)
 {
     let date = Date::from_days_since_min((moment / DAY_MS) as u32 + DAYS_TO_1970);
     let ms = (moment % DAY_MS) as u32;
-    line.put(&clock_bytes(
+    put_clock(
+        line,
         ms / 3_600_000,
         ms / 60_000 % 60,
         ms / 1_000 % 60,
         ms % 1_000,
-    ));
-    line.put(&date_bytes(date));
+    );
+    put_date(line, date);
 }
 
-/// The character of a digit.
+/// Puts the time of day with these parts there, after the letter `T` and before `Z`.
 #[inline(always)]
-fn digit(number: u32) -> u8
-    requires { number < 200 }
-    ensures { result ≡ 48 + number }
-{
-    48 + number as u8
-}
-
-/// The time of day with these parts, after the letter `T` and before `Z`.
-#[inline(always)]
-fn clock_bytes(hour: u32, minute: u32, second: u32, ms: u32) -> [u8; 14]
+fn put_clock(line: &mut Line, hour: u32, minute: u32, second: u32, ms: u32)
     requires hour { hour < 100 }
     requires minute { minute < 100 }
     requires second { second < 100 }
     requires ms { ms < 1_000 }
-    ensures { result ≡ clock_of hour minute second ms }
+    requires room { length line.old + 24 ≤ 384 }
+    ensures put { line.new ≡ clock_of hour minute second ms ++ line.old }
+    ensures long { length line.new ≡ length line.old + 14 }
 {
-    [
-        b'T',
-        digit(hour / 10),
-        digit(hour % 10),
-        b':',
-        digit(minute / 10),
-        digit(minute % 10),
-        b':',
-        digit(second / 10),
-        digit(second % 10),
-        b'.',
-        digit(ms / 100),
-        digit(ms % 100 / 10),
-        digit(ms % 100 % 10),
-        b'Z',
-    ]
+    line.put(b"Z");
+    line.put(&pair(ms % 100));
+    line.put(&[48 + (ms / 100) as u8]);
+    line.put(b".");
+    line.put(&pair(second));
+    line.put(b":");
+    line.put(&pair(minute));
+    line.put(b":");
+    line.put(&pair(hour));
+    line.put(b"T");
 }
 
-/// The date as `2024-03-08`, if its year is not negative.
+/// Puts the date there as `2024-03-08`, if its year is not negative.
 #[inline(always)]
-fn date_bytes(date: Date) -> [u8; 10]
-    ensures { (year : ℕ) → date.year ≡ pos year → result ≡ date_text date }
+fn put_date(line: &mut Line, date: Date)
+    requires { length line.old + 10 ≤ 384 }
+    ensures put { (year : ℕ) → date.year ≡ pos year → line.new ≡ date_text date ++ line.old }
+    ensures long { length line.new ≡ length line.old + 10 }
 {
     let year = u32::from(date.year.unsigned_abs());
-    let month = u32::from(date.month);
-    let day = u32::from(date.day);
-    [
-        digit(year / 100 / 10),
-        digit(year / 100 % 10),
-        digit(year % 100 / 10),
-        digit(year % 100 % 10),
-        b'-',
-        digit(month / 10),
-        digit(month % 10),
-        b'-',
-        digit(day / 10),
-        digit(day % 10),
-    ]
+    line.put(&pair(u32::from(date.day)));
+    line.put(b"-");
+    line.put(&pair(u32::from(date.month)));
+    line.put(b"-");
+    line.put(&pair(year % 100));
+    line.put(&pair(year / 100));
 }

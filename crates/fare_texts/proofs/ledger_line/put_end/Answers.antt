@@ -4,8 +4,8 @@ use Rattle.fare_texts.specs.StatementText.{answer_text}
 use Rattle.fare_texts.proofs.LinePuts.{end_shown}
 use Rattle.fare_texts.proofs.ledger_line.put_end.Goals as goal
 
-pub returns : goal.returns
-returns c =
+pub returns-clause-put : goal.returns-clause-put
+returns-clause-put c =
     let fields = c.put_reason_fields.ensures.put in (
       fields.0,
       fields.1,

@@ -16,7 +16,7 @@ returns c =
           c.put_moment.new.line c.put-3.new.self c.put_short-2.new.self c.put-4.new.self
           c.put_digits.new.self (codes ",") (decimal c.args.entry.now.validator) moment.0
           (decimal c.args.number) (encode_lower (bytes_of c.args.token))
-          c.requires c.put.ensures.put (rw c.from.ensures at c.put_short.ensures.put)
+          c.put.ensures.put (rw c.from.ensures at c.put_short.ensures.put)
           c.put-2.ensures.put moment.2 c.put-3.ensures.put c.put_short-2.ensures.put
           c.put-4.ensures.put (rw c.bytes.ensures at c.put_digits.ensures.put),
     )
