@@ -47,16 +47,6 @@ after_lacks byte (x ∷ text) zero none = lacks-reads byte text
 after_lacks byte (x ∷ text) (suc at) none =
     after_lacks byte text at (λ k above within. none (suc k) (omega arith) (omega arith))
 
--- digits are no line feeds
-digits_lack_feed : (text : List ℕ) → AllDigits 10 text → Lacks 10 text
-digits_lack_feed [] digits = tt
-digits_lack_feed (c ∷ text) digits =
-    let first = digits.0 in
-    (λ is. absurd (grind (arith, nat_tests)), digits_lack_feed text digits.1)
-
-pub decimal_lacks_feed : (n : ℕ) → n < 2 ^ 64 → Lacks 10 (decimal n)
-decimal_lacks_feed n small = digits_lack_feed (decimal n) (decimal_is_IsNumeral n small).0.1
-
 -- a line that is too long
 pub cut_long : (line : List ℕ) → 352 < length line → cut_line line ≡ None
 unfolding cut_line
@@ -148,7 +138,7 @@ upload_back cut is =
     let front = cut.fields ++ 44 ∷ cut.class in
     ap (λ (o : Option (List ℕ × List ℕ)). on o (λ parts.
     on (number_in (2 ^ 32) parts.1) (λ upload. class_in upload cut.position parts.0)))
-    (last_is front (decimal cut.upload) (decimal_lacks cut.upload (omega (arith, is.upload))))
+    (last_is front (decimal cut.upload) (decimal_lacks 44 (omega arith) cut.upload (omega (arith, is.upload))))
     ∙ ap (λ (o : Option ℕ). on o (λ upload. class_in upload cut.position front))
     (number_complete (2 ^ 32) cut.upload (omega (arith, is.upload)) is.upload)
     ∙ class_back cut is
@@ -161,7 +151,7 @@ columns_back cut is =
     ∙ ap (λ (o : Option (List ℕ × List ℕ)). on o (λ parts.
     on (number_line parts.1) (λ position. upload_in position parts.0)))
     (last_is front end (lacks-append 44 (decimal cut.position) (10 ∷ [])
-    (decimal_lacks cut.position is.position) (lacks-tested 44 (10 ∷ []) refl)))
+    (decimal_lacks 44 (omega arith) cut.position is.position) (lacks-tested 44 (10 ∷ []) refl)))
     ∙ ap (λ (o : Option ℕ). on o (λ position. upload_in position front))
     (line_complete (number_law (2 ^ 64) wide_64) refl cut.position (decimal cut.position)
     (is.position, refl))

@@ -1,6 +1,6 @@
 -- A line names one tap.
 use Rattle.std.proofs.Common.{◌≡◌, ℕ, ◌+◌, ◌/◌, ◌%◌, ◌^◌, ◌<◌, ◌≤◌, length, append_assoc, pos, List, ◌∷◌, ◌++◌, get_or, Ok}
-use Rattle.std.proofs.Common.{refl, sym, ap, subst, ◌∙◌, arith, decimal, inl, inr, []}
+use Rattle.std.proofs.Common.{refl, sym, ap, subst, ◌∙◌, arith, decimal, Some, true, []}
 use Rattle.std.proofs.lemmas.Fmt.{decimal_injective}
 use Rattle.hex.specs.Hex.{decode_sized, encode_lower}
 use Rattle.hex.proofs.HexLemmas.{decode_sized-encode_lower}
@@ -18,81 +18,60 @@ use Rattle.tap_views.specs.Token.{Fits, bytes_of}
 use Rattle.tap_views.specs.declared.token.Token.{Token}
 use Rattle.tap_views.proofs.TokenLemmas.{bytes_of-injective}
 use Rattle.tap_views.proofs.TokenBytes.{token_bytes, token_length}
-use Rattle.ledger_check.specs.FullChecks.{EndsField, IsLineOfTap}
-use Rattle.ledger_check.specs.inside.Fronts.{HasFront}
-use Rattle.ledger_check.proofs.FieldLemmas.{date_bytes, date_shown, decimal_lacks, first_fields, moment_lacks}
-use Rattle.ledger_check.proofs.FieldLemmas.{moment_parts, token_lacks}
-use Rattle.std.proofs.lemmas.List.{append_cancel_right}
-use Rattle.ledger_check.specs.Lines.{Lacks}
-use Rattle.ledger_check.proofs.LineLemmas.{lacks-append, lacks-end, lacks-tested, same_cut}
+use Rattle.line_forms.specs.ColumnLaws.{column_law}
+use Rattle.line_forms.specs.Columns.{BeginsAfterColumn, is_column}
+use Rattle.line_forms.specs.Forms.{go_on, then_read, with_second}
+use Rattle.ledger_check.specs.FullChecks.{IsLineOfTap, any_column, front_columns, next_column}
+use Rattle.ledger_check.proofs.FieldLemmas.{date_bytes, date_shown, decimal_plain, first_fields}
+use Rattle.ledger_check.proofs.FieldLemmas.{moment_parts, moment_plain, token_plain}
+use Rattle.std.proofs.lemmas.Option.{same_Some}
 use Rattle.ledger_check.proofs.MomentLemmas.{clock_number}
 
--- a text without a comma has none before its line feed
-no_comma : (a more b : List ℕ) → Lacks 44 b → a ++ 44 ∷ more ≡ b ++ 10 ∷ [] → ⊥
-no_comma a more b lacks is =
-    (lacks-end 44 a (44 ∷ more) (subst (Lacks 44) (sym is)
-    (lacks-append 44 b (10 ∷ []) lacks (lacks-tested 44 (10 ∷ []) refl)))).0 refl
+-- ---- columns are read
+column_read : (column rest : List ℕ) → is_column column ≡ true → BeginsAfterColumn rest
+    → any_column (column ++ rest) ≡ Some (column, rest)
+column_read column rest plain ends =
+    (column_law (λ c. true)).complete column column rest
+    (record { shown = refl; plain = plain; passes = refl }) ends
 
--- a field ends in one way
-pub field_same : (a b x y : List ℕ) → Lacks 44 a → Lacks 44 b → EndsField x → EndsField y
-    → a ++ x ≡ b ++ y → (a ≡ b) × (x ≡ y)
-field_same a b x y lacks lacks_too (inl (more, is)) (inl (more_too, is_too)) same =
-    let cut = same_cut 44 a more b more_too lacks lacks_too
-    (sym (ap (λ (t : List ℕ). a ++ t) is) ∙ same ∙ ap (λ (t : List ℕ). b ++ t) is_too) in
-    (cut.0, is ∙ ap (λ (t : List ℕ). 44 ∷ t) cut.1 ∙ sym is_too)
-field_same a b x y lacks lacks_too (inl (more, is)) (inr is_too) same =
-    absurd (no_comma a more b lacks_too
-    (sym (ap (λ (t : List ℕ). a ++ t) is) ∙ same ∙ ap (λ (t : List ℕ). b ++ t) is_too))
-field_same a b x y lacks lacks_too (inr is) (inl (more_too, is_too)) same =
-    absurd (no_comma b more_too a lacks
-    (sym (ap (λ (t : List ℕ). b ++ t) is_too) ∙ sym same ∙ ap (λ (t : List ℕ). a ++ t) is))
-field_same a b x y lacks lacks_too (inr is) (inr is_too) same = (
-  append_cancel_right a b (10 ∷ [])
-      (sym (ap (λ (t : List ℕ). a ++ t) is) ∙ same ∙ ap (λ (t : List ℕ). b ++ t) is_too),
-  is ∙ sym is_too,
-)
+columns_read : (a b c d rest : List ℕ) → is_column a ≡ true → is_column b ≡ true
+    → is_column c ≡ true → is_column d ≡ true → BeginsAfterColumn rest
+    → front_columns (a ++ 44 ∷ (b ++ 44 ∷ (c ++ 44 ∷ (d ++ rest)))) ≡ Some ((a, (b, (c, d))), rest)
+columns_read a b c d rest plain_a plain_b plain_c plain_d ends =
+    let last : next_column (44 ∷ (d ++ rest)) ≡ Some (d, rest) = column_read d rest plain_d ends in
+    let third : next_column (44 ∷ (c ++ 44 ∷ (d ++ rest))) ≡ Some (c, 44 ∷ (d ++ rest)) =
+    column_read c (44 ∷ (d ++ rest)) plain_c refl in
+    let second : next_column (44 ∷ (b ++ 44 ∷ (c ++ 44 ∷ (d ++ rest))))
+        ≡ Some (b, 44 ∷ (c ++ 44 ∷ (d ++ rest))) =
+    column_read b (44 ∷ (c ++ 44 ∷ (d ++ rest))) plain_b refl in
+    ap (go_on (then_read next_column (then_read next_column next_column)))
+    (column_read a (44 ∷ (b ++ 44 ∷ (c ++ 44 ∷ (d ++ rest)))) plain_a refl)
+    ∙ ap (with_second a) (ap (go_on (then_read next_column next_column)) second
+    ∙ ap (with_second b) (ap (go_on next_column) third ∙ ap (with_second c) last))
 
--- the same fields
-pub record SameFront
-    (token number moment validator rest token' number' moment' validator' rest' : List ℕ) : Type
-    0 where
+-- the same columns
+pub record SameColumns (token moment validator rest token' moment' validator' rest' : List ℕ)
+    : Type 0 where
   pub token_is : token ≡ token'
   pub moment_is : moment ≡ moment'
   pub validator_is : validator ≡ validator'
   pub rest_is : rest ≡ rest'
 
--- a line has its first four fields in one way
-pub front_same : (line token number moment validator rest token' number' moment' validator'
-    rest' : List ℕ)
-    → HasFront line token number moment validator rest
-    → HasFront line token' number' moment' validator' rest'
-    → SameFront token number moment validator rest token' number' moment' validator' rest'
-front_same line token number moment validator rest token' number' moment' validator' rest' a b =
-    let one = same_cut 44 token (number ++ 44 ∷ (moment ++ 44 ∷ (validator ++ rest))) token'
-    (number' ++ 44 ∷ (moment' ++ 44 ∷ (validator' ++ rest')))
-    a.token_field b.token_field (sym a.shown ∙ b.shown) in
-    let two = same_cut 44 number (moment ++ 44 ∷ (validator ++ rest)) number'
-    (moment' ++ 44 ∷ (validator' ++ rest')) a.number_field b.number_field one.1 in
-    let three = same_cut 44 moment (validator ++ rest) moment' (validator' ++ rest')
-    a.moment_field b.moment_field two.1 in
-    let four = field_same validator validator' rest rest' a.validator_field b.validator_field
-    a.ends_field b.ends_field three.1 in
-    record { token_is = one.0; moment_is = three.0; validator_is = four.0; rest_is = four.1 }
+abbrev Columns : Type 0
+Columns = (List ℕ × (List ℕ × (List ℕ × List ℕ))) × List ℕ
 
--- a line of a tap has these fields
-pub tap_front : (line : List ℕ) (token : Token) (validator moment : ℕ) (rest : List ℕ)
-    (is : IsLineOfTap line token validator moment rest)
-    → HasFront line (encode_lower (bytes_of token)) is.number is.moment_text (decimal validator)
-    rest
-tap_front line token validator moment rest is =
-    let small : validator < 2 ^ 32 = is.small in
+pub columns_same : (line token number moment validator rest token' number' moment' validator'
+    rest' : List ℕ)
+    → front_columns line ≡ Some ((token, (number, (moment, validator))), rest)
+    → front_columns line ≡ Some ((token', (number', (moment', validator'))), rest')
+    → SameColumns token moment validator rest token' moment' validator' rest'
+columns_same line token number moment validator rest token' number' moment' validator' rest' a b =
+    let both = same_Some _ _ (sym a ∙ b) in
     record {
-      token_field = token_lacks token;
-      number_field = is.one_field;
-      moment_field = moment_lacks moment is.moment_text is.early is.is;
-      validator_field = decimal_lacks validator (omega arith);
-      ends_field = is.ends_field;
-      shown = is.shown;
+      token_is = ap (λ (p : Columns). p.0.0) both;
+      moment_is = ap (λ (p : Columns). p.0.1.1.0) both;
+      validator_is = ap (λ (p : Columns). p.0.1.1.1) both;
+      rest_is = ap (λ (p : Columns). p.1) both;
     }
 
 -- the line of a token's entry names its tap
@@ -109,11 +88,13 @@ line_tap fares token number entry why line shown count fits small early short =
         small = small;
         early = early;
         number = decimal number;
-        one_field = decimal_lacks number count;
         moment_text = fields.moment;
         is = fields.is;
-        shown = fields.shown;
-        ends_field = inl (fields.rest, refl);
+        columns = ap front_columns fields.shown
+            ∙ columns_read (encode_lower (bytes_of token)) (decimal number) fields.moment
+            (decimal entry.validator) (44 ∷ fields.rest) (token_plain token)
+            (decimal_plain number count) (moment_plain entry.moment fields.moment early fields.is)
+            (decimal_plain entry.validator (omega (arith, small))) refl;
         front = line_head token number
             ++ (shown.moment ++ (entry_fields fares entry ++ shown.reason_fields));
         ends = shown.shown ∙ ends (line_head token number) shown.moment
@@ -202,9 +183,7 @@ pub tap_same_of_line : (line : List ℕ) (token token' : Token)
     → IsLineOfTap line token' validator' moment' rest'
     → SameTap token token' validator validator' moment moment' rest rest'
 tap_same_of_line line token token' validator validator' moment moment' rest rest' a b =
-    let same = front_same line _ _ _ _ rest _ _ _ _ rest'
-    (tap_front line token validator moment rest a)
-    (tap_front line token' validator' moment' rest' b) in
+    let same = columns_same line _ _ _ _ rest _ _ _ _ rest' a.columns b.columns in
     let small_a : validator < 2 ^ 32 = a.small in
     let small_b : validator' < 2 ^ 32 = b.small in
     record {

@@ -6,7 +6,11 @@ use Rattle.std.specs.Prelude.{[], ◌∷◌, ◌++◌, length, Option, None, Som
 use Rattle.std.specs.Prelude.{nat_eq}
 use Rattle.std.specs.Prelude.{map, nat_lt}
 use Rattle.std.specs.Fmt.{decimal}
+use Rattle.std.specs.Option.{option_and_then, unwrap_or}
 use Rattle.std.specs.Str.{bytes_eq}
+use Rattle.line_forms.specs.Columns.{column_where}
+use Rattle.line_forms.specs.Forms.{Reader, after_read, then_read}
+use Rattle.line_forms.specs.Numbers.{number_in}
 use Rattle.hex.specs.Hex.{encode_lower}
 use Rattle.tariffs.specs.Fares.{Fares}
 use Rattle.fare_texts.specs.Moments.{IsMomentText}
@@ -18,18 +22,29 @@ use Rattle.tap_views.specs.declared.encoder.TapFields.{TapFields}
 use Rattle.fare_texts.specs.LedgerLines.{IsLedgerLineAfter, head_text}
 use Rattle.fare_texts.specs.Explainers.{next_entry}
 use Rattle.ledger_check.specs.Ledger.{IsLedger, IsLedgerOf, token_number}
-use Rattle.ledger_check.specs.Lines.{Lacks, lines_of}
+use Rattle.ledger_check.specs.Lines.{lines_of}
 use Rattle.ledger_check.specs.Orders.{early_line, tap_of_entry}
 use Rattle.ledger_check.specs.declared.walk.CountedTap.{CountedTap}
 use Rattle.ledger_check.specs.declared.walk.LineFinding.{LineFinding}
 use Rattle.ledger_check.specs.declared.walk.Remark.{Remark}
 use Rattle.ledger_check.specs.declared.walk.Remark.TheVariants.{Nothing, Wants, NoLine}
 
--- a field ends at a comma, or at the end of its line
-abbrev pub EndsField : List ℕ → Type 0
-EndsField rest = ((more : List ℕ) × (rest ≡ 44 ∷ more)) ⊎ (rest ≡ 10 ∷ [])
+-- a column of a line, and the next one
+abbrev pub any_column : Reader (List ℕ)
+any_column = column_where (λ column. true)
 
--- The line names this tap: its first four fields are the token, any text, the moment and the
+abbrev pub next_column : Reader (List ℕ)
+next_column = after_read (44 ∷ []) any_column
+
+-- the columns of the token, the number, the moment and the validator
+abbrev pub front_columns : Reader (List ℕ × (List ℕ × (List ℕ × List ℕ)))
+front_columns = then_read any_column (then_read next_column (then_read next_column next_column))
+
+-- the columns of the mode, the answer and the cents, and one after them
+abbrev pub charge_columns : Reader (List ℕ × (List ℕ × (List ℕ × List ℕ)))
+charge_columns = then_read next_column (then_read next_column (then_read next_column next_column))
+
+-- The line names this tap: its first four columns are the token, any text, the moment and the
 -- validator. Nothing is said of what is after them.
 pub record IsLineOfTap (line : List ℕ) (token : Token) (validator moment : ℕ) (rest : List ℕ)
     : Type 0 where
@@ -37,31 +52,23 @@ pub record IsLineOfTap (line : List ℕ) (token : Token) (validator moment : ℕ
   pub small : validator < 2 ^ 32
   pub early : moment < 4_102_444_800_000
   pub number : List ℕ
-  pub one_field : Lacks 44 number
   pub moment_text : List ℕ
   pub is : IsMomentText moment moment_text
-  pub shown : line ≡ encode_lower (bytes_of token) ++ 44 ∷ (number ++ 44 ∷ (moment_text
-      ++ 44 ∷ (decimal validator ++ rest)))
-  pub ends_field : EndsField rest
+  pub columns : front_columns line
+      ≡ Some ((encode_lower (bytes_of token), (number, (moment_text, decimal validator))), rest)
   -- it ends with its newline, and has at most 255 bytes
   pub front : List ℕ
   pub ends : line ≡ front ++ 10 ∷ []
   pub short : length line ≤ 255
 
--- the third field after the validator is this number
-pub record IsCentsField (rest : List ℕ) (cents : ℕ) : Type 0 where
-  pub mode : List ℕ
-  pub mode_field : Lacks 44 mode
-  pub answer : List ℕ
-  pub answer_field : Lacks 44 answer
-  pub trailing : List ℕ
-  pub small : cents < 2 ^ 32
-  pub shown : rest ≡ 44 ∷ (mode ++ 44 ∷ (answer ++ 44 ∷ (decimal cents ++ 44 ∷ trailing)))
+-- the number in the third column after the validator, if it is one
+abbrev pub cents_in : List ℕ → Option ℕ
+cents_in rest = option_and_then (λ parts. number_in (2 ^ 32) parts.0.1.1.0) (charge_columns rest)
 
 -- the cents that the line asks for: its entry's if it is right, or 0 if its cents are not a number
 abbrev pub AreCents : Remark → List ℕ → CountedTap → Type 0
 AreCents remark rest tap = ((remark ≡ Nothing) × (tap.cents ≡ tap.entry.cents))
-    ⊎ (IsCentsField rest tap.cents ⊎ ((tap.cents ≡ 0) × ((other : ℕ) → ¬ (IsCentsField rest other))))
+    ⊎ (tap.cents ≡ unwrap_or (cents_in rest) 0)
 
 -- A line as a full check takes it: what is found of it, and the line that its tap should have, if
 -- it names one.

@@ -1,33 +1,14 @@
 //! Texts split at a byte.
 
-ghost use Rattle.std.specs.Prelude.{◌≡◌, ◌∷◌, ◌++◌, [], ℕ, List, IfNone, IfSome};
-ghost use Rattle.std.specs.Prelude.{IsSomeAnd, IsTrue};
-ghost use Rattle.std.specs.Prelude.{◌↔◌};
+ghost use Rattle.std.specs.Prelude.{◌≡◌, ◌++◌, ◌↔◌, IfNone, IfSome, IsTrue};
 ghost use Rattle.ledger_check.specs.Lines.{IsLine, Lacks};
 
 use memchr::memchr;
 
-pub(crate) fn split_at_byte(text: &[u8], byte: u8) -> Option<(&[u8], &[u8])>
-    ensures some { IfSome result (λ parts. Lacks byte parts.0.now
-        × (text.now ≡ parts.0.now ++ byte ∷ parts.1.now)) }
-    ensures none { IfNone result (Lacks byte text.now) }
-{
-    match memchr(byte, text) {
-        Some(at) => Some((&text[..at], &text[at + 1..])),
-        None => None,
-    }
-}
-
 /// What is before the first comma of the text, and what is after it.
-pub(crate) fn field(text: &[u8]) -> Option<(&[u8], &[u8])>
-    ensures found { (front : List ℕ) (back : List ℕ) → Lacks 44 front
-        → text.now ≡ front ++ 44 ∷ back
-        → IsSomeAnd result (λ parts. (parts.0.now ≡ front) × (parts.1.now ≡ back)) }
-    ensures cut { IfSome result (λ parts. Lacks 44 parts.0.now
-        × (text.now ≡ parts.0.now ++ 44 ∷ parts.1.now)) }
-{
-    match split_at_byte(text, b',') {
-        Some(parts) => Some(parts),
+pub(crate) fn field(text: &[u8]) -> Option<(&[u8], &[u8])> {
+    match memchr(b',', text) {
+        Some(at) => Some((&text[..at], &text[at + 1..])),
         None => None,
     }
 }

@@ -1,28 +1,28 @@
 //! The tap that a line names, whatever it says of the tap's reply.
 
-ghost use Rattle.std.specs.Prelude.{◌≡◌, ◌<◌, ◌≤◌, ◌^◌, ◌∷◌, ◌++◌, [], ℕ, List, IfNone, IfOk};
-ghost use Rattle.std.specs.Prelude.{IfSome};
-ghost use Rattle.std.specs.Prelude.{IsTrue, ◌↔◌, MatchOption, length};
+ghost use Rattle.std.specs.Prelude.{◌≡◌, ◌<◌, ◌≤◌, ◌^◌, ◌∷◌, ◌++◌, [], ℕ, List, IfOk};
+ghost use Rattle.std.specs.Prelude.{IsTrue, ◌↔◌, MatchOption, None, length};
 ghost use Rattle.std.specs.Fmt.{decimal};
 ghost use Rattle.hex.specs.Hex.{encode_lower};
 ghost use Rattle.fare_texts.specs.Moments.{IsMomentText};
 ghost use Rattle.tap_views.specs.Token.{Fits, bytes_of};
 ghost use Rattle.tap_views.specs.declared.token.Token.{Token as AToken};
-ghost use Rattle.ledger_check.specs.Lines.{Lacks};
-ghost use Rattle.ledger_check.specs.FullChecks.{EndsField, IsCentsField, IsLineOfTap};
+ghost use Rattle.ledger_check.specs.FullChecks.{IsLineOfTap, cents_in, front_columns};
 ghost use Rattle.ledger_check.specs.Taps.{IsTapOfLine};
-ghost use Rattle.ledger_check.specs.inside.Fronts.{HasFront, IsFrontOf};
+ghost use Rattle.ledger_check.specs.inside.Fronts.{IsFrontOf};
 
-use crate::bytes::{field, same_bytes, split_at_byte};
+use crate::bytes::same_bytes;
 use crate::moment::read_moment;
 use crate::tap::{Tap, read_token};
 use fare_texts::write_moment;
-use line_forms::forms::after_word;
+use line_forms::column::column_before;
+use line_forms::form::FormOf;
+use line_forms::forms::{After, Then};
 use line_forms::number::number_32_of;
 use std::alloc::AllocError;
 use tap_views::{TapFields, Token};
 
-/// The first four fields of a line, and the rest of it.
+/// The first four columns of a line, and the rest of it.
 #[derive(Clone, Copy)]
 pub(crate) struct Front<'a> {
     token: &'a [u8],
@@ -31,38 +31,44 @@ pub(crate) struct Front<'a> {
     rest: &'a [u8],
 }
 
-fn before_feed(text: &[u8]) -> Option<&[u8]>
-    ensures { MatchOption result ((front : List ℕ) → ¬ (text.now ≡ front ++ 10 ∷ []))
-        (λ front. text.now ≡ front.now ++ 10 ∷ []) }
-{
-    let (last, front) = text.split_last()?;
-    if *last == b'\n' { Some(front) } else { None }
-}
+/// A column, whatever it has.
+#[derive(Drop)]
+struct AnyColumn;
 
-fn open_field(text: &[u8]) -> Option<(&[u8], &[u8])>
-    ensures some { IfSome result (λ parts. Lacks 44 parts.0.now × EndsField parts.1.now
-        × (text.now ≡ parts.0.now ++ parts.1.now)) }
-    ensures none { IfNone result ((front rest : List ℕ) → Lacks 44 front → EndsField rest
-        → ¬ (text.now ≡ front ++ rest)) }
-{
-    if let Some((front, _trailing)) = split_at_byte(text, b',') {
-        return Some((front, &text[front.len()..]));
+impl<'a> FormOf<'a> for AnyColumn {
+    type Value = &'a [u8];
+
+    ghost use Rattle.std.specs.Prelude.{List, true, ℕ};
+    ghost use Rattle.line_forms.specs.ColumnLaws.{column_law};
+    ghost use Rattle.line_forms.specs.Columns.{BeginsAfterColumn, IsColumn};
+    ghost use Rattle.ledger_check.specs.FullChecks.{any_column};
+
+    ghost Said = { List ℕ };
+
+    ghost said = { λ text. text.now };
+
+    ghost reads = { λ form. any_column };
+
+    ghost says = { λ form. IsColumn (λ column. true) };
+
+    ghost ends = { λ form. BeginsAfterColumn };
+
+    ghost valid = { λ form. Unit {0} };
+
+    fn read(&self, text: &'a [u8]) -> Option<(&'a [u8], &'a [u8])> {
+        let size = column_before(text);
+        Some((&text[..size], &text[size..]))
     }
-    match before_feed(text) {
-        Some(front) => Some((front, b"\n")),
-        None => None,
-    }
+
+    ghost law = { λ form valid. column_law (λ column. true) };
 }
 
 fn front_of(line: &[u8]) -> Option<Front<'_>>
-    ensures some { IfSome result (IsFrontOf line.now) }
-    ensures none { IfNone result ((token number moment validator rest : List ℕ)
-        → ¬ (HasFront line.now token number moment validator rest)) }
+    ensures { MatchOption result (front_columns line.now ≡ None) (IsFrontOf line.now) }
 {
-    let (token, trailing) = field(line)?;
-    let (_number, trailing) = field(trailing)?;
-    let (moment, trailing) = field(trailing)?;
-    let (validator, rest) = open_field(trailing)?;
+    let moment = Then(After(b",", AnyColumn), After(b",", AnyColumn));
+    let form = Then(AnyColumn, Then(After(b",", AnyColumn), moment));
+    let ((token, (_number, (moment, validator))), rest) = form.read(line)?;
     Some(Front {
         token,
         moment,
@@ -158,14 +164,12 @@ pub fn tap_of_line(line: &[u8], again: &mut String) -> Result<Option<TapFields>,
     }
 }
 
-pub(crate) fn exact_cents(rest: &[u8]) -> Option<u32>
-    ensures { MatchOption result ((cents : ℕ) → ¬ (IsCentsField rest.now cents))
-        (λ cents. IsCentsField rest.now cents) }
+/// The number in the third column after the validator.
+pub(crate) fn cents_in(rest: &[u8]) -> Option<u32>
+    ensures { result ≡ cents_in rest.now }
 {
-    let fields = after_word(rest, b",")?;
-    let (_mode, trailing) = field(fields)?;
-    let (_answer, trailing) = field(trailing)?;
-    let (digits, _trailing) = field(trailing)?;
-    let cents = exact_number(digits)?;
-    Some(cents)
+    let cents = Then(After(b",", AnyColumn), After(b",", AnyColumn));
+    let form = Then(After(b",", AnyColumn), Then(After(b",", AnyColumn), cents));
+    let ((_mode, (_answer, (digits, _after))), _rest) = form.read(rest)?;
+    number_32_of(digits)
 }

@@ -15,7 +15,7 @@ ghost use Rattle.ledger_check.specs.Lines.{IsLine};
 ghost use Rattle.ledger_check.specs.inside.FullChecks.{HasJudged, IsNextTap, right_finding};
 
 use crate::bytes::same_bytes;
-use crate::exact::{exact_cents, exact_tap};
+use crate::exact::{cents_in, exact_tap};
 use crate::tap::{Tap, read_tap};
 use fare_texts::{Explainer, write_line};
 use histories::Entry;
@@ -241,7 +241,7 @@ impl Walk {
         };
         let next = write_next_tap(&self.explainer, table, clock, tap, &mut self.wanted)?;
         self.explainer = Some(next.explainer);
-        let cents = exact_cents(rest).unwrap_or(0);
+        let cents = cents_in(rest).unwrap_or(0);
         let is_same = same_bytes(line, self.wanted.as_bytes());
         Ok(LineFinding {
             tap: Some(CountedTap {

@@ -10,7 +10,7 @@ use Rattle.std.specs.Str.{bytes_eq}
 use Rattle.std.specs.List.{AllByRecursion}
 use Rattle.std.proofs.lemmas.List.Elements.{All-nil, All-push, recursion_from_All}
 use Rattle.fare_texts.specs.ReportLines.{number_line}
-use Rattle.ledger_check.proofs.ColumnLemmas.{decimal_lacks_feed}
+use Rattle.ledger_check.proofs.FieldLemmas.{decimal_lacks}
 use Rattle.ledger_check.proofs.LineLemmas.{lacks-tested, lines-line}
 use Rattle.ledger_check.proofs.FullCheckLemmas.{line_ends}
 use Rattle.ledger_check.specs.Lines.{IsLine, Lacks, lines_of}
@@ -151,7 +151,7 @@ feed = record { front = []; lacks = tt; shown = refl }
 pub number_line_is : (word : List ℕ) (number : ℕ) → Lacks 10 word → number < 2 ^ 64
     → IsLine (number_line word number)
 number_line_is word number lacks small =
-    line_ends word _ lacks (line_ends (decimal number) _ (decimal_lacks_feed number small) feed)
+    line_ends word _ lacks (line_ends (decimal number) _ (decimal_lacks 10 (omega arith) number small) feed)
 
 words_are : (end : UploadEnd) → IsReportEnd end → IsLine (end_words end)
 words_are (Posted taps) fits =
@@ -159,9 +159,9 @@ words_are (Posted taps) fits =
 words_are (Refused taps offset fault) fits =
     subst IsLine (sym (refused_spelled taps offset fault))
     (line_ends (codes " refused ") _ (lacks-tested 10 (codes " refused ") refl)
-    (line_ends (decimal taps) _ (decimal_lacks_feed taps fits.0)
+    (line_ends (decimal taps) _ (decimal_lacks 10 (omega arith) taps fits.0)
     (line_ends (codes " at ") _ (lacks-tested 10 (codes " at ") refl)
-    (line_ends (decimal offset) _ (decimal_lacks_feed offset fits.1)
+    (line_ends (decimal offset) _ (decimal_lacks 10 (omega arith) offset fits.1)
     (number_line_is (codes " L") (fault_number fault) (lacks-tested 10 (codes " L") refl)
     (small_number fault))))))
 words_are (Cut taps) fits =
@@ -177,7 +177,7 @@ upload_line_is : (number : ℕ) (end : UploadEnd) → number < 2 ^ 64 → IsRepo
 upload_line_is number end small fits =
     subst IsLine (sym (line_words number end))
     (line_ends (codes "upload ") _ (lacks-tested 10 (codes "upload ") refl)
-    (line_ends (decimal number) _ (decimal_lacks_feed number small) (words_are end fits)))
+    (line_ends (decimal number) _ (decimal_lacks 10 (omega arith) number small) (words_are end fits)))
 
 pub line_first : (line trailing : List ℕ) → IsLine line
     → lines_of (line ++ trailing) ≡ line ∷ lines_of trailing

@@ -1,29 +1,26 @@
--- A line names a tap exactly if each of its fields is read.
+-- A line names a tap exactly if each of its columns is read.
 use Rattle.std.proofs.Common.{◌≡◌, ◌∷◌, ◌++◌, ◌∙◌, ℕ, List, Some, None, true, false, sym, ap, subst}
 use Rattle.std.proofs.Common.{rules, tests}
 use Rattle.std.proofs.lemmas.Bool.{false≢true}
+use Rattle.std.proofs.lemmas.Option.{same_Some}
 use Rattle.hex.specs.Hex.{encode_lower}
 use Rattle.fare_texts.specs.Moments.{IsMomentText}
 use Rattle.tap_views.specs.Token.{bytes_of}
-use Rattle.ledger_check.proofs.FrontLemmas.{front_same, tap_front}
-use Rattle.std.proofs.lemmas.Option.{same_Some}
+use Rattle.ledger_check.proofs.FrontLemmas.{columns_same}
 use Rattle.ledger_check.proofs.exact.exact_tap.Goals as goal
 
 pub returns-in_default : goal.returns-in_default
 returns-in_default c = λ token validator moment rest is.
-    (rw c.in_default.is at c.front_of.ensures.none) _ _ _ _ _
-    (tap_front c.args.line.now token validator moment rest is)
+    let none = sym (rw c.in_default.is at c.front_of.ensures) ∙ is.columns in absurd cc
 
 pub returns-in_default-exact_token : goal.returns-in_default-exact_token
 returns-in_default-exact_token c = λ token validator moment rest is.
-    let same = front_same c.args.line.now _ _ _ _ _ _ _ _ _ _ c.in-Some.ensures.some.1
-    (tap_front c.args.line.now token validator moment rest is) in
+    let same = columns_same c.args.line.now _ _ _ _ _ _ _ _ _ _ c.in-Some.ensures.1 is.columns in
     (rw c.in_default-exact_token.is at c.exact_token.ensures) token is.fits same.token_is
 
 pub returns-in_default-read_moment : goal.returns-in_default-read_moment
 returns-in_default-read_moment c = λ token validator moment rest is.
-    let same = front_same c.args.line.now _ _ _ _ _ _ _ _ _ _ c.in-Some.ensures.some.1
-    (tap_front c.args.line.now token validator moment rest is) in
+    let same = columns_same c.args.line.now _ _ _ _ _ _ _ _ _ _ c.in-Some.ensures.1 is.columns in
     let none : None ≡ Some moment =
     (rw c.in_default-read_moment.is at c.read_moment.ensures.found) moment is.early
     (subst (IsMomentText moment) (sym same.moment_is) is.is) in
@@ -31,14 +28,12 @@ returns-in_default-read_moment c = λ token validator moment rest is.
 
 pub returns-in_default-exact_number : goal.returns-in_default-exact_number
 returns-in_default-exact_number c = λ token validator moment rest is.
-    let same = front_same c.args.line.now _ _ _ _ _ _ _ _ _ _ c.in-Some.ensures.some.1
-    (tap_front c.args.line.now token validator moment rest is) in
+    let same = columns_same c.args.line.now _ _ _ _ _ _ _ _ _ _ c.in-Some.ensures.1 is.columns in
     (rw c.in_default-exact_number.is at c.exact_number.ensures) validator is.small same.validator_is
 
 pub returns-then-not-is_exact : goal.returns-then-not-is_exact
 returns-then-not-is_exact c = λ token validator moment rest is.
-    let same = front_same c.args.line.now _ _ _ _ _ _ _ _ _ _ c.in-Some.ensures.some.1
-    (tap_front c.args.line.now token validator moment rest is) in
+    let same = columns_same c.args.line.now _ _ _ _ _ _ _ _ _ _ c.in-Some.ensures.1 is.columns in
     let text = subst (IsMomentText moment) (sym same.moment_is) is.is in
     let read : Some c.in-Some-read_moment.moment ≡ Some moment =
     c.in-Some-read_moment.ensures.found moment is.early text in
@@ -51,27 +46,23 @@ returns-then-not-is_exact c = λ token validator moment rest is.
 
 pub returns : goal.returns
 returns c =
-    let fields = c.in-Some.ensures.some in
+    let (number, columns) = c.in-Some.ensures in
     let token = c.in-Some-exact_token.ensures in
-    let number = c.in-Some-exact_number.ensures in
+    let validator = c.in-Some-exact_number.ensures in
     let front = c.in-Some.front in
     let yes : c.in_ok-is_exact.is_exact ≡ true = first_of (cc, search (rules, tests)) in
     record {
       fits = token.0;
-      small = number.0;
+      small = validator.0;
       early = c.in-Some-read_moment.ensures.small;
-      number = fields.0;
-      one_field = fields.1.number_field;
+      number = number;
       moment_text = front.moment.now;
       is = c.in_ok-is_exact.ensures.0 yes;
-      shown = fields.1.shown
-          ∙ ap (λ (t : List ℕ).
-          t ++ 44 ∷ (fields.0 ++ 44
-          ∷ (front.moment.now ++ 44 ∷ (front.validator.now ++ front.rest.now)))) token.1
-          ∙ ap (λ (v : List ℕ). encode_lower
-          (bytes_of c.in-Some-exact_token.token) ++ 44
-          ∷ (fields.0 ++ 44 ∷ (front.moment.now ++ 44 ∷ (v ++ front.rest.now)))) number.1;
-      ends_field = fields.1.ends_field;
+      columns = columns
+          ∙ ap (λ (t : List ℕ). Some ((t, (number, (front.moment.now, front.validator.now))),
+          front.rest.now)) token.1
+          ∙ ap (λ (v : List ℕ). Some ((encode_lower (bytes_of c.in-Some-exact_token.token),
+          (number, (front.moment.now, v))), front.rest.now)) validator.1;
       front = c.requires.line.0;
       ends = c.requires.line.1;
       short = c.requires.short;
