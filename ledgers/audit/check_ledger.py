@@ -105,6 +105,12 @@ def terms_of_class(keys):
     return (fare, keys.get("fares", {}), rides or 60_000, ceiling, 255 if given == "any" else given,
             keys.get("transfer_minutes", 120) * MINUTE_MS)
 
+def window_of(text):
+    """The form of a window."""
+    if (form := WINDOW.fullmatch(text)) is None:
+        raise ValueError(f"no rule has the window {text!r}")
+    return form
+
 class Fares:
     """A fare table, as the rules ask it."""
     def __init__(self, table):
@@ -117,9 +123,10 @@ class Fares:
         self.ranges = sorted((r["first"], r["last"], r["mode"]) for r in table["validators"])
         self.modes, self.zone_text = table["modes"], table.get("zone")
         self.zone = None if self.zone_text is None else zone_of(self.zone_text)
-        self.window = WINDOW.fullmatch(table.get("window", "7 days"))
-        if self.window is None:
-            raise ValueError(f"no rule has the window {table['window']!r}")
+        self.window = window_of(table.get("window", "7 days"))
+        self.caps = [(name, window_of(cap["window"]), cap.get("modes", self.modes))
+                     for name, cap in sorted(table.get("caps", {}).items())]
+        self.ceilings = {name: keys.get("caps", {}) for name, keys in table["classes"].items()}
         self.day_starts = time.fromisoformat(table.get("day_starts", "00:00"))
 
     def mode_of(self, validator):
@@ -138,9 +145,9 @@ class Fares:
             raise ValueError(f"no ledger can have the class name {name!r}")
         return name
 
-    def window_end(self, start):
-        """Where the window ends that starts at this moment."""
-        count, period = self.window.groups()
+    def window_end(self, start, window):
+        """Where a window of this form ends that starts at this moment."""
+        count, period = window.groups()
         if count and self.zone is None:
             return start + int(count) * DAY_MS
         zone = self.zone or timezone.utc
@@ -200,6 +207,8 @@ def tables_of(words):
                 raise Refused(f"{word}: it names another zone", 1)
             if fares.modes != tables[0].modes:
                 raise Refused(f"{word}: it has other modes", 1)
+            if [name for name, *_ in fares.caps] != [name for name, *_ in tables[0].caps]:
+                raise Refused(f"{word}: it has other caps", 1)
             starts.append(start)
         tables.append(fares)
     return Tables(tables, starts)
@@ -219,6 +228,7 @@ class Account:
         self.last, self.last_text, self.mode = -1, "", None  # the last live tap
         self.ride, self.ride_text, self.given = -1, "", 0  # the last ride, and its transfers
         self.end, self.window, self.rides, self.cents = -1, "", 0, 0
+        self.caps = {}  # of each cap beside `window` the end of its last window, and its cents
 
     def post(self, moment, text, validator):
         """The fields that a tap gets, from its line's number on."""
@@ -248,18 +258,35 @@ class Account:
     def charge(self, fares, moment, text, mode):
         """Answer, cents, window, ride and reason of a ride, by its table."""
         if moment >= self.end:
-            self.end = fares.window_end(moment)
+            self.end = fares.window_end(moment, fares.window)
             self.window, self.rides, self.cents = f"{text},{moment_text(self.end)}", 0, 0
+        for name, window, _ in fares.caps:
+            if moment >= self.caps.get(name, (-1, 0))[0]:
+                self.caps[name] = fares.window_end(moment, window), 0
+        answer, cents, ride, reason = self.decided(fares, mode)
+        self.cents += cents
+        for name, _, modes in fares.caps:
+            if mode in modes:
+                self.caps[name] = self.caps[name][0], self.caps[name][1] + cents
+        return f"{answer},{cents},{self.window},{ride},{reason}"
+
+    def decided(self, fares, mode):
+        """What decides the cents of a ride whose windows are open."""
         fare, of_modes, limit, ceiling, *_ = fares.terms_of(self.token)
         fare = of_modes.get(mode, fare)
         left, self.rides = ceiling - self.cents, self.rides + 1
         if self.rides > limit:
-            return f"capped,0,{self.window},,ride-limit"
+            return "capped", 0, "", "ride-limit"
         if left <= 0:
-            return f"capped,0,{self.window},{self.rides},ceiling"
-        cents, reason = (fare, "full") if left >= fare else (left, "ceiling-cut")
-        self.cents += cents
-        return f"paid,{cents},{self.window},{self.rides},{reason}"
+            return "capped", 0, self.rides, "ceiling"
+        ceilings = fares.ceilings[fares.classes.get(self.token, fares.usual_class)]
+        least = min((max(0, ceilings.get(name, 100_000_000) - self.caps[name][1])
+                     for name, _, modes in fares.caps if mode in modes), default=100_000_000)
+        if least == 0:
+            return "capped", 0, self.rides, "cap"
+        if least < min(fare, left):
+            return "paid", least, self.rides, "cap-cut"
+        return "paid", min(fare, left), self.rides, "full" if left >= fare else "ceiling-cut"
 
 class Sums:
     """Taps, answers and cents of a ledger's lines: of all, by validator and by token."""

@@ -25,8 +25,8 @@ CREATE TABLE line (
   ride         bigint,
   reason       text        COLLATE "C" NOT NULL,
   points_at    timestamptz CHECK ((points_at IS NOT NULL) = (reason IN ('transfer', 'stale'))),
-  CHECK (CASE answer WHEN 'paid' THEN reason IN ('full', 'ceiling-cut')
-                     WHEN 'capped' THEN reason IN ('ceiling', 'ride-limit')
+  CHECK (CASE answer WHEN 'paid' THEN reason IN ('full', 'ceiling-cut', 'cap-cut')
+                     WHEN 'capped' THEN reason IN ('ceiling', 'cap', 'ride-limit')
                      WHEN 'transfer' THEN reason = answer WHEN 'stale' THEN reason = answer
                      WHEN 'unknown' THEN reason = answer ELSE false END)
 );

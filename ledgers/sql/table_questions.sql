@@ -1,6 +1,7 @@
 -- Questions that know the fare table, in words that SQLite and PostgreSQL share: each row is a
 -- fault of the ledger under that table. They read the tables that `omny_tools table --sql` writes.
--- They know one fare table: under several, each valid from a date, they find right lines, too.
+-- They know one fare table without caps: under several, each valid from a date, or under caps
+-- beside `window`, they find right lines, too.
 -- The days of the books are to be those of the table's zone (ledgers/sql/load LEDGER BOOKS ZONE).
 
 SELECT 'must be empty: a validator with another mode than the table''s' AS question;

@@ -48,7 +48,7 @@ replies-push : (capped : CappedRules) (taps : List TapIn) (tap : TapIn)
 unfolding capped_replies_after
 replies-push capped taps tap = later-nothing capped taps (tap ∷ [])
 
-free-cents : (capped : CappedRules) (states : CapStates) (tap : TapIn) (one : Reason)
+pub free-cents : (capped : CappedRules) (states : CapStates) (tap : TapIn) (one : Reason)
     → is_of_ride one ≡ false → (replied_by (under_caps capped states tap one)).cents ≡ 0
 unfolding reply_with
 free-cents capped states tap reason.Unknown free = refl

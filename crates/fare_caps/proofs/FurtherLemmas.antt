@@ -4,9 +4,10 @@ use Rattle.std.proofs.Common.{◌∷◌, length, map, min, take, nat_lt, is_some
 use Rattle.std.proofs.Common.{refl, ap, ◌∙◌, inl, inr, arith, IfSome}
 use Rattle.std.proofs.lemmas.Bool.{cases_Bool}
 use Rattle.tariffs.specs.ClockView.{ClockView}
-use Rattle.tariffs.specs.Fares.{Fares}
+use Rattle.tariffs.specs.Fares.{Fares, meaning_at}
 use Rattle.tariffs.specs.Terms.{AreBoundedTerms}
 use Rattle.tariffs.specs.Until.{window_end_in}
+use Rattle.tariffs.specs.declared.cap_terms.CapTerms.{CapTerms}
 use Rattle.tariffs.specs.declared.mode.Mode.{Mode}
 use Rattle.tariffs.specs.declared.terms.Terms.{Terms}
 use Rattle.account_rule.specs.Blocks.{blocks_by}
@@ -15,15 +16,15 @@ use Rattle.account_rule.specs.Taps.{live, live_after, live_at}
 use Rattle.account_rule.specs.Trips as taken
 use Rattle.account_rule.specs.Windows.{charge}
 use Rattle.account_rule.proofs.LimitLemmas.{charge-min}
-use Rattle.fare_caps.specs.CapMeanings.{cap_rules, capped_rules_of, said_of, terms_at}
+use Rattle.fare_caps.specs.CapMeanings.{cap_positions, cap_rules, capped_rules_of, said_of}
 use Rattle.fare_caps.specs.CapStates.{CapStates, after_ride, at_ride, charge_at, no_rides}
 use Rattle.fare_caps.specs.CapStates.{after_rides, ride_charge, states, with_charge}
 use Rattle.fare_caps.specs.Caps.{CapRules, counted, each_window, left, no_window}
 use Rattle.fare_caps.specs.Caps.{opened, opened_until, window_cap}
 use Rattle.fare_caps.specs.Charges.{cap_cents, cap_paid, least_from, lesser, lowered}
 use Rattle.fare_caps.specs.Represents.{HasRoom, IsFurther, KeepsStates, cap_windows}
-use Rattle.fare_caps.specs.declared.cap.Cap.{Cap}
-use Rattle.fare_caps.specs.declared.cap.RideCap.{RideCap}
+use Rattle.fare_caps.specs.Represents.{no_further}
+use Rattle.fare_caps.specs.declared.ride_cap.RideCap.{RideCap}
 use Rattle.fare_caps.specs.declared.cap_charge.CapCharge.{CapCharge}
 use Rattle.fare_caps.specs.declared.cap_charge.CapLeft.{CapLeft}
 use Rattle.fare_caps.specs.declared.cap_window.CapWindow.{CapWindow}
@@ -35,10 +36,37 @@ use Rattle.fare_caps.proofs.LoweredLemmas.{IsAtMost, lowered-few, charge-within,
 use Rattle.fare_caps.proofs.LoweredLemmas.{lesser-keeps, lesser-none, lowered-le, lowered-paid}
 use Rattle.fare_caps.proofs.LoweredLemmas.{most-le, paid-below}
 
+-- what these caps of a table say of a ride of a token
+abbrev pub said_of_caps : Fares → List ℕ → List CapTerms → ℕ → Mode → RideCaps
+said_of_caps fares token caps moment mode =
+    said_by caps (meaning_at fares moment) mode.position (token_class fares token moment)
+
 -- what the caps of a table say of a ride of a token
-abbrev pub said_to : Fares → List ℕ → List Cap → ℕ → Mode → RideCaps
-said_to fares token caps moment mode =
-    said_by caps moment mode.position (token_class fares token moment)
+abbrev pub said_to : Fares → List ℕ → ℕ → Mode → RideCaps
+said_to fares token moment mode = said_of_caps fares token fares.meaning.caps moment mode
+
+-- how many caps of a table count
+abbrev pub caps_count : Fares → ℕ
+caps_count fares = length (cap_positions fares.meaning.caps)
+
+-- a table has no caps exactly if none counts, and never more than three count
+pub positions-none : (caps : List CapTerms) → length caps ≡ 0 → length (cap_positions caps) ≡ 0
+positions-none [] none = refl
+positions-none (a ∷ []) none = absurd (omega (arith, none))
+positions-none (a ∷ b ∷ []) none = absurd (omega (arith, none))
+positions-none (a ∷ b ∷ c ∷ more) none = absurd (omega (arith, none))
+
+pub positions-some : (caps : List CapTerms) → length (cap_positions caps) ≡ 0 → length caps ≡ 0
+positions-some [] none = refl
+positions-some (a ∷ []) none = absurd (omega (arith, none))
+positions-some (a ∷ b ∷ []) none = absurd (omega (arith, none))
+positions-some (a ∷ b ∷ c ∷ more) none = absurd (omega (arith, none))
+
+pub positions-few : (caps : List CapTerms) → length (cap_positions caps) ≤ 3
+positions-few [] = omega arith
+positions-few (a ∷ []) = omega arith
+positions-few (a ∷ b ∷ []) = omega arith
+positions-few (a ∷ b ∷ c ∷ more) = omega arith
 
 -- ---- each of at most three caps
 
@@ -46,65 +74,62 @@ said_to fares token caps moment mode =
 abbrev Alike : Fares → List ℕ → ℕ → Mode → (CapRules → CapWindow → CapWindow)
     → (Option RideCap → CapWindow → CapWindow) → Type 0
 Alike fares token moment mode change by =
-    (cap : Cap) (window : CapWindow)
-    → by (Some (said_of (terms_at cap moment) mode.position (token_class fares token moment)))
+    (index : ℕ) (window : CapWindow)
+    → by (Some (said_of (meaning_at fares moment) index mode.position
+    (token_class fares token moment)))
     window
-    ≡ change (cap_rules fares token cap) window
+    ≡ change (cap_rules fares token index) window
 
 three : (fares : Fares) (token : List ℕ) (moment : ℕ) (mode : Mode)
     (change : CapRules → CapWindow → CapWindow) (by : Option RideCap → CapWindow → CapWindow)
-    (caps : List Cap) (a b c : CapWindow) → length caps ≤ 3
-    → Alike fares token moment mode change by
-    → take (length caps) (by (said_to fares token caps moment mode).first a
-    ∷ by (said_to fares token caps moment mode).second b
-    ∷ by (said_to fares token caps moment mode).third c ∷ [])
-    ≡ each_window change (map (cap_rules fares token) caps)
-    (take (length caps) (a ∷ b ∷ c ∷ []))
+    (caps : List CapTerms) (a b c : CapWindow) → Alike fares token moment mode change by
+    → take (length (cap_positions caps)) (by (said_of_caps fares token caps moment mode).first a
+    ∷ by (said_of_caps fares token caps moment mode).second b
+    ∷ by (said_of_caps fares token caps moment mode).third c ∷ [])
+    ≡ each_window change (map (cap_rules fares token) (cap_positions caps))
+    (take (length (cap_positions caps)) (a ∷ b ∷ c ∷ []))
 unfolding each_window
-three fares token moment mode change by [] a b c few alike = refl
-three fares token moment mode change by (x ∷ []) a b c few alike =
-    λ i. alike x a i ∷ []
-three fares token moment mode change by (x ∷ y ∷ []) a b c few alike =
-    λ i. alike x a i ∷ alike y b i ∷ []
-three fares token moment mode change by (x ∷ y ∷ z ∷ []) a b c few alike =
-    λ i. alike x a i ∷ alike y b i ∷ alike z c i ∷ []
-three fares token moment mode change by (x ∷ y ∷ z ∷ u ∷ more) a b c few alike =
-    absurd (omega (arith, few))
+three fares token moment mode change by [] a b c alike = refl
+three fares token moment mode change by (x ∷ []) a b c alike = λ i. alike 0 a i ∷ []
+three fares token moment mode change by (x ∷ y ∷ []) a b c alike =
+    λ i. alike 0 a i ∷ alike 1 b i ∷ []
+three fares token moment mode change by (x ∷ y ∷ z ∷ more) a b c alike =
+    λ i. alike 0 a i ∷ alike 1 b i ∷ alike 2 c i ∷ []
 
-left-alike : (fares : Fares) (token : List ℕ) (moment : ℕ) (mode : Mode) (cap : Cap)
+left-alike : (fares : Fares) (token : List ℕ) (moment : ℕ) (mode : Mode) (index : ℕ)
     (window : CapWindow)
-    → left_by (Some (said_of (terms_at cap moment) mode.position (token_class fares token moment)))
+    → left_by (Some (said_of (meaning_at fares moment) index mode.position
+    (token_class fares token moment)))
     window
-    ≡ left (live_at moment mode) (cap_rules fares token cap) window
+    ≡ left (live_at moment mode) (cap_rules fares token index) window
 unfolding left cap_rules live_at
-left-alike fares token moment mode cap window = refl
+left-alike fares token moment mode index window = refl
 
-least-three : (fares : Fares) (token : List ℕ) (moment : ℕ) (mode : Mode) (caps : List Cap)
-    (further : Further) → length caps ≤ 3
-    → least_of (said_to fares token caps moment mode) further
-    ≡ least_from 0 None (live_at moment mode) (map (cap_rules fares token) caps)
-    (take (length caps) (cap_windows further))
+least-three : (fares : Fares) (token : List ℕ) (moment : ℕ) (mode : Mode) (caps : List CapTerms)
+    (further : Further)
+    → least_of (said_of_caps fares token caps moment mode) further
+    ≡ least_from 0 None (live_at moment mode) (map (cap_rules fares token) (cap_positions caps))
+    (take (length (cap_positions caps)) (cap_windows further))
 unfolding least_of least_from
-least-three fares token moment mode [] further few = refl
-least-three fares token moment mode (x ∷ []) further few =
+least-three fares token moment mode [] further = refl
+least-three fares token moment mode (x ∷ []) further =
     lesser-none _ 2 ∙ lesser-none _ 1
-    ∙ ap (lesser None 0) (left-alike fares token moment mode x further.first)
-least-three fares token moment mode (x ∷ y ∷ []) further few =
+    ∙ ap (lesser None 0) (left-alike fares token moment mode 0 further.first)
+least-three fares token moment mode (x ∷ y ∷ []) further =
     lesser-none _ 2
-    ∙ (λ i. lesser (lesser None 0 (left-alike fares token moment mode x further.first i)) 1
-    (left-alike fares token moment mode y further.second i))
-least-three fares token moment mode (x ∷ y ∷ z ∷ []) further few =
+    ∙ (λ i. lesser (lesser None 0 (left-alike fares token moment mode 0 further.first i)) 1
+    (left-alike fares token moment mode 1 further.second i))
+least-three fares token moment mode (x ∷ y ∷ z ∷ more) further =
     λ i. lesser (lesser (lesser None 0
-    (left-alike fares token moment mode x further.first i)) 1
-    (left-alike fares token moment mode y further.second i)) 2
-    (left-alike fares token moment mode z further.third i)
-least-three fares token moment mode (x ∷ y ∷ z ∷ u ∷ more) further few = absurd (omega (arith, few))
+    (left-alike fares token moment mode 0 further.first i)) 1
+    (left-alike fares token moment mode 1 further.second i)) 2
+    (left-alike fares token moment mode 2 further.third i)
 
 -- ---- windows that are opened
 opened-alike : (fares : Fares) (token : List ℕ) (moment : ℕ) (mode : Mode)
     → Alike fares token moment mode (opened (live_at moment mode)) (opened_by fares.zone moment)
 unfolding opened cap_rules live_at
-opened-alike fares token moment mode = λ cap window. refl
+opened-alike fares token moment mode = λ index window. refl
 
 room-until : (moment until : ℕ) (window : CapWindow) → window.cents ≤ 100_000_000
     → (opened_until moment until window).cents ≤ 100_000_000
@@ -139,38 +164,39 @@ cond-min : (b : Bool) (kept rides : ℕ) → kept ≡ min rides 60_000
 cond-min true kept rides is = is
 cond-min false kept rides is = omega arith
 
-pub opens : (fares : Fares) (token : List ℕ) (caps : List Cap) (moment : ℕ) (mode : Mode)
-    (further : Further) (states : CapStates) → length caps ≤ 3
-    → IsFurther (length caps) further states
-    → IsFurther (length caps)
+pub opens : (fares : Fares) (token : List ℕ) (moment : ℕ) (mode : Mode)
+    (further : Further) (states : CapStates)
+    → IsFurther (caps_count fares) further states
+    → IsFurther (caps_count fares)
     (opened_all fares.zone moment ((rules_of fares token).until moment)
-    (said_to fares token caps moment mode) further)
-    (at_ride (capped_rules_of fares caps token) (live_at moment mode) states)
+    (said_to fares token moment mode) further)
+    (at_ride (capped_rules_of fares token) (live_at moment mode) states)
 unfolding opened_all at_ride capped_rules_of opened window_cap live_at
-opens fares token caps moment mode further states few is = record {
+opens fares token moment mode further states is = record {
   rides = rw (← is.window) (cond-min (nat_lt moment further.window.until) _ _ is.rides);
   paid = rw (← is.window, is.paid) refl;
   window = rw is.window refl;
   caps = three fares token moment mode (opened (live_at moment mode))
-      (opened_by fares.zone moment) caps further.first further.second further.third few
+      (opened_by fares.zone moment) fares.meaning.caps further.first further.second further.third
       (opened-alike fares token moment mode)
-      ∙ ap (each_window (opened (live_at moment mode)) (map (cap_rules fares token) caps)) is.caps;
+      ∙ ap (each_window (opened (live_at moment mode)) (map (cap_rules fares token)
+      (cap_positions fares.meaning.caps))) is.caps;
   room = room-all fares.zone moment ((rules_of fares token).until moment)
-      (said_to fares token caps moment mode) further is.room;
+      (said_to fares token moment mode) further is.room;
 }
 
 -- ---- the charge
-pub charges : (fares : Fares) (token : List ℕ) (caps : List Cap) (moment : ℕ) (mode : Mode)
-    (further : Further) (states : CapStates) → length caps ≤ 3
-    → IsFurther (length caps) further states
+pub charges : (fares : Fares) (token : List ℕ) (moment : ℕ) (mode : Mode)
+    (further : Further) (states : CapStates)
+    → IsFurther (caps_count fares) further states
     → AreBoundedTerms ((rules_of fares token).terms (live_at moment mode))
     → charge_of ((rules_of fares token).terms (live_at moment mode))
-    (said_to fares token caps moment mode) further
-    ≡ charge_at (capped_rules_of fares caps token) (live_at moment mode) states
+    (said_to fares token moment mode) further
+    ≡ charge_at (capped_rules_of fares token) (live_at moment mode) states
 unfolding charge_of charge_at capped_rules_of
-charges fares token caps moment mode further states few is bounds =
+charges fares token moment mode further states is bounds =
     rw (
-      least-three fares token moment mode caps further few,
+      least-three fares token moment mode fares.meaning.caps further,
       is.caps,
       is.rides,
       is.window,
@@ -182,7 +208,7 @@ charges fares token caps moment mode further states few is bounds =
 counted-alike : (fares : Fares) (token : List ℕ) (moment : ℕ) (mode : Mode) (cents : ℕ)
     → Alike fares token moment mode (counted (live_at moment mode) cents) (counted_by cents)
 unfolding counted cap_rules live_at
-counted-alike fares token moment mode cents = λ cap window. refl
+counted-alike fares token moment mode cents = λ index window. refl
 
 -- the ceiling of the cap is within its bound, if there is one
 abbrev pub IsLow : Option RideCap → Type 0
@@ -260,71 +286,61 @@ unfolding charge_of
 charge-cents terms caps further bounds =
     lowered-few (least_of caps further) terms further.rides further.window.cents bounds
 
-pub counts : (fares : Fares) (token : List ℕ) (caps : List Cap) (moment : ℕ) (mode : Mode)
-    (charge : CapCharge) (further : Further) (states : CapStates) → length caps ≤ 3
-    → IsFurther (length caps) further states
-    → HasRoom (counted_all charge (said_to fares token caps moment mode) further)
-    → IsFurther (length caps)
-    (counted_all charge (said_to fares token caps moment mode) further)
-    (with_charge (capped_rules_of fares caps token) (live_at moment mode) charge states)
+pub counts : (fares : Fares) (token : List ℕ) (moment : ℕ) (mode : Mode)
+    (charge : CapCharge) (further : Further) (states : CapStates)
+    → IsFurther (caps_count fares) further states
+    → HasRoom (counted_all charge (said_to fares token moment mode) further)
+    → IsFurther (caps_count fares)
+    (counted_all charge (said_to fares token moment mode) further)
+    (with_charge (capped_rules_of fares token) (live_at moment mode) charge states)
 unfolding counted_all with_charge capped_rules_of counted window_cap
-counts fares token caps moment mode charge further states few is room = record {
+counts fares token moment mode charge further states is room = record {
   rides = omega (arith, is.rides);
   paid = rw is.paid refl;
   window = rw is.window refl;
   caps = three fares token moment mode (counted (live_at moment mode) (cap_cents charge))
-      (counted_by (cap_cents charge)) caps further.first further.second further.third few
+      (counted_by (cap_cents charge)) fares.meaning.caps further.first further.second further.third
       (counted-alike fares token moment mode (cap_cents charge))
       ∙ ap (each_window (counted (live_at moment mode) (cap_cents charge))
-      (map (cap_rules fares token) caps)) is.caps;
+      (map (cap_rules fares token)
+      (cap_positions fares.meaning.caps))) is.caps;
   room = room;
 }
 
 -- ---- one ride
-pub record IsRide (fares : Fares) (token : List ℕ) (caps : List Cap) (moment : ℕ) (mode : Mode)
+pub record IsRide (fares : Fares) (token : List ℕ) (moment : ℕ) (mode : Mode)
     (states : CapStates) (charge : CapCharge) (after : Further) : Type 0 where
   pub costs : charge
-      ≡ ride_charge (capped_rules_of fares caps token) states (live_at moment mode)
-  pub state : IsFurther (length caps) after
-      (after_ride (capped_rules_of fares caps token) states (live_at moment mode))
+      ≡ ride_charge (capped_rules_of fares token) states (live_at moment mode)
+  pub state : IsFurther (caps_count fares) after
+      (after_ride (capped_rules_of fares token) states (live_at moment mode))
 
-pub rides : (fares : Fares) (token : List ℕ) (caps : List Cap) (moment : ℕ) (mode : Mode)
-    (further after : Further) (states : CapStates) (charge : CapCharge) → length caps ≤ 3
-    → IsFurther (length caps) further states
+pub rides : (fares : Fares) (token : List ℕ) (moment : ℕ) (mode : Mode)
+    (further after : Further) (states : CapStates) (charge : CapCharge)
+    → IsFurther (caps_count fares) further states
     → AreBoundedTerms ((rules_of fares token).terms (live_at moment mode))
     → HasRoom after
     → charge ≡ charge_of ((rules_of fares token).terms (live_at moment mode))
-    (said_to fares token caps moment mode)
+    (said_to fares token moment mode)
     (opened_all fares.zone moment ((rules_of fares token).until moment)
-    (said_to fares token caps moment mode) further)
-    → after ≡ counted_all charge (said_to fares token caps moment mode)
+    (said_to fares token moment mode) further)
+    → after ≡ counted_all charge (said_to fares token moment mode)
     (opened_all fares.zone moment ((rules_of fares token).until moment)
-    (said_to fares token caps moment mode) further)
-    → IsRide fares token caps moment mode states charge after
+    (said_to fares token moment mode) further)
+    → IsRide fares token moment mode states charge after
 unfolding ride_charge after_ride
-rides fares token caps moment mode further after states charge few is bounds room costs counted =
+rides fares token moment mode further after states charge is bounds room costs counted =
     let inside = opened_all fares.zone moment ((rules_of fares token).until moment)
-    (said_to fares token caps moment mode) further in
-    let now = opens fares token caps moment mode further states few is in
-    let same = costs ∙ charges fares token caps moment mode inside _ few now bounds in
+    (said_to fares token moment mode) further in
+    let now = opens fares token moment mode further states is in
+    let same = costs ∙ charges fares token moment mode inside _ now bounds in
     record {
       costs = same;
       state = rw (← same, counted)
-          (counts fares token caps moment mode charge inside _ few now (rw counted at room));
+          (counts fares token moment mode charge inside _ now (rw counted at room));
     }
 
 -- ---- the first ride
--- what is kept before the first ride
-abbrev pub nothing : Further
-nothing = record {
-  window = no_window;
-  first = no_window;
-  second = no_window;
-  third = no_window;
-  rides = 0;
-  paid = 0;
-}
-
 none-three : (caps : List CapRules) → length caps ≤ 3
     → take (length caps) (no_window ∷ no_window ∷ no_window ∷ []) ≡ map (λ cap. no_window) caps
 none-three [] few = refl
@@ -333,7 +349,7 @@ none-three (x ∷ y ∷ []) few = refl
 none-three (x ∷ y ∷ z ∷ []) few = refl
 none-three (x ∷ y ∷ z ∷ u ∷ more) few = absurd (omega (arith, few))
 
-room-nothing : HasRoom nothing
+room-nothing : HasRoom no_further
 unfolding no_window
 room-nothing = record {
   paid = omega arith;
@@ -345,7 +361,7 @@ room-nothing = record {
 }
 
 further-nothing : (rules : TokenRules) (caps : List CapRules) → length caps ≤ 3
-    → IsFurther (length caps) nothing (no_rides (record { rules = rules; caps = caps }))
+    → IsFurther (length caps) no_further (no_rides (record { rules = rules; caps = caps }))
 unfolding no_rides
 further-nothing rules caps few = record {
   rides = omega arith;
@@ -356,7 +372,7 @@ further-nothing rules caps few = record {
 }
 
 pub keeps-nothing : (rules : TokenRules) (caps : List CapRules) → length caps ≤ 3
-    → KeepsStates caps nothing (states (record { rules = rules; caps = caps }) [])
+    → KeepsStates caps no_further (states (record { rules = rules; caps = caps }) [])
 unfolding states after_rides taken.rides taken.trips live live_after blocks_by
 keeps-nothing rules [] few = tt
 keeps-nothing rules (cap ∷ caps) few = further-nothing rules (cap ∷ caps) few

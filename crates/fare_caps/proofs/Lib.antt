@@ -1,5 +1,7 @@
+pub mod AnswerLemmas
 pub mod BillLemmas
 pub mod CeilingLemmas
+pub mod EmptyLemmas
 pub mod ExplainLemmas
 pub mod FoldLemmas
 pub mod FurtherLemmas

@@ -226,7 +226,7 @@ reason-none rules taps tap = elim (tapped rules taps tap) [
       (ride-same rules tap mode (of_block rules (last_block (windows rules taps))) known)
 ]
 
-replied-none : (one : Reason) → replied_by (uncapped one) ≡ rule.replied_by one
+pub replied-none : (one : Reason) → replied_by (uncapped one) ≡ rule.replied_by one
 replied-none reason.Unknown = refl
 replied-none (reason.Stale latest) = refl
 replied-none (reason.Transfer moment mode) = refl

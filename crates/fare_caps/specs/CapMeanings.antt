@@ -1,60 +1,55 @@
 -- What a table says of its caps, and the rules of a token by it.
-use Rattle.std.specs.Prelude.{ℕ, ◌≤◌, false, if◌then◌else◌, List, [], ◌∷◌, All, map}
-use Rattle.std.specs.Prelude.{nat_le, slice_index_or}
-use Rattle.tariffs.specs.Fares.{Fares}
+use Rattle.std.specs.Prelude.{ℕ, false, List, [], ◌∷◌, map, slice_index_or}
+use Rattle.tariffs.specs.Fares.{Fares, cap_ceiling, meaning_at}
+use Rattle.tariffs.specs.TableMeaning.{TableMeaning}
 use Rattle.tariffs.specs.Until.{window_end_in}
-use Rattle.tariffs.specs.WindowSpan.{IsBoundedSpan}
+use Rattle.tariffs.specs.declared.cap_terms.CapTerms.{CapTerms}
+use Rattle.tariffs.specs.declared.window_span.WindowLength.TheVariants.{CalendarDay}
+use Rattle.tariffs.specs.declared.window_span.WindowSpan.{WindowSpan}
 use Rattle.account_rule.specs.TokenRules.{rules_of, token_class}
 use Rattle.fare_caps.specs.Caps.{CapRules, CappedRules}
-use Rattle.fare_caps.specs.declared.cap.Cap.{Cap}
-use Rattle.fare_caps.specs.declared.cap.CapTerms.{CapTerms}
-use Rattle.fare_caps.specs.declared.cap.DatedTerms.{DatedTerms}
-use Rattle.fare_caps.specs.declared.cap.RideCap.{RideCap}
+use Rattle.fare_caps.specs.declared.ride_cap.RideCap.{RideCap}
 
--- the highest ceiling, which a class has that names none
-abbrev pub no_ceiling : ℕ
-no_ceiling = 100_000_000
+-- a cap that no table has: it is at the place of no cap
+abbrev pub no_cap : CapTerms
+no_cap = record { length = CalendarDay; counts = [] }
 
--- what is valid at the moment: the first terms until later ones are valid, and so on
-unfoldable pub terms_from : CapTerms → List DatedTerms → ℕ → CapTerms
-terms_from first [] moment = first
-terms_from first (next ∷ later) moment =
-    if nat_le next.from moment then terms_from next.terms later moment else first
+-- the cap at a position
+abbrev pub cap_at : TableMeaning → ℕ → CapTerms
+cap_at meaning index = slice_index_or meaning.caps index no_cap
 
--- the terms of the cap at the moment
-abbrev pub terms_at : Cap → ℕ → CapTerms
-terms_at cap moment = terms_from cap.first cap.later.items moment
+-- how long the windows of the cap at a position are, and when a day starts
+abbrev pub cap_span : TableMeaning → ℕ → WindowSpan
+cap_span meaning index = record meaning.window { length = (cap_at meaning index).length }
 
--- what terms say of a ride: on a mode, of a class, by their indices
-abbrev pub said_of : CapTerms → ℕ → ℕ → RideCap
-said_of terms mode class = record {
-  span = terms.span;
-  counts = slice_index_or terms.counts mode false;
-  ceiling = slice_index_or terms.ceilings.items class no_ceiling;
+-- what the cap at a position says of a ride: on a mode, of a class, by their positions
+abbrev pub said_of : TableMeaning → ℕ → ℕ → ℕ → RideCap
+said_of meaning index mode class = record {
+  span = cap_span meaning index;
+  counts = slice_index_or (cap_at meaning index).counts mode false;
+  ceiling = cap_ceiling meaning class index;
 }
 
--- spans and ceilings within their bounds
-pub record AreBoundedCapTerms (terms : CapTerms) : Type 0 where
-  pub span : IsBoundedSpan terms.span
-  pub ceilings : All (λ ceiling. ceiling ≤ no_ceiling) terms.ceilings.items
-
-pub record IsBoundedCap (cap : Cap) : Type 0 where
-  pub first : AreBoundedCapTerms cap.first
-  pub later : All (λ (next : DatedTerms). AreBoundedCapTerms next.terms) cap.later.items
-
--- the rules of a cap for a token
-unfoldable pub cap_rules : Fares → List ℕ → Cap → CapRules
-cap_rules fares token cap = record {
-  until = λ start. window_end_in fares.zone (terms_at cap start).span start;
-  counts = λ ride. (said_of (terms_at cap ride.moment) ride.mode.position
+-- the rules of the cap at a position for a token
+unfoldable pub cap_rules : Fares → List ℕ → ℕ → CapRules
+cap_rules fares token index = record {
+  until = λ start. window_end_in fares.zone (cap_span (meaning_at fares start) index) start;
+  counts = λ ride. (said_of (meaning_at fares ride.moment) index ride.mode.position
       (token_class fares token ride.moment)).counts;
-  ceiling = λ ride. (said_of (terms_at cap ride.moment) ride.mode.position
+  ceiling = λ ride. (said_of (meaning_at fares ride.moment) index ride.mode.position
       (token_class fares token ride.moment)).ceiling;
 }
 
--- the rules of a token under a table and its caps
-unfoldable pub capped_rules_of : Fares → List Cap → List ℕ → CappedRules
-capped_rules_of fares caps token = record {
+-- the positions of the caps, at most three
+abbrev pub cap_positions : List CapTerms → List ℕ
+cap_positions [] = []
+cap_positions (first ∷ []) = 0 ∷ []
+cap_positions (first ∷ second ∷ []) = 0 ∷ 1 ∷ []
+cap_positions (first ∷ second ∷ third ∷ more) = 0 ∷ 1 ∷ 2 ∷ []
+
+-- the rules of a token under a table: all tables name the same caps
+unfoldable pub capped_rules_of : Fares → List ℕ → CappedRules
+capped_rules_of fares token = record {
   rules = rules_of fares token;
-  caps = map (cap_rules fares token) caps;
+  caps = map (cap_rules fares token) (cap_positions fares.meaning.caps);
 }

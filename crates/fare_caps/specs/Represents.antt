@@ -2,7 +2,7 @@
 use Rattle.std.specs.Prelude.{◌≡◌, ℕ, ◌≤◌, List, [], ◌∷◌, length, min, take}
 use Rattle.account_rule.specs.declared.tap.TapIn.{TapIn}
 use Rattle.account_rule.specs.Represents as rule
-use Rattle.fare_caps.specs.Caps.{CapRules, CappedRules}
+use Rattle.fare_caps.specs.Caps.{CapRules, CappedRules, no_window}
 use Rattle.fare_caps.specs.CapStates.{CapStates, states}
 use Rattle.fare_caps.specs.declared.cap_window.CapWindow.{CapWindow}
 use Rattle.fare_caps.specs.declared.capped_account.CappedAccount.{CappedAccount}
@@ -11,6 +11,17 @@ use Rattle.fare_caps.specs.declared.further.Further.{Further}
 -- the windows that are kept, of which the first belong to caps
 abbrev pub cap_windows : Further → List CapWindow
 cap_windows further = further.first ∷ further.second ∷ further.third ∷ []
+
+-- what is kept before the first ride
+abbrev pub no_further : Further
+no_further = record {
+  window = no_window;
+  first = no_window;
+  second = no_window;
+  third = no_window;
+  rides = 0;
+  paid = 0;
+}
 
 -- the numbers leave room for one more ride
 pub record HasRoom (further : Further) : Type 0 where

@@ -6,7 +6,7 @@ ghost use Rattle.tariffs.specs.WindowSpan.{IsBoundedSpan};
 ghost use Rattle.fare_caps.specs.Caps.{no_window, opened_until};
 ghost use Rattle.fare_caps.specs.inside.Further as spec;
 
-use crate::cap::RideCap;
+use crate::ride_cap::RideCap;
 use tariffs::{Clock, WindowSpan};
 
 /// A window of a cap. Any ride opens it, and the cap counts the rides of its modes.

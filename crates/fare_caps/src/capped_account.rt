@@ -2,37 +2,38 @@
 
 ghost use Rattle.std.specs.Prelude.{◌≡◌, ℕ, ◌<◌, ◌≤◌, List, [], ◌∷◌, ◌++◌, length};
 ghost use Rattle.std.specs.Option.{ForSome};
+ghost use Rattle.tariffs.specs.Fares.{Fares};
 ghost use Rattle.account_rule.specs.declared.tap.TapIn.{TapIn};
-ghost use Rattle.fare_caps.specs.Caps.{CappedRules};
 ghost use Rattle.fare_caps.specs.CapMeanings.{capped_rules_of};
 ghost use Rattle.fare_caps.specs.CappedReplies.{capped_reason, capped_reply, capped_window};
 ghost use Rattle.fare_caps.specs.CappedReplies.{replied_by};
-ghost use Rattle.fare_caps.specs.Represents.{Represents, RepresentsSome};
+ghost use Rattle.fare_caps.specs.Represents.{Represents, RepresentsSome, no_further};
 ghost use Rattle.fare_caps.specs.inside.Seen.{ride_seen, uncapped};
 
 use crate::cap_charge::CapCharge;
-use crate::cap_table::CapTable;
 use crate::capped_reason::CappedReason;
 use crate::further::Further;
 use account_rule::{Account, Reason, Reply, TapIn, WindowView};
 use tariffs::{Clock, FareTable, Mode};
 
-/// The account of one token under one fare table and its caps. Without caps it costs what
+/// The account of one token under one fare table with its caps. Without caps it costs what
 /// `Account` costs, and answers as that does.
 #[derive(Clone, Copy, Debug, PartialEq, Eq)]
 pub struct CappedAccount {
-    account: Account,
+    /// What it stores whatever the table: without caps that is all.
+    pub account: Account,
     /// Says nothing if the table has no caps.
-    further: Further,
+    pub further: Further,
 }
 
 impl CappedAccount {
     /// An account that has seen no tap.
     pub fn fresh() -> Self
-        ensures holds { (capped : CappedRules) → length capped.caps ≤ 3
-            → Represents capped result [] }
-        ensures some { (capped : CappedRules) → length capped.caps ≤ 3
-            → RepresentsSome capped result }
+        ensures holds { (fares : Fares) (token : List ℕ)
+            → Represents (capped_rules_of fares token) result [] }
+        ensures some { (fares : Fares) (token : List ℕ)
+            → RepresentsSome (capped_rules_of fares token) result }
+        ensures further { result.further ≡ no_further }
     {
         CappedAccount {
             account: Account::fresh(),
@@ -41,44 +42,45 @@ impl CappedAccount {
     }
 
     /// Charges one more tap of the token, and returns the rule's reply. Takes no memory. All calls
-    /// on an account have one table, its caps and one token.
+    /// on an account have one table and one token.
     #[inline(always)]
-    pub fn step(
-        &mut self,
-        table: &FareTable,
-        caps: &CapTable,
-        clock: &Clock,
-        token: &[u8],
-        tap: TapIn,
-    ) -> Reply
+    pub fn step(&mut self, table: &FareTable, clock: &Clock, token: &[u8], tap: TapIn) -> Reply
         requires clock { clock.now ≡ table.now.zone }
         requires token { length token.now ≡ 16 }
         requires mode { ForSome tap.mode (λ mode. mode.position < length table.now.meaning.modes) }
         requires early { tap.moment < 4_102_444_800_000 }
-        requires holds { RepresentsSome (capped_rules_of table.now caps.now token.now) self.old }
+        requires holds { RepresentsSome (capped_rules_of table.now token.now) self.old }
 
         // For every list of taps that the account represents.
         ensures reply { (taps : List TapIn)
-            → Represents (capped_rules_of table.now caps.now token.now) self.old taps
-            → result ≡ capped_reply (capped_rules_of table.now caps.now token.now) taps tap }
+            → Represents (capped_rules_of table.now token.now) self.old taps
+            → result ≡ capped_reply (capped_rules_of table.now token.now) taps tap }
         ensures holds { (taps : List TapIn)
-            → Represents (capped_rules_of table.now caps.now token.now) self.old taps
-            → Represents (capped_rules_of table.now caps.now token.now) self.new
+            → Represents (capped_rules_of table.now token.now) self.old taps
+            → Represents (capped_rules_of table.now token.now) self.new
             (taps ++ tap ∷ []) }
-        ensures some { RepresentsSome (capped_rules_of table.now caps.now token.now) self.new }
+        ensures some { RepresentsSome (capped_rules_of table.now token.now) self.new }
         ensures few { result.cents ≤ 100_000 }
     {
-        if caps.len() == 0 {
+        if !table.has_caps() {
             return self.account.step(table, clock, token, tap);
         }
-        self.explain_step(table, caps, clock, token, tap).reply()
+        // Copies, so that a run without caps has the account in registers.
+        let mut capped = *self;
+        let again = TapIn {
+            moment: tap.moment,
+            mode: tap.mode,
+        };
+        let reply = capped.explain_step(table, clock, token, again).reply();
+        *self = capped;
+        reply
     }
 
     /// As `step`, but returns the reason, from which the reply follows. Takes no memory.
+    #[inline(never)]
     pub fn explain_step(
         &mut self,
         table: &FareTable,
-        caps: &CapTable,
         clock: &Clock,
         token: &[u8],
         tap: TapIn,
@@ -87,20 +89,20 @@ impl CappedAccount {
         requires token { length token.now ≡ 16 }
         requires mode { ForSome tap.mode (λ mode. mode.position < length table.now.meaning.modes) }
         requires early { tap.moment < 4_102_444_800_000 }
-        requires holds { RepresentsSome (capped_rules_of table.now caps.now token.now) self.old }
+        requires holds { RepresentsSome (capped_rules_of table.now token.now) self.old }
 
         ensures reason { (taps : List TapIn)
-            → Represents (capped_rules_of table.now caps.now token.now) self.old taps
-            → result ≡ capped_reason (capped_rules_of table.now caps.now token.now) taps tap }
+            → Represents (capped_rules_of table.now token.now) self.old taps
+            → result ≡ capped_reason (capped_rules_of table.now token.now) taps tap }
         ensures holds { (taps : List TapIn)
-            → Represents (capped_rules_of table.now caps.now token.now) self.old taps
-            → Represents (capped_rules_of table.now caps.now token.now) self.new
+            → Represents (capped_rules_of table.now token.now) self.old taps
+            → Represents (capped_rules_of table.now token.now) self.new
             (taps ++ tap ∷ []) }
-        ensures some { RepresentsSome (capped_rules_of table.now caps.now token.now) self.new }
+        ensures some { RepresentsSome (capped_rules_of table.now token.now) self.new }
         ensures few { (replied_by result).cents ≤ 100_000 }
     {
         let reason = self.account.explain_step(table, clock, token, tap);
-        if caps.len() == 0 {
+        if !table.has_caps() {
             return uncapped(reason);
         }
         let Some(ride) = ride_seen(reason, tap.mode) else {
@@ -113,20 +115,20 @@ impl CappedAccount {
             until: ride.until,
             charge: self
                 .further
-                .charge_ride(tariff, caps, clock, class, ride.mode, tap.moment),
+                .charge_ride(tariff, table.caps(), clock, class, ride.mode, tap.moment),
         }
     }
 
     /// The last window of `window`, or `None` before the first ride.
-    pub fn window(&self, caps: &CapTable) -> Option<WindowView>
-        ensures window { (capped : CappedRules) (taps : List TapIn)
-            → length capped.caps ≡ length caps.now → Represents capped self.now taps
-            → result ≡ capped_window capped taps }
+    pub fn window(&self, table: &FareTable) -> Option<WindowView>
+        ensures window { (token : List ℕ) (taps : List TapIn)
+            → Represents (capped_rules_of table.now token) self.now taps
+            → result ≡ capped_window (capped_rules_of table.now token) taps }
     {
         let Some(view) = self.account.window() else {
             return None;
         };
-        if caps.len() == 0 {
+        if !table.has_caps() {
             return Some(view);
         }
         Some(WindowView {

@@ -6,24 +6,23 @@ ghost use Rattle.tariffs.specs.Terms.{AreBoundedTerms};
 ghost use Rattle.tariffs.specs.Until.{window_end_in};
 ghost use Rattle.tariffs.specs.WindowSpan.{IsBoundedSpan};
 ghost use Rattle.account_rule.specs.Windows as rule;
-ghost use Rattle.fare_caps.specs.Caps.{no_window};
 ghost use Rattle.fare_caps.specs.Charges.{cap_cents, cap_paid};
-ghost use Rattle.fare_caps.specs.Represents.{HasRoom};
+ghost use Rattle.fare_caps.specs.Represents.{HasRoom, no_further};
 ghost use Rattle.fare_caps.specs.inside.Further as spec;
 
-use crate::cap::RideCap;
 use crate::cap_charge::{CapCharge, CapLeft, lesser, lowered};
-use crate::cap_table::CapTable;
 use crate::cap_window::CapWindow;
+use crate::ride_cap::RideCap;
 use account_rule::Charge;
-use tariffs::{Clock, Mode, Tariff, Terms, WindowSpan};
+use tariffs::{CapTerms, Clock, Mode, Tariff, Terms, WindowSpan};
 
 /// The highest ride limit of a table's classes. Rides are counted up to it.
 const MAX_RIDES: u16 = 60_000;
 
-/// The numbers of the last window of `window`, and the last windows of the caps.
+/// What an account stores if its table has caps: the numbers of the last window of `window`, and
+/// the last windows of the caps.
 #[derive(Clone, Copy, Debug, PartialEq, Eq)]
-pub(crate) struct Further {
+pub struct Further {
     pub(crate) window: CapWindow,
     pub(crate) first: CapWindow,
     pub(crate) second: CapWindow,
@@ -42,15 +41,9 @@ struct RideCaps {
 }
 
 impl Further {
-    pub(crate) fn none() -> Self
-        ensures { result ≡ record {
-          window = no_window;
-          first = no_window;
-          second = no_window;
-          third = no_window;
-          rides = 0;
-          paid = 0;
-        } }
+    /// What is stored before the first ride.
+    pub fn none() -> Self
+        ensures { result ≡ no_further }
     {
         Further {
             window: CapWindow::none(),
@@ -62,11 +55,11 @@ impl Further {
         }
     }
 
-    /// Charges a ride of the class on the mode.
+    /// Charges a ride of the class on the mode, by the first table's caps and what is valid.
     pub(crate) fn charge_ride(
         &mut self,
         tariff: &Tariff,
-        caps: &CapTable,
+        caps: &[CapTerms],
         clock: &Clock,
         class: u32,
         mode: Mode,
@@ -79,22 +72,22 @@ impl Further {
         ensures bounds { AreBoundedTerms (ride_terms tariff.now.meaning class mode.position) }
         ensures charge { result
             ≡ spec.charge_of (ride_terms tariff.now.meaning class mode.position)
-            (spec.said_by caps.now moment mode.position class)
+            (spec.said_by caps.now tariff.now.meaning mode.position class)
             (spec.opened_all clock.now moment
             (window_end_in clock.now tariff.now.meaning.window moment)
-            (spec.said_by caps.now moment mode.position class) self.old) }
+            (spec.said_by caps.now tariff.now.meaning mode.position class) self.old) }
         ensures state { self.new ≡ spec.counted_all result
-            (spec.said_by caps.now moment mode.position class)
+            (spec.said_by caps.now tariff.now.meaning mode.position class)
             (spec.opened_all clock.now moment
             (window_end_in clock.now tariff.now.meaning.window moment)
-            (spec.said_by caps.now moment mode.position class) self.old) }
+            (spec.said_by caps.now tariff.now.meaning mode.position class) self.old) }
         ensures few { cap_cents result ≤ 100_000 }
         ensures room { HasRoom self.new }
     {
         let said = RideCaps {
-            first: caps.of_ride(0, moment, mode, class),
-            second: caps.of_ride(1, moment, mode, class),
-            third: caps.of_ride(2, moment, mode, class),
+            first: RideCap::said(caps, 0, tariff, class, mode),
+            second: RideCap::said(caps, 1, tariff, class, mode),
+            third: RideCap::said(caps, 2, tariff, class, mode),
         };
         self.open(said, tariff.window_span(), clock, moment);
         let charge = self.charge(said, tariff.ride_terms(class, mode));

@@ -3,18 +3,16 @@
 //! `account_rule`. [`CappedAccount`] stores a few numbers in place of the list of a token's taps.
 #![tactic(auto)]
 
-mod cap;
 mod cap_charge;
-mod cap_table;
 mod cap_window;
 mod capped_account;
 mod capped_reason;
 mod further;
 pub mod laws;
+mod ride_cap;
 
-pub use cap::{Cap, CapTerms, DatedTerms};
 pub use cap_charge::CapCharge;
-pub use cap_table::CapTable;
 pub use cap_window::CapWindow;
 pub use capped_account::CappedAccount;
 pub use capped_reason::CappedReason;
+pub use further::Further;

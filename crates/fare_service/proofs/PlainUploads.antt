@@ -2,8 +2,8 @@
 use Rattle.std.specs.Prelude.{ℕ, ◌≡◌, ◌↔◌, ◌<◌, List, [], length, map, All, Some, slice_get}
 use Rattle.std.proofs.Common.{sym, ◌∙◌, ap, subst, arith, get_or, mod-lt}
 use Rattle.std.proofs.lemmas.Option.{slice_get-get_or}
-use Rattle.account_rule.specs.TokenRules.{rules_of}
-use Rattle.account_rule.specs.Windows.{last_window}
+use Rattle.fare_caps.specs.CapMeanings.{capped_rules_of}
+use Rattle.fare_caps.specs.CappedReplies.{capped_window}
 use Rattle.tariffs.specs.Fares.{Fares}
 use Rattle.tap_views.specs.Shards.{shard_of_token}
 use Rattle.shard_book.specs.Book.{Book}
@@ -67,7 +67,7 @@ statement_same fares xs ys token statement same is = record {
   lines = is.lines ∙ same;
   totals = is.totals ∙ ap sums same;
   window = is.window ∙ ap
-      (λ es. last_window (rules_of fares (bytes_of token)) (map (tap_of fares) es)) same;
+      (λ es. capped_window (capped_rules_of fares (bytes_of token)) (map (tap_of fares) es)) same;
 }
 
 -- the text of a token's statement is that over the plain history

@@ -19,18 +19,22 @@ use Rattle.toml.specs.Data.{as_table}
 use Rattle.fare_table.proofs.PartLemmas.{bind_ok}
 use Rattle.fare_table.proofs.PayLemmas.{by_table, by_tables, if_else, same_ok, terms_by}
 use Rattle.fare_table.proofs.ElementLemmas.{if_ok}
-use Rattle.fare_table.specs.Classes.{class_named, class_of, classes_from, classes_of, is_any}
+use Rattle.fare_table.specs.Classes.{ceilings_from, ceilings_of, class_named, class_of}
+use Rattle.fare_table.specs.Classes.{classes_from, classes_of, is_any}
 use Rattle.fare_table.specs.Classes.{default_of, fares_from, fares_of, is_empty, position_of}
 use Rattle.fare_table.specs.Classes.{own_ceiling, ride_transfers_of, taps_of, terms_of}
 use Rattle.tariffs.specs.declared.class.Class.{Class}
-use Rattle.fare_table.specs.Faults.{FaultRow, Where, top, class, mode_fare, a_row, are_pairs}
-use Rattle.fare_table.specs.Faults.{are_texts, class_rows, fare_at, fare_rows, fares_in}
+use Rattle.fare_table.specs.Faults.{FaultRow, Where, top, class, mode_fare, cap_ceiling, a_row}
+use Rattle.fare_table.specs.Faults.{are_pairs, caps_in, ceiling_at, ceiling_rows, ceilings_in}
+use Rattle.fare_table.specs.Faults.{rows_of_ceilings}
+use Rattle.fare_table.specs.Faults.{class_rows, fare_at, fare_rows, fares_in}
 use Rattle.fare_table.specs.Faults.{optional_rows, rows_of_fares, rows_of_terms, rows_of_transfers}
 use Rattle.fare_table.specs.Faults.{classes_in, first_row, holds, is_from, is_kind, is_mode}
 use Rattle.fare_table.specs.Faults.{is_in_bounds, is_wrong, items_of, member_at, members_at}
 use Rattle.fare_table.specs.Faults.{members_of, mode_names, needed_rows, pairs, holds_of_some}
 use Rattle.fare_table.specs.Faults.{rows_of_class, texts, value_at, string_of}
-use Rattle.fare_table.specs.Members.{hold_numbers, hold_tables, table_at, number_at, number_in}
+use Rattle.fare_table.specs.Members.{are_texts, hold_numbers, hold_tables, names_in}
+use Rattle.fare_table.specs.Members.{table_at, number_at, number_in}
 use Rattle.fare_table.specs.Members.{number_or, of_kind, within}
 use Rattle.fare_table.specs.Modes.{are_mode_names, modes_of, strings_from}
 use Rattle.tariffs.specs.Names.{same_name}
@@ -41,7 +45,7 @@ use Rattle.fare_table.specs.declared.fault.Key.{Key}
 use Rattle.fare_table.specs.declared.fault.Key.TheVariants as the_key
 use Rattle.fare_table.specs.declared.fault.TableFault.{TableFault}
 use Rattle.fare_table.specs.declared.fault.TableFault.TheVariants.{Missing, Kind, Range, Mode}
-use Rattle.fare_table.specs.declared.fault.TableFault.TheVariants.{Rider}
+use Rattle.fare_table.specs.declared.fault.TableFault.TheVariants.{Cap, Rider}
 
 -- ---- rows, one after the other
 abbrev pub fault_in : {A : Type 0} → OrFault A → Option TableFault
@@ -438,6 +442,90 @@ fares-reported tree modes n fare known =
     (aligned_all (fares_in tree n))) numbers)
     ∙ sym (reported tree (class n) (Kind the_key.Fares) (fare_rows n 0 (fares_in tree n)))
 
+-- ---- the ceilings of a class by cap
+cap_if : (o : Option ℕ) (f : ℕ → OrFault (List ℕ)) (rest : Option TableFault)
+    → ((index : ℕ) → fault_in (f index) ≡ rest)
+    → fault_in (ok_or o Cap >>= f) ≡ cond (not (is_some o)) (Some Cap) rest
+cap_if None f rest same = refl
+cap_if (Some index) f rest same = same index
+
+ceiling_if : (b : Bool) (n : ℕ) (f : ℕ → OrFault (List ℕ)) (rest : Option TableFault)
+    → ((cents : ℕ) → fault_in (f cents) ≡ rest)
+    → fault_in ((if b then Ok n else Err (Range the_key.ClassCaps)) >>= f)
+    ≡ cond (not b) (Some (Range the_key.ClassCaps)) rest
+ceiling_if true n f rest same = same n
+ceiling_if false n f rest same = refl
+
+-- what the rows of one of the ceilings tell, of its name and number, and then the rest
+abbrev ceiling_reports : List (List ℕ) → Option (List ℕ × Data) → Option TableFault
+    → Option TableFault
+ceiling_reports caps o rest =
+    cond (holds_of_some (λ (one : List ℕ × Data). not (is_mode caps one.0)) o) (Some Cap)
+    (cond (holds_of_some (λ (value : Data). not (is_from 1 100_000_000 value))
+    (option_map (λ (one : List ℕ × Data). one.1) o)) (Some (Range the_key.ClassCaps)) rest)
+
+ceilings-from-reported : (tree : Members) (caps : List (List ℕ)) (n k : ℕ) (ceilings : List ℕ)
+    (part : Members) → names_in (caps_in tree) ≡ caps → AlignedAt (ceilings_in tree n) k part
+    → hold_numbers part ≡ true
+    → fault_in (ceilings_from caps ceilings part) ≡ first_row tree (ceiling_rows n k part)
+ceilings-from-reported tree caps n k ceilings no_members known aligned numbers = refl
+ceilings-from-reported tree caps n k ceilings (member name (integer z) more) known aligned numbers =
+    let at : ceiling_at tree n k ≡ Some (name, integer z) =
+    aligned_here (ceilings_in tree n) k name (integer z) more aligned in
+    let rest = first_row tree (ceiling_rows n (suc k) more) in
+    cap_if (position (same_name name) caps)
+    (λ index. number_in the_key.ClassCaps 1 100_000_000 (integer z)
+    >>= (λ cents. ceilings_from caps (slice_set ceilings index cents) more))
+    (cond (not (int_le (pos 1) z && int_le z (pos 100_000_000))) (Some (Range the_key.ClassCaps))
+    rest)
+    (λ index. ceiling_if (int_le (pos 1) z && int_le z (pos 100_000_000)) (unsigned_abs z)
+    (λ cents. ceilings_from caps (slice_set ceilings index cents) more) rest
+    (λ cents. ceilings-from-reported tree caps n (suc k) (slice_set ceilings index cents) more known
+    (aligned_next (ceilings_in tree n) k name (integer z) more aligned) numbers))
+    ∙ ap (λ (names : List (List ℕ)). ceiling_reports names (Some (name, integer z)) rest)
+    (sym known)
+    ∙ ap (λ (o : Option (List ℕ × Data)). ceiling_reports (names_in (caps_in tree)) o rest) (sym at)
+    ∙ sym (reported tree (cap_ceiling n k) Cap (a_row (cap_ceiling n k) (Range the_key.ClassCaps)
+    ∷ ceiling_rows n (suc k) more)
+    ∙ ap (λ (x : Option TableFault).
+    cond (is_wrong tree (cap_ceiling n k) Cap) (Some Cap) x)
+    (reported tree (cap_ceiling n k) (Range the_key.ClassCaps) (ceiling_rows n (suc k) more)))
+ceilings-from-reported tree caps n k ceilings (member name _ more) known aligned numbers =
+    absurd (false≢true numbers)
+
+ceiling_numbers_if : (b : Bool) (caps : List (List ℕ)) (ceilings : List ℕ) (part : Members)
+    (rest : Option TableFault) → (b ≡ true → fault_in (ceilings_from caps ceilings part) ≡ rest)
+    → fault_in
+    ((if b then Ok part else Err (Kind the_key.ClassCaps)) >>= ceilings_from caps ceilings)
+    ≡ cond (not b) (Some (Kind the_key.ClassCaps)) rest
+ceiling_numbers_if true caps ceilings part rest same = same refl
+ceiling_numbers_if false caps ceilings part rest same = refl
+
+ceilings_steps : (o : Option Data) (caps : List (List ℕ)) (rest : Members → Option TableFault)
+    → rest no_members ≡ None
+    → ((part : Members) → o ≡ Some (table part) → hold_numbers part ≡ true
+    → fault_in (ceilings_from caps (replicate 3 100_000_000) part) ≡ rest part)
+    → fault_in (ceilings_of caps o)
+    ≡ cond (fails (is_kind the_key.ClassCaps) o) (Some (Kind the_key.ClassCaps))
+    (rest (members_of o))
+ceilings_steps None caps rest none same = sym none
+ceilings_steps (Some (table part)) caps rest none same =
+    ceiling_numbers_if (hold_numbers part) caps (replicate 3 100_000_000) part (rest part)
+    (λ numbers. same part refl numbers)
+ceilings_steps (Some _) caps rest none same = refl
+
+ceilings-reported : (tree : Members) (caps : List (List ℕ)) (n : ℕ) → names_in (caps_in tree) ≡ caps
+    → fault_in (ceilings_of caps (get_member (codes "caps") (members_at (class n) tree)))
+    ≡ first_row tree (rows_of_ceilings tree n)
+ceilings-reported tree caps n known =
+    let o = get_member (codes "caps") (members_at (class n) tree) in
+    ceilings_steps o caps (λ part. first_row tree (ceiling_rows n 0 part)) refl
+    (λ part is numbers.
+    ceilings-from-reported tree caps n 0 (replicate 3 100_000_000) part known
+    (subst (λ (m : Members). AlignedAt (ceilings_in tree n) 0 m) (ap members_of is)
+    (aligned_all (ceilings_in tree n))) numbers)
+    ∙ sym (reported tree (class n) (Kind the_key.ClassCaps) (ceiling_rows n 0 (ceilings_in tree n)))
+
 -- ---- what the rides of a class give
 taps_reports : (o : Option Data)
     → fault_in (taps_of o)
@@ -474,42 +562,53 @@ ride_transfers-reported tree n =
     ∙ number_or_reports minutes the_key.TransferMinutes 120 1 1_440
     ∙ sym (reported_two tree at (Kind the_key.TransferMinutes) (Range the_key.TransferMinutes)))
 
-class-reported : (tree : Members) (modes : List (List ℕ)) (n : ℕ) → mode_names tree ≡ modes
-    → fault_in (class_of modes (members_at (class n) tree)) ≡ first_row tree (rows_of_class tree n)
+class-reported : (tree : Members) (modes caps : List (List ℕ)) (n : ℕ) → mode_names tree ≡ modes
+    → names_in (caps_in tree) ≡ caps
+    → fault_in (class_of modes caps (members_at (class n) tree))
+    ≡ first_row tree (rows_of_class tree n)
 unfolding class_of
-class-reported tree modes n known =
+class-reported tree modes caps n known named =
     let inner = members_at (class n) tree in
-    steps tree (terms_of inner) _ (rows_of_terms n) (rows_of_fares tree n ++ rows_of_transfers n)
+    steps tree (terms_of inner) _ (rows_of_terms n)
+    (rows_of_fares tree n ++ (rows_of_ceilings tree n ++ rows_of_transfers n))
     (terms-reported tree n)
     (λ terms is. steps tree (fares_of modes terms.fare (get_member (codes "fares") inner)) _
-    (rows_of_fares tree n) (rows_of_transfers n) (fares-reported tree modes n terms.fare known)
-    (λ fares is'. done (ride_transfers_of inner) _ ∙ ride_transfers-reported tree n))
+    (rows_of_fares tree n) (rows_of_ceilings tree n ++ rows_of_transfers n)
+    (fares-reported tree modes n terms.fare known)
+    (λ fares is'. steps tree (ceilings_of caps (get_member (codes "caps") inner)) _
+    (rows_of_ceilings tree n) (rows_of_transfers n) (ceilings-reported tree caps n named)
+    (λ ceilings is''. done (ride_transfers_of inner) _ ∙ ride_transfers-reported tree n)))
 
-pub list-from-reported : (tree : Members) (modes : List (List ℕ)) (n : ℕ) (earlier : List Class)
-    (part : Members) → mode_names tree ≡ modes → AlignedAt (classes_in tree) n part
+pub list-from-reported : (tree : Members) (modes caps : List (List ℕ)) (n : ℕ)
+    (earlier : List Class) (part : Members) → mode_names tree ≡ modes
+    → names_in (caps_in tree) ≡ caps → AlignedAt (classes_in tree) n part
     → hold_tables part ≡ true
-    → fault_in (classes_from modes earlier part) ≡ first_row tree (class_rows tree n part)
-list-from-reported tree modes n earlier no_members known aligned tables = refl
-list-from-reported tree modes n earlier (member name (table inner) more) known aligned tables =
+    → fault_in (classes_from modes caps earlier part) ≡ first_row tree (class_rows tree n part)
+list-from-reported tree modes caps n earlier no_members known named aligned tables = refl
+list-from-reported tree modes caps n earlier (member name (table inner) more) known named aligned
+    tables =
     let here : members_at (class n) tree ≡ inner =
     ap (λ (o : Option (List ℕ × Data)).
     members_of (option_map (λ (one : List ℕ × Data). one.1) o))
     (aligned_here (classes_in tree) n name (table inner) more aligned) in
-    steps tree (class_of modes inner) (λ one. classes_from modes (earlier ++ one ∷ []) more)
+    steps tree (class_of modes caps inner)
+    (λ one. classes_from modes caps (earlier ++ one ∷ []) more)
     (rows_of_class tree n) (class_rows tree (suc n) more)
-    (ap (λ (m : Members). fault_in (class_of modes m)) (sym here)
-    ∙ class-reported tree modes n known)
-    (λ one is. list-from-reported tree modes (suc n) (earlier ++ one ∷ []) more known
+    (ap (λ (m : Members). fault_in (class_of modes caps m)) (sym here)
+    ∙ class-reported tree modes caps n known named)
+    (λ one is. list-from-reported tree modes caps (suc n) (earlier ++ one ∷ []) more known named
     (aligned_next (classes_in tree) n name (table inner) more aligned) tables)
-list-from-reported tree modes n earlier (member name _ more) known aligned tables =
+list-from-reported tree modes caps n earlier (member name _ more) known named aligned tables =
     absurd (false≢true tables)
 
-pub list-reported : (tree : Members) (modes : List (List ℕ)) (part : Members) (earlier : List Class)
-    → mode_names tree ≡ modes → classes_in tree ≡ part → hold_tables part ≡ true
-    → fault_in (classes_from modes earlier part)
+pub list-reported : (tree : Members) (modes caps : List (List ℕ)) (part : Members)
+    (earlier : List Class)
+    → mode_names tree ≡ modes → names_in (caps_in tree) ≡ caps → classes_in tree ≡ part
+    → hold_tables part ≡ true
+    → fault_in (classes_from modes caps earlier part)
     ≡ first_row tree (class_rows tree 0 (classes_in tree))
-list-reported tree modes part earlier known same tables =
-    list-from-reported tree modes 0 earlier part known
+list-reported tree modes caps part earlier known named same tables =
+    list-from-reported tree modes caps 0 earlier part known named
     (subst (λ (m : Members). AlignedAt (classes_in tree) 0 m) same (aligned_all (classes_in tree)))
     tables
     ∙ ap (λ (m : Members). first_row tree (class_rows tree 0 m)) (sym same)

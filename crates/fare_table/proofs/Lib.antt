@@ -1,3 +1,4 @@
+pub mod CapLemmas
 pub mod ElementLemmas
 pub mod FaultLemmas
 pub mod KeyLemmas

@@ -6,7 +6,8 @@ use Rattle.std.specs.Option.{is_some}
 use Rattle.toml.specs.Data.{as_integer, as_str, as_table}
 use Rattle.toml.specs.View.{items_view, members_view, view}
 use Rattle.toml.specs.declared.value.Value.{Value}
-use Rattle.fare_table.specs.Members.{are_tables, hold_numbers, hold_strings, hold_tables}
+use Rattle.fare_table.specs.Members.{are_tables, are_texts, hold_numbers, hold_strings}
+use Rattle.fare_table.specs.Members.{hold_tables}
 
 -- the value is a table, a string, and a number
 abbrev pub is_table : Value → Bool
@@ -22,6 +23,11 @@ pub each_item_is_table : (values : List Value)
     → list_all is_table values ≡ are_tables (items_view values)
 each_item_is_table [] = refl
 each_item_is_table (value ∷ more) = ap (λ rest. is_table value && rest) (each_item_is_table more)
+
+pub each_item_is_string : (values : List Value)
+    → list_all is_string values ≡ are_texts (items_view values)
+each_item_is_string [] = refl
+each_item_is_string (value ∷ more) = ap (λ rest. is_string value && rest) (each_item_is_string more)
 
 pub each_is_table : (entries : List (String Global × Value))
     → list_all is_table (values_of entries) ≡ hold_tables (members_view entries)

@@ -18,7 +18,7 @@ use Rattle.toml.specs.declared.value.Value.{Value}
 use Rattle.fare_table.specs.ByteOrder.{in_byte_order}
 use Rattle.fare_table.specs.Classes.{count_of, position_of}
 use Rattle.tariffs.specs.Names.{same_name}
-use Rattle.fare_table.specs.Classes.{names_in}
+use Rattle.fare_table.specs.Members.{names_in}
 use Rattle.tariffs.proofs.ByteLemmas.{is_itself}
 use Rattle.tap_views.proofs.Orderings.{less_of}
 

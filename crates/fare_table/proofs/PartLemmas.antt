@@ -1,7 +1,9 @@
 -- Rules that were read, taken apart into what each key of the text gives.
 use Rattle.std.proofs.Common.{◌≡◌, ℕ, List, [], Option, Ok, Err, refl, subst}
 use Rattle.toml.specs.Data.{Members}
-use Rattle.fare_table.specs.Classes.{classes_from, classes_of, default_of, names_in}
+use Rattle.fare_table.specs.Caps.{TextCaps, caps_of, text_caps}
+use Rattle.fare_table.specs.Classes.{classes_from, classes_of, default_of}
+use Rattle.fare_table.specs.Members.{names_in}
 use Rattle.fare_table.specs.Modes.{modes_of}
 use Rattle.fare_table.specs.OrFault.{OrFault, ◌>>=◌}
 use Rattle.fare_table.specs.Riders.{riders_of}
@@ -25,9 +27,11 @@ bind_ok (Err e) f b is = absurd (cc)
 pub record AreParts (tree : Members) (meaning : TableMeaning) : Type 0 where
   pub modes : modes_of tree ≡ Ok meaning.modes
   pub transfers : transfers_of meaning.modes tree ≡ Ok meaning.transfers
+  pub caps : caps_of meaning.modes tree
+      ≡ Ok (text_caps meaning.cap_names meaning.caps)
   pub table : Members
   pub members : classes_of tree ≡ Ok table
-  pub classes : classes_from meaning.modes [] table ≡ Ok meaning.classes
+  pub classes : classes_from meaning.modes meaning.cap_names [] table ≡ Ok meaning.classes
   pub names : names_in table ≡ meaning.names
   pub standard : default_of table tree ≡ Ok meaning.standard
   pub ranges : ranges_of meaning.modes tree ≡ Ok meaning.ranges
@@ -35,14 +39,16 @@ pub record AreParts (tree : Members) (meaning : TableMeaning) : Type 0 where
   pub zone : zone_of tree ≡ Ok meaning.zone
   pub window : window_of tree ≡ Ok meaning.window
 
-abbrev by_window : List (List ℕ) → List (ℕ × ℕ) → Members → List Class → ℕ
+abbrev by_window : List (List ℕ) → List (ℕ × ℕ) → TextCaps → Members → List Class → ℕ
     → List (ℕ × RangeRest) → List (List ℕ × ℕ) → Option (List ℕ) → WindowSpan
     → OrFault TableMeaning
-by_window modes transfers table classes standard ranges riders zone window = Ok (record {
+by_window modes transfers capped table classes standard ranges riders zone window = Ok (record {
   modes = modes;
   transfers = transfers;
   classes = classes;
   names = names_in table;
+  caps = capped.caps;
+  cap_names = capped.names;
   standard = standard;
   ranges = ranges;
   riders = riders;
@@ -50,37 +56,40 @@ by_window modes transfers table classes standard ranges riders zone window = Ok 
   window = window;
 })
 
-abbrev by_zone : Members → List (List ℕ) → List (ℕ × ℕ) → Members → List Class → ℕ
+abbrev by_zone : Members → List (List ℕ) → List (ℕ × ℕ) → TextCaps → Members → List Class → ℕ
     → List (ℕ × RangeRest) → List (List ℕ × ℕ) → Option (List ℕ) → OrFault TableMeaning
-by_zone tree modes transfers table classes standard ranges riders zone =
-    window_of tree >>= by_window modes transfers table classes standard ranges riders zone
+by_zone tree modes transfers capped table classes standard ranges riders zone =
+    window_of tree >>= by_window modes transfers capped table classes standard ranges riders zone
 
-abbrev by_riders : Members → List (List ℕ) → List (ℕ × ℕ) → Members → List Class → ℕ
+abbrev by_riders : Members → List (List ℕ) → List (ℕ × ℕ) → TextCaps → Members → List Class → ℕ
     → List (ℕ × RangeRest) → List (List ℕ × ℕ) → OrFault TableMeaning
-by_riders tree modes transfers table classes standard ranges riders =
-    zone_of tree >>= by_zone tree modes transfers table classes standard ranges riders
+by_riders tree modes transfers capped table classes standard ranges riders =
+    zone_of tree >>= by_zone tree modes transfers capped table classes standard ranges riders
 
-abbrev by_ranges : Members → List (List ℕ) → List (ℕ × ℕ) → Members → List Class → ℕ
+abbrev by_ranges : Members → List (List ℕ) → List (ℕ × ℕ) → TextCaps → Members → List Class → ℕ
     → List (ℕ × RangeRest) → OrFault TableMeaning
-by_ranges tree modes transfers table classes standard ranges =
-    riders_of table tree >>= by_riders tree modes transfers table classes standard ranges
+by_ranges tree modes transfers capped table classes standard ranges =
+    riders_of table tree >>= by_riders tree modes transfers capped table classes standard ranges
 
-abbrev by_default : Members → List (List ℕ) → List (ℕ × ℕ) → Members → List Class → ℕ
+abbrev by_default : Members → List (List ℕ) → List (ℕ × ℕ) → TextCaps → Members → List Class → ℕ
     → OrFault TableMeaning
-by_default tree modes transfers table classes standard =
-    ranges_of modes tree >>= by_ranges tree modes transfers table classes standard
+by_default tree modes transfers capped table classes standard =
+    ranges_of modes tree >>= by_ranges tree modes transfers capped table classes standard
 
-abbrev by_classes : Members → List (List ℕ) → List (ℕ × ℕ) → Members → List Class
+abbrev by_classes : Members → List (List ℕ) → List (ℕ × ℕ) → TextCaps → Members → List Class
     → OrFault TableMeaning
-by_classes tree modes transfers table classes =
-    default_of table tree >>= by_default tree modes transfers table classes
+by_classes tree modes transfers capped table classes =
+    default_of table tree >>= by_default tree modes transfers capped table classes
 
-abbrev by_table : Members → List (List ℕ) → List (ℕ × ℕ) → Members → OrFault TableMeaning
-by_table tree modes transfers table =
-    classes_from modes [] table >>= by_classes tree modes transfers table
+abbrev by_table : Members → List (List ℕ) → List (ℕ × ℕ) → TextCaps → Members → OrFault TableMeaning
+by_table tree modes transfers capped table =
+    classes_from modes capped.names [] table >>= by_classes tree modes transfers capped table
+
+abbrev by_caps : Members → List (List ℕ) → List (ℕ × ℕ) → TextCaps → OrFault TableMeaning
+by_caps tree modes transfers capped = classes_of tree >>= by_table tree modes transfers capped
 
 abbrev by_transfers : Members → List (List ℕ) → List (ℕ × ℕ) → OrFault TableMeaning
-by_transfers tree modes transfers = classes_of tree >>= by_table tree modes transfers
+by_transfers tree modes transfers = caps_of modes tree >>= by_caps tree modes transfers
 
 abbrev by_modes : Members → List (List ℕ) → OrFault TableMeaning
 by_modes tree modes = transfers_of modes tree >>= by_transfers tree modes
@@ -103,28 +112,35 @@ parts tree meaning is =
     let modes = bind_ok (modes_of tree) (by_modes tree) meaning is in
     let transfers = bind_ok (transfers_of modes.0 tree) (by_transfers tree modes.0) meaning
     modes.2 in
-    let table = bind_ok (classes_of tree) (by_table tree modes.0 transfers.0) meaning
+    let capped = bind_ok (caps_of modes.0 tree) (by_caps tree modes.0 transfers.0) meaning
     transfers.2 in
-    let classes = bind_ok (classes_from modes.0 [] table.0)
-    (by_classes tree modes.0 transfers.0 table.0)
+    let table = bind_ok (classes_of tree) (by_table tree modes.0 transfers.0 capped.0) meaning
+    capped.2 in
+    let classes = bind_ok (classes_from modes.0 capped.0.names [] table.0)
+    (by_classes tree modes.0 transfers.0 capped.0 table.0)
     meaning table.2 in
     let standard = bind_ok (default_of table.0 tree)
-    (by_default tree modes.0 transfers.0 table.0 classes.0) meaning classes.2 in
+    (by_default tree modes.0 transfers.0 capped.0 table.0 classes.0) meaning classes.2 in
     let ranges = bind_ok (ranges_of modes.0 tree)
-    (by_ranges tree modes.0 transfers.0 table.0 classes.0 standard.0) meaning standard.2 in
+    (by_ranges tree modes.0 transfers.0 capped.0 table.0 classes.0 standard.0) meaning standard.2 in
     let riders = bind_ok (riders_of table.0 tree)
-    (by_riders tree modes.0 transfers.0 table.0 classes.0 standard.0 ranges.0) meaning ranges.2 in
+    (by_riders tree modes.0 transfers.0 capped.0 table.0 classes.0 standard.0 ranges.0) meaning
+    ranges.2 in
     let zone = bind_ok (zone_of tree)
-    (by_zone tree modes.0 transfers.0 table.0 classes.0 standard.0 ranges.0 riders.0) meaning
+    (by_zone tree modes.0 transfers.0 capped.0 table.0 classes.0 standard.0 ranges.0 riders.0)
+    meaning
     riders.2 in
     let window = bind_ok (window_of tree)
-    (by_window modes.0 transfers.0 table.0 classes.0 standard.0 ranges.0 riders.0 zone.0) meaning
+    (by_window modes.0 transfers.0 capped.0 table.0 classes.0 standard.0 ranges.0 riders.0 zone.0)
+    meaning
     zone.2 in
     let whole : TableMeaning = record {
       modes = modes.0;
       transfers = transfers.0;
       classes = classes.0;
       names = names_in table.0;
+      caps = capped.0.caps;
+      cap_names = capped.0.names;
       standard = standard.0;
       ranges = ranges.0;
       riders = riders.0;
@@ -135,6 +151,7 @@ parts tree meaning is =
     (record {
       modes = modes.1;
       transfers = transfers.1;
+      caps = capped.1;
       table = table.0;
       members = table.1;
       classes = classes.1;

@@ -13,8 +13,10 @@ use Rattle.fare_table.proofs.ElementLemmas.{if_ok}
 use Rattle.fare_table.proofs.PartLemmas.{bind_ok, parts}
 use Rattle.fare_table.proofs.ReadLemmas.{is_number_or, is_table, number-read, table-read}
 use Rattle.fare_table.proofs.ReadLemmas.{text-read}
-use Rattle.fare_table.specs.Classes.{class_in, class_named, class_of, classes_from, own_ceiling}
-use Rattle.fare_table.specs.Classes.{classes_of, default_of, fares_of, is_empty, position_of, terms_of}
+use Rattle.fare_table.specs.Classes.{ceilings_of, class_in, class_named, class_of, classes_from}
+use Rattle.fare_table.specs.Classes.{own_ceiling}
+use Rattle.fare_table.specs.Classes.{classes_of, default_of, fares_of, is_empty, position_of}
+use Rattle.fare_table.specs.Classes.{terms_of}
 use Rattle.fare_table.specs.Classes.{ride_transfers_of}
 use Rattle.tariffs.specs.Names.{same_name}
 use Rattle.tariffs.specs.declared.class.Class.{Class}
@@ -95,58 +97,74 @@ entry_terms classes element class terms holds is =
     })
 
 -- the member of this name reads as the class
-pub record HasClass (modes : List (List ℕ)) (classes : Members) (name : List ℕ) (one : Class) : Type
+pub record HasClass (modes caps : List (List ℕ)) (classes : Members) (name : List ℕ)
+    (one : Class) : Type
     0 where
   pub value : Data
   pub holds : get_member name classes ≡ Some value
-  pub read : class_in modes value ≡ Ok one
+  pub read : class_in modes caps value ≡ Ok one
 
-abbrev class_by : Terms → List ℕ → TransferTerms → Class
-class_by terms fares transfers = record { terms = terms; fares = fares; transfers = transfers }
+abbrev class_by : Terms → List ℕ → List ℕ → TransferTerms → Class
+class_by terms fares ceilings transfers =
+    record { terms = terms; fares = fares; caps = ceilings; transfers = transfers }
 
-abbrev by_transfers : Terms → List ℕ → TransferTerms → OrFault Class
-by_transfers terms fares transfers = Ok (class_by terms fares transfers)
+abbrev by_transfers : Terms → List ℕ → List ℕ → TransferTerms → OrFault Class
+by_transfers terms fares ceilings transfers = Ok (class_by terms fares ceilings transfers)
 
-abbrev by_fares : Members → Terms → List ℕ → OrFault Class
-by_fares element terms fares = ride_transfers_of element >>= by_transfers terms fares
+abbrev by_ceilings : Members → Terms → List ℕ → List ℕ → OrFault Class
+by_ceilings element terms fares ceilings =
+    ride_transfers_of element >>= by_transfers terms fares ceilings
 
-abbrev by_terms : List (List ℕ) → Members → Terms → OrFault Class
-by_terms modes element terms =
-    fares_of modes terms.fare (get_member (codes "fares") element) >>= by_fares element terms
+abbrev by_fares : List (List ℕ) → Members → Terms → List ℕ → OrFault Class
+by_fares caps element terms fares =
+    ceilings_of caps (get_member (codes "caps") element) >>= by_ceilings element terms fares
+
+abbrev by_terms : List (List ℕ) → List (List ℕ) → Members → Terms → OrFault Class
+by_terms modes caps element terms =
+    fares_of modes terms.fare (get_member (codes "fares") element) >>= by_fares caps element terms
 
 -- the parts of a class, as each key of its element gives them
-pub record AreClassParts (modes : List (List ℕ)) (element : Members) (one : Class) : Type 0 where
+pub record AreClassParts (modes caps : List (List ℕ)) (element : Members) (one : Class)
+    : Type 0 where
   pub terms : terms_of element ≡ Ok one.terms
   pub fares : fares_of modes one.terms.fare (get_member (codes "fares") element) ≡ Ok one.fares
+  pub ceilings : ceilings_of caps (get_member (codes "caps") element) ≡ Ok one.caps
   pub transfers : ride_transfers_of element ≡ Ok one.transfers
 
-same_class_parts : (modes : List (List ℕ)) (element : Members) (one other : Class)
-    → by_transfers one.terms one.fares one.transfers ≡ Ok other → AreClassParts modes element one
-    → AreClassParts modes element other
-same_class_parts modes element one other is has =
+same_class_parts : (modes caps : List (List ℕ)) (element : Members) (one other : Class)
+    → by_transfers one.terms one.fares one.caps one.transfers ≡ Ok other
+    → AreClassParts modes caps element one → AreClassParts modes caps element other
+same_class_parts modes caps element one other is has =
     let same : one ≡ other = cc in
-    subst (λ (c : Class). AreClassParts modes element c) same has
+    subst (λ (c : Class). AreClassParts modes caps element c) same has
 
-pub class_parts : (modes : List (List ℕ)) (element : Members) (one : Class)
-    → class_of modes element ≡ Ok one → AreClassParts modes element one
+pub class_parts : (modes caps : List (List ℕ)) (element : Members) (one : Class)
+    → class_of modes caps element ≡ Ok one → AreClassParts modes caps element one
 unfolding class_of
-class_parts modes element one is =
-    let terms = bind_ok (terms_of element) (by_terms modes element) one is in
+class_parts modes caps element one is =
+    let terms = bind_ok (terms_of element) (by_terms modes caps element) one is in
     let fares = bind_ok (fares_of modes terms.0.fare (get_member (codes "fares") element))
-    (by_fares element terms.0) one terms.2 in
-    let transfers = bind_ok (ride_transfers_of element) (by_transfers terms.0 fares.0) one
-    fares.2 in
-    same_class_parts modes element (class_by terms.0 fares.0 transfers.0) one transfers.2
-    (record { terms = terms.1; fares = fares.1; transfers = transfers.1 })
+    (by_fares caps element terms.0) one terms.2 in
+    let ceilings = bind_ok (ceilings_of caps (get_member (codes "caps") element))
+    (by_ceilings element terms.0 fares.0) one fares.2 in
+    let transfers = bind_ok (ride_transfers_of element)
+    (by_transfers terms.0 fares.0 ceilings.0) one ceilings.2 in
+    same_class_parts modes caps element (class_by terms.0 fares.0 ceilings.0 transfers.0) one
+    transfers.2 (record {
+      terms = terms.1;
+      fares = fares.1;
+      ceilings = ceilings.1;
+      transfers = transfers.1;
+    })
 
-named_terms : (modes : List (List ℕ)) (classes : Members) (name : List ℕ) (one : Class)
-    → HasClass modes classes name one → IsNamed classes name one.terms
-named_terms modes classes name one has =
-    let element = bind_ok (of_kind the_key.Classes (as_table has.value)) (class_of modes) one
+named_terms : (modes caps : List (List ℕ)) (classes : Members) (name : List ℕ) (one : Class)
+    → HasClass modes caps classes name one → IsNamed classes name one.terms
+named_terms modes caps classes name one has =
+    let element = bind_ok (of_kind the_key.Classes (as_table has.value)) (class_of modes caps) one
     has.read in
     entry_terms classes element.0 name one.terms (has.holds
     ∙ ap (λ (d : Data). Some d) (is_table has.value the_key.Classes element.0 element.1))
-    (class_parts modes element.0 one element.2).terms
+    (class_parts modes caps element.0 one element.2).terms
 
 abbrev pub by_tables : Members → Members → OrFault Members
 by_tables tree tables = if is_empty tables then Err (Range the_key.Classes) else Ok tables
@@ -184,15 +202,16 @@ classes_read tree classes is =
     ∙ ap (λ (m : Members). Some (table m)) (one ∙ two)
 
 -- the classes of the list, each of its member
-kept-class : (modes : List (List ℕ)) (n : ℕ) (earlier list : List Class) (one : Class)
-    (part : Members) → classes_from modes earlier part ≡ Ok list
+kept-class : (modes caps : List (List ℕ)) (n : ℕ) (earlier list : List Class) (one : Class)
+    (part : Members) → classes_from modes caps earlier part ≡ Ok list
     → slice_get earlier n ≡ Some one → slice_get list n ≡ Some one
-kept-class modes n earlier list one no_members is at =
+kept-class modes caps n earlier list one no_members is at =
     let same : earlier ≡ list = cc in ap (λ l. slice_get l n) (sym same) ∙ at
-kept-class modes n earlier list one (member key value more) is at =
-    let first = bind_ok (class_in modes value) (λ c. classes_from modes (earlier ++ c ∷ []) more)
+kept-class modes caps n earlier list one (member key value more) is at =
+    let first = bind_ok (class_in modes caps value)
+    (λ c. classes_from modes caps (earlier ++ c ∷ []) more)
     list is in
-    kept-class modes n (earlier ++ first.0 ∷ []) list one more first.2
+    kept-class modes caps n (earlier ++ first.0 ∷ []) list one more first.2
     (within n earlier first.0 one at)
   where
     within : (n : ℕ) (xs : List Class) (x one : Class) → slice_get xs n ≡ Some one
@@ -207,26 +226,28 @@ at_end [] one n is = rw is refl
 at_end (first ∷ earlier) one n is = rw is (at_end earlier one (length earlier) refl)
 
 -- where the class of a name stands in the list
-pub record IsPlaced (modes : List (List ℕ)) (list : List Class) (position : ℕ) (classes : Members)
+pub record IsPlaced (modes caps : List (List ℕ)) (list : List Class) (position : ℕ)
+    (classes : Members)
     (name : List ℕ) : Type 0 where
   pub one : Class
   pub at : slice_get list position ≡ Some one
-  pub has : HasClass modes classes name one
+  pub has : HasClass modes caps classes name one
 
-pub placed : (modes : List (List ℕ)) (earlier list : List Class) (name : List ℕ) (part : Members)
-    (position there : ℕ) → classes_from modes earlier part ≡ Ok list
+pub placed : (modes caps : List (List ℕ)) (earlier list : List Class) (name : List ℕ)
+    (part : Members) (position there : ℕ) → classes_from modes caps earlier part ≡ Ok list
     → position_of name part ≡ Some position → there ≡ length earlier + position
-    → IsPlaced modes list there part name
-placed modes earlier list name no_members position there is at same = absurd (cc)
-placed modes earlier list name (member key value more) position there is at same =
-    let first = bind_ok (class_in modes value) (λ c. classes_from modes (earlier ++ c ∷ []) more)
+    → IsPlaced modes caps list there part name
+placed modes caps earlier list name no_members position there is at same = absurd (cc)
+placed modes caps earlier list name (member key value more) position there is at same =
+    let first = bind_ok (class_in modes caps value)
+    (λ c. classes_from modes caps (earlier ++ c ∷ []) more)
     list is in
     elim (cases_Bool (same_name name key)) [
       | inl here ↦
           let zero_position : position ≡ 0 = first_position (rw here at at) in
           record {
             one = first.0;
-            at = kept-class modes there (earlier ++ first.0 ∷ []) list first.0 more first.2
+            at = kept-class modes caps there (earlier ++ first.0 ∷ []) list first.0 more first.2
                 (at_end earlier first.0 there (omega (arith, same, zero_position)));
             has = record {
               value = value;
@@ -238,7 +259,7 @@ placed modes earlier list name (member key value more) position there is at same
           }
       | inr other ↦
           let next = later_position (position_of name more) position (rw other at at) in
-          let rest = placed modes (earlier ++ first.0 ∷ []) list name more next.0 there first.2
+          let rest = placed modes caps (earlier ++ first.0 ∷ []) list name more next.0 there first.2
           next.1
           (omega (arith, same, next.2, length-append-one earlier first.0)) in
           record {
@@ -270,15 +291,15 @@ position_found None position is = absurd (cc)
 position_found (Some p) position is = let same : p ≡ position = cc in ap (λ n. Some n) same
 
 -- the class of this name has the terms in the text too
-pub has_terms : (modes : List (List ℕ)) (tree classes : Members) (list : List Class)
+pub has_terms : (modes caps : List (List ℕ)) (tree classes : Members) (list : List Class)
     (class : List ℕ)
-    (position : ℕ) → classes_of tree ≡ Ok classes → classes_from modes [] classes ≡ Ok list
+    (position : ℕ) → classes_of tree ≡ Ok classes → classes_from modes caps [] classes ≡ Ok list
     → class_named classes class ≡ Ok position
     → HasTerms tree class (slice_index_or list position no_class).terms
-has_terms modes tree classes list class position read listed is =
-    let p = placed modes [] list class classes position position listed
+has_terms modes caps tree classes list class position read listed is =
+    let p = placed modes caps [] list class classes position position listed
     (position_found (position_of class classes) position is) (sym (zero-add position)) in
-    let n = named_terms modes classes class p.one p.has in
+    let n = named_terms modes caps classes class p.one p.has in
     let same : p.one ≡ slice_index_or list position no_class =
     sym (get_or_from_slice_get list position p.one no_class p.at) in
     subst (λ (c : Class). HasTerms tree class c.terms) same (record {
@@ -319,7 +340,8 @@ one_terms tree class terms terms' one two =
     (ap (get_member class) (sym classes) ∙ one.holds) two.holds in
     let fare = number_of (get_member (codes "fare") two.element) terms.fare terms'.fare
     (ap (get_member (codes "fare")) (sym element) ∙ one.fare) two.fare in
-    let rides = number_or_of 60_000 (get_member (codes "rides") two.element) terms.rides terms'.rides
+    let rides = number_or_of 60_000 (get_member (codes "rides") two.element) terms.rides
+    terms'.rides
     (subst (λ (e : Members). IsNumberOr 60_000 (get_member (codes "rides") e) terms.rides) element
     one.rides) two.rides in
     let own : own_ceiling terms.rides terms.fare ≡ own_ceiling terms'.rides terms'.fare =
@@ -458,7 +480,7 @@ pays tree meaning token is =
     record {
       class = h.class;
       is = h.is;
-      has = has_terms meaning.modes tree p.table meaning.classes h.class
+      has = has_terms meaning.modes meaning.cap_names tree p.table meaning.classes h.class
           (class_of_token meaning token) p.members p.classes h.named;
     }
 

@@ -280,7 +280,8 @@ record IsTokenClass (tree : Members) (meaning : TableMeaning) (token : List ℕ)
   is : IsClassOf tree token class
   element : Members
   keys : IsElementOf tree class element
-  reads : AreClassParts meaning.modes element (class_at meaning (class_of meaning token))
+  reads : AreClassParts meaning.modes meaning.cap_names element
+      (class_at meaning (class_of meaning token))
   has : HasTerms tree class (class_at meaning (class_of meaning token)).terms
 
 token_class : (tree : Members) (meaning : TableMeaning) (token : List ℕ)
@@ -290,10 +291,11 @@ token_class tree meaning token is =
     let index = class_of meaning token in
     let h = class_if tree p.table meaning token (Named token meaning.riders) p.standard
     (riders_read p.table tree meaning.riders p.riders) refl in
-    let there = placed meaning.modes [] meaning.classes h.class p.table index index p.classes
+    let there = placed meaning.modes meaning.cap_names [] meaning.classes h.class p.table index
+    index p.classes
     (position_found (position_of h.class p.table) index h.named) (sym (zero-add index)) in
     let element = bind_ok (of_kind the_key.Classes (as_table there.has.value))
-    (class_by meaning.modes) there.one there.has.read in
+    (class_by meaning.modes meaning.cap_names) there.one there.has.read in
     let same : there.one ≡ class_at meaning index =
     sym (get_or_from_slice_get meaning.classes index there.one no_class there.at) in
     record {
@@ -306,10 +308,10 @@ token_class tree meaning token is =
         holds = there.has.holds ∙ ap (λ (d : Data). Some d)
             (is_table there.has.value the_key.Classes element.0 element.1);
       };
-      reads = subst (λ (c : Class). AreClassParts meaning.modes element.0 c) same
-          (class_parts meaning.modes element.0 there.one element.2);
-      has = has_terms meaning.modes tree p.table meaning.classes h.class index p.members p.classes
-          h.named;
+      reads = subst (λ (c : Class). AreClassParts meaning.modes meaning.cap_names element.0 c) same
+          (class_parts meaning.modes meaning.cap_names element.0 there.one element.2);
+      has = has_terms meaning.modes meaning.cap_names tree p.table meaning.classes h.class index
+          p.members p.classes h.named;
     }
 
 -- ---- the laws

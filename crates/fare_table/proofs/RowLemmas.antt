@@ -16,6 +16,7 @@ use Rattle.jiff.specs.Words.{read_whole}
 use Rattle.toml.specs.Data.{Data, Items, no_items, item, Members, no_members, member, string}
 use Rattle.toml.specs.Data.{integer, array, table, get_member, get_item, as_str, as_array}
 use Rattle.toml.specs.Parse.{parse_document}
+use Rattle.fare_table.proofs.CapLemmas.{caps-named, caps-reported, named_reports}
 use Rattle.fare_table.proofs.ElementLemmas.{Reads, by_mode, by_tables, reads}
 use Rattle.fare_table.proofs.FaultLemmas.{AlignedAt, classes-reported, classes_tables}
 use Rattle.fare_table.proofs.FaultLemmas.{default-reported}
@@ -27,8 +28,10 @@ use Rattle.fare_table.proofs.OverlapLemmas.{holds-insert, comes_after, comes_bef
 use Rattle.fare_table.proofs.OverlapLemmas.{free_apart, rest_holds, with_one}
 use Rattle.fare_table.proofs.PayLemmas.{classes_read}
 use Rattle.fare_table.proofs.ReadLemmas.{number-read}
+use Rattle.fare_table.specs.Caps.{caps_of}
 use Rattle.fare_table.specs.Classes.{class_named, classes_from, classes_of, default_of}
-use Rattle.fare_table.specs.Faults.{FaultRow, Where, class_rows, classes_step, default_step}
+use Rattle.fare_table.specs.Faults.{FaultRow, Where, caps_step, class_rows, classes_step}
+use Rattle.fare_table.specs.Faults.{default_step}
 use Rattle.fare_table.specs.Faults.{riders_step, transfers_step}
 use Rattle.fare_table.specs.Faults.{validators_step, window_step, zone_step, top, range, rider}
 use Rattle.fare_table.specs.Faults.{a_row, amount_of}
@@ -450,11 +453,6 @@ zone-reported tree = zone_steps (get_member (codes "zone") tree)
     ∙ sym (reported_two tree top (Kind the_key.Zone) the_fault.Zone)
 
 -- ---- the window
-named_reports : {A : Type 0} (o : Option A) (key : Key)
-    → fault_in (ok_or o (Range key)) ≡ cond (not (is_some o)) (Some (Range key)) None
-named_reports None key = refl
-named_reports (Some x) key = refl
-
 length_steps : (o : Option Data) (beside : Members)
     → fault_in (length_in o)
     ≡ cond (fails (is_kind the_key.Window) o) (Some (Kind the_key.Window))
@@ -502,11 +500,15 @@ meaning-reported tree =
     let entry_rows = validators_step tree ++ key_rows in
     let default_rows = default_step ++ entry_rows in
     let class_step_rows = classes_step tree ++ default_rows in
-    steps tree (modes_of tree) _ (needed_rows top the_key.Modes) (transfers_step ++ class_step_rows)
+    let cap_step_rows = caps_step tree ++ class_step_rows in
+    steps tree (modes_of tree) _ (needed_rows top the_key.Modes) (transfers_step ++ cap_step_rows)
     (modes-reported tree) (λ modes is_modes.
     let known = modes-known tree modes is_modes in
-    steps tree (transfers_of modes tree) _ transfers_step class_step_rows
+    steps tree (transfers_of modes tree) _ transfers_step cap_step_rows
     (transfers-reported tree modes known) (λ transfers is_transfers.
+    steps tree (caps_of modes tree) _ (caps_step tree) class_step_rows
+    (caps-reported tree modes known) (λ capped is_capped.
+    let named = caps-named tree modes capped is_capped in
     let rest_rows = class_rows tree 0 (classes_in tree) ++ default_rows in
     regroup tree default_rows
     (steps tree (classes_of tree) _ (needed_rows top the_key.Classes) rest_rows
@@ -514,8 +516,9 @@ meaning-reported tree =
     (λ classes is_classes.
     let same : classes_in tree ≡ classes = ap members_of (classes_read tree classes is_classes) in
     let tables = classes_tables tree classes is_classes in
-    steps tree (classes_from modes [] classes) _ (class_rows tree 0 (classes_in tree)) default_rows
-    (list-reported tree modes classes [] known same tables) (λ list is_list.
+    steps tree (classes_from modes capped.names [] classes) _ (class_rows tree 0 (classes_in tree))
+    default_rows
+    (list-reported tree modes capped.names classes [] known named same tables) (λ list is_list.
     steps tree (default_of classes tree) _ default_step entry_rows
     (default-reported tree classes same) (λ standard is_standard.
     steps tree (ranges_of modes tree) _ (validators_step tree) key_rows
@@ -523,7 +526,7 @@ meaning-reported tree =
     steps tree (riders_of classes tree) _ (riders_step tree) last_rows
     (keys-reported tree classes same) (λ riders is_riders.
     steps tree (zone_of tree) _ zone_step window_step (zone-reported tree) (λ zone is_zone.
-    done (window_of tree) _ ∙ window-reported tree)))))))))
+    done (window_of tree) _ ∙ window-reported tree))))))))))
 
 text_reports : (o : Option Members)
     → fault_in (ok_or o the_fault.Text >>= meaning_of_tree) ≡ first_fault o

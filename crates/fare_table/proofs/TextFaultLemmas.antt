@@ -8,11 +8,16 @@ use Rattle.hex.specs.Hex.{decode_sized}
 use Rattle.jiff.specs.Words.{read_whole}
 use Rattle.toml.specs.Data.{Data, Items, no_items, item, Members, no_members, member, get_member}
 use Rattle.toml.specs.Data.{as_str, as_integer, as_array, as_table}
-use Rattle.fare_table.specs.Classes.{class_in, class_named, class_of, classes_from, classes_of}
+use Rattle.fare_table.specs.Caps.{are_cap_names, cap_in, cap_length, cap_named, cap_names, cap_of}
+use Rattle.fare_table.specs.Caps.{cap_tables, caps_from, caps_in, caps_of, counts_from, counts_of}
+use Rattle.fare_table.specs.Classes.{ceilings_from, ceilings_of, class_in, class_named, class_of}
+use Rattle.fare_table.specs.Classes.{classes_from, classes_of}
 use Rattle.fare_table.specs.Classes.{default_of, fares_from, fares_of, is_any, is_empty}
 use Rattle.fare_table.specs.Classes.{own_ceiling, position_of, ride_transfers_of, taps_of, terms_of}
+use Rattle.tariffs.specs.declared.cap_terms.CapTerms.{CapTerms}
 use Rattle.tariffs.specs.declared.class.Class.{Class}
-use Rattle.fare_table.specs.Members.{are_tables, array_at, hold_numbers, hold_strings, hold_tables}
+use Rattle.fare_table.specs.Members.{are_tables, are_texts, array_at, hold_numbers}
+use Rattle.fare_table.specs.Members.{hold_strings, hold_tables, names_in}
 use Rattle.fare_table.specs.Members.{needed, number_at, number_in, number_or, of_kind, table_at}
 use Rattle.fare_table.specs.Members.{text_at, within}
 use Rattle.fare_table.specs.Modes.{are_mode_names, mode_named, modes_of, strings_from}
@@ -182,6 +187,83 @@ fares_of-text modes fare (Some value) =
     (another (the_fault.Kind the_key.Fares) (λ is. cc)))
     (λ numbers. fares_from-text modes (replicate 32 fare) numbers))
 
+cap_named-text : (caps : List (List ℕ)) (name : List ℕ) → NotText (cap_named caps name)
+cap_named-text caps name = a_part _ the_fault.Cap (λ is. cc)
+
+ceilings_from-text : (caps : List (List ℕ)) (ceilings : List ℕ) (members : Members)
+    → NotText (ceilings_from caps ceilings members)
+ceilings_from-text caps ceilings no_members = an_ok ceilings
+ceilings_from-text caps ceilings (member name value more) =
+    steps (cap_named caps name) _ (cap_named-text caps name) (λ position.
+    steps (number_in the_key.ClassCaps 1 100_000_000 value) _
+    (number_in-text the_key.ClassCaps 1 100_000_000 value) (λ cents.
+    ceilings_from-text caps (slice_set ceilings position cents) more))
+
+ceilings_of-text : (caps : List (List ℕ)) (value : Option Data) → NotText (ceilings_of caps value)
+ceilings_of-text caps None = an_ok (replicate 3 100_000_000)
+ceilings_of-text caps (Some value) =
+    steps (of_kind the_key.ClassCaps (as_table value)) _
+    (of_kind-text the_key.ClassCaps (as_table value))
+    (λ named. steps (if hold_numbers named then Ok named else Err
+    (the_fault.Kind the_key.ClassCaps)) _
+    (a_choice (hold_numbers named) (Ok named) (Err (the_fault.Kind the_key.ClassCaps)) (an_ok named)
+    (another (the_fault.Kind the_key.ClassCaps) (λ is. cc)))
+    (λ numbers. ceilings_from-text caps (replicate 3 100_000_000) numbers))
+
+counts_from-text : (modes : List (List ℕ)) (counts : List Bool) (items : Items)
+    → NotText (counts_from modes counts items)
+counts_from-text modes counts no_items = an_ok counts
+counts_from-text modes counts (item value more) =
+    steps (of_kind the_key.CapModes (as_str value)) _
+    (of_kind-text the_key.CapModes (as_str value)) (λ name.
+    steps (mode_named modes name) _ (mode_named-text modes name) (λ position.
+    counts_from-text modes (slice_set counts position true) more))
+
+counts_of-text : (modes : List (List ℕ)) (value : Option Data) → NotText (counts_of modes value)
+counts_of-text modes None = an_ok (replicate 32 true)
+counts_of-text modes (Some value) =
+    steps (of_kind the_key.CapModes (as_array value)) _
+    (of_kind-text the_key.CapModes (as_array value))
+    (λ named. steps (if are_texts named then Ok named else Err (the_fault.Kind the_key.CapModes)) _
+    (a_choice (are_texts named) (Ok named) (Err (the_fault.Kind the_key.CapModes)) (an_ok named)
+    (another (the_fault.Kind the_key.CapModes) (λ is. cc)))
+    (λ texts. counts_from-text modes (replicate 32 false) texts))
+
+cap_of-text : (modes : List (List ℕ)) (element : Members) → NotText (cap_of modes element)
+unfolding cap_of
+cap_of-text modes element =
+    steps (cap_length element) _
+    (steps (text_at (codes "window") the_key.CapWindow element) _
+    (text_at-text (codes "window") the_key.CapWindow element) (λ text.
+    a_part (length_named text) (the_fault.Range the_key.CapWindow) (λ is. cc)))
+    (λ length. steps (counts_of modes (get_member (codes "modes") element)) _
+    (counts_of-text modes (get_member (codes "modes") element)) (λ counts. an_ok _))
+
+caps_from-text : (modes : List (List ℕ)) (earlier : List CapTerms) (caps : Members)
+    → NotText (caps_from modes earlier caps)
+caps_from-text modes earlier no_members = an_ok earlier
+caps_from-text modes earlier (member name value more) =
+    steps (cap_in modes value) _
+    (steps (of_kind the_key.Caps (as_table value)) _ (of_kind-text the_key.Caps (as_table value))
+    (cap_of-text modes))
+    (λ one. caps_from-text modes (earlier ++ one ∷ []) more)
+
+caps_in-text : (modes : List (List ℕ)) (value : Option Data) → NotText (caps_in modes value)
+caps_in-text modes None = an_ok _
+caps_in-text modes (Some value) =
+    steps (cap_tables value) _
+    (steps (of_kind the_key.Caps (as_table value)) _ (of_kind-text the_key.Caps (as_table value))
+    (λ named. a_choice (hold_tables named) (Ok named) (Err (the_fault.Kind the_key.Caps))
+    (an_ok named) (another (the_fault.Kind the_key.Caps) (λ is. cc))))
+    (λ tables. steps (cap_names tables) _
+    (a_range (are_cap_names (names_in tables)) (names_in tables) the_key.Caps)
+    (λ names. steps (caps_from modes [] tables) _ (caps_from-text modes [] tables)
+    (λ caps. an_ok _)))
+
+caps_of-text : (modes : List (List ℕ)) (tree : Members) → NotText (caps_of modes tree)
+unfolding caps_of
+caps_of-text modes tree = caps_in-text modes (get_member (codes "caps") tree)
+
 taps_of-text : (value : Option Data) → NotText (taps_of value)
 taps_of-text None = an_ok 1
 taps_of-text (Some value) =
@@ -198,26 +280,29 @@ ride_transfers_of-text element =
     (number_or-text 120 the_key.TransferMinutes 1 1_440
     (get_member (codes "transfer_minutes") element)) (λ minutes. an_ok _))
 
-class_of-text : (modes : List (List ℕ)) (element : Members) → NotText (class_of modes element)
+class_of-text : (modes caps : List (List ℕ)) (element : Members)
+    → NotText (class_of modes caps element)
 unfolding class_of
-class_of-text modes element =
+class_of-text modes caps element =
     steps (terms_of element) _ (terms_of-text element) (λ terms.
     steps (fares_of modes terms.fare (get_member (codes "fares") element)) _
     (fares_of-text modes terms.fare (get_member (codes "fares") element)) (λ fares.
-    steps (ride_transfers_of element) _ (ride_transfers_of-text element) (λ transfers. an_ok _)))
+    steps (ceilings_of caps (get_member (codes "caps") element)) _
+    (ceilings_of-text caps (get_member (codes "caps") element)) (λ ceilings.
+    steps (ride_transfers_of element) _ (ride_transfers_of-text element) (λ transfers. an_ok _))))
 
-class_in-text : (modes : List (List ℕ)) (value : Data) → NotText (class_in modes value)
-class_in-text modes value =
+class_in-text : (modes caps : List (List ℕ)) (value : Data) → NotText (class_in modes caps value)
+class_in-text modes caps value =
     steps (of_kind the_key.Classes (as_table value)) _
     (of_kind-text the_key.Classes (as_table value))
-    (class_of-text modes)
+    (class_of-text modes caps)
 
-classes_from-text : (modes : List (List ℕ)) (earlier : List Class) (classes : Members)
-    → NotText (classes_from modes earlier classes)
-classes_from-text modes earlier no_members = an_ok earlier
-classes_from-text modes earlier (member name value more) =
-    steps (class_in modes value) _ (class_in-text modes value) (λ one.
-    classes_from-text modes (earlier ++ one ∷ []) more)
+classes_from-text : (modes caps : List (List ℕ)) (earlier : List Class) (classes : Members)
+    → NotText (classes_from modes caps earlier classes)
+classes_from-text modes caps earlier no_members = an_ok earlier
+classes_from-text modes caps earlier (member name value more) =
+    steps (class_in modes caps value) _ (class_in-text modes caps value) (λ one.
+    classes_from-text modes caps (earlier ++ one ∷ []) more)
 
 classes_of-text : (tree : Members) → NotText (classes_of tree)
 unfolding classes_of
@@ -343,10 +428,12 @@ unfolding meaning_of_tree
 rules_of-text tree =
     steps (modes_of tree) _ (modes_of-text tree) (λ modes.
     steps (transfers_of modes tree) _ (transfers_of-text modes tree) (λ transfers.
+    steps (caps_of modes tree) _ (caps_of-text modes tree) (λ capped.
     steps (classes_of tree) _ (classes_of-text tree) (λ table.
-    steps (classes_from modes [] table) _ (classes_from-text modes [] table) (λ classes.
+    steps (classes_from modes capped.names [] table) _
+    (classes_from-text modes capped.names [] table) (λ classes.
     steps (default_of table tree) _ (default_of-text table tree) (λ standard.
     steps (ranges_of modes tree) _ (ranges_of-text modes tree) (λ ranges.
     steps (riders_of table tree) _ (riders_of-text table tree) (λ riders.
     steps (zone_of tree) _ (zone_of-text tree) (λ zone.
-    steps (window_of tree) _ (window_of-text tree) (λ window. an_ok _)))))))))
+    steps (window_of tree) _ (window_of-text tree) (λ window. an_ok _))))))))))

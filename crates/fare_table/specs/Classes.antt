@@ -4,6 +4,7 @@ use Rattle.std.specs.Prelude.{◌&&◌, None, Ok, Err, codes, if◌then◌else�
 use Rattle.std.specs.Prelude.{replicate, slice_set}
 use Rattle.std.specs.Option.{ok_or}
 use Rattle.toml.specs.Data.{Data, Members, no_members, member, get_member, as_str, as_table}
+use Rattle.fare_table.specs.Caps.{cap_named}
 use Rattle.fare_table.specs.Members.{hold_numbers, hold_tables, number_at, number_in, number_or}
 use Rattle.fare_table.specs.Members.{of_kind, table_at, text_at}
 use Rattle.fare_table.specs.Modes.{mode_named}
@@ -51,6 +52,22 @@ fares_of modes fare (Some value) = do
   numbers ← if hold_numbers named then Ok named else Err (Kind the_key.Fares)
   fares_from modes (replicate 32 fare) numbers
 
+-- the ceilings by the places of the caps, with those that the members name
+abbrev pub ceilings_from : List (List ℕ) → List ℕ → Members → OrFault (List ℕ)
+ceilings_from caps ceilings no_members = Ok ceilings
+ceilings_from caps ceilings (member name value more) = do
+  position ← cap_named caps name
+  cents ← number_in the_key.ClassCaps 1 100_000_000 value
+  ceilings_from caps (slice_set ceilings position cents) more
+
+-- the ceilings by the places of the caps: the highest, if none is named
+abbrev pub ceilings_of : List (List ℕ) → Option Data → OrFault (List ℕ)
+ceilings_of caps None = Ok (replicate 3 100_000_000)
+ceilings_of caps (Some value) = do
+  named ← of_kind the_key.ClassCaps (as_table value)
+  numbers ← if hold_numbers named then Ok named else Err (Kind the_key.ClassCaps)
+  ceilings_from caps (replicate 3 100_000_000) numbers
+
 -- the text is the word `any`
 abbrev pub is_any_text : Option (List ℕ) → Bool
 is_any_text None = false
@@ -74,40 +91,38 @@ ride_transfers_of element = do
       (get_member (codes "transfer_minutes") element)
   Ok (record { taps = taps; time = minutes * 60_000 })
 
--- a class: its terms, its fares by mode, and what its rides give
-unfoldable pub class_of : List (List ℕ) → Members → OrFault Class
-class_of modes element = do
+-- a class: its terms, its fares by mode, its ceilings by cap, and what its rides give
+unfoldable pub class_of : List (List ℕ) → List (List ℕ) → Members → OrFault Class
+class_of modes caps element = do
   terms ← terms_of element
   fares ← fares_of modes terms.fare (get_member (codes "fares") element)
+  ceilings ← ceilings_of caps (get_member (codes "caps") element)
   transfers ← ride_transfers_of element
   Ok (record {
     terms = terms;
     fares = fares;
+    caps = ceilings;
     transfers = transfers;
   })
 
 -- the class of a value that is a table
-abbrev pub class_in : List (List ℕ) → Data → OrFault Class
-class_in modes value = do
+abbrev pub class_in : List (List ℕ) → List (List ℕ) → Data → OrFault Class
+class_in modes caps value = do
   element ← of_kind the_key.Classes (as_table value)
-  class_of modes element
+  class_of modes caps element
 
 -- the earlier classes and those of the members, class by class
-abbrev pub classes_from : List (List ℕ) → List Class → Members → OrFault (List Class)
-classes_from modes earlier no_members = Ok earlier
-classes_from modes earlier (member name value more) = do
-  class ← class_in modes value
-  classes_from modes (earlier ++ class ∷ []) more
+abbrev pub classes_from : List (List ℕ) → List (List ℕ) → List Class → Members
+    → OrFault (List Class)
+classes_from modes caps earlier no_members = Ok earlier
+classes_from modes caps earlier (member name value more) = do
+  class ← class_in modes caps value
+  classes_from modes caps (earlier ++ class ∷ []) more
 
 -- how many there are
 abbrev pub count_of : Members → ℕ
 count_of no_members = 0
 count_of (member name value more) = suc (count_of more)
-
--- the names of the classes by their places
-abbrev pub names_in : Members → List (List ℕ)
-names_in no_members = []
-names_in (member name value more) = name ∷ names_in more
 
 -- there is no class
 abbrev pub is_empty : Members → Bool

@@ -12,8 +12,10 @@ use Rattle.hex.specs.Hex.{decode_sized}
 use Rattle.jiff.specs.Words.{read_whole}
 use Rattle.toml.specs.Data.{Data, Items, no_items, item, Members, no_members, member, get_member}
 use Rattle.toml.specs.Data.{get_item, as_str, as_integer, as_array, as_table}
+use Rattle.fare_table.specs.Caps.{are_cap_names}
 use Rattle.fare_table.specs.Classes.{is_any, is_empty}
-use Rattle.fare_table.specs.Members.{are_tables, hold_numbers, hold_strings, hold_tables}
+use Rattle.fare_table.specs.Members.{are_tables, are_texts, hold_numbers, hold_strings}
+use Rattle.fare_table.specs.Members.{hold_tables, names_in}
 use Rattle.fare_table.specs.Modes.{are_mode_names}
 use Rattle.tariffs.specs.Names.{same_name}
 use Rattle.fare_table.specs.Transfers.{name_pair}
@@ -23,15 +25,19 @@ use Rattle.fare_table.specs.declared.fault.Key.TheVariants as the_key
 use Rattle.fare_table.specs.declared.fault.TableFault.{TableFault}
 use Rattle.fare_table.specs.declared.fault.TableFault.TheVariants.{Text, Missing, Kind, Range, Mode}
 use Rattle.fare_table.specs.declared.fault.TableFault.TheVariants.{Overlap, Rider, NoMemory, Zone}
+use Rattle.fare_table.specs.declared.fault.TableFault.TheVariants.{Cap}
 
 -- where a row looks: at the keys of the text, at those of one of its classes or of one element of
--- its `validators`, at one key of the `fares` of a class (the class first, then the key), or at
--- one key of its `riders`, each by its place. Classes and keys have the places of their byte order
+-- its `validators`, at one key of the `fares` of a class (the class first, then the key), at one of
+-- its caps, at one key of the `caps` of a class, or at one key of its `riders`, each by its place.
+-- Classes and keys have the places of their byte order
 -- (`laws::keys_come_in_byte_order`).
 pub data Where : Type 0 where
   top : Where
   class : ℕ → Where
   mode_fare : ℕ → ℕ → Where
+  cap : ℕ → Where
+  cap_ceiling : ℕ → ℕ → Where
   range : ℕ → Where
   rider : ℕ → Where
 
@@ -45,11 +51,15 @@ holds_of_some test (Some value) = test value
 abbrev pub key_word : Key → List ℕ
 key_word the_key.Modes = codes "modes"
 key_word the_key.Transfers = codes "transfers"
+key_word the_key.Caps = codes "caps"
+key_word the_key.CapWindow = codes "window"
+key_word the_key.CapModes = codes "modes"
 key_word the_key.Classes = codes "classes"
 key_word the_key.Fare = codes "fare"
 key_word the_key.Rides = codes "rides"
 key_word the_key.Ceiling = codes "ceiling"
 key_word the_key.Fares = codes "fares"
+key_word the_key.ClassCaps = codes "caps"
 key_word the_key.RideTransfers = codes "transfers"
 key_word the_key.TransferMinutes = codes "transfer_minutes"
 key_word the_key.DefaultClass = codes "default_class"
@@ -102,6 +112,10 @@ mode_names tree = texts (items_of (get_member (codes "modes") tree))
 abbrev pub classes_in : Members → Members
 classes_in tree = members_of (get_member (codes "classes") tree)
 
+-- the text's caps
+abbrev pub caps_in : Members → Members
+caps_in tree = members_of (get_member (codes "caps") tree)
+
 -- the text's elements of `validators`
 abbrev pub elements_in : Members → Items
 elements_in tree = items_of (get_member (codes "validators") tree)
@@ -116,6 +130,9 @@ members_at top tree = tree
 members_at (class index) tree =
     members_of (option_map (λ one. one.1) (member_at index (classes_in tree)))
 members_at (mode_fare index key) tree = no_members
+members_at (cap index) tree =
+    members_of (option_map (λ one. one.1) (member_at index (caps_in tree)))
+members_at (cap_ceiling index key) tree = no_members
 members_at (range index) tree = members_of (get_item index (elements_in tree))
 members_at (rider index) tree = no_members
 
@@ -127,17 +144,21 @@ fares_in tree index = members_of (get_member (codes "fares") (members_at (class 
 abbrev pub fare_at : Members → ℕ → ℕ → Option (List ℕ × Data)
 fare_at tree index key = member_at key (fares_in tree index)
 
--- the value at a key; of one fare by mode its own value
+-- the `caps` of the class at a place
+abbrev pub ceilings_in : Members → ℕ → Members
+ceilings_in tree index = members_of (get_member (codes "caps") (members_at (class index) tree))
+
+-- the name and the number at a place of the `caps` of a class
+abbrev pub ceiling_at : Members → ℕ → ℕ → Option (List ℕ × Data)
+ceiling_at tree index key = member_at key (ceilings_in tree index)
+
+-- the value at a key; of one fare by mode or ceiling by cap its own value
 abbrev pub value_at : Where → Key → Members → Option Data
 value_at (mode_fare index at) key tree = option_map (λ one. one.1) (fare_at tree index at)
+value_at (cap_ceiling index at) key tree = option_map (λ one. one.1) (ceiling_at tree index at)
 value_at at key tree = get_member (key_word key) (members_at at tree)
 
 -- ---- what is wrong with it
--- each item is a string
-abbrev pub are_texts : Items → Bool
-are_texts no_items = true
-are_texts (item value more) = is_some (as_str value) && are_texts more
-
 -- each item is a pair of strings
 abbrev pub are_pairs : Items → Bool
 are_pairs no_items = true
@@ -147,11 +168,15 @@ are_pairs (item value more) = is_some (name_pair value) && are_pairs more
 abbrev pub is_kind : Key → Data → Bool
 is_kind the_key.Modes value = holds_of_some are_texts (as_array value)
 is_kind the_key.Transfers value = holds_of_some are_pairs (as_array value)
+is_kind the_key.Caps value = holds_of_some hold_tables (as_table value)
+is_kind the_key.CapWindow value = is_some (as_str value)
+is_kind the_key.CapModes value = holds_of_some are_texts (as_array value)
 is_kind the_key.Classes value = holds_of_some hold_tables (as_table value)
 is_kind the_key.Fare value = is_some (as_integer value)
 is_kind the_key.Rides value = is_some (as_integer value)
 is_kind the_key.Ceiling value = is_some (as_integer value)
 is_kind the_key.Fares value = holds_of_some hold_numbers (as_table value)
+is_kind the_key.ClassCaps value = holds_of_some hold_numbers (as_table value)
 is_kind the_key.RideTransfers value = is_any value || is_some (as_integer value)
 is_kind the_key.TransferMinutes value = is_some (as_integer value)
 is_kind the_key.DefaultClass value = is_some (as_str value)
@@ -174,12 +199,18 @@ abbrev pub is_in_bounds : Key → Members → Data → Bool
 is_in_bounds the_key.Modes beside value =
     holds_of_some (λ names. are_mode_names (texts names)) (as_array value)
 is_in_bounds the_key.Transfers beside value = true
+is_in_bounds the_key.Caps beside value =
+    holds_of_some (λ caps. are_cap_names (names_in caps)) (as_table value)
+is_in_bounds the_key.CapWindow beside value =
+    holds_of_some (λ text. is_some (length_named text)) (as_str value)
+is_in_bounds the_key.CapModes beside value = true
 is_in_bounds the_key.Classes beside value =
     holds_of_some (λ classes. not (is_empty classes)) (as_table value)
 is_in_bounds the_key.Fare beside value = is_from 0 100_000 value
 is_in_bounds the_key.Rides beside value = is_from 1 1_000 value
 is_in_bounds the_key.Ceiling beside value = is_from 1 100_000_000 value
 is_in_bounds the_key.Fares beside value = is_from 0 100_000 value
+is_in_bounds the_key.ClassCaps beside value = is_from 1 100_000_000 value
 is_in_bounds the_key.RideTransfers beside value = is_any value || is_from 0 9 value
 is_in_bounds the_key.TransferMinutes beside value = is_from 1 1_440 value
 is_in_bounds the_key.DefaultClass beside value = true
@@ -199,17 +230,31 @@ is_in_bounds the_key.DayStarts beside value =
 abbrev pub is_mode : List (List ℕ) → List ℕ → Bool
 is_mode names name = is_some (position (same_name name) names)
 
--- one of the names of a transfer, or that of an element of `validators`, is not one of the modes
+-- one of the names is not one of the modes
+abbrev pub is_unknown_mode : Members → List ℕ → Bool
+is_unknown_mode tree name = not (is_mode (mode_names tree) name)
+
+-- one of the names of a transfer or of a cap's modes, or that of an element of `validators`, is not
+-- one of the modes
 abbrev pub names_no_mode : Where → Members → Bool
 names_no_mode top tree =
     list_any (λ pair. not (is_mode (mode_names tree) pair.0 && is_mode (mode_names tree) pair.1))
     (pairs (items_of (get_member (codes "transfers") tree)))
 names_no_mode (class index) tree = false
 names_no_mode (mode_fare index key) tree =
-    holds_of_some (λ one. not (is_mode (mode_names tree) one.0)) (fare_at tree index key)
+    holds_of_some (λ one. is_unknown_mode tree one.0) (fare_at tree index key)
+names_no_mode (cap index) tree =
+    list_any (is_unknown_mode tree) (texts (items_of (value_at (cap index) the_key.CapModes tree)))
+names_no_mode (cap_ceiling index key) tree = false
 names_no_mode (range index) tree =
     not (is_mode (mode_names tree) (string_of (value_at (range index) the_key.ModeName tree)))
 names_no_mode (rider index) tree = false
+
+-- the name of one of the ceilings of a class is not that of a cap
+abbrev pub names_no_cap : Where → Members → Bool
+names_no_cap (cap_ceiling index key) tree =
+    holds_of_some (λ one. not (is_mode (names_in (caps_in tree)) one.0)) (ceiling_at tree index key)
+names_no_cap at tree = false
 
 -- the test holds of an earlier place
 abbrev pub is_earlier : (ℕ → Bool) → ℕ → Bool
@@ -229,6 +274,8 @@ abbrev pub shares_validator : Where → Members → Bool
 shares_validator top tree = false
 shares_validator (class index) tree = false
 shares_validator (mode_fare index key) tree = false
+shares_validator (cap index) tree = false
+shares_validator (cap_ceiling index key) tree = false
 shares_validator (range index) tree =
     is_earlier (λ earlier. nat_le (first_at tree index) (last_at tree earlier)
     && nat_le (first_at tree earlier) (last_at tree index)) index
@@ -259,6 +306,8 @@ abbrev pub names_no_rider : Where → Members → Bool
 names_no_rider top tree = is_no_class tree (string_of (get_member (codes "default_class") tree))
 names_no_rider (class index) tree = false
 names_no_rider (mode_fare index key) tree = false
+names_no_rider (cap index) tree = false
+names_no_rider (cap_ceiling index key) tree = false
 names_no_rider (range index) tree = false
 names_no_rider (rider index) tree =
     is_none (token_at tree index)
@@ -282,6 +331,7 @@ is_wrong tree at Mode = names_no_mode at tree
 is_wrong tree at Overlap = shares_validator at tree
 is_wrong tree at Rider = names_no_rider at tree
 is_wrong tree at NoMemory = false
+is_wrong tree at Cap = names_no_cap at tree
 is_wrong tree at Zone = is_no_zone (get_member (codes "zone") tree)
 
 -- ---- the rows, in their order
@@ -312,6 +362,13 @@ fare_rows index key (member name value more) =
     a_row (mode_fare index key) Mode ∷ a_row (mode_fare index key) (Range the_key.Fares)
     ∷ fare_rows index (suc key) more
 
+-- key by key of the `caps` of a class: a cap, and its number
+abbrev pub ceiling_rows : ℕ → ℕ → Members → List FaultRow
+ceiling_rows index key no_members = []
+ceiling_rows index key (member name value more) =
+    a_row (cap_ceiling index key) Cap ∷ a_row (cap_ceiling index key) (Range the_key.ClassCaps)
+    ∷ ceiling_rows index (suc key) more
+
 -- of the terms of one class: `fare`, `rides`, `ceiling`
 abbrev pub rows_of_terms : ℕ → List FaultRow
 rows_of_terms index =
@@ -324,16 +381,28 @@ abbrev pub rows_of_fares : Members → ℕ → List FaultRow
 rows_of_fares tree index =
     a_row (class index) (Kind the_key.Fares) ∷ fare_rows index 0 (fares_in tree index)
 
+-- of its `caps`: their kind, and then key by key
+abbrev pub rows_of_ceilings : Members → ℕ → List FaultRow
+rows_of_ceilings tree index =
+    a_row (class index) (Kind the_key.ClassCaps) ∷ ceiling_rows index 0 (ceilings_in tree index)
+
 -- of what its rides give: `transfers`, `transfer_minutes`
 abbrev pub rows_of_transfers : ℕ → List FaultRow
 rows_of_transfers index =
     optional_rows (class index) the_key.RideTransfers
     ++ optional_rows (class index) the_key.TransferMinutes
 
--- of one class: its terms, its `fares`, and what its rides give
+-- of one class: its terms, its `fares`, its `caps`, and what its rides give
 abbrev pub rows_of_class : Members → ℕ → List FaultRow
 rows_of_class tree index =
-    rows_of_terms index ++ (rows_of_fares tree index ++ rows_of_transfers index)
+    rows_of_terms index
+    ++ (rows_of_fares tree index ++ (rows_of_ceilings tree index ++ rows_of_transfers index))
+
+-- of one cap: `window`, and `modes` with the names of all
+abbrev pub rows_of_cap : ℕ → List FaultRow
+rows_of_cap index =
+    needed_rows (cap index) the_key.CapWindow
+    ++ (a_row (cap index) (Kind the_key.CapModes) ∷ a_row (cap index) Mode ∷ [])
 
 -- of one element of `validators`: `first`, `last`, `mode`
 abbrev pub rows_of_range : ℕ → List FaultRow
@@ -348,6 +417,11 @@ abbrev pub class_rows : Members → ℕ → Members → List FaultRow
 class_rows tree index no_members = []
 class_rows tree index (member name value more) =
     rows_of_class tree index ++ class_rows tree (suc index) more
+
+-- cap by cap, from this place on
+abbrev pub cap_rows : ℕ → Members → List FaultRow
+cap_rows index no_members = []
+cap_rows index (member name value more) = rows_of_cap index ++ cap_rows (suc index) more
 
 -- element by element, each with the elements before it
 abbrev pub range_rows : ℕ → Items → List FaultRow
@@ -364,6 +438,10 @@ rider_rows index (member key value more) = a_row (rider index) Rider ∷ rider_r
 abbrev pub transfers_step : List FaultRow
 transfers_step =
     a_row top (Missing the_key.Transfers) ∷ a_row top (Kind the_key.Transfers) ∷ a_row top Mode ∷ []
+
+-- the step `caps`
+abbrev pub caps_step : Members → List FaultRow
+caps_step tree = optional_rows top the_key.Caps ++ cap_rows 0 (caps_in tree)
 
 -- the step `classes`
 abbrev pub classes_step : Members → List FaultRow
@@ -397,9 +475,9 @@ window_step = optional_rows top the_key.Window ++ optional_rows top the_key.DayS
 abbrev pub rows : Members → List FaultRow
 rows tree =
     needed_rows top the_key.Modes
-    ++ (transfers_step ++ (classes_step tree
+    ++ (transfers_step ++ (caps_step tree ++ (classes_step tree
     ++ (default_step
-    ++ (validators_step tree ++ (riders_step tree ++ (zone_step ++ window_step))))))
+    ++ (validators_step tree ++ (riders_step tree ++ (zone_step ++ window_step)))))))
 
 -- the fault of the first row that holds, if one does
 abbrev pub first_row : Members → List FaultRow → Option TableFault

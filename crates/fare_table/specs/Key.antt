@@ -1,8 +1,10 @@
 -- The words that fault lines print for keys.
 use Rattle.std.specs.Prelude.{ℕ, List, codes}
 use Rattle.fare_table.specs.declared.fault.Key.{Key}
-use Rattle.fare_table.specs.declared.fault.Key.TheVariants.{Modes, Transfers, Classes, Fare, Rides}
-use Rattle.fare_table.specs.declared.fault.Key.TheVariants.{Ceiling, Fares, RideTransfers}
+use Rattle.fare_table.specs.declared.fault.Key.TheVariants.{Modes, Transfers, Caps, CapWindow}
+use Rattle.fare_table.specs.declared.fault.Key.TheVariants.{CapModes, Classes, Fare, Rides}
+use Rattle.fare_table.specs.declared.fault.Key.TheVariants.{Ceiling, ClassCaps, Fares}
+use Rattle.fare_table.specs.declared.fault.Key.TheVariants.{RideTransfers}
 use Rattle.fare_table.specs.declared.fault.Key.TheVariants.{TransferMinutes, DefaultClass}
 use Rattle.fare_table.specs.declared.fault.Key.TheVariants.{Validators}
 use Rattle.fare_table.specs.declared.fault.Key.TheVariants.{First, Last, ModeName, Riders, Window}
@@ -12,11 +14,15 @@ use Rattle.fare_table.specs.declared.fault.Key.TheVariants.{DayStarts, Zone}
 abbrev pub key_name : Key → List ℕ
 key_name Modes = codes "Modes"
 key_name Transfers = codes "Transfers"
+key_name Caps = codes "Caps"
+key_name CapWindow = codes "CapWindow"
+key_name CapModes = codes "CapModes"
 key_name Classes = codes "Classes"
 key_name Fare = codes "Fare"
 key_name Rides = codes "Rides"
 key_name Ceiling = codes "Ceiling"
 key_name Fares = codes "Fares"
+key_name ClassCaps = codes "ClassCaps"
 key_name RideTransfers = codes "RideTransfers"
 key_name TransferMinutes = codes "TransferMinutes"
 key_name DefaultClass = codes "DefaultClass"

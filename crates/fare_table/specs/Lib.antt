@@ -1,4 +1,5 @@
 pub mod ByteOrder
+pub mod Caps
 pub mod Classes
 pub mod Faults
 pub mod Key

@@ -1,6 +1,6 @@
 -- The values at the keys of a TOML table.
-use Rattle.std.specs.Prelude.{ℕ, ℤ, pos, ◌&&◌, Bool, true, List, Option, None, Some, Ok, Err}
-use Rattle.std.specs.Prelude.{int_le, unsigned_abs, if◌then◌else◌}
+use Rattle.std.specs.Prelude.{ℕ, ℤ, pos, ◌&&◌, ◌∷◌, [], Bool, true, List, Option, None, Some}
+use Rattle.std.specs.Prelude.{Ok, Err, int_le, unsigned_abs, if◌then◌else◌}
 use Rattle.std.specs.Option.{is_some}
 use Rattle.std.specs.Option.{ok_or}
 use Rattle.toml.specs.Data.{Data, Items, no_items, item, Members, no_members, member, get_member}
@@ -58,6 +58,11 @@ abbrev pub are_tables : Items → Bool
 are_tables no_items = true
 are_tables (item value more) = is_some (as_table value) && are_tables more
 
+-- each item is a string
+abbrev pub are_texts : Items → Bool
+are_texts no_items = true
+are_texts (item value more) = is_some (as_str value) && are_texts more
+
 -- each value is a table
 abbrev pub hold_tables : Members → Bool
 hold_tables no_members = true
@@ -77,3 +82,8 @@ hold_numbers (member key value more) = is_some (as_integer value) && hold_number
 abbrev pub number_or : ℕ → Key → ℕ → ℕ → Option Data → OrFault ℕ
 number_or default key low high None = Ok default
 number_or default key low high (Some value) = number_in key low high value
+
+-- the keys by their places
+abbrev pub names_in : Members → List (List ℕ)
+names_in no_members = []
+names_in (member key value more) = key ∷ names_in more

@@ -3,7 +3,9 @@ use Rattle.std.specs.Prelude.{ℕ, List, [], Ok}
 use Rattle.std.specs.Option.{ok_or}
 use Rattle.toml.specs.Data.{Members}
 use Rattle.toml.specs.Parse.{parse_document}
-use Rattle.fare_table.specs.Classes.{classes_from, classes_of, default_of, names_in}
+use Rattle.fare_table.specs.Caps.{caps_of}
+use Rattle.fare_table.specs.Classes.{classes_from, classes_of, default_of}
+use Rattle.fare_table.specs.Members.{names_in}
 use Rattle.fare_table.specs.Modes.{modes_of}
 use Rattle.fare_table.specs.OrFault.{OrFault, ◌>>=◌}
 use Rattle.fare_table.specs.Riders.{riders_of}
@@ -19,8 +21,9 @@ unfoldable pub meaning_of_tree : Members → OrFault TableMeaning
 meaning_of_tree tree = do
   modes ← modes_of tree
   transfers ← transfers_of modes tree
+  capped ← caps_of modes tree
   table ← classes_of tree
-  classes ← classes_from modes [] table
+  classes ← classes_from modes capped.names [] table
   standard ← default_of table tree
   ranges ← ranges_of modes tree
   riders ← riders_of table tree
@@ -31,6 +34,8 @@ meaning_of_tree tree = do
     transfers = transfers;
     classes = classes;
     names = names_in table;
+    caps = capped.caps;
+    cap_names = capped.names;
     standard = standard;
     ranges = ranges;
     riders = riders;

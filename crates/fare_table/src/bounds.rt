@@ -36,8 +36,8 @@ impl Key {
     ghost use Rattle.fare_table.specs.Faults.{is_from, is_in_bounds, is_kind};
 
     /// The least and the greatest number that the key may have, or `None` if it takes no number.
-    /// Those of `Fares` are of each fare in it; `Last` may also not be below the `first` beside it,
-    /// and `RideTransfers` may also be a text.
+    /// Those of `Fares` and `ClassCaps` are of each number in it; `Last` may also not be below the
+    /// `first` beside it, and `RideTransfers` may also be a text.
     pub fn bounds(self) -> Option<(u32, u32)>
         ensures bounds { IfSome result (λ b. self ≢ Key.Last → (beside : Members) (number : ℤ)
             → is_in_bounds self beside (integer number) ≡ is_from b.0 b.1 (integer number)) }
@@ -50,6 +50,7 @@ impl Key {
             Key::Rides => Some((1, MAX_RIDES)),
             Key::Ceiling => Some((1, MAX_CEILING_CENTS)),
             Key::Fares => Some((0, MAX_FARE_CENTS)),
+            Key::ClassCaps => Some((1, MAX_CEILING_CENTS)),
             Key::RideTransfers => Some((0, MAX_RIDE_TRANSFERS)),
             Key::TransferMinutes => Some((1, MAX_TRANSFER_MINUTES)),
             Key::First | Key::Last => Some((0, u32::MAX)),

@@ -15,6 +15,12 @@ pub enum Key {
     Modes,
     /// `transfers`
     Transfers,
+    /// `caps`
+    Caps,
+    /// `window` of a cap
+    CapWindow,
+    /// `modes` of a cap
+    CapModes,
     /// `classes`
     Classes,
     /// `fare` of a class
@@ -25,6 +31,8 @@ pub enum Key {
     Ceiling,
     /// `fares` of a class
     Fares,
+    /// `caps` of a class
+    ClassCaps,
     /// `transfers` of a class
     RideTransfers,
     /// `transfer_minutes` of a class
@@ -57,11 +65,15 @@ impl Key {
         match self {
             Key::Modes => "Modes",
             Key::Transfers => "Transfers",
+            Key::Caps => "Caps",
+            Key::CapWindow => "CapWindow",
+            Key::CapModes => "CapModes",
             Key::Classes => "Classes",
             Key::Fare => "Fare",
             Key::Rides => "Rides",
             Key::Ceiling => "Ceiling",
             Key::Fares => "Fares",
+            Key::ClassCaps => "ClassCaps",
             Key::RideTransfers => "RideTransfers",
             Key::TransferMinutes => "TransferMinutes",
             Key::DefaultClass => "DefaultClass",
@@ -81,8 +93,9 @@ impl Key {
         ensures { result.now ≡ key_word self }
     {
         match self {
-            Key::Modes => "modes",
+            Key::Modes | Key::CapModes => "modes",
             Key::Transfers | Key::RideTransfers => "transfers",
+            Key::Caps | Key::ClassCaps => "caps",
             Key::Classes => "classes",
             Key::Fare => "fare",
             Key::Rides => "rides",
@@ -96,7 +109,7 @@ impl Key {
             Key::ModeName => "mode",
             Key::Riders => "riders",
             Key::Zone => "zone",
-            Key::Window => "window",
+            Key::Window | Key::CapWindow => "window",
             Key::DayStarts => "day_starts",
         }
     }
@@ -111,10 +124,11 @@ impl fmt::Display for Key {
 }
 
 /// The first fault of a table's text, in the order in which its keys are read: `modes`,
-/// `transfers`, `classes` (by name: `fare`, `rides`, `ceiling`, `fares` with the mode and the
-/// number of each, `transfers`, `transfer_minutes`), `default_class`, `validators` (each: `first`,
-/// `last`, `mode`, the range), `riders` (by token), `zone`, `window`, `day_starts`. The kind of all elements of
-/// an array or table comes first.
+/// `transfers`, `caps` (by name: `window`, `modes`), `classes` (by name: `fare`, `rides`,
+/// `ceiling`, `fares` with the mode and the number of each, `caps` with the cap and its number,
+/// `transfers`, `transfer_minutes`), `default_class`, `validators` (each: `first`, `last`, `mode`,
+/// the range), `riders` (by token), `zone`, `window`, `day_starts`. The kind of all elements of an
+/// array or table comes first.
 #[derive(Clone, Copy, Debug, PartialEq, Eq, Error)]
 pub enum TableFault {
     /// The bytes are not a TOML text, or not UTF-8.
@@ -129,7 +143,7 @@ pub enum TableFault {
     /// A value is outside its bounds.
     #[error("{key} is out of range")]
     Range { key: Key },
-    /// A transfer or a range of validators names none of the table's modes.
+    /// A transfer, a cap or a range of validators names none of the table's modes.
     #[error("a name is no mode of the table")]
     Mode,
     /// A range of validators shares a number with an earlier element's.
@@ -144,6 +158,9 @@ pub enum TableFault {
     /// The zone is not a POSIX rule text.
     #[error("the zone is no POSIX rule")]
     Zone,
+    /// A class names a ceiling for none of the table's caps.
+    #[error("a name is no cap of the table")]
+    Cap,
 }
 
 impl From<AllocError> for TableFault {

@@ -15,6 +15,6 @@ pub use bounds::{
 pub use fault::{Key, TableFault};
 pub use read_table::ReadFareTable;
 pub use tariffs::{
-    Class, Clock, FareTable, FollowFault, MAX_MODES, Mode, RangeRest, Tariff, Terms, TransferTerms,
-    WindowLength, WindowSpan, minutes_named,
+    CapTerms, Class, Clock, FareTable, FollowFault, MAX_CAPS, MAX_MODES, Mode, NO_CEILING,
+    RangeRest, Tariff, Terms, TransferTerms, WindowLength, WindowSpan, minutes_named,
 };

@@ -1,5 +1,6 @@
 //! The reader of a fare table's TOML text: one file a key.
 
+mod caps;
 mod class_names;
 mod classes;
 mod members;

@@ -3,7 +3,7 @@ use Rattle.std.specs.Prelude.{codes}
 use Rattle.std.proofs.Common.{◌≡◌, ℕ, ◌+◌, ◌<◌, List, [], ◌∷◌, ◌++◌, length, get_or, take, Option}
 use Rattle.std.proofs.Common.{refl, sym, ap, subst, ◌∙◌, append_assoc, append-nil}
 use Rattle.account_rule.specs.declared.no_transfer.NoTransfer.{NoTransfer}
-use Rattle.account_rule.specs.declared.reason.Reason.{Reason}
+use Rattle.fare_caps.specs.declared.capped_reason.CappedReason.{CappedReason}
 use Rattle.account_rule.specs.declared.window.WindowView.{WindowView}
 use Rattle.tariffs.specs.ClockView.{ClockView}
 use Rattle.tariffs.specs.Fares.{Fares}
@@ -47,7 +47,8 @@ lines-push fares token earlier (first ∷ entries) entry text line (start, rest,
 -- the lines of the first entries, and the next one's
 pub next_explained : (fares : Fares) (token : Token) (entries : List Entry) (position : ℕ)
     (other : Entry)
-    → position < length entries → (text line : List ℕ) (why : Reason) (none : Option NoTransfer)
+    → position < length entries → (text line : List ℕ) (why : CappedReason)
+    (none : Option NoTransfer)
     → why ≡ reason_after fares token (take position entries) (get_or entries position other)
     → none ≡ no_transfer_after fares token (take position entries) (get_or entries position other)
     → AreExplainedAfter fares token [] (take position entries) text
@@ -61,7 +62,7 @@ next_explained fares token entries position other within text line why none is_w
     (lines-push fares token [] done entry text line are
     (subst (λ (n : Option NoTransfer).
     IsExplainedLine fares entry (reason_after fares token done entry) n line) is_none
-    (subst (λ (w : Reason). IsExplainedLine fares entry w none line) is_why is)))
+    (subst (λ (w : CappedReason). IsExplainedLine fares entry w none line) is_why is)))
 
 windows-push : (clocks : ClockView) (windows : List WindowView) (window : WindowView)
     (text line : List ℕ)

@@ -5,11 +5,18 @@ use Rattle.tariffs.specs.declared.mode.Mode.{Mode}
 use Rattle.account_rule.specs.Kept.{Kept, kept_of}
 use Rattle.account_rule.specs.Reasons.{reason}
 use Rattle.account_rule.specs.TokenRules.{TokenRules, rules_of}
-use Rattle.account_rule.specs.Represents.{KeepsOf, Represents}
+use Rattle.account_rule.specs.Represents as plain
+use Rattle.account_rule.specs.Represents.{KeepsOf}
+use Rattle.fare_caps.specs.CapMeanings.{capped_rules_of}
+use Rattle.fare_caps.specs.CappedReplies.{capped_reason}
+use Rattle.fare_caps.specs.Represents.{Represents}
+use Rattle.fare_caps.specs.declared.capped_account.CappedAccount.{CappedAccount}
+use Rattle.fare_caps.proofs.AnswerLemmas.{capped-transfer}
 use Rattle.account_rule.specs.Taps.{LiveTap, live_at}
-use Rattle.account_rule.specs.declared.account.Account.{Account}
-use Rattle.account_rule.specs.declared.reason.Reason.{Reason}
-use Rattle.account_rule.specs.declared.reason.Reason.TheVariants.{Unknown, Stale, Transfer, Ride}
+use Rattle.account_rule.specs.declared.reason.Reason.TheVariants as plain_reason
+use Rattle.fare_caps.specs.declared.capped_reason.CappedReason.{CappedReason}
+use Rattle.fare_caps.specs.declared.capped_reason.CappedReason.TheVariants.{Ride, Stale, Transfer}
+use Rattle.fare_caps.specs.declared.capped_reason.CappedReason.TheVariants.{Unknown}
 use Rattle.account_rule.specs.declared.tap.TapIn.{TapIn}
 use Rattle.account_rule.proofs.ReasonLemmas.{giver-ride}
 use Rattle.fare_texts.specs.ReasonWords.{HasModeOf}
@@ -22,7 +29,7 @@ same-mode ride moment mode same = ap (λ (t : LiveTap). t.mode) same
 -- the ride of the account's last trip is the ride that gives the transfer
 within : (rules : TokenRules) (kept : Option Kept) (taps : List TapIn) (tap : TapIn) (moment : ℕ)
     (mode : Mode)
-    → KeepsOf rules kept taps → reason rules taps tap ≡ Transfer moment mode
+    → KeepsOf rules kept taps → reason rules taps tap ≡ plain_reason.Transfer moment mode
     → mode.position < rules.modes
 within rules kept taps tap moment mode holds is =
     let (trip, found, ride) = giver-ride rules taps tap moment mode is in
@@ -30,13 +37,15 @@ within rules kept taps tap moment mode holds is =
     (holds.ride_mode trip (holds.trip ∙ found))
 
 -- the reason for a tap has a mode of the table, if it has one
-pub has_mode : (fares : Fares) (token : List ℕ) (account : Account) (taps : List TapIn)
-    (tap : TapIn) (why : Reason)
-    → Represents (rules_of fares token) account taps → why ≡ reason (rules_of fares token) taps tap
+pub has_mode : (fares : Fares) (token : List ℕ) (account : CappedAccount) (taps : List TapIn)
+    (tap : TapIn) (why : CappedReason)
+    → Represents (capped_rules_of fares token) account taps
+    → why ≡ capped_reason (capped_rules_of fares token) taps tap
     → HasModeOf fares why
-unfolding Represents rules_of
+unfolding plain.Represents rules_of capped_rules_of
 has_mode fares token account taps tap Unknown holds is = tt
 has_mode fares token account taps tap (Stale latest) holds is = tt
 has_mode fares token account taps tap (Transfer moment mode) holds is =
-    within (rules_of fares token) (kept_of account) taps tap moment mode holds (sym is)
+    within (rules_of fares token) (kept_of account.account) taps tap moment mode holds.account
+    (capped-transfer (capped_rules_of fares token) taps tap moment mode (sym is))
 has_mode fares token account taps tap (Ride start until charge) holds is = tt

@@ -15,9 +15,9 @@ use Rattle.jiff_core.proofs.SignedLemmas.{signed_arith}
 use Rattle.jiff_core.proofs.StandardFacts.{known_days}
 use Rattle.jiff_fmt.specs.Text.{date_text}
 use Rattle.tariffs.specs.Fares.{Fares}
-use Rattle.account_rule.specs.declared.reason.Charge.{Charge}
-use Rattle.account_rule.specs.declared.reason.Reason.{Reason}
-use Rattle.account_rule.specs.declared.reason.Reason.TheVariants.{Unknown, Stale, Transfer, Ride}
+use Rattle.fare_caps.specs.declared.capped_reason.CappedReason.{CappedReason}
+use Rattle.fare_caps.specs.declared.capped_reason.CappedReason.TheVariants.{Ride, Stale, Transfer}
+use Rattle.fare_caps.specs.declared.capped_reason.CappedReason.TheVariants.{Unknown}
 use Rattle.histories.specs.Entry.{own}
 use Rattle.histories.specs.declared.entry.Entry.{Entry}
 use Rattle.tap_views.specs.declared.token.Token.{Token}
@@ -152,7 +152,7 @@ pointing words at =
     let found = moment_exists at in
     (words ++ found.0, record { moment = found.0; is = found.1; shown = refl })
 
-fields_exist : (why : Reason) → (text : List ℕ) × IsReasonFields why text
+fields_exist : (why : CappedReason) → (text : List ℕ) × IsReasonFields why text
 fields_exist Unknown = (codes ",,,unknown,", refl)
 fields_exist (Stale latest) = pointing (codes ",,,stale,") latest
 fields_exist (Transfer moment mode) = pointing (codes ",,,transfer,") moment
@@ -163,7 +163,7 @@ fields_exist (Ride start until charge) =
       record { from = from.0; starts = from.1; to = to.0; ends = to.1; shown = refl },
     )
 
-pub line_exists : (fares : Fares) (token : Token) (number : ℕ) (entry : Entry) (why : Reason)
+pub line_exists : (fares : Fares) (token : Token) (number : ℕ) (entry : Entry) (why : CappedReason)
     → (line : List ℕ) × IsLedgerLine fares token number entry why line
 line_exists fares token number entry why =
     let moment = moment_exists entry.moment in

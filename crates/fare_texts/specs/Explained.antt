@@ -1,18 +1,20 @@
 -- A token's explained statement: the lines of its statement with the reason behind each, the
 -- token's terms by each table before the lines, and all its windows.
-use Rattle.std.specs.Prelude.{◌≡◌, ℕ, List, [], ◌∷◌, ◌++◌, Option, Some, None, codes, flat_map, map}
+use Rattle.std.specs.Prelude.{◌≡◌, ℕ, ◌&&◌, not, Bool, if◌then◌else◌, List, [], ◌∷◌, ◌++◌, Option}
+use Rattle.std.specs.Prelude.{Some, None, codes, map, nat_lt}
 use Rattle.std.specs.Fmt.{decimal}
-use Rattle.std.specs.Option.{option_to_list}
 use Rattle.tariffs.specs.ClockView.{ClockView}
 use Rattle.tariffs.specs.Fares.{Fares, terms_at}
 use Rattle.tariffs.specs.TableMeaning.{TableMeaning}
 use Rattle.tariffs.specs.declared.terms.Terms.{Terms}
-use Rattle.account_rule.specs.TokenRules.{TokenRules, rules_of}
-use Rattle.account_rule.specs.Windows.{last_window, shown_window, windows}
+use Rattle.account_rule.specs.Laws.{is_ride}
 use Rattle.account_rule.specs.declared.no_transfer.NoTransfer.{NoTransfer}
-use Rattle.account_rule.specs.declared.reason.Reason.{Reason}
+use Rattle.fare_caps.specs.declared.capped_reason.CappedReason.{CappedReason}
 use Rattle.account_rule.specs.declared.tap.TapIn.{TapIn}
 use Rattle.account_rule.specs.declared.window.WindowView.{WindowView}
+use Rattle.fare_caps.specs.CapMeanings.{capped_rules_of}
+use Rattle.fare_caps.specs.CappedReplies.{capped_reply, capped_window}
+use Rattle.fare_caps.specs.Caps.{CappedRules}
 use Rattle.histories.specs.Entry.{tap_of}
 use Rattle.histories.specs.Sums.{sums}
 use Rattle.tap_views.specs.Token.{bytes_of}
@@ -26,16 +28,22 @@ use Rattle.fare_texts.specs.LedgerLines.{reason_after}
 use Rattle.fare_texts.specs.NoTransferWords.{IsNoTransferEnd, no_transfer_after}
 use Rattle.fare_texts.specs.ReasonWords.{IsReasonWords}
 
--- all elements but the last
-unfoldable pub but_last : {A : Type 0} → List A → List A
-but_last [] = []
-but_last (x ∷ []) = []
-but_last (x ∷ next ∷ xs) = x ∷ but_last (next ∷ xs)
+-- the window, if a ride at the moment opens another after it
+abbrev pub window_ended : Option WindowView → Bool → ℕ → List WindowView
+window_ended None ride moment = []
+window_ended (Some window) ride moment =
+    if ride && not (nat_lt moment window.until) then window ∷ [] else []
+
+-- what the windows show, in their order, that end at these taps, which follow the earlier ones
+unfoldable pub windows_ended : CappedRules → List TapIn → List TapIn → List WindowView
+windows_ended rules earlier [] = []
+windows_ended rules earlier (tap ∷ taps) =
+    window_ended (capped_window rules earlier) (is_ride (capped_reply rules earlier tap)) tap.moment
+    ++ windows_ended rules (earlier ++ tap ∷ []) taps
 
 -- what the windows before the last one show, in their order
-unfoldable pub earlier_windows : TokenRules → List TapIn → List WindowView
-earlier_windows rules taps =
-    flat_map (λ window. option_to_list (shown_window rules window)) (but_last (windows rules taps))
+abbrev pub earlier_windows : CappedRules → List TapIn → List WindowView
+earlier_windows rules taps = windows_ended rules [] taps
 
 -- ` fare 300 rides 12 ceiling 3500`, with the end of the line
 unfoldable pub terms_words : Terms → List ℕ
@@ -71,7 +79,7 @@ pub record AreTermsLines (fares : Fares) (token : List ℕ) (text : List ℕ) : 
 -- the entry's line of a statement, then its reason, why a ride is no transfer, and under a zone
 -- what clocks showed, as `2024-03-08T17:00:00.000Z subway 1000 paid 300 because .., no transfer
 -- since .., local 2024-03-08T12:00:00-05:00`
-pub record IsExplainedLine (fares : Fares) (entry : Entry) (why : Reason)
+pub record IsExplainedLine (fares : Fares) (entry : Entry) (why : CappedReason)
     (none : Option NoTransfer) (line : List ℕ) : Type 0 where
   pub moment : List ℕ
   pub is : IsMomentText entry.moment moment
@@ -119,12 +127,12 @@ IsLastLine clocks None line = line ≡ codes "window none\n"
 IsLastLine clocks (Some window) line = IsExplainedWindow clocks (codes "window ") window line
 
 -- the windows of these taps, the last one last
-pub record AreWindowLines (clocks : ClockView) (rules : TokenRules) (taps : List TapIn)
+pub record AreWindowLines (clocks : ClockView) (rules : CappedRules) (taps : List TapIn)
     (text : List ℕ) : Type 0 where
   pub earlier : List ℕ
   pub of_earlier : AreEarlierLines clocks (earlier_windows rules taps) earlier
   pub last : List ℕ
-  pub of_last : IsLastLine clocks (last_window rules taps) last
+  pub of_last : IsLastLine clocks (capped_window rules taps) last
   pub whole : text ≡ earlier ++ last
 
 -- the explained statement of a token with these entries
@@ -135,7 +143,7 @@ pub record IsExplained (fares : Fares) (token : Token) (entries : List Entry) (t
   pub terms : List ℕ
   pub of_terms : AreTermsLines fares (bytes_of token) terms
   pub windows : List ℕ
-  pub of_windows : AreWindowLines fares.zone (rules_of fares (bytes_of token))
+  pub of_windows : AreWindowLines fares.zone (capped_rules_of fares (bytes_of token))
       (map (tap_of fares) entries) windows
   pub whole : text ≡ statement_head token ++ (terms ++ (lines ++ (totals_line (sums entries)
       ++ windows)))

@@ -7,8 +7,8 @@ use Rattle.tariffs.specs.ClockView.{ClockView}
 use Rattle.tariffs.specs.Fares.{Fares, terms_at}
 use Rattle.tariffs.specs.TableMeaning.{TableMeaning}
 use Rattle.tariffs.specs.declared.terms.Terms.{Terms}
-use Rattle.account_rule.specs.TokenRules.{rules_of}
-use Rattle.account_rule.specs.Windows.{last_window}
+use Rattle.fare_caps.specs.CapMeanings.{capped_rules_of}
+use Rattle.fare_caps.specs.CappedReplies.{capped_window}
 use Rattle.account_rule.specs.declared.no_transfer.NoTransfer.{NoTransfer}
 use Rattle.account_rule.specs.declared.no_transfer.NoTransfer.TheVariants.{FirstTap, TooLate}
 use Rattle.account_rule.specs.declared.no_transfer.NoTransfer.TheVariants.{AfterTransfer, NoneGiven}
@@ -17,8 +17,11 @@ use Rattle.account_rule.specs.declared.no_transfer.NoTransfer.TheVariants.{RideT
 use Rattle.account_rule.specs.declared.reason.Charge.{Charge}
 use Rattle.account_rule.specs.declared.reason.Charge.TheVariants.{Full, CeilingCut, CeilingReached}
 use Rattle.account_rule.specs.declared.reason.Charge.TheVariants.{RideLimitReached}
-use Rattle.account_rule.specs.declared.reason.Reason.{Reason}
-use Rattle.account_rule.specs.declared.reason.Reason.TheVariants.{Unknown, Stale, Transfer, Ride}
+use Rattle.fare_caps.specs.declared.cap_charge.CapCharge.{CapCharge}
+use Rattle.fare_caps.specs.declared.cap_charge.CapCharge.TheVariants.{ByWindow, CapCut, CapReached}
+use Rattle.fare_caps.specs.declared.capped_reason.CappedReason.{CappedReason}
+use Rattle.fare_caps.specs.declared.capped_reason.CappedReason.TheVariants.{Ride, Stale, Transfer}
+use Rattle.fare_caps.specs.declared.capped_reason.CappedReason.TheVariants.{Unknown}
 use Rattle.account_rule.specs.declared.window.WindowView.{WindowView}
 use Rattle.histories.specs.Entry.{tap_of}
 use Rattle.histories.specs.Sums.{Sums, sums}
@@ -62,15 +65,29 @@ dated_json clocks from terms =
 abbrev pub later_json : ClockView → List ℕ → ℕ × TableMeaning → List ℕ
 later_json clocks token next = dated_json clocks next.0 (terms_at next.1 token)
 
--- what decided the cents of a ride, and its number in its window
-unfoldable pub charge_json : Charge → List ℕ
-charge_json (Full position cents) =
+-- how `window` decided the cents of a ride, and its number in its window
+unfoldable pub window_charge_json : Charge → List ℕ
+window_charge_json (Full position cents) =
     codes "\"kind\":\"full\",\"ride\":" ++ decimal (position + 1)
-charge_json (CeilingCut position cents) =
+window_charge_json (CeilingCut position cents) =
     codes "\"kind\":\"ceiling-cut\",\"ride\":" ++ decimal (position + 1)
-charge_json (CeilingReached position) =
+window_charge_json (CeilingReached position) =
     codes "\"kind\":\"ceiling\",\"ride\":" ++ decimal (position + 1)
-charge_json RideLimitReached = codes "\"kind\":\"ride-limit\",\"ride\":null"
+window_charge_json RideLimitReached = codes "\"kind\":\"ride-limit\",\"ride\":null"
+
+-- likewise how a cap decided them, and its name
+unfoldable pub cap_json : List ℕ → ℕ → List ℕ → List ℕ
+cap_json kind position name =
+    codes "\"kind\":\"" ++ (kind ++ (codes "\",\"cap\":\"" ++ (name ++ (codes "\",\"ride\":"
+    ++ decimal (position + 1)))))
+
+-- either, by the names of caps
+abbrev pub charge_json : List (List ℕ) → CapCharge → List ℕ
+charge_json caps (ByWindow charge) = window_charge_json charge
+charge_json caps (CapCut position cents cap) =
+    cap_json (codes "cap-cut") position (slice_index_or caps cap [])
+charge_json caps (CapReached position cap) =
+    cap_json (codes "cap") position (slice_index_or caps cap [])
 
 -- the start and the end of a window
 unfoldable pub within_json : ClockView → ℕ → ℕ → List ℕ
@@ -78,16 +95,17 @@ within_json clocks start until =
     codes "\"window_start\":" ++ (at_json clocks start ++ (codes ",\"window_end\":"
     ++ at_json clocks until))
 
--- why a tap is answered as it is, by the names of modes
-abbrev pub reason_json : ClockView → List (List ℕ) → Reason → List ℕ
-reason_json clocks modes Unknown = codes "{\"kind\":\"unknown\"}"
-reason_json clocks modes (Stale latest) =
+-- why a tap is answered as it is, by the names of modes and of caps
+abbrev pub reason_json : ClockView → List (List ℕ) → List (List ℕ) → CappedReason → List ℕ
+reason_json clocks modes caps Unknown = codes "{\"kind\":\"unknown\"}"
+reason_json clocks modes caps (Stale latest) =
     codes "{\"kind\":\"stale\",\"points_at\":" ++ (at_json clocks latest ++ codes "}")
-reason_json clocks modes (Transfer moment mode) =
+reason_json clocks modes caps (Transfer moment mode) =
     codes "{\"kind\":\"transfer\",\"points_at\":" ++ (at_json clocks moment
     ++ (codes ",\"mode\":\"" ++ (slice_index_or modes mode.position [] ++ codes "\"}")))
-reason_json clocks modes (Ride start until charge) =
-    codes "{" ++ (charge_json charge ++ (codes "," ++ (within_json clocks start until ++ codes "}")))
+reason_json clocks modes caps (Ride start until charge) =
+    codes "{" ++ (charge_json caps charge ++ (codes "," ++ (within_json clocks start until
+    ++ codes "}")))
 
 -- `"hours":2,"minutes":3,"seconds":10`, in whole seconds of these milliseconds
 unfoldable pub gap_json : ℕ → List ℕ
@@ -112,7 +130,7 @@ no_transfer_json clocks modes moment (NotPermitted from to) =
     ++ (codes "\",\"to\":\"" ++ (slice_index_or modes to.position [] ++ codes "\"}")))
 
 -- why an entry that has this reason is no transfer: null, unless it is a ride
-abbrev pub lack_json : ClockView → List (List ℕ) → ℕ → Reason → Option NoTransfer → List ℕ
+abbrev pub lack_json : ClockView → List (List ℕ) → ℕ → CappedReason → Option NoTransfer → List ℕ
 lack_json clocks modes moment Unknown lack = codes "null"
 lack_json clocks modes moment (Stale latest) lack = codes "null"
 lack_json clocks modes moment (Transfer last mode) lack = codes "null"
@@ -143,16 +161,18 @@ what_json fares number entry =
     start_json fares.zone number entry.moment ++ fields_json fares entry
 
 -- and of its reason, and if it is a ride, of why it is no transfer
-unfoldable pub why_json : ClockView → List (List ℕ) → ℕ → Reason → Option NoTransfer → List ℕ
-why_json clocks modes moment why lack =
-    codes ",\"reason\":" ++ (reason_json clocks modes why ++ (codes ",\"no_transfer\":"
+unfoldable pub why_json : ClockView → List (List ℕ) → List (List ℕ) → ℕ → CappedReason
+    → Option NoTransfer → List ℕ
+why_json clocks modes caps moment why lack =
+    codes ",\"reason\":" ++ (reason_json clocks modes caps why ++ (codes ",\"no_transfer\":"
     ++ (lack_json clocks modes moment why lack ++ codes "}")))
 
 -- the line of an entry of the token that follows the earlier ones
 abbrev pub entry_json : Fares → Token → List Entry → Entry → List ℕ
 entry_json fares token earlier entry =
     what_json fares (length earlier) entry
-    ++ why_json fares.zone fares.meaning.modes entry.moment (reason_after fares token earlier entry)
+    ++ why_json fares.zone fares.meaning.modes fares.meaning.cap_names entry.moment
+    (reason_after fares token earlier entry)
     (no_transfer_after fares token earlier entry)
 
 -- the lines of all entries of the token that follow the earlier ones
@@ -210,5 +230,5 @@ abbrev pub json_of : Fares → Token → List Entry → List ℕ
 json_of fares token entries =
     head_json fares token ++ (entries_json fares token [] entries
     ++ (first_sums_json (sums entries) ++ (last_sums_json (sums entries) ++ windows_json fares.zone
-    (earlier_windows (rules_of fares (bytes_of token)) (map (tap_of fares) entries))
-    (last_window (rules_of fares (bytes_of token)) (map (tap_of fares) entries)))))
+    (earlier_windows (capped_rules_of fares (bytes_of token)) (map (tap_of fares) entries))
+    (capped_window (capped_rules_of fares (bytes_of token)) (map (tap_of fares) entries)))))

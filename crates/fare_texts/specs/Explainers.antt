@@ -1,10 +1,10 @@
 -- What an explainer represents.
 use Rattle.std.specs.Prelude.{◌≡◌, ℕ, List, length, map}
 use Rattle.tariffs.specs.Fares.{Fares}
-use Rattle.account_rule.specs.Replies.{reply}
 use Rattle.account_rule.specs.declared.reply.Answer.TheVariants.{Unknown}
-use Rattle.account_rule.specs.TokenRules.{rules_of}
-use Rattle.account_rule.specs.Represents.{Represents}
+use Rattle.fare_caps.specs.CapMeanings.{capped_rules_of}
+use Rattle.fare_caps.specs.CappedReplies.{capped_reply}
+use Rattle.fare_caps.specs.Represents.{Represents}
 use Rattle.histories.specs.Entry.{tap_of}
 use Rattle.tap_views.specs.Token.{bytes_of}
 use Rattle.histories.specs.declared.entry.Entry.{Entry}
@@ -22,8 +22,8 @@ next_entry fares token earlier validator moment =
       answer = Unknown;
       cents = 0;
     } in
-    let replied = reply (rules_of fares (bytes_of token)) (map (tap_of fares) earlier)
-    (tap_of fares tap) in
+    let replied = capped_reply (capped_rules_of fares (bytes_of token))
+    (map (tap_of fares) earlier) (tap_of fares tap) in
     record {
       token = token;
       validator = validator;
@@ -36,6 +36,6 @@ next_entry fares token earlier validator moment =
 -- them
 pub record HasExplained (fares : Fares) (explainer : Explainer)
     (entries : List Entry) : Type 0 where
-  pub holds : Represents (rules_of fares (bytes_of explainer.token)) explainer.account
+  pub holds : Represents (capped_rules_of fares (bytes_of explainer.token)) explainer.account
       (map (tap_of fares) entries)
   pub counted : explainer.number ≡ length entries

@@ -4,13 +4,16 @@ use Rattle.std.specs.Prelude.{codes, slice_index_or}
 use Rattle.std.specs.Fmt.{decimal}
 use Rattle.hex.specs.Hex.{encode_lower}
 use Rattle.tariffs.specs.Fares.{Fares, mode_at}
-use Rattle.account_rule.specs.Reasons.{reason}
-use Rattle.account_rule.specs.TokenRules.{rules_of}
+use Rattle.fare_caps.specs.CapMeanings.{capped_rules_of}
+use Rattle.fare_caps.specs.CappedReplies.{capped_reason}
 use Rattle.account_rule.specs.declared.reason.Charge.{Charge}
 use Rattle.account_rule.specs.declared.reason.Charge.TheVariants.{Full, CeilingCut, CeilingReached}
 use Rattle.account_rule.specs.declared.reason.Charge.TheVariants.{RideLimitReached}
-use Rattle.account_rule.specs.declared.reason.Reason.{Reason}
-use Rattle.account_rule.specs.declared.reason.Reason.TheVariants.{Unknown, Stale, Transfer, Ride}
+use Rattle.fare_caps.specs.declared.cap_charge.CapCharge.{CapCharge}
+use Rattle.fare_caps.specs.declared.cap_charge.CapCharge.TheVariants.{ByWindow, CapCut, CapReached}
+use Rattle.fare_caps.specs.declared.capped_reason.CappedReason.{CappedReason}
+use Rattle.fare_caps.specs.declared.capped_reason.CappedReason.TheVariants.{Ride, Stale, Transfer}
+use Rattle.fare_caps.specs.declared.capped_reason.CappedReason.TheVariants.{Unknown}
 use Rattle.histories.specs.Entry.{tap_of}
 use Rattle.tap_views.specs.Token.{bytes_of}
 use Rattle.histories.specs.declared.entry.Entry.{Entry}
@@ -51,15 +54,21 @@ entry_fields fares entry =
 unfoldable pub position_fields : ℕ → List ℕ → List ℕ
 position_fields position word = codes "," ++ (decimal (position + 1) ++ (codes "," ++ (word ++ codes ",")))
 
--- a ride's place and what decided its cents; no place if the ride limit is reached
-abbrev pub ride_rest : Charge → List ℕ
-ride_rest (Full position cents) = position_fields position (codes "full")
-ride_rest (CeilingCut position cents) = position_fields position (codes "ceiling-cut")
-ride_rest (CeilingReached position) = position_fields position (codes "ceiling")
-ride_rest RideLimitReached = codes ",,ride-limit,"
+-- a ride's place and how `window` decided its cents; no place if the ride limit is reached
+abbrev pub window_rest : Charge → List ℕ
+window_rest (Full position cents) = position_fields position (codes "full")
+window_rest (CeilingCut position cents) = position_fields position (codes "ceiling-cut")
+window_rest (CeilingReached position) = position_fields position (codes "ceiling")
+window_rest RideLimitReached = codes ",,ride-limit,"
+
+-- a ride's place and what decided its cents: `window`, or a cap beside it
+abbrev pub ride_rest : CapCharge → List ℕ
+ride_rest (ByWindow charge) = window_rest charge
+ride_rest (CapCut position cents cap) = position_fields position (codes "cap-cut")
+ride_rest (CapReached position cap) = position_fields position (codes "cap")
 
 -- the window's start and end, the ride's place and what decided its cents
-pub record IsRideFields (start until : ℕ) (charge : Charge) (text : List ℕ) : Type 0 where
+pub record IsRideFields (start until : ℕ) (charge : CapCharge) (text : List ℕ) : Type 0 where
   pub from : List ℕ
   pub starts : IsMomentText start from
   pub to : List ℕ
@@ -73,15 +82,15 @@ pub record IsPointing (words : List ℕ) (at : ℕ) (text : List ℕ) : Type 0 w
   pub shown : text ≡ words ++ moment
 
 -- the last five fields, by the reason
-abbrev pub IsReasonFields : Reason → List ℕ → Type 0
+abbrev pub IsReasonFields : CappedReason → List ℕ → Type 0
 IsReasonFields Unknown text = text ≡ codes ",,,unknown,"
 IsReasonFields (Stale latest) text = IsPointing (codes ",,,stale,") latest text
 IsReasonFields (Transfer moment mode) text = IsPointing (codes ",,,transfer,") moment text
 IsReasonFields (Ride start until charge) text = IsRideFields start until charge text
 
 -- the line of a token's entry with this number and this reason
-pub record IsLedgerLine (fares : Fares) (token : Token) (number : ℕ) (entry : Entry) (why : Reason)
-    (line : List ℕ) : Type 0 where
+pub record IsLedgerLine (fares : Fares) (token : Token) (number : ℕ) (entry : Entry)
+    (why : CappedReason) (line : List ℕ) : Type 0 where
   pub moment : List ℕ
   pub is : IsMomentText entry.moment moment
   pub reason_fields : List ℕ
@@ -90,9 +99,10 @@ pub record IsLedgerLine (fares : Fares) (token : Token) (number : ℕ) (entry : 
       ++ (moment ++ (entry_fields fares entry ++ (reason_fields ++ codes "\n")))
 
 -- why the token's entry is answered as it is, after its earlier entries
-abbrev pub reason_after : Fares → Token → List Entry → Entry → Reason
+abbrev pub reason_after : Fares → Token → List Entry → Entry → CappedReason
 reason_after fares token earlier entry =
-    reason (rules_of fares (bytes_of token)) (map (tap_of fares) earlier) (tap_of fares entry)
+    capped_reason (capped_rules_of fares (bytes_of token)) (map (tap_of fares) earlier)
+    (tap_of fares entry)
 
 -- the line of the token's entry that follows the earlier ones: its number, and its reason
 abbrev pub IsLedgerLineAfter : Fares → Token → List Entry → Entry → List ℕ → Type 0

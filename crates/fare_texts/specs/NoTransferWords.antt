@@ -10,8 +10,9 @@ use Rattle.account_rule.specs.declared.no_transfer.NoTransfer.TheVariants.{First
 use Rattle.account_rule.specs.declared.no_transfer.NoTransfer.TheVariants.{AfterTransfer, NoneGiven}
 use Rattle.account_rule.specs.declared.no_transfer.NoTransfer.TheVariants.{NotPermitted}
 use Rattle.account_rule.specs.declared.no_transfer.NoTransfer.TheVariants.{RideTooLate}
-use Rattle.account_rule.specs.declared.reason.Reason.{Reason}
-use Rattle.account_rule.specs.declared.reason.Reason.TheVariants.{Unknown, Stale, Transfer, Ride}
+use Rattle.fare_caps.specs.declared.capped_reason.CappedReason.{CappedReason}
+use Rattle.fare_caps.specs.declared.capped_reason.CappedReason.TheVariants.{Ride, Stale, Transfer}
+use Rattle.fare_caps.specs.declared.capped_reason.CappedReason.TheVariants.{Unknown}
 use Rattle.histories.specs.Entry.{tap_of}
 use Rattle.histories.specs.declared.entry.Entry.{Entry}
 use Rattle.tap_views.specs.Token.{bytes_of}
@@ -61,7 +62,7 @@ IsNoTransferText fares moment (NotPermitted from to) text =
     (slice_index_or fares.meaning.modes to.position [])
 
 -- the text says why an entry that has this reason is no transfer: nothing, unless it is a ride
-abbrev pub IsNoTransferEnd : Fares → ℕ → Reason → Option NoTransfer → List ℕ → Type 0
+abbrev pub IsNoTransferEnd : Fares → ℕ → CappedReason → Option NoTransfer → List ℕ → Type 0
 IsNoTransferEnd fares moment Unknown lack text = text ≡ []
 IsNoTransferEnd fares moment (Stale latest) lack text = text ≡ []
 IsNoTransferEnd fares moment (Transfer last mode) lack text = text ≡ []

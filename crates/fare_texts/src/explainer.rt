@@ -3,8 +3,8 @@
 ghost use Rattle.std.specs.Prelude.{◌≡◌, ◌+◌, ◌^◌, ◌<◌, ◌≤◌, ◌++◌, ◌∷◌, ◌⊎◌, [], List, ℕ, IfOk};
 ghost use Rattle.std.specs.Prelude.{length, map, string_bytes, OnErr, OnOk};
 ghost use Rattle.std.specs.Option.{ForSome};
-ghost use Rattle.account_rule.specs.TokenRules.{rules_of};
-ghost use Rattle.account_rule.specs.Windows.{last_window};
+ghost use Rattle.fare_caps.specs.CapMeanings.{capped_rules_of};
+ghost use Rattle.fare_caps.specs.CappedReplies.{capped_window};
 ghost use Rattle.tariffs.specs.Fares.{Fares};
 ghost use Rattle.tap_views.specs.Token.{bytes_of};
 ghost use Rattle.histories.specs.Entry.{tap_of};
@@ -16,7 +16,8 @@ ghost use Rattle.fare_texts.specs.NoTransferWords.{no_transfer_after};
 ghost use Rattle.fare_texts.specs.ReasonWords.{HasModeOf};
 
 use crate::ledger_line::write_line;
-use account_rule::{Account, NoTransfer, Reason, TapIn, WindowView};
+use account_rule::{NoTransfer, TapIn, WindowView};
+use fare_caps::{CappedAccount, CappedReason};
 use histories::Entry;
 use std::alloc::AllocError;
 use tap_views::{MOMENT_LIMIT_MS, NoMemory, Token};
@@ -48,7 +49,7 @@ pub struct Explainer {
     /// How many of its entries were taken.
     pub number: u64,
     /// Its account after them.
-    pub account: Account,
+    pub account: CappedAccount,
 }
 
 impl Explainer {
@@ -61,17 +62,17 @@ impl Explainer {
         Explainer {
             token,
             number: 0,
-            account: Account::fresh(),
+            account: CappedAccount::fresh(),
         }
     }
 
     /// The token's last window after the entries taken, or `None` before its first ride.
-    pub fn window(&self) -> Option<WindowView>
-        ensures { (fares : Fares) (explained : List Entry) → HasExplained fares self.now explained
-            → result ≡ last_window (rules_of fares (bytes_of self.now.token))
-            (map (tap_of fares) explained) }
+    pub fn window(&self, table: &FareTable) -> Option<WindowView>
+        ensures { (explained : List Entry) → HasExplained table.now self.now explained
+            → result ≡ capped_window (capped_rules_of table.now (bytes_of self.now.token))
+            (map (tap_of table.now) explained) }
     {
-        self.account.window()
+        self.account.window(table)
     }
 
     /// Why the token's next entry, if it is a ride, is no transfer. `None` if the table does not
@@ -86,7 +87,11 @@ impl Explainer {
     {
         let mode = table.mode_of(entry.moment, entry.validator)?;
         let bytes = self.token.bytes();
-        Some(self.account.no_transfer(table, &bytes, entry.moment, mode))
+        Some(
+            self.account
+                .account
+                .no_transfer(table, &bytes, entry.moment, mode),
+        )
     }
 
     /// Takes the token's next entry, and returns the account rule's reason for it after those taken
@@ -97,7 +102,7 @@ impl Explainer {
         table: &FareTable,
         clock: &Clock,
         entry: &Entry,
-    ) -> Result<Reason, NoMemory>
+    ) -> Result<CappedReason, NoMemory>
         requires clock { clock.now ≡ table.now.zone }
         requires explained { (earlier : List Entry) × HasExplained table.now self.old earlier }
         requires room { self.old.number + 1 < 2 ^ 64 }
@@ -130,7 +135,7 @@ impl Explainer {
         clock: &Clock,
         validator: u32,
         moment: u64,
-    ) -> (Entry, Reason)
+    ) -> (Entry, CappedReason)
         requires clock { clock.now ≡ table.now.zone }
         requires early { moment < 4_102_444_800_000 }
         requires explained { (earlier : List Entry) × HasExplained table.now self.old earlier }
@@ -146,8 +151,6 @@ impl Explainer {
         ensures token { self.new.token ≡ self.old.token }
         ensures number { self.new.number ≡ self.old.number + 1 }
     {
-        // proof: each reply is the one that follows from the reason
-        account_rule::laws::replies_follow_reasons();
         let bytes = self.token.bytes();
         let tap = TapIn {
             moment,

@@ -12,7 +12,8 @@ use crate::answer_name;
 use crate::line::Line;
 use crate::moment::put_moment;
 use crate::reason_fields::put_reason_fields;
-use account_rule::{Answer, Reason};
+use account_rule::Answer;
+use fare_caps::CappedReason;
 use histories::Entry;
 use std::alloc::AllocError;
 use tap_views::Token;
@@ -28,7 +29,7 @@ pub fn write_line(
     token: Token,
     number: u64,
     entry: &Entry,
-    reason: &Reason,
+    reason: &CappedReason,
 ) -> Result<(), AllocError>
     ensures { OnOk result ((line : List ℕ)
         × IsLedgerLine table.now token number entry.now reason.now line
@@ -92,7 +93,7 @@ fn put_start(line: &mut Line, token: Token, number: u64, entry: &Entry)
 
 /// Puts what a line has after its mode, as `,paid,300,..`.
 #[inline(always)]
-fn put_end(line: &mut Line, entry: &Entry, reason: &Reason)
+fn put_end(line: &mut Line, entry: &Entry, reason: &CappedReason)
     requires { line.old ≡ [] }
     ensures put { (fields : List ℕ) × IsReasonFields reason.now fields
         × (line.new ≡ codes "," ++ (answer_text entry.now.answer

@@ -8,7 +8,8 @@ ghost use Rattle.fare_texts.specs.NoTransferWords.{IsNoTransferText, IsRideTooLa
 ghost use Rattle.fare_texts.specs.NoTransferWords.{IsTooLateText, gap_words, pair_words};
 
 use crate::write_moment;
-use account_rule::{NoTransfer, Reason};
+use account_rule::NoTransfer;
+use fare_caps::CappedReason;
 use std::alloc::AllocError;
 use tariffs::FareTable;
 
@@ -18,7 +19,7 @@ pub fn write_no_transfer(
     text: &mut String,
     table: &FareTable,
     moment: u64,
-    reason: &Reason,
+    reason: &CappedReason,
     none: Option<NoTransfer>,
 ) -> Result<(), AllocError>
     requires { ForSome none (HasModesBelow (length table.now.meaning.modes)) }
@@ -27,11 +28,13 @@ pub fn write_no_transfer(
         × (string_bytes text.new ≡ string_bytes text.old ++ written)) }
 {
     match *reason {
-        Reason::Ride { .. } => match none {
+        CappedReason::Ride { .. } => match none {
             Some(none) => write_words(text, table, moment, none),
             None => Ok(()),
         },
-        Reason::Unknown | Reason::Stale { .. } | Reason::Transfer { .. } => Ok(()),
+        CappedReason::Unknown | CappedReason::Stale { .. } | CappedReason::Transfer { .. } => Ok(
+            (),
+        ),
     }
 }
 

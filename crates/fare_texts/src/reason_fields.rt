@@ -4,25 +4,26 @@
 ghost use Rattle.std.specs.Prelude.{◌≡◌, ◌+◌, ◌≤◌, ◌++◌, List, ℕ, length};
 ghost use Rattle.fare_texts.specs.LedgerLines.{IsReasonFields, IsPointing, IsRideFields};
 ghost use Rattle.fare_texts.specs.LedgerLines.{position_fields};
-ghost use Rattle.fare_texts.specs.LedgerLines.{ride_rest};
+ghost use Rattle.fare_texts.specs.LedgerLines.{ride_rest, window_rest};
 
 use crate::line::Line;
 use crate::moment::put_moment;
-use account_rule::{Charge, Reason};
+use account_rule::Charge;
+use fare_caps::{CapCharge, CappedReason};
 
 /// Puts the fields before what the line has, as `,,,stale,2024-03-08T18:00:00.000Z`.
 #[inline(always)]
-pub(crate) fn put_reason_fields(line: &mut Line, reason: &Reason)
+pub(crate) fn put_reason_fields(line: &mut Line, reason: &CappedReason)
     requires { length line.old + 140 ≤ 384 }
     ensures put { (fields : List ℕ) × IsReasonFields reason.now fields
         × (line.new ≡ fields ++ line.old) }
     ensures short { length line.new ≤ length line.old + 140 }
 {
     match *reason {
-        Reason::Unknown => line.put(b",,,unknown,"),
-        Reason::Stale { latest } => put_pointing(line, b",,,stale,", latest),
-        Reason::Transfer { moment, mode: _ } => put_pointing(line, b",,,transfer,", moment),
-        Reason::Ride {
+        CappedReason::Unknown => line.put(b",,,unknown,"),
+        CappedReason::Stale { latest } => put_pointing(line, b",,,stale,", latest),
+        CappedReason::Transfer { moment, mode: _ } => put_pointing(line, b",,,transfer,", moment),
+        CappedReason::Ride {
             start,
             until,
             charge,
@@ -45,7 +46,7 @@ fn put_pointing(line: &mut Line, words: &[u8], at: u64)
 
 /// Puts the fields of a ride.
 #[inline(always)]
-fn put_ride(line: &mut Line, start: u64, until: u64, charge: Charge)
+fn put_ride(line: &mut Line, start: u64, until: u64, charge: CapCharge)
     requires { length line.old + 140 ≤ 384 }
     ensures put { (written : List ℕ) × IsRideFields start until charge written
         × (line.new ≡ written ++ line.old) }
@@ -59,9 +60,27 @@ fn put_ride(line: &mut Line, start: u64, until: u64, charge: Charge)
 
 /// Puts a ride's place and what decided its cents.
 #[inline(always)]
-fn put_ride_rest(line: &mut Line, charge: Charge)
+fn put_ride_rest(line: &mut Line, charge: CapCharge)
     requires { length line.old + 59 ≤ 384 }
     ensures put { line.new ≡ ride_rest charge ++ line.old }
+    ensures short { length line.new ≤ length line.old + 59 }
+{
+    match charge {
+        CapCharge::ByWindow { charge } => put_window_rest(line, charge),
+        CapCharge::CapCut {
+            position,
+            cents: _,
+            cap: _,
+        } => put_placed(line, position, b"cap-cut"),
+        CapCharge::CapReached { position, cap: _ } => put_placed(line, position, b"cap"),
+    }
+}
+
+/// Puts a ride's place and how `window` decided its cents.
+#[inline(always)]
+fn put_window_rest(line: &mut Line, charge: Charge)
+    requires { length line.old + 59 ≤ 384 }
+    ensures put { line.new ≡ window_rest charge ++ line.old }
     ensures short { length line.new ≤ length line.old + 59 }
 {
     match charge {

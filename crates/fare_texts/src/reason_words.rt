@@ -1,14 +1,18 @@
 //! The words that end an explained line.
 
-ghost use Rattle.std.specs.Prelude.{◌≡◌, ◌<◌, ◌+◌, ◌++◌, length, List, ℕ, OnOk, string_bytes};
+ghost use Rattle.std.specs.Prelude.{◌≡◌, ◌<◌, ◌+◌, ◌++◌, [], length, List, ℕ, OnOk};
+ghost use Rattle.std.specs.Prelude.{slice_index_or, string_bytes};
 ghost use Rattle.fare_texts.specs.ReasonWords.{IsRideText, IsTransferText, IsReasonWords};
 ghost use Rattle.fare_texts.specs.ReasonWords.{IsWindowText};
 ghost use Rattle.fare_texts.specs.ReasonWords.{charge_end, charge_start, giver_start};
-ghost use Rattle.fare_texts.specs.ReasonWords.{position_start};
+ghost use Rattle.fare_texts.specs.ReasonWords.{position_start, window_charge_end};
+ghost use Rattle.fare_texts.specs.ReasonWords.{window_charge_start};
 ghost use Rattle.fare_texts.specs.ReasonWords.{HasModeOf};
 
+use crate::names::cap_name;
 use crate::write_moment;
-use account_rule::{Charge, Reason};
+use account_rule::Charge;
+use fare_caps::{CapCharge, CappedReason};
 use std::alloc::AllocError;
 use tariffs::FareTable;
 
@@ -17,25 +21,29 @@ use tariffs::FareTable;
 pub fn write_reason_words(
     text: &mut String,
     table: &FareTable,
-    reason: &Reason,
+    reason: &CappedReason,
 ) -> Result<(), AllocError>
     requires { HasModeOf table.now reason.now }
     ensures { OnOk result ((written : List ℕ) × IsReasonWords table.now reason.now written
         × (string_bytes text.new ≡ string_bytes text.old ++ written)) }
 {
     match *reason {
-        Reason::Unknown => text.push_str(" because the table has no such validator"),
-        Reason::Stale { latest } => {
+        CappedReason::Unknown => text.push_str(" because the table has no such validator"),
+        CappedReason::Stale { latest } => {
             text.push_str(" because a tap of ")?;
             write_moment(text, latest)?;
             text.push_str(" is not earlier")
         }
-        Reason::Transfer { moment, mode } => write_transfer(text, table.mode_name(mode), moment),
-        Reason::Ride {
+        CappedReason::Transfer { moment, mode } => write_transfer(
+            text,
+            table.mode_name(mode),
+            moment,
+        ),
+        CappedReason::Ride {
             start,
             until,
             charge,
-        } => write_ride(text, start, until, charge),
+        } => write_ride(text, table, start, until, charge),
     }
 }
 
@@ -59,20 +67,42 @@ fn write_giver(text: &mut String, mode: &str) -> Result<(), AllocError>
 }
 
 /// Appends ` because it is ride 3 of the window from .. until .. at full fare`.
-fn write_ride(text: &mut String, start: u64, until: u64, charge: Charge) -> Result<(), AllocError>
-    ensures { OnOk result ((written : List ℕ) × IsRideText start until charge written
+fn write_ride(
+    text: &mut String,
+    table: &FareTable,
+    start: u64,
+    until: u64,
+    charge: CapCharge,
+) -> Result<(), AllocError>
+    ensures { OnOk result ((written : List ℕ)
+        × IsRideText table.now.meaning.cap_names start until charge written
         × (string_bytes text.new ≡ string_bytes text.old ++ written)) }
 {
     write_start(text, charge)?;
     write_window(text, start, until)?;
-    text.push_str(charge_end(charge))?;
+    write_end(text, table, charge)?;
     Ok(())
 }
 
 /// Appends the words of a charge before its window.
 #[tactic(auto, unfolding(crate::specs::ReasonWords::charge_start))]
-fn write_start(text: &mut String, charge: Charge) -> Result<(), AllocError>
+fn write_start(text: &mut String, charge: CapCharge) -> Result<(), AllocError>
     ensures { OnOk result (string_bytes text.new ≡ string_bytes text.old ++ charge_start charge) }
+{
+    match charge {
+        CapCharge::ByWindow { charge } => write_window_start(text, charge),
+        CapCharge::CapCut {
+            position,
+            cents: _,
+            cap: _,
+        } => write_position(text, position),
+        CapCharge::CapReached { position, cap: _ } => write_position(text, position),
+    }
+}
+
+fn write_window_start(text: &mut String, charge: Charge) -> Result<(), AllocError>
+    ensures { OnOk result (string_bytes text.new
+        ≡ string_bytes text.old ++ window_charge_start charge) }
 {
     match charge {
         Charge::Full { position, cents: _ } => write_position(text, position),
@@ -102,9 +132,37 @@ fn write_window(text: &mut String, start: u64, until: u64) -> Result<(), AllocEr
     write_moment(text, until)
 }
 
-/// The words of a charge after its window.
-fn charge_end(charge: Charge) -> &'static str
-    ensures { result.now ≡ charge_end charge }
+/// Appends the words of a charge after its window.
+fn write_end(text: &mut String, table: &FareTable, charge: CapCharge) -> Result<(), AllocError>
+    ensures { OnOk result (string_bytes text.new
+        ≡ string_bytes text.old ++ charge_end table.now.meaning.cap_names charge) }
+{
+    match charge {
+        CapCharge::ByWindow { charge } => text.push_str(window_end(charge)),
+        CapCharge::CapCut {
+            position: _,
+            cents: _,
+            cap,
+        } => write_cap(text, " cut by the cap ", table, cap),
+        CapCharge::CapReached { position: _, cap } => {
+            write_cap(text, " past the cap ", table, cap)
+        }
+    }
+}
+
+/// Appends the words and the cap's name.
+fn write_cap(text: &mut String, words: &str, table: &FareTable, cap: u8) -> Result<(), AllocError>
+    ensures { OnOk result (string_bytes text.new ≡ string_bytes text.old
+        ++ (words.now ++ slice_index_or table.now.meaning.cap_names cap [])) }
+{
+    text.push_str(words)?;
+    text.push_str(cap_name(table, cap))?;
+    Ok(())
+}
+
+/// The words of a charge by `window` after it.
+fn window_end(charge: Charge) -> &'static str
+    ensures { result.now ≡ window_charge_end charge }
 {
     match charge {
         Charge::Full { .. } => " at full fare",

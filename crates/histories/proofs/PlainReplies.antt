@@ -8,10 +8,11 @@ use Rattle.std.proofs.lemmas.List.{map-append}
 use Rattle.std.proofs.lemmas.List.Elements.{filter-append}
 use Rattle.tariffs.specs.Fares.{Fares}
 use Rattle.tap_views.specs.Layout.{Tap}
-use Rattle.account_rule.specs.Replies.{reply}
-use Rattle.account_rule.specs.TokenRules.{TokenRules, rules_of}
 use Rattle.account_rule.specs.declared.reply.Answer.TheVariants.{Unknown}
 use Rattle.account_rule.specs.declared.tap.TapIn.{TapIn}
+use Rattle.fare_caps.specs.CapMeanings.{capped_rules_of}
+use Rattle.fare_caps.specs.CappedReplies.{capped_reply}
+use Rattle.fare_caps.specs.Caps.{CappedRules}
 use Rattle.histories.specs.declared.entry.Entry.{Entry}
 use Rattle.tap_views.specs.declared.token.Token.{Token}
 use Rattle.histories.specs.Entry.{is_of, own, tap_of, taps_of}
@@ -34,10 +35,10 @@ bare entry = record {
 }
 
 -- entries of one token, answered again after its earlier taps
-again : Fares → TokenRules → List TapIn → List Entry → List Entry
+again : Fares → CappedRules → List TapIn → List Entry → List Entry
 again fares rules earlier [] = []
 again fares rules earlier (entry ∷ entries) =
-    with_reply entry (reply rules earlier (tap_of fares entry)) ∷ again fares rules
+    with_reply entry (capped_reply rules earlier (tap_of fares entry)) ∷ again fares rules
     (earlier ++ tap_of fares entry ∷ []) entries
 
 tap_bare : (fares : Fares) (entry : Entry) → tap_of fares (bare entry) ≡ tap_of fares entry
@@ -70,20 +71,22 @@ taps_other fares token entries entry is =
 replied_again : (fares : Fares) (token : Token) (front : List Entry) (entry : Entry)
     → entry.token ≡ token → IsReplied fares front entry
     → entry ≡ with_reply (bare entry)
-    (reply (rules_of fares (bytes_of token)) (taps_of fares token front)
+    (capped_reply (capped_rules_of fares (bytes_of token)) (taps_of fares token front)
     (tap_of fares (bare entry)))
 unfolding IsReplied
 replied_again fares token front entry is replied =
     ap (with_reply entry)
     (replied ∙ ap
-    (λ t. reply (rules_of fares (bytes_of t)) (taps_of fares t front) (tap_of fares entry)) is)
+    (λ t. capped_reply (capped_rules_of fares (bytes_of t)) (taps_of fares t front)
+    (tap_of fares entry)) is)
     ∙ ap (λ t. with_reply entry
-    (reply (rules_of fares (bytes_of token)) (taps_of fares token front) t))
+    (capped_reply (capped_rules_of fares (bytes_of token)) (taps_of fares token front) t))
     (sym (tap_bare fares entry))
 
 legal_again : (fares : Fares) (token : Token) (front rest : List Entry)
     → IsLegal fares (front ++ rest)
-    → own token rest ≡ again fares (rules_of fares (bytes_of token)) (taps_of fares token front)
+    → own token rest ≡ again fares (capped_rules_of fares (bytes_of token))
+    (taps_of fares token front)
     (map bare (own token rest))
 unfolding own again
 legal_again fares token front [] legal = refl
@@ -92,21 +95,21 @@ legal_again fares token front (entry ∷ rest) legal =
     (legal_again fares token (front ++ entry ∷ []) rest
     (subst (λ es. IsLegal fares es) (sym (append_assoc front (entry ∷ []) rest)) legal))
   where
-    rules : TokenRules
-    rules = rules_of fares (bytes_of token)
+    rules : CappedRules
+    rules = capped_rules_of fares (bytes_of token)
 
     by_test : (b : Bool) → is_of token entry ≡ b
-        → own token rest ≡ again fares (rules_of fares (bytes_of token))
+        → own token rest ≡ again fares (capped_rules_of fares (bytes_of token))
         (taps_of fares token (front ++ entry ∷ [])) (map bare (own token rest))
         → own token (entry ∷ rest)
-        ≡ again fares (rules_of fares (bytes_of token)) (taps_of fares token front)
+        ≡ again fares (capped_rules_of fares (bytes_of token)) (taps_of fares token front)
         (map bare (own token (entry ∷ rest)))
     by_test true is more =
         let A : List Entry → List Entry =
-        λ es. again fares (rules_of fares (bytes_of token)) (taps_of fares token front)
+        λ es. again fares (capped_rules_of fares (bytes_of token)) (taps_of fares token front)
         (map bare es) in
         let T : List TapIn → List Entry =
-        λ ts. again fares (rules_of fares (bytes_of token)) ts (map bare (own token rest)) in
+        λ ts. again fares (capped_rules_of fares (bytes_of token)) ts (map bare (own token rest)) in
         let first = replied_again fares token front entry (same_token entry.token token is)
         (legal.each front entry rest refl) in
         let then : own token rest
@@ -116,15 +119,15 @@ legal_again fares token front (entry ∷ rest) legal =
         ∙ ap (λ t. taps_of fares token front ++ t ∷ []) (sym (tap_bare fares entry))) in
         own_same token entry rest is ∙ ap (λ e. e ∷ own token rest) first
         ∙ ap (λ es. with_reply (bare entry)
-        (reply (rules_of fares (bytes_of token)) (taps_of fares token front)
+        (capped_reply (capped_rules_of fares (bytes_of token)) (taps_of fares token front)
         (tap_of fares (bare entry))) ∷ es) then
         ∙ sym (ap A (own_same token entry rest is))
     by_test false is more =
         let A : List Entry → List Entry =
-        λ es. again fares (rules_of fares (bytes_of token)) (taps_of fares token front)
+        λ es. again fares (capped_rules_of fares (bytes_of token)) (taps_of fares token front)
         (map bare es) in
         let T : List TapIn → List Entry =
-        λ ts. again fares (rules_of fares (bytes_of token)) ts (map bare (own token rest)) in
+        λ ts. again fares (capped_rules_of fares (bytes_of token)) ts (map bare (own token rest)) in
         own_other token entry rest is ∙ more ∙ ap T (taps_other fares token front entry is)
         ∙ sym (ap A (own_other token entry rest is))
 
@@ -134,7 +137,7 @@ pub same_replies : (fares : Fares) (token : Token) (one other : List Entry) → 
     → map bare (own token one) ≡ map bare (own token other) → own token one ≡ own token other
 same_replies fares token one other legal legal' same =
     legal_again fares token [] one legal
-    ∙ ap (again fares (rules_of fares (bytes_of token)) (taps_of fares token [])) same
+    ∙ ap (again fares (capped_rules_of fares (bytes_of token)) (taps_of fares token [])) same
     ∙ sym (legal_again fares token [] other legal')
 
 -- ---- the plain history is legal, and has the fields of the taps

@@ -1,8 +1,8 @@
 -- Legal histories: every reply is the account rule's.
 use Rattle.std.specs.Prelude.{◌≡◌, List, ◌∷◌, ◌++◌}
 use Rattle.tariffs.specs.Fares.{Fares}
-use Rattle.account_rule.specs.Replies.{reply}
-use Rattle.account_rule.specs.TokenRules.{rules_of}
+use Rattle.fare_caps.specs.CapMeanings.{capped_rules_of}
+use Rattle.fare_caps.specs.CappedReplies.{capped_reply}
 use Rattle.histories.specs.declared.entry.Entry.{Entry}
 use Rattle.histories.specs.Entry.{reply_of, tap_of, taps_of}
 use Rattle.tap_views.specs.Token.{bytes_of}
@@ -10,7 +10,7 @@ use Rattle.tap_views.specs.Token.{bytes_of}
 -- after these entries, the entry's reply is the account rule's for its token's earlier taps
 unfoldable pub IsReplied : Fares → List Entry → Entry → Type 0
 IsReplied table before entry =
-    reply_of entry ≡ reply (rules_of table (bytes_of entry.token))
+    reply_of entry ≡ capped_reply (capped_rules_of table (bytes_of entry.token))
     (taps_of table entry.token before) (tap_of table entry)
 
 -- each entry, wherever it is, has the reply that the account rule gives after those before it

@@ -8,8 +8,8 @@ use Rattle.tap_views.specs.Layout.{Tap, num}
 use Rattle.tariffs.specs.Fares.{Fares}
 use Rattle.tap_views.specs.Token.{bytes_of}
 use Rattle.tap_views.specs.declared.token.Token.{Token}
-use Rattle.account_rule.specs.Replies.{reply}
-use Rattle.account_rule.specs.TokenRules.{rules_of}
+use Rattle.fare_caps.specs.CapMeanings.{capped_rules_of}
+use Rattle.fare_caps.specs.CappedReplies.{capped_reply}
 use Rattle.account_rule.specs.declared.reply.Answer.TheVariants.{Unknown}
 use Rattle.account_rule.specs.declared.reply.Reply.{Reply}
 use Rattle.histories.specs.Entry.{tap_of, taps_of}
@@ -45,7 +45,7 @@ with_reply entry replied =
 -- the entry with the reply of the account rule after the earlier taps of its token
 unfoldable pub answered : Fares → List Entry → Entry → Entry
 answered fares earlier entry =
-    with_reply entry (reply (rules_of fares (bytes_of entry.token))
+    with_reply entry (capped_reply (capped_rules_of fares (bytes_of entry.token))
     (taps_of fares entry.token earlier) (tap_of fares entry))
 
 -- the entries of taps that follow earlier ones

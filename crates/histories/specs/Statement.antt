@@ -1,8 +1,8 @@
 -- The statement of one token.
 use Rattle.std.specs.Prelude.{◌≡◌, List}
 use Rattle.tariffs.specs.Fares.{Fares}
-use Rattle.account_rule.specs.TokenRules.{rules_of}
-use Rattle.account_rule.specs.Windows.{last_window}
+use Rattle.fare_caps.specs.CapMeanings.{capped_rules_of}
+use Rattle.fare_caps.specs.CappedReplies.{capped_window}
 use Rattle.histories.specs.declared.entry.Entry.{Entry}
 use Rattle.histories.specs.declared.statement.Statement.{Statement}
 use Rattle.tap_views.specs.declared.token.Token.{Token}
@@ -17,4 +17,4 @@ pub record IsStatement (table : Fares) (entries : List Entry) (name : Token) (st
   pub lines : statement.lines ≡ own name entries
   pub totals : sums_of statement.totals ≡ sums (own name entries)
   pub window : statement.window
-      ≡ last_window (rules_of table (bytes_of name)) (taps_of table name entries)
+      ≡ capped_window (capped_rules_of table (bytes_of name)) (taps_of table name entries)

@@ -20,6 +20,12 @@ use Rattle.account_rule.specs.Trips.{ends_in_transfer}
 use Rattle.account_rule.specs.Replies.{live_reply, reply, reply_with, ride_reply}
 use Rattle.account_rule.specs.TokenRules.{TokenRules, rules_of}
 use Rattle.account_rule.specs.Taps.{is_later}
+use Rattle.fare_caps.specs.CapMeanings.{capped_rules_of}
+use Rattle.fare_caps.specs.CappedReplies.{capped_reply}
+use Rattle.fare_caps.specs.Caps.{CappedRules}
+use Rattle.fare_caps.proofs.AnswerLemmas as capped
+use Rattle.fare_caps.proofs.AnswerLemmas.{is_charged, is_same}
+use Rattle.std.proofs.lemmas.Bool.{true≢false}
 use Rattle.account_rule.specs.declared.reply.Answer.{Answer}
 use Rattle.account_rule.specs.declared.reply.Answer.TheVariants.{Paid, Transfer, Capped, Stale}
 use Rattle.account_rule.specs.declared.reply.Answer.TheVariants.{Unknown}
@@ -39,7 +45,7 @@ use Rattle.laws.specs.Bills.{BillAlike, ChargeAlike, is_live, is_live_answer, li
 use Rattle.laws.specs.TapSets.{AreSentAgain, HaveSameSetOfTaps, fields_of_uploads}
 use Rattle.laws.proofs.Posts.{SameBill, after, plain_is_after}
 use Rattle.laws.proofs.Sets.{same_bill}
-use Rattle.laws.proofs.States.{same_windows}
+use Rattle.laws.proofs.States.{ride_is_live, same_windows}
 
 -- ---- what is no ride and no transfer costs nothing
 abbrev Free : Entry → Type 0
@@ -61,12 +67,24 @@ free_chosen true true true paid e = refl
 free_chosen true true false None e = refl
 free_chosen true true false (Some cents) e = absurd (let h : true ≡ false = e in cc)
 
-free_reply : (rules : TokenRules) (earlier : List TapIn) (tap : TapIn)
+plain_free : (rules : TokenRules) (earlier : List TapIn) (tap : TapIn)
     → is_live_answer (reply rules earlier tap).answer ≡ false → (reply rules earlier tap).cents ≡ 0
 unfolding reply live_reply
-free_reply rules earlier tap e =
+plain_free rules earlier tap e =
     free_chosen (is_some tap.mode) (is_later earlier tap.moment)
     (ends_in_transfer rules (earlier ++ tap ∷ [])) _ e
+
+free_reply : (rules : CappedRules) (earlier : List TapIn) (tap : TapIn)
+    → is_live_answer (capped_reply rules earlier tap).answer ≡ false
+    → (capped_reply rules earlier tap).cents ≡ 0
+free_reply rules earlier tap e = elim (capped.answered rules earlier tap) [
+  | is_same same ↦ ap (λ (r : Reply). r.cents) same
+      ∙ plain_free rules.rules earlier tap
+      (sym (ap (λ (r : Reply). is_live_answer r.answer) same) ∙ e)
+  | is_charged paid other one two ↦
+      absurd (true≢false (sym (ride_is_live paid)
+      ∙ sym (ap (λ (r : Reply). is_live_answer r.answer) one) ∙ e))
+]
 
 free_after : (fares : Fares) (earlier : List Entry) (fs : List TapFields)
     → All Free (after fares earlier fs)
@@ -75,7 +93,7 @@ free_after fares earlier [] = All-nil Free
 free_after fares earlier (f ∷ fs) =
     let entry = answered fares earlier (entry_of f) in
     All-cons Free entry (after fares (earlier ++ entry ∷ []) fs)
-    (free_reply (rules_of fares (bytes_of (entry_of f).token))
+    (free_reply (capped_rules_of fares (bytes_of (entry_of f).token))
     (taps_of fares (entry_of f).token earlier) (tap_of fares (entry_of f)))
     (free_after fares (earlier ++ entry ∷ []) fs)
 

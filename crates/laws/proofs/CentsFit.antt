@@ -8,7 +8,8 @@ use Rattle.tap_views.specs.Token.{Fits, bytes_of}
 use Rattle.tap_views.specs.declared.encoder.TapFields.{TapFields}
 use Rattle.account_rule.specs.TokenRules.{rules_of, token_class}
 use Rattle.account_rule.specs.Taps.{live_at}
-use Rattle.account_rule.proofs.CentsLemmas.{reply_most}
+use Rattle.fare_caps.specs.CapMeanings.{capped_rules_of}
+use Rattle.fare_caps.proofs.AnswerLemmas.{capped_most}
 use Rattle.histories.specs.declared.entry.Entry.{Entry}
 use Rattle.histories.specs.Entry.{tap_of, taps_of}
 use Rattle.histories.specs.Plain.{answered}
@@ -18,13 +19,13 @@ use Rattle.laws.proofs.SumsFit.{CostsFew}
 
 pub posted_few : (fares : Fares) → HaveBoundedTerms fares → (earlier : List Entry)
     (taps : List TapFields) → All CostsFew (posted_after fares earlier taps)
-unfolding posted_after answered rules_of token_class live_at tap_of
+unfolding posted_after answered rules_of capped_rules_of token_class live_at tap_of
 posted_few fares bounds earlier [] = All-nil CostsFew
 posted_few fares bounds earlier (tap ∷ taps) =
     let entry = unposted tap in
     let made = answered fares earlier entry in
     All-cons CostsFew made (posted_after fares (earlier ++ made ∷ []) taps)
-    (reply_most (rules_of fares (bytes_of entry.token)) (taps_of fares entry.token earlier)
+    (capped_most (capped_rules_of fares (bytes_of entry.token)) (taps_of fares entry.token earlier)
     (tap_of fares entry) (λ mode known. bounds (bytes_of entry.token) entry.moment mode.position))
     (posted_few fares bounds (earlier ++ made ∷ []) taps)
 

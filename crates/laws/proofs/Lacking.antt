@@ -15,8 +15,11 @@ use Rattle.tariffs.specs.Fares.{Fares, mode_at}
 use Rattle.account_rule.specs.declared.reason.Charge.{Charge}
 use Rattle.account_rule.specs.declared.reason.Charge.TheVariants.{Full, CeilingCut, CeilingReached}
 use Rattle.account_rule.specs.declared.reason.Charge.TheVariants.{RideLimitReached}
-use Rattle.account_rule.specs.declared.reason.Reason.{Reason}
-use Rattle.account_rule.specs.declared.reason.Reason.TheVariants.{Unknown, Stale, Transfer, Ride}
+use Rattle.fare_caps.specs.declared.cap_charge.CapCharge.{CapCharge}
+use Rattle.fare_caps.specs.declared.cap_charge.CapCharge.TheVariants.{ByWindow, CapCut, CapReached}
+use Rattle.fare_caps.specs.declared.capped_reason.CappedReason.{CappedReason}
+use Rattle.fare_caps.specs.declared.capped_reason.CappedReason.TheVariants.{Ride, Stale, Transfer}
+use Rattle.fare_caps.specs.declared.capped_reason.CappedReason.TheVariants.{Unknown}
 use Rattle.account_rule.specs.declared.reply.Answer.{Answer}
 use Rattle.account_rule.specs.declared.reply.Answer.TheVariants as answer
 use Rattle.tap_views.specs.Token.{bytes_of}
@@ -26,6 +29,7 @@ use Rattle.fare_texts.specs.Moments.{IsCivilText, IsMomentText, clock_text, pad3
 use Rattle.fare_texts.specs.StatementText.{answer_text}
 use Rattle.fare_texts.specs.LedgerLines.{IsReasonFields, IsLedgerLine, entry_fields, line_head}
 use Rattle.fare_texts.specs.LedgerLines.{mode_field, name_or_empty, position_fields, ride_rest}
+use Rattle.fare_texts.specs.LedgerLines.{window_rest}
 use Rattle.ledger_check.specs.Lines.{Lacks}
 use Rattle.ledger_check.proofs.LineLemmas.{has_none, lacks-append, lacks-at, lacks-tested}
 use Rattle.laws.specs.Written.{AreLetters}
@@ -189,15 +193,24 @@ unfolding position_fields
 placed_free position word is =
     both comma (both (number (position + 1)) (both comma (both is comma)))
 
-ride_free : (charge : Charge) → Free (ride_rest charge)
-ride_free (Full position cents) = placed_free position (codes "full") (written (codes "full") refl)
-ride_free (CeilingCut position cents) =
+window_free : (charge : Charge) → Free (window_rest charge)
+window_free (Full position cents) =
+    placed_free position (codes "full") (written (codes "full") refl)
+window_free (CeilingCut position cents) =
     placed_free position (codes "ceiling-cut") (written (codes "ceiling-cut") refl)
-ride_free (CeilingReached position) =
+window_free (CeilingReached position) =
     placed_free position (codes "ceiling") (written (codes "ceiling") refl)
-ride_free RideLimitReached = written (codes ",,ride-limit,") refl
+window_free RideLimitReached = written (codes ",,ride-limit,") refl
 
-reason_fields_lacks : (why : Reason) (text : List ℕ) → IsReasonFields why text → Lacks 10 text
+ride_free : (charge : CapCharge) → Free (ride_rest charge)
+ride_free (ByWindow charge) = window_free charge
+ride_free (CapCut position cents cap) =
+    placed_free position (codes "cap-cut") (written (codes "cap-cut") refl)
+ride_free (CapReached position cap) =
+    placed_free position (codes "cap") (written (codes "cap") refl)
+
+reason_fields_lacks : (why : CappedReason) (text : List ℕ) → IsReasonFields why text
+    → Lacks 10 text
 reason_fields_lacks Unknown text is =
     subst (Lacks 10) (sym is) (lacks-tested 10 (codes ",,,unknown,") refl)
 reason_fields_lacks (Stale latest) text is =
@@ -225,8 +238,8 @@ five a b c d e =
     ∙ ap (λ (t : List ℕ). a ++ t)
     (append_assoc b (c ++ d) e ∙ ap (λ (t : List ℕ). b ++ t) (append_assoc c d e)))
 
-pub line_ends_once : (fares : Fares) (token : Token) (position : ℕ) (entry : Entry) (why : Reason)
-    (line : List ℕ) → AreLetters fares.meaning.modes
+pub line_ends_once : (fares : Fares) (token : Token) (position : ℕ) (entry : Entry)
+    (why : CappedReason) (line : List ℕ) → AreLetters fares.meaning.modes
     → IsLedgerLine fares token position entry why line → EndsOnce line
 line_ends_once fares token position entry why line letters is = record {
   front = line_head token position ++ (is.moment ++ (entry_fields fares entry ++ is.reason_fields));

@@ -42,6 +42,8 @@ use Rattle.laws.specs.Bills.{GivesOneAtMost, rides_of}
 use Rattle.laws.specs.TapSets.{HaveOneMoreTap, fields_of_uploads, is_known_tap, is_tap_of, own_taps}
 use Rattle.laws.proofs.Alike.{alike-filter, alike-without, moved_all, moved_kept}
 use Rattle.laws.proofs.Alike.{pairs_after, pairs_without, permuted_alike, split_at}
+use Rattle.fare_caps.specs.CapMeanings.{capped_rules_of}
+use Rattle.fare_caps.proofs.AnswerLemmas.{same-rides}
 use Rattle.laws.proofs.OwnTaps.{own_after, tap_in, taps_after}
 use Rattle.laws.proofs.Posts.{after, plain_is_after}
 use Rattle.laws.proofs.Rides.{GiveOneAtMost, IsAfter, no_fewer_rides}
@@ -61,7 +63,7 @@ rides_by_taps : (fares : Fares) (token : Token) (uploads : List (List ℕ)) (his
     → (is : IsSettledHistory fares uploads history)
     → rides_of token history
     ≡ rides_by fares token (filter (is_tap_of token) (map fields_of is.order))
-unfolding taps_of rides_by
+unfolding taps_of rides_by capped_rules_of
 rides_by_taps fares token uploads history is =
     let xs = map fields_of is.order in
     let rules = rules_of fares (bytes_of token) in
@@ -70,8 +72,9 @@ rides_by_taps fares token uploads history is =
     ap (taps_of fares token) whole
     ∙ ap (map (tap_of fares)) (own_after fares token [] [] xs refl)
     ∙ taps_after fares [] (filter (is_tap_of token) xs) in
-    ap (count_by is_ride) (replies-own fares token history (legal_history fares uploads history is)
-    ∙ ap (replies rules) taps)
+    ap (count_by is_ride) (replies-own fares token history (legal_history fares uploads history is))
+    ∙ same-rides (capped_rules_of fares (bytes_of token)) (taps_of fares token history)
+    ∙ ap (λ (ts : List TapIn). count_by is_ride (replies rules ts)) taps
 
 mapped_is_some : {X : Type 0} (f : ℕ → X) (found : Option ℕ)
     → is_some (option_map f found) ≡ is_some found

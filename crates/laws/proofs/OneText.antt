@@ -6,11 +6,13 @@ use Rattle.tariffs.specs.Fares.{Fares, terms_at}
 use Rattle.tariffs.specs.TableMeaning.{TableMeaning}
 use Rattle.tap_views.specs.Token.{bytes_of}
 use Rattle.tap_views.specs.declared.token.Token.{Token}
-use Rattle.account_rule.specs.TokenRules.{TokenRules, rules_of}
-use Rattle.account_rule.specs.Windows.{last_window}
-use Rattle.account_rule.specs.declared.reason.Charge.{Charge}
-use Rattle.account_rule.specs.declared.reason.Reason.{Reason}
-use Rattle.account_rule.specs.declared.reason.Reason.TheVariants.{Unknown, Stale, Transfer, Ride}
+use Rattle.fare_caps.specs.CapMeanings.{capped_rules_of}
+use Rattle.fare_caps.specs.CappedReplies.{capped_window}
+use Rattle.fare_caps.specs.Caps.{CappedRules}
+use Rattle.fare_caps.specs.declared.cap_charge.CapCharge.{CapCharge}
+use Rattle.fare_caps.specs.declared.capped_reason.CappedReason.{CappedReason}
+use Rattle.fare_caps.specs.declared.capped_reason.CappedReason.TheVariants.{Ride, Stale, Transfer}
+use Rattle.fare_caps.specs.declared.capped_reason.CappedReason.TheVariants.{Unknown}
 use Rattle.account_rule.specs.declared.tap.TapIn.{TapIn}
 use Rattle.account_rule.specs.declared.window.WindowView.{WindowView}
 use Rattle.histories.specs.Entry.{own, tap_of}
@@ -158,18 +160,19 @@ transfer_same mode at a b is also =
     is.shown ∙ ap (λ m. giver_start mode ++ (m ++ codes " gives it"))
     (moment_same at is.moment also.moment is.is also.is) ∙ sym also.shown
 
-ride_same : (start until : ℕ) (charge : Charge) (a b : List ℕ) → IsRideText start until charge a
-    → IsRideText start until charge b → a ≡ b
-ride_same start until charge a b is also =
-    is.shown ∙ ap (λ w. charge_start charge ++ (w ++ charge_end charge))
+ride_same : (caps : List (List ℕ)) (start until : ℕ) (charge : CapCharge) (a b : List ℕ)
+    → IsRideText caps start until charge a → IsRideText caps start until charge b → a ≡ b
+ride_same caps start until charge a b is also =
+    is.shown ∙ ap (λ w. charge_start charge ++ (w ++ charge_end caps charge))
     (window_text_same start until is.window also.window is.is also.is) ∙ sym also.shown
 
-words_same : (fares : Fares) (why : Reason) (a b : List ℕ) → IsReasonWords fares why a
+words_same : (fares : Fares) (why : CappedReason) (a b : List ℕ) → IsReasonWords fares why a
     → IsReasonWords fares why b → a ≡ b
 words_same fares Unknown a b is also = is ∙ sym also
 words_same fares (Stale latest) a b is also = stale_same latest a b is also
 words_same fares (Transfer moment mode) a b is also = transfer_same _ moment a b is also
-words_same fares (Ride start until charge) a b is also = ride_same start until charge a b is also
+words_same fares (Ride start until charge) a b is also =
+    ride_same fares.meaning.cap_names start until charge a b is also
 
 too_late_same : (last gap : ℕ) (a b : List ℕ) → IsTooLateText last gap a → IsTooLateText last gap b
     → a ≡ b
@@ -198,7 +201,7 @@ lack_same fares moment (AfterTransfer last) a b is also = after_transfer_same la
 lack_same fares moment (RideTooLate ride) a b is also = ride_too_late_same ride _ a b is also
 lack_same fares moment (NotPermitted from to) a b is also = is ∙ sym also
 
-lack_end_same : (fares : Fares) (moment : ℕ) (why : Reason) (none : Option NoTransfer)
+lack_end_same : (fares : Fares) (moment : ℕ) (why : CappedReason) (none : Option NoTransfer)
     (a b : List ℕ) → IsNoTransferEnd fares moment why none a
     → IsNoTransferEnd fares moment why none b → a ≡ b
 lack_end_same fares moment Unknown lack a b is also = is ∙ sym also
@@ -208,8 +211,8 @@ lack_end_same fares moment (Ride start until charge) None a b is also = is ∙ s
 lack_end_same fares moment (Ride start until charge) (Some lack) a b is also =
     lack_same fares moment lack a b is also
 
-explained_line_same : (fares : Fares) (entry : Entry) (why : Reason) (none : Option NoTransfer)
-    (a b : List ℕ)
+explained_line_same : (fares : Fares) (entry : Entry) (why : CappedReason)
+    (none : Option NoTransfer) (a b : List ℕ)
     → IsExplainedLine fares entry why none a → IsExplainedLine fares entry why none b → a ≡ b
 explained_line_same fares entry why none a b is also =
     let words = entry_words fares entry in
@@ -266,14 +269,14 @@ last_same clocks None a b is also = is ∙ sym also
 last_same clocks (Some window) a b is also =
     explained_window_same clocks (codes "window ") window a b is also
 
-window_lines_same : (clocks : ClockView) (rules : TokenRules) (taps : List TapIn)
+window_lines_same : (clocks : ClockView) (rules : CappedRules) (taps : List TapIn)
     (a b : List ℕ) → AreWindowLines clocks rules taps a → AreWindowLines clocks rules taps b
     → a ≡ b
 window_lines_same clocks rules taps a b is also =
     is.whole ∙ both is.earlier also.earlier is.last also.last
     (earlier_same clocks (earlier_windows rules taps) is.earlier also.earlier is.of_earlier
     also.of_earlier)
-    (last_same clocks (last_window rules taps) is.last also.last is.of_last also.of_last)
+    (last_same clocks (capped_window rules taps) is.last also.last is.of_last also.of_last)
     ∙ sym also.whole
 
 later_terms_same : (token : List ℕ) (later : List (ℕ × TableMeaning)) (a b : List ℕ)
@@ -308,6 +311,7 @@ one_explained fares token entries a b is also =
     (explained_after_same fares token [] entries is.lines also.lines is.of_entries
     also.of_entries)
     ∙ ap (λ ws. head ++ (also.terms ++ (also.lines ++ (totals ++ ws))))
-    (window_lines_same fares.zone (rules_of fares (bytes_of token)) (map (tap_of fares) entries)
+    (window_lines_same fares.zone (capped_rules_of fares (bytes_of token))
+    (map (tap_of fares) entries)
     is.windows also.windows is.of_windows also.of_windows)
     ∙ sym also.whole

@@ -5,8 +5,8 @@ use Rattle.tap_views.specs.declared.encoder.TapFields.{TapFields}
 use Rattle.tap_views.specs.Token.{bytes_of, token_eq}
 use Rattle.tap_views.specs.declared.token.Token.{Token}
 use Rattle.tariffs.specs.Fares.{Fares}
-use Rattle.account_rule.specs.Replies.{reply}
-use Rattle.account_rule.specs.TokenRules.{rules_of}
+use Rattle.fare_caps.specs.CappedReplies.{capped_reply}
+use Rattle.fare_caps.specs.CapMeanings.{capped_rules_of}
 use Rattle.account_rule.specs.declared.tap.TapIn.{TapIn}
 use Rattle.histories.specs.Entry.{is_of, own, tap_of, taps_of}
 use Rattle.histories.specs.Keys.{same_token}
@@ -24,10 +24,11 @@ module _ (fares : Fares) (token : Token) where
   unfolding answered
   answered_alike one other entry is same =
       ap (with_reply entry)
-      (ap (λ t. reply (rules_of fares (bytes_of entry.token)) (taps_of fares t one)
+      (ap (λ t. capped_reply (capped_rules_of fares (bytes_of entry.token)) (taps_of fares t one)
       (tap_of fares entry)) is
-      ∙ ap (λ ts. reply (rules_of fares (bytes_of entry.token)) ts (tap_of fares entry)) same
-      ∙ ap (λ t. reply (rules_of fares (bytes_of entry.token)) (taps_of fares t other)
+      ∙ ap (λ ts. capped_reply (capped_rules_of fares (bytes_of entry.token)) ts
+      (tap_of fares entry)) same
+      ∙ ap (λ t. capped_reply (capped_rules_of fares (bytes_of entry.token)) (taps_of fares t other)
       (tap_of fares entry)) (sym is))
 
   pub push_mine : (one other : List Entry) (entry : Entry)

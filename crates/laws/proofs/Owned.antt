@@ -6,8 +6,8 @@ use Rattle.std.specs.declared.cmp.Ordering.TheVariants.{Less, Equal}
 use Rattle.std.proofs.lemmas.Bool.{cases_Bool}
 use Rattle.std.proofs.lemmas.Cmp.{tied_itself}
 use Rattle.tariffs.specs.Fares.{Fares}
-use Rattle.account_rule.specs.Replies.{reply}
-use Rattle.account_rule.specs.TokenRules.{rules_of}
+use Rattle.fare_caps.specs.CappedReplies.{capped_reply}
+use Rattle.fare_caps.specs.CapMeanings.{capped_rules_of}
 use Rattle.histories.specs.Entry.{is_of, own, tap_of, taps_of}
 use Rattle.histories.specs.History.{IsLegal, IsReplied}
 use Rattle.tap_views.specs.Token.{bytes_of, token_cmp, token_eq}
@@ -77,7 +77,8 @@ pub replied_same : (fares : Fares) (before other : List Entry) (entry : Entry)
 unfolding IsReplied taps_of
 replied_same fares before other entry same replied =
     replied ∙ ap
-    (λ (es : List Entry). reply (rules_of fares (bytes_of entry.token)) (map (tap_of fares) es)
+    (λ (es : List Entry). capped_reply (capped_rules_of fares (bytes_of entry.token))
+    (map (tap_of fares) es)
     (tap_of fares entry)) same
 
 -- where an entry stands in the history of which it is an own one

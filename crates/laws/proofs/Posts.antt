@@ -7,8 +7,8 @@ use Rattle.tap_views.specs.declared.token.Token.{Token}
 use Rattle.tap_views.specs.Encoding.{fields_of}
 use Rattle.tap_views.specs.Layout.{Tap}
 use Rattle.tap_views.specs.declared.encoder.TapFields.{TapFields}
-use Rattle.account_rule.specs.Replies.{reply}
-use Rattle.account_rule.specs.TokenRules.{rules_of}
+use Rattle.fare_caps.specs.CappedReplies.{capped_reply}
+use Rattle.fare_caps.specs.CapMeanings.{capped_rules_of}
 use Rattle.account_rule.specs.declared.tap.TapIn.{TapIn}
 use Rattle.histories.specs.Entry.{is_of, tap_of, taps_of}
 use Rattle.histories.specs.declared.entry.Entry.{Entry}
@@ -79,7 +79,8 @@ same_answer : (fares : Fares) (one other : List Entry) (entry : Entry) → SameS
 unfolding answered
 same_answer fares one other entry same =
     ap (with_reply entry)
-    (same_reply (rules_of fares (bytes_of entry.token)) (taps_of fares entry.token one)
+    (same_reply (capped_rules_of fares (bytes_of entry.token))
+    (taps_of fares entry.token one)
     (taps_of fares entry.token other) (tap_of fares entry) (same entry.token))
 
 -- what is posted after them is answered alike
@@ -179,11 +180,12 @@ dead_again fares earlier f =
     let tap = tap_of fares entry in
     let token = entry.token in
     let L : List TapIn → Type 0 =
-    λ ts. is_live (with_reply entry (reply (rules_of fares (bytes_of token)) ts tap)) ≡ false in
+    λ ts. is_live (with_reply entry (capped_reply (capped_rules_of fares (bytes_of token)) ts tap))
+    ≡ false in
     subst L (sym (taps-push fares token earlier (answered fares earlier entry)
     ∙ ap (λ b. cond b (taps_of fares token earlier ++ tap ∷ []) (taps_of fares token earlier))
     (own_entry entry)))
-    (not_live_again (rules_of fares (bytes_of token)) (taps_of fares token earlier) tap)
+    (not_live_again (capped_rules_of fares (bytes_of token)) (taps_of fares token earlier) tap)
 
 pub bill-twice : (fares : Fares) (earlier : List Entry) (f : TapFields) (fs : List TapFields)
     → SameBill fares earlier (f ∷ f ∷ fs) (f ∷ fs)

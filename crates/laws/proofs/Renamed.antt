@@ -1,6 +1,7 @@
 -- A token that has another's taps has its lines.
 use Rattle.std.proofs.Common.{◌≡◌, ℕ, true, cond, List, [], ◌∷◌, ◌++◌, map, filter, refl}
-use Rattle.std.proofs.Common.{sym, ap, subst, ◌∙◌, All, is_some}
+use Rattle.std.proofs.Common.{sym, ap, subst, ◌∙◌, All, is_some, Option, Some, None}
+use Rattle.std.specs.Prelude.{slice_index_or}
 use Rattle.std.specs.Cmp.{tied_itself}
 use Rattle.std.specs.Cmp.Lexicographic.{slice_cmp}
 use Rattle.std.specs.List.Sorted.{IsPermutation, IsSorted}
@@ -22,16 +23,21 @@ use Rattle.tariffs.specs.Fares.{Fares, class_of, meaning_at, terms_on}
 use Rattle.tariffs.specs.declared.class.Class.{Class}
 use Rattle.account_rule.specs.Blocks.{last_block}
 use Rattle.account_rule.specs.Reasons.{given_by, latest, live_reason, reason, ride_of}
-use Rattle.account_rule.specs.Replies.{live_reply, reply}
 use Rattle.account_rule.specs.Taps.{LiveTap, is_later}
 use Rattle.account_rule.specs.TokenRules.{TokenRules, permits_of, rules_of, token_class}
 use Rattle.account_rule.specs.TokenRules.{transfers_of}
 use Rattle.account_rule.specs.Trips.{ends_in_transfer, last_trip, rides, trips}
 use Rattle.account_rule.specs.Windows.{windows}
 use Rattle.account_rule.specs.declared.reason.Reason.{Reason}
-use Rattle.account_rule.specs.declared.reason.Reason.TheVariants.{Stale, Unknown}
+use Rattle.account_rule.specs.declared.reason.Reason.TheVariants.{Ride, Stale, Transfer, Unknown}
 use Rattle.account_rule.specs.declared.tap.TapIn.{TapIn}
 use Rattle.account_rule.specs.declared.reply.Reply.{Reply}
+use Rattle.tariffs.specs.declared.mode.Mode.{Mode}
+use Rattle.fare_caps.specs.CapMeanings.{cap_positions, cap_rules, capped_rules_of}
+use Rattle.fare_caps.specs.CapStates.{CapStates, after_ride, after_rides, at_ride, charge_at}
+use Rattle.fare_caps.specs.CapStates.{no_rides, ride_charge, states, with_charge}
+use Rattle.fare_caps.specs.CappedReplies.{capped_reason, capped_reply, replied_by, under_caps}
+use Rattle.fare_caps.specs.Caps.{CapRules, CappedRules, window_cap}
 use Rattle.histories.specs.Entry.{is_of, own, tap_of, taps_of}
 use Rattle.histories.specs.Keys.{same_token}
 use Rattle.histories.specs.Plain.{answered, token_of_bytes}
@@ -99,10 +105,12 @@ have_bytes token (f ∷ fs) names are =
 
 -- ---- the same terms, the same rules
 -- the second rules answer and explain each tap, and divide each list into windows, as the first do
-record AnswerAlike (one other : TokenRules) : Type 0 where
-  replies : (earlier : List TapIn) (tap : TapIn) → reply other earlier tap ≡ reply one earlier tap
-  reasons : (earlier : List TapIn) (tap : TapIn) → reason other earlier tap ≡ reason one earlier tap
-  windows : (taps : List TapIn) → windows other taps ≡ windows one taps
+record AnswerAlike (one other : CappedRules) : Type 0 where
+  replies : (earlier : List TapIn) (tap : TapIn)
+      → capped_reply other earlier tap ≡ capped_reply one earlier tap
+  reasons : (earlier : List TapIn) (tap : TapIn)
+      → capped_reason other earlier tap ≡ capped_reason one earlier tap
+  windows : (taps : List TapIn) → windows other.rules taps ≡ windows one.rules taps
 
 -- the place of a class matters to what is kept alone
 of_class : TokenRules → (ℕ → ℕ) → TokenRules
@@ -114,16 +122,60 @@ unfolding ride_of of_class
 same_ride_of rules position [] = refl
 same_ride_of rules position (first ∷ window) = refl
 
-answer_alike : (rules : TokenRules) (position : ℕ → ℕ) → AnswerAlike rules (of_class rules position)
-unfolding reply live_reply reason live_reason ends_in_transfer last_trip trips windows rides
+same_reason : (rules : TokenRules) (position : ℕ → ℕ) (earlier : List TapIn) (tap : TapIn)
+    → reason (of_class rules position) earlier tap ≡ reason rules earlier tap
+unfolding reason live_reason ends_in_transfer last_trip trips windows rides of_class
+same_reason rules position earlier tap =
+    ap (λ (r : Reason). cond (is_some tap.mode)
+    (cond (is_later earlier tap.moment) (cond (ends_in_transfer rules (earlier ++ tap ∷ []))
+    (given_by (last_trip rules earlier)) r) (Stale (latest earlier))) Unknown)
+    (same_ride_of rules position (last_block (windows rules (earlier ++ tap ∷ []))))
+
+-- under the same caps
+capped_by : CappedRules → (ℕ → ℕ) → CappedRules
+capped_by rules position = record rules { rules = of_class rules.rules position }
+
+same_after : (rules : CappedRules) (position : ℕ → ℕ) (before : CapStates) (rides : List LiveTap)
+    → after_rides (capped_by rules position) before rides ≡ after_rides rules before rides
+unfolding after_rides after_ride ride_charge charge_at at_ride with_charge window_cap capped_by
     of_class
+same_after rules position before [] = refl
+same_after rules position before (ride ∷ rides) =
+    same_after rules position (after_ride rules before ride) rides
+
+same_states : (rules : CappedRules) (position : ℕ → ℕ) (taps : List TapIn)
+    → states (capped_by rules position) taps ≡ states rules taps
+unfolding states no_rides rides trips capped_by of_class
+same_states rules position taps =
+    same_after rules position (no_rides rules) (rides rules.rules taps)
+
+same_under : (rules : CappedRules) (position : ℕ → ℕ) (before : CapStates) (tap : TapIn)
+    (mode : Option Mode) (one : Reason) → tap.mode ≡ mode
+    → under_caps (capped_by rules position) before tap one ≡ under_caps rules before tap one
+unfolding ride_charge charge_at at_ride window_cap capped_by of_class
+same_under rules position before tap mode Unknown is = refl
+same_under rules position before tap mode (Stale latest) is = refl
+same_under rules position before tap mode (Transfer moment given) is = refl
+same_under rules position before tap None (Ride start until charge) is = rw is refl
+same_under rules position before tap (Some mode) (Ride start until charge) is = rw is refl
+
+same_capped : (rules : CappedRules) (position : ℕ → ℕ) (earlier : List TapIn) (tap : TapIn)
+    → capped_reason (capped_by rules position) earlier tap ≡ capped_reason rules earlier tap
+unfolding capped_reason capped_by
+same_capped rules position earlier tap =
+    ap (λ (before : CapStates). under_caps (capped_by rules position) before tap
+    (reason (of_class rules.rules position) earlier tap)) (same_states rules position earlier)
+    ∙ ap (under_caps (capped_by rules position) (states rules earlier) tap)
+    (same_reason rules.rules position earlier tap)
+    ∙ same_under rules position (states rules earlier) tap tap.mode
+    (reason rules.rules earlier tap) refl
+
+answer_alike : (rules : CappedRules) (position : ℕ → ℕ)
+    → AnswerAlike rules (capped_by rules position)
+unfolding capped_reply trips windows rides capped_by of_class
 answer_alike rules position = record {
-  replies = λ earlier tap. refl;
-  reasons = λ earlier tap.
-      ap (λ (r : Reason). cond (is_some tap.mode)
-      (cond (is_later earlier tap.moment) (cond (ends_in_transfer rules (earlier ++ tap ∷ []))
-      (given_by (last_trip rules earlier)) r) (Stale (latest earlier))) Unknown)
-      (same_ride_of rules position (last_block (windows rules (earlier ++ tap ∷ []))));
+  replies = λ earlier tap. ap replied_by (same_capped rules position earlier tap);
+  reasons = same_capped rules position;
   windows = λ taps. refl;
 }
 
@@ -139,19 +191,31 @@ rules_by fares position class = record (rules_of fares []) {
   };
 }
 
+-- the caps of the class of each moment
+caps_by : Fares → (ℕ → Class) → List CapRules
+caps_by fares class = map (λ index. record (cap_rules fares [] index) {
+  ceiling = λ ride. slice_index_or (class ride.moment).caps index 100_000_000;
+}) (cap_positions fares.meaning.caps)
+
 same_rules : (fares : Fares) (token other : Token) → HaveSameTerms fares token other
-    → AnswerAlike (rules_of fares (bytes_of token)) (rules_of fares (bytes_of other))
-unfolding rules_of transfers_of token_class rules_by of_class
+    → AnswerAlike (capped_rules_of fares (bytes_of token)) (capped_rules_of fares (bytes_of other))
+unfolding rules_of transfers_of token_class rules_by of_class capped_rules_of cap_rules caps_by
+    capped_by
 same_rules fares token other same =
     let position = λ (moment : ℕ). class_of (meaning_at fares moment) (bytes_of other) in
     let back = λ (moment : ℕ). sym (same moment) in
-    let is : rules_of fares (bytes_of other) ≡ of_class (rules_of fares (bytes_of token)) position =
-    λ i. rules_by fares position (λ moment. back moment i) in
-    subst (λ (rules : TokenRules). AnswerAlike (rules_of fares (bytes_of token)) rules) (sym is)
-    (answer_alike (rules_of fares (bytes_of token)) position)
+    let is : capped_rules_of fares (bytes_of other)
+    ≡ capped_by (capped_rules_of fares (bytes_of token)) position =
+    λ i. record {
+      rules = rules_by fares position (λ moment. back moment i);
+      caps = caps_by fares (λ moment. back moment i);
+    } in
+    subst (λ (rules : CappedRules). AnswerAlike (capped_rules_of fares (bytes_of token)) rules)
+    (sym is) (answer_alike (capped_rules_of fares (bytes_of token)) position)
 
 module _ (fares : Fares) (token other : Token) (bytes : List ℕ)
-    (rules : AnswerAlike (rules_of fares (bytes_of token)) (rules_of fares (bytes_of other))) where
+    (rules : AnswerAlike (capped_rules_of fares (bytes_of token))
+    (capped_rules_of fares (bytes_of other))) where
   -- the entry of a tap, by its token and its reply
   entry_by : TapFields → Token → Reply → Entry
   entry_by f t replied = record {
@@ -169,10 +233,12 @@ module _ (fares : Fares) (token other : Token) (bytes : List ℕ)
   unfolding answered entry_of tap_of entry_by
   renamed_entry one two f mine yours same =
       let tap = tap_of fares (entry_of f) in
-      ap (λ t. entry_by f t (reply (rules_of fares (bytes_of t)) (taps_of fares t two) tap)) yours
+      ap (λ t. entry_by f t
+      (capped_reply (capped_rules_of fares (bytes_of t)) (taps_of fares t two) tap)) yours
       ∙ ap (entry_by f other) (rules.replies (taps_of fares other two) tap
-      ∙ ap (λ ts. reply (rules_of fares (bytes_of token)) ts tap) (sym same)
-      ∙ ap (λ t. reply (rules_of fares (bytes_of t)) (taps_of fares t one) tap) (sym mine))
+      ∙ ap (λ ts. capped_reply (capped_rules_of fares (bytes_of token)) ts tap) (sym same)
+      ∙ ap (λ t. capped_reply (capped_rules_of fares (bytes_of t)) (taps_of fares t one) tap)
+      (sym mine))
 
   push_renamed : (one two : List Entry) (entry : Entry) → is_of token entry ≡ true
       → is_of other (entry_for other entry) ≡ true
@@ -222,7 +288,8 @@ taps_for fares token (entry ∷ entries) =
     ap (λ ts. tap_of fares entry ∷ ts) (taps_for fares token entries)
 
 charged : (fares : Fares) (token other : Token) (history again : List Entry)
-    → AnswerAlike (rules_of fares (bytes_of token)) (rules_of fares (bytes_of other))
+    → AnswerAlike (capped_rules_of fares (bytes_of token))
+    (capped_rules_of fares (bytes_of other))
     → own other again ≡ map (entry_for other) (own token history)
     → ChargedAlike fares token other history again
 unfolding taps_of

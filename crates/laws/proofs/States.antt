@@ -5,7 +5,7 @@ use Rattle.std.proofs.Common.{nat_lt, is_some, arith, take}
 use Rattle.std.specs.List.{flat_map, last_or}
 use Rattle.std.specs.Prelude.{option_map}
 use Rattle.std.specs.Option.{option_and_then, option_to_list}
-use Rattle.std.proofs.lemmas.Bool.{le-ltb, and_right}
+use Rattle.std.proofs.lemmas.Bool.{le-ltb, and_right, true≢false}
 use Rattle.tariffs.specs.declared.mode.Mode.{Mode}
 use Rattle.account_rule.specs.declared.reply.Answer.TheVariants.{Transfer, Stale, Unknown}
 use Rattle.account_rule.specs.declared.reply.Reply.{Reply}
@@ -18,6 +18,11 @@ use Rattle.account_rule.specs.Taps.{LiveTap, is_later, live, live_at, live_tap}
 use Rattle.account_rule.specs.Windows.{charges, is_within, paid_by, windows}
 use Rattle.account_rule.proofs.StepLemmas.{not_known, not_later, reply_stale, reply_unknown}
 use Rattle.account_rule.proofs.TapLemmas.{is_later-push, live-push}
+use Rattle.fare_caps.specs.Caps.{CappedRules}
+use Rattle.fare_caps.specs.CapStates.{CapStates, states}
+use Rattle.fare_caps.specs.CappedReplies.{capped_reply}
+use Rattle.fare_caps.proofs.AnswerLemmas.{answered, is_charged, is_same, reply-under}
+use Rattle.fare_caps.proofs.AnswerLemmas.{states-same, under_reply}
 use Rattle.laws.specs.Bills.{is_live_answer}
 
 -- they have the same live taps, and the same moments are later
@@ -95,11 +100,17 @@ state-twice taps tap = record {
       ∙ sym (is_later-push (taps ++ tap ∷ []) tap moment);
 }
 
+-- a ride is live
+pub ride_is_live : (paid : Option ℕ) → is_live_answer (ride_reply paid).answer ≡ true
+unfolding ride_reply reply_with
+ride_is_live None = refl
+ride_is_live (Some cents) = refl
+
 -- and is answered as no ride and no transfer
-pub not_live_again : (rules : TokenRules) (taps : List TapIn) (tap : TapIn)
+plain_again : (rules : TokenRules) (taps : List TapIn) (tap : TapIn)
     → is_live_answer (reply rules (taps ++ tap ∷ []) tap).answer ≡ false
 unfolding reply_with
-not_live_again rules taps tap = by_mode tap.mode refl
+plain_again rules taps tap = by_mode tap.mode refl
   where
     by_mode : (mode : Option Mode) → tap.mode ≡ mode
         → is_live_answer (reply rules (taps ++ tap ∷ []) tap).answer ≡ false
@@ -109,6 +120,16 @@ not_live_again rules taps tap = by_mode tap.mode refl
         ap (λ (r : Reply). is_live_answer r.answer)
         (reply_stale rules (taps ++ tap ∷ []) tap mode e
         (not_later_itself taps tap (ap (λ (m : Option Mode). is_some m) e)))
+
+pub not_live_again : (rules : CappedRules) (taps : List TapIn) (tap : TapIn)
+    → is_live_answer (capped_reply rules (taps ++ tap ∷ []) tap).answer ≡ false
+not_live_again rules taps tap = elim (answered rules (taps ++ tap ∷ []) tap) [
+  | is_same same ↦
+      ap (λ (r : Reply). is_live_answer r.answer) same ∙ plain_again rules.rules taps tap
+  | is_charged paid other one two ↦
+      absurd (true≢false (sym (ride_is_live other)
+      ∙ sym (ap (λ (r : Reply). is_live_answer r.answer) two) ∙ plain_again rules.rules taps tap))
+]
 
 -- ---- the same state, the same reply
 -- the windows of the live taps
@@ -130,10 +151,10 @@ by_live_taps : (rules : TokenRules) (taps : List TapIn)
 unfolding live_reply ends_in_transfer trips windows rides reply_by windows_by
 by_live_taps rules taps = refl
 
-pub same_reply : (rules : TokenRules) (one other : List TapIn) (tap : TapIn) → SameState one other
+plain_same : (rules : TokenRules) (one other : List TapIn) (tap : TapIn) → SameState one other
     → reply rules one tap ≡ reply rules other tap
 unfolding reply
-same_reply rules one other tap same =
+plain_same rules one other tap same =
     let k = is_some tap.mode in
     let stale = reply_with Stale 0 in
     let unknown = reply_with Unknown 0 in
@@ -144,6 +165,15 @@ same_reply rules one other tap same =
     ap (λ b. cond k (cond b (live_reply rules (one ++ tap ∷ [])) stale) unknown)
     (same.later tap.moment)
     ∙ ap (λ r. cond k (cond (is_later other tap.moment) r stale) unknown) live_same
+
+pub same_reply : (rules : CappedRules) (one other : List TapIn) (tap : TapIn) → SameState one other
+    → capped_reply rules one tap ≡ capped_reply rules other tap
+same_reply rules one other tap same =
+    reply-under rules one tap
+    ∙ ap (λ (before : CapStates). under_reply rules before tap (reply rules.rules one tap))
+    (states-same rules one other same.shown)
+    ∙ ap (under_reply rules (states rules other) tap) (plain_same rules.rules one other tap same)
+    ∙ sym (reply-under rules other tap)
 
 by_live_rides : (rules : TokenRules) (taps : List TapIn)
     → windows rules taps ≡ windows_by rules (live taps)

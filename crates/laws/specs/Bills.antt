@@ -4,11 +4,12 @@ use Rattle.tariffs.specs.Fares.{Fares, class_at, class_of, meaning_at, transfer_
 use Rattle.tap_views.specs.Token.{bytes_of}
 use Rattle.tap_views.specs.declared.token.Token.{Token}
 use Rattle.account_rule.specs.Laws.{is_ride}
-use Rattle.account_rule.specs.Reasons.{reason}
 use Rattle.account_rule.specs.TokenRules.{rules_of}
 use Rattle.account_rule.specs.Windows.{windows}
 use Rattle.account_rule.specs.declared.reply.Answer.{Answer}
 use Rattle.account_rule.specs.declared.tap.TapIn.{TapIn}
+use Rattle.fare_caps.specs.CapMeanings.{capped_rules_of}
+use Rattle.fare_caps.specs.CappedReplies.{capped_reason}
 use Rattle.histories.specs.Entry.{own, reply_of, taps_of}
 use Rattle.histories.specs.Sums.{Sums, is_stale, is_unknown, sums}
 use Rattle.histories.specs.SumsByKey.{entries_of_validator}
@@ -80,8 +81,8 @@ pub record ChargedAlike (fares : Fares) (token other : Token) (history again : L
   pub lines : own other again ≡ map (entry_for other) (own token history)
   pub taps : taps_of fares other again ≡ taps_of fares token history
   pub reasons : (earlier : List TapIn) (tap : TapIn)
-      → reason (rules_of fares (bytes_of other)) earlier tap
-      ≡ reason (rules_of fares (bytes_of token)) earlier tap
+      → capped_reason (capped_rules_of fares (bytes_of other)) earlier tap
+      ≡ capped_reason (capped_rules_of fares (bytes_of token)) earlier tap
   pub windows : windows (rules_of fares (bytes_of other)) (taps_of fares other again)
       ≡ windows (rules_of fares (bytes_of token)) (taps_of fares token history)
 

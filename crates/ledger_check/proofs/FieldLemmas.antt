@@ -18,7 +18,7 @@ use Rattle.line_forms.specs.Columns.{ends_column, is_column}
 use Rattle.tap_views.specs.Token.{bytes_of}
 use Rattle.tap_views.specs.declared.token.Token.{Token}
 use Rattle.tariffs.specs.Fares.{Fares}
-use Rattle.account_rule.specs.declared.reason.Reason.{Reason}
+use Rattle.fare_caps.specs.declared.capped_reason.CappedReason.{CappedReason}
 use Rattle.fare_texts.specs.StatementText.{answer_text}
 use Rattle.histories.specs.declared.entry.Entry.{Entry}
 use Rattle.fare_texts.specs.LedgerLines.{IsLedgerLine, entry_fields, line_head, mode_field}
@@ -204,7 +204,7 @@ head_shown token number more =
     ∙ ap (λ (t : List ℕ). encode_lower (bytes_of token) ++ 44 ∷ t)
     (append_assoc (decimal number) (44 ∷ []) more)
 
-pub first_fields : (fares : Fares) (token : Token) (number : ℕ) (entry : Entry) (why : Reason)
+pub first_fields : (fares : Fares) (token : Token) (number : ℕ) (entry : Entry) (why : CappedReason)
     (line : List ℕ)
     → IsLedgerLine fares token number entry why line → FirstFields token number entry line
 unfolding entry_fields

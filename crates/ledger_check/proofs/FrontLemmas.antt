@@ -8,7 +8,7 @@ use Rattle.jiff_core.specs.declared.civil.date.Date.{Date}
 use Rattle.jiff_core.specs.Date.{epoch_day}
 use Rattle.jiff_core.proofs.DateLemmas.{epoch_day_same}
 use Rattle.jiff_fmt.specs.Text.{date_text}
-use Rattle.account_rule.specs.declared.reason.Reason.{Reason}
+use Rattle.fare_caps.specs.declared.capped_reason.CappedReason.{CappedReason}
 use Rattle.tariffs.specs.Fares.{Fares}
 use Rattle.histories.specs.declared.entry.Entry.{Entry}
 use Rattle.fare_texts.specs.LedgerLines.{IsLedgerLine, entry_fields, line_head}
@@ -75,7 +75,7 @@ columns_same line token number moment validator rest token' number' moment' vali
     }
 
 -- the line of a token's entry names its tap
-pub line_tap : (fares : Fares) (token : Token) (number : ℕ) (entry : Entry) (why : Reason)
+pub line_tap : (fares : Fares) (token : Token) (number : ℕ) (entry : Entry) (why : CappedReason)
     (line : List ℕ) → IsLedgerLine fares token number entry why line → number < 2 ^ 64
     → Fits token → entry.validator < 2 ^ 32 → entry.moment < 4_102_444_800_000
     → length line ≤ 255

@@ -6,11 +6,12 @@ use Rattle.jiff_core.specs.declared.civil.date.Date.{Date}
 use Rattle.jiff_core.proofs.DateLemmas.{epoch_day_injective}
 use Rattle.jiff_fmt.specs.Text.{date_text, pad2, year_text}
 use Rattle.tariffs.specs.Fares.{Fares}
-use Rattle.account_rule.specs.TokenRules.{rules_of}
-use Rattle.account_rule.specs.Replies.{reply}
-use Rattle.account_rule.specs.declared.reason.Charge.{Charge}
-use Rattle.account_rule.specs.declared.reason.Reason.{Reason}
-use Rattle.account_rule.specs.declared.reason.Reason.TheVariants.{Unknown, Stale, Transfer, Ride}
+use Rattle.fare_caps.specs.CapMeanings.{capped_rules_of}
+use Rattle.fare_caps.specs.CappedReplies.{capped_reply}
+use Rattle.fare_caps.specs.declared.cap_charge.CapCharge.{CapCharge}
+use Rattle.fare_caps.specs.declared.capped_reason.CappedReason.{CappedReason}
+use Rattle.fare_caps.specs.declared.capped_reason.CappedReason.TheVariants.{Ride, Stale, Transfer}
+use Rattle.fare_caps.specs.declared.capped_reason.CappedReason.TheVariants.{Unknown}
 use Rattle.account_rule.specs.declared.reply.Answer.{Answer}
 use Rattle.account_rule.specs.declared.reply.Reply.{Reply}
 use Rattle.account_rule.specs.declared.tap.TapIn.{TapIn}
@@ -57,8 +58,8 @@ pointing_same words at a b is also =
     is.shown ∙ ap (λ (t : List ℕ). words ++ t) (moment_same at is.moment also.moment is.is also.is)
     ∙ sym also.shown
 
-ride_same : (start until : ℕ) (charge : Charge) (a b : List ℕ) → IsRideFields start until charge a
-    → IsRideFields start until charge b → a ≡ b
+ride_same : (start until : ℕ) (charge : CapCharge) (a b : List ℕ)
+    → IsRideFields start until charge a → IsRideFields start until charge b → a ≡ b
 ride_same start until charge a b is also =
     let rest = ride_rest charge in
     is.shown
@@ -68,15 +69,15 @@ ride_same start until charge a b is also =
     (moment_same until is.to also.to is.ends also.ends)
     ∙ sym also.shown
 
-reason_fields_same : (why : Reason) (a b : List ℕ) → IsReasonFields why a → IsReasonFields why b
-    → a ≡ b
+reason_fields_same : (why : CappedReason) (a b : List ℕ) → IsReasonFields why a
+    → IsReasonFields why b → a ≡ b
 reason_fields_same Unknown a b is also = is ∙ sym also
 reason_fields_same (Stale latest) a b is also = pointing_same _ latest a b is also
 reason_fields_same (Transfer moment mode) a b is also = pointing_same _ moment a b is also
 reason_fields_same (Ride start until charge) a b is also = ride_same start until charge a b is also
 
 -- an entry has one line
-pub line_same : (fares : Fares) (token : Token) (number : ℕ) (entry : Entry) (why : Reason)
+pub line_same : (fares : Fares) (token : Token) (number : ℕ) (entry : Entry) (why : CappedReason)
     (a b : List ℕ)
     → IsLedgerLine fares token number entry why a → IsLedgerLine fares token number entry why b
     → a ≡ b
@@ -101,7 +102,7 @@ entry_from token validator moment replied =
 -- what the rule replies decides an entry
 abbrev ruled : Fares → List Entry → Entry → Reply
 ruled fares earlier entry =
-    reply (rules_of fares (bytes_of entry.token)) (taps_of fares entry.token earlier)
+    capped_reply (capped_rules_of fares (bytes_of entry.token)) (taps_of fares entry.token earlier)
     (tap_of fares entry)
 
 tap_same : (fares : Fares) (a b : Entry) → a.validator ≡ b.validator → a.moment ≡ b.moment
@@ -114,9 +115,10 @@ ruled_same : (fares : Fares) (earlier : List Entry) (a b : Entry) → a.token �
     → ruled fares earlier a ≡ ruled fares earlier b
 ruled_same fares earlier a b token validator moment =
     let taps : tap_of fares a ≡ tap_of fares b = tap_same fares a b validator moment in
-    ap (λ (t : Token). reply (rules_of fares (bytes_of t)) (taps_of fares t earlier)
+    ap (λ (t : Token). capped_reply (capped_rules_of fares (bytes_of t)) (taps_of fares t earlier)
     (tap_of fares a)) token
-    ∙ ap (λ (t : TapIn). reply (rules_of fares (bytes_of b.token)) (taps_of fares b.token earlier)
+    ∙ ap (λ (t : TapIn). capped_reply (capped_rules_of fares (bytes_of b.token))
+    (taps_of fares b.token earlier)
     t) taps
 
 -- entries of the same tap, both with the rule's reply, are the same

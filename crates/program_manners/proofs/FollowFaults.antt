@@ -6,8 +6,8 @@ use Rattle.jiff_core.specs.Calendar.{days_from_civil}
 use Rattle.tariffs.specs.Fares.{Fares}
 use Rattle.tariffs.specs.Following.{IsFollowFault, last_from}
 use Rattle.tariffs.specs.declared.follow_fault.FollowFault.{FollowFault}
-use Rattle.tariffs.specs.declared.follow_fault.FollowFault.TheVariants.{Date, Followed, Modes}
-use Rattle.tariffs.specs.declared.follow_fault.FollowFault.TheVariants.{NoMemory, Zone}
+use Rattle.tariffs.specs.declared.follow_fault.FollowFault.TheVariants.{Caps, Date, Followed}
+use Rattle.tariffs.specs.declared.follow_fault.FollowFault.TheVariants.{Modes, NoMemory, Zone}
 use Rattle.program_manners.specs.TableLoads.{IsWrongFrom}
 use Rattle.program_manners.specs.TableWords.{IsMidnight}
 use Rattle.program_manners.specs.declared.table_words.WrittenDate.{WrittenDate}
@@ -28,5 +28,6 @@ why_not fares date next from at Date is = λ other also.
     subst (λ (n : ℕ). n ≤ last_from 0 fares.later) (one_midnight from other (at ∙ sym also)) is
 why_not fares date next from at Zone is = (from, at, is)
 why_not fares date next from at Modes is = (from, at, is)
+why_not fares date next from at Caps is = (from, at, is)
 why_not fares date next from at Followed is = (from, at, is)
 why_not fares date next from at NoMemory is = (from, at, is)

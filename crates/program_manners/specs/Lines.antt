@@ -25,6 +25,7 @@ table_text table.Overlap = codes "fault: table F6"
 table_text table.Rider = codes "fault: table F7"
 table_text table.NoMemory = codes "fault: out of memory"
 table_text table.Zone = codes "fault: table F9"
+table_text table.Cap = codes "fault: table F10"
 
 -- the same of one of several tables, by the name of its file
 abbrev pub named_table_text : List ℕ → TableFault → List ℕ
@@ -40,6 +41,7 @@ named_table_text name table.Overlap = codes "fault: " ++ (name ++ codes ": table
 named_table_text name table.Rider = codes "fault: " ++ (name ++ codes ": table F7")
 named_table_text name table.NoMemory = codes "fault: out of memory"
 named_table_text name table.Zone = codes "fault: " ++ (name ++ codes ": table F9")
+named_table_text name table.Cap = codes "fault: " ++ (name ++ codes ": table F10")
 
 -- the line of a table's word that cannot follow those before it
 abbrev pub follow_text : List ℕ → FollowFault → List ℕ
@@ -47,6 +49,7 @@ follow_text word follow.Date = codes "fault: " ++ (word
     ++ codes ": a table before it is valid from the same date or a later one")
 follow_text word follow.Zone = codes "fault: " ++ (word ++ codes ": it names another zone")
 follow_text word follow.Modes = codes "fault: " ++ (word ++ codes ": it has other modes")
+follow_text word follow.Caps = codes "fault: " ++ (word ++ codes ": it has other caps")
 follow_text word follow.Followed = codes "fault: " ++ (word ++ codes ": a table follows it already")
 follow_text word follow.NoMemory = codes "fault: out of memory"
 

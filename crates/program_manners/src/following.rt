@@ -52,6 +52,7 @@ impl fmt::Display for NamedTableLine<'_> {
             TableFault::Rider => write!(f, "fault: {name}: table F7"),
             TableFault::NoMemory => f.write_str("fault: out of memory"),
             TableFault::Zone => write!(f, "fault: {name}: table F9"),
+            TableFault::Cap => write!(f, "fault: {name}: table F10"),
         }
     }
 }
@@ -76,6 +77,7 @@ impl fmt::Display for FollowLine<'_> {
             ),
             FollowFault::Zone => write!(f, "fault: {word}: it names another zone"),
             FollowFault::Modes => write!(f, "fault: {word}: it has other modes"),
+            FollowFault::Caps => write!(f, "fault: {word}: it has other caps"),
             FollowFault::Followed => write!(f, "fault: {word}: a table follows it already"),
             FollowFault::NoMemory => f.write_str("fault: out of memory"),
         }

@@ -23,6 +23,7 @@ impl fmt::Display for TableLine {
             TableFault::Rider => f.write_str("fault: table F7"),
             TableFault::NoMemory => f.write_str("fault: out of memory"),
             TableFault::Zone => f.write_str("fault: table F9"),
+            TableFault::Cap => f.write_str("fault: table F10"),
         }
     }
 }

@@ -124,7 +124,7 @@ fn statement_of(
         token,
         lines: Lines::of(entries),
         totals,
-        window: replay.window(),
+        window: replay.window(table),
     };
     let text = statement_text(alloc, table, &statement)?;
     Ok(text)

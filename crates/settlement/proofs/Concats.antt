@@ -5,8 +5,8 @@ use Rattle.std.proofs.lemmas.List.Elements.{filter-append}
 use Rattle.tariffs.specs.Fares.{Fares}
 use Rattle.tap_views.specs.Token.{bytes_of}
 use Rattle.tap_views.specs.declared.encoder.TapFields.{TapFields}
-use Rattle.account_rule.specs.Replies.{reply}
-use Rattle.account_rule.specs.TokenRules.{rules_of}
+use Rattle.fare_caps.specs.CappedReplies.{capped_reply}
+use Rattle.fare_caps.specs.CapMeanings.{capped_rules_of}
 use Rattle.histories.specs.Entry.{is_of, own, tap_of, taps_of}
 use Rattle.histories.specs.declared.entry.Entry.{Entry}
 use Rattle.histories.specs.Plain.{answered, with_reply}
@@ -19,7 +19,8 @@ answered_others : (fares : Fares) (front earlier : List Entry) (entry : Entry)
     → answered fares (front ++ earlier) entry ≡ answered fares earlier entry
 unfolding answered taps_of own
 answered_others fares front earlier entry none =
-    ap (λ (es : List Entry). with_reply entry (reply (rules_of fares (bytes_of entry.token))
+    ap (λ (es : List Entry). with_reply entry
+    (capped_reply (capped_rules_of fares (bytes_of entry.token))
     (map (tap_of fares) es) (tap_of fares entry)))
     (filter-append (is_of entry.token) front earlier
     ∙ ap (λ (es : List Entry). es ++ filter (is_of entry.token) earlier) none)

@@ -11,8 +11,8 @@ use Rattle.tap_views.specs.Encoding.{fields_of}
 use Rattle.tap_views.specs.Files.{AreValidTaps}
 use Rattle.tap_views.specs.Layout.{Tap}
 use Rattle.tap_views.specs.declared.encoder.TapFields.{TapFields}
-use Rattle.account_rule.specs.Replies.{reply}
-use Rattle.account_rule.specs.TokenRules.{rules_of}
+use Rattle.fare_caps.specs.CappedReplies.{capped_reply}
+use Rattle.fare_caps.specs.CapMeanings.{capped_rules_of}
 use Rattle.histories.specs.Entry.{is_of, own, tap_of, taps_of}
 use Rattle.histories.specs.declared.entry.Entry.{Entry}
 use Rattle.tap_views.proofs.TokenLemmas.{same_token}
@@ -110,7 +110,8 @@ answered_own : (fares : Fares) (token : Token) (earlier alone : List Entry) (ent
     → answered fares earlier entry ≡ answered fares alone entry
 unfolding answered taps_of
 answered_own fares token earlier alone entry is same =
-    ap (λ (es : List Entry). with_reply entry (reply (rules_of fares (bytes_of entry.token))
+    ap (λ (es : List Entry). with_reply entry
+    (capped_reply (capped_rules_of fares (bytes_of entry.token))
     (map (tap_of fares) es) (tap_of fares entry)))
     (ap (λ (t : Token). own t earlier) is ∙ same ∙ sym (ap (λ (t : Token). own t alone) is))
 

@@ -7,13 +7,16 @@ use Rattle.std.proofs.lemmas.Bool.{le-ltb}
 use Rattle.tariffs.specs.Fares.{Fares, mode_at}
 use Rattle.tap_views.specs.Token.{bytes_of}
 use Rattle.tap_views.specs.declared.token.Token.{Token}
-use Rattle.account_rule.specs.Replies.{reply, reply_with}
+use Rattle.account_rule.specs.Replies.{reply_with}
 use Rattle.account_rule.specs.TokenRules.{rules_of}
 use Rattle.account_rule.specs.Taps.{is_later}
 use Rattle.account_rule.specs.declared.reply.Answer.TheVariants.{Stale}
 use Rattle.account_rule.specs.declared.reply.Reply.{Reply}
 use Rattle.account_rule.specs.declared.tap.TapIn.{TapIn}
 use Rattle.account_rule.proofs.StepLemmas.{reply_stale}
+use Rattle.fare_caps.specs.CapMeanings.{capped_rules_of}
+use Rattle.fare_caps.specs.CappedReplies.{capped_reply}
+use Rattle.fare_caps.proofs.AnswerLemmas.{stale-capped}
 use Rattle.histories.specs.Entry.{is_of, mode_of_position, own, tap_of, taps_of}
 use Rattle.histories.specs.History.{IsLegal, IsReplied}
 use Rattle.histories.specs.declared.entry.Entry.{Entry}
@@ -44,13 +47,16 @@ not_later fares moment before other there known late =
 stale_answer : (fares : Fares) (earlier : List TapIn) (entry : Entry) (position : Option ℕ)
     → mode_at fares entry.moment entry.validator ≡ position → is_some position ≡ true
     → is_later earlier entry.moment ≡ false
-    → (reply (rules_of fares (bytes_of entry.token)) earlier (tap_of fares entry)).answer ≡ Stale
-unfolding tap_of reply_with
+    → (capped_reply (capped_rules_of fares (bytes_of entry.token)) earlier
+    (tap_of fares entry)).answer
+    ≡ Stale
+unfolding tap_of reply_with capped_rules_of
 stale_answer fares earlier entry None at known not = absurd (cc)
 stale_answer fares earlier entry (Some position) at known not =
-    ap (λ (r : Reply). r.answer)
+    stale-capped (capped_rules_of fares (bytes_of entry.token)) earlier (tap_of fares entry)
+    (ap (λ (r : Reply). r.answer)
     (reply_stale (rules_of fares (bytes_of entry.token)) earlier (tap_of fares entry)
-    (mode_of_position position) (ap (option_map mode_of_position) at) not)
+    (mode_of_position position) (ap (option_map mode_of_position) at) not))
 
 pub same_moment_is_stale : (fares : Fares) (before : List Entry) (entry : Entry)
     (after : List Entry)

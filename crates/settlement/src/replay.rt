@@ -4,15 +4,16 @@ ghost use Rattle.std.specs.Prelude.{◌≡◌, ◌<◌, List, ◌∷◌, ◌++�
 ghost use Rattle.std.specs.Option.{ForSome};
 ghost use Rattle.tariffs.specs.Fares.{Fares};
 ghost use Rattle.tap_views.specs.Token.{bytes_of};
-ghost use Rattle.account_rule.specs.TokenRules.{rules_of};
-ghost use Rattle.account_rule.specs.Windows.{last_window};
+ghost use Rattle.fare_caps.specs.CapMeanings.{capped_rules_of};
+ghost use Rattle.fare_caps.specs.CappedReplies.{capped_window};
 ghost use Rattle.histories.specs.Entry.{own, tap_of, taps_of};
 ghost use Rattle.histories.specs.declared.entry.Entry.{Entry};
 ghost use Rattle.histories.specs.Plain.{answered};
 ghost use Rattle.settlement.specs.Posted.{token_of_tap, unposted};
 ghost use Rattle.settlement.specs.Replays.{HasPosted};
 
-use account_rule::{Account, TapIn, WindowView};
+use account_rule::{TapIn, WindowView};
+use fare_caps::CappedAccount;
 use histories::Entry;
 use tap_views::{TapFields, Token};
 use tariffs::{Clock, FareTable};
@@ -45,7 +46,7 @@ fn named_bytes<'a>(token: Token, tap: &'a TapFields) -> &'a [u8]
 #[derive(Clone, Copy)]
 pub struct Replay {
     pub token: Token,
-    account: Account,
+    account: CappedAccount,
 }
 
 impl Replay {
@@ -57,7 +58,7 @@ impl Replay {
     {
         Replay {
             token,
-            account: Account::fresh(),
+            account: CappedAccount::fresh(),
         }
     }
 
@@ -87,11 +88,11 @@ impl Replay {
     }
 
     /// The token's last window, if it has one.
-    pub fn window(&self) -> Option<WindowView>
-        ensures { (fares : Fares) (entries : List Entry) → HasPosted fares self.now entries
-            → result ≡ last_window (rules_of fares (bytes_of self.now.token))
-            (taps_of fares self.now.token entries) }
+    pub fn window(&self, table: &FareTable) -> Option<WindowView>
+        ensures { (entries : List Entry) → HasPosted table.now self.now entries
+            → result ≡ capped_window (capped_rules_of table.now (bytes_of self.now.token))
+            (taps_of table.now self.now.token entries) }
     {
-        self.account.window()
+        self.account.window(table)
     }
 }

@@ -2,23 +2,30 @@
 use Rattle.std.proofs.Common.{◌≡◌, ℕ, suc, ◌+◌, ◌<◌, arith, List, [], ◌∷◌, ◌++◌, length, refl}
 use Rattle.std.proofs.Common.{Option, Some, None, slice_get, sym, ap, subst, ◌∙◌, Bool, true, false}
 use Rattle.std.proofs.Common.{cond, is_some, ⊎_elim}
+use Rattle.std.specs.Option.{unwrap_or}
 use Rattle.std.specs.Map.{keys_of, lookup}
 use Rattle.std.specs.List.{position_or_len}
 use Rattle.indexmap.specs.IndexMap.{IsUnique, Updates, get, insert_entry, insert_index}
 use Rattle.indexmap.specs.IndexMap.{with_value_at}
 use Rattle.indexmap.proofs.CallerLemmas.{insert_entry-new, updates-with_value_at}
 use Rattle.account_rule.specs.declared.tap.TapIn.{TapIn}
-use Rattle.account_rule.specs.TokenRules.{TokenRules}
-use Rattle.account_rule.specs.Represents.{Represents}
+use Rattle.tariffs.specs.Fares.{Fares}
+use Rattle.account_rule.specs.declared.reply.Reply.{Reply}
+use Rattle.account_rule.specs.Represents as plain
+use Rattle.account_rule.specs.TokenRules.{rules_of}
+use Rattle.fare_caps.specs.CapMeanings.{capped_rules_of}
+use Rattle.fare_caps.specs.Represents.{Represents, no_further}
+use Rattle.fare_caps.specs.declared.further.Further.{Further}
 use Rattle.shard_book.specs.declared.accounts.Accounts.{Accounts}
 use Rattle.shard_book.specs.declared.accounts.KeptAccount.{KeptAccount}
 use Rattle.shard_book.specs.inside.Accounts.{IsKept, IsKeptOrFresh, HasPositionFor, IsPosition}
+use Rattle.shard_book.specs.inside.Accounts.{HasKept, StaysKept, Steps, StillKept}
 use Rattle.shard_book.specs.inside.Accounts.{StillRepresents}
-use Rattle.shard_book.specs.inside.Accounts.{counted, kept_at}
+use Rattle.shard_book.specs.inside.Accounts.{capped_of, counted, further_at, kept_at}
 use Rattle.histories.specs.Counts.{sums_of_counts}
 use Rattle.shard_book.specs.inside.Packed.{KeepPositions, tokens_of}
-use Rattle.histories.specs.Sums.{sums_of_replies}
-use Rattle.tap_views.specs.Token.{token_eq}
+use Rattle.histories.specs.Sums.{Sums, add_sums, sums_of_replies}
+use Rattle.tap_views.specs.Token.{bytes_of, token_eq}
 use Rattle.tap_views.specs.declared.token.Token.{Token}
 use Rattle.tap_views.proofs.TokenLemmas.{same_token, token_eq-laws}
 use Rattle.shard_book.proofs.PackedLemmas.{keep_entries, keep_same}
@@ -26,13 +33,15 @@ use Rattle.std.proofs.lemmas.Bool.{cases_Bool, false≢true}
 use Rattle.std.proofs.lemmas.Option.{slice_get_within}
 
 -- the kept account, or else a fresh one, stands for the taps
-pub holds_or : (rules : TokenRules) (kept : Option KeptAccount) (here : KeptAccount)
-    (taps : List TapIn) → IsKeptOrFresh kept here → IsKept rules kept taps
-    → Represents rules here.account taps
-holds_or rules None here taps is empty =
-    subst (λ (ts : List TapIn). Represents rules here.account ts) (sym empty) (is.0 rules)
-holds_or rules (Some kept) here taps is holds =
-    subst (λ (k : KeptAccount). Represents rules k.account taps) (sym is) holds
+pub holds_or : (fares : Fares) (token : List ℕ) (kept : Option KeptAccount) (here : KeptAccount)
+    (further : Further) (taps : List TapIn) → IsKeptOrFresh kept here
+    → IsKept (capped_rules_of fares token) kept further taps
+    → Represents (capped_rules_of fares token) (capped_of here further) taps
+holds_or fares token None here further taps is empty =
+    rw (empty.0, empty.1) (is.0 fares token)
+holds_or fares token (Some kept) here further taps is holds =
+    subst (λ (k : KeptAccount). Represents (capped_rules_of fares token) (capped_of k further) taps)
+    (sym is) holds
 
 -- the kept counts, or else those of nothing, are what is counted
 pub counted_or : (kept : Option KeptAccount) (here : KeptAccount) → IsKeptOrFresh kept here
@@ -95,7 +104,8 @@ slice_get-last (y ∷ ys) x = slice_get-last ys x
 pub made_last : (old new : Accounts) (token : Token) (position : ℕ) (fresh : KeptAccount)
     → position ≡ length old.map.entries → kept_at old token ≡ None → kept_at new token ≡ Some fresh
     → new.map.entries ≡ insert_entry token_eq old.map.entries token fresh
-    → ((rules : TokenRules) → Represents rules fresh.account [])
+    → ((fares : Fares) (name : List ℕ)
+    → Represents (capped_rules_of fares name) (capped_of fresh no_further) [])
     → sums_of_counts fresh.counts ≡ sums_of_replies [] → HasPositionFor old new token position
 unfolding kept_at
 made_last old new token position fresh at none now entries holds counts =
@@ -174,7 +184,9 @@ index-within accounts token some =
 -- what is kept stands on where it stayed
 pub on-same : {old new : Option KeptAccount} → new ≡ old → StillRepresents old new
 on-same {old} {new} same = record {
-  kept = λ rules taps kept. subst (λ (o : Option KeptAccount). IsKept rules o taps) (sym same) kept;
+  kept = λ fares token further taps kept.
+      subst (λ (o : Option KeptAccount). IsKept (capped_rules_of fares token) o further taps)
+      (sym same) kept;
   sums = ap counted same;
 }
 
@@ -192,3 +204,143 @@ unfolding kept_at
 keep_opened old new token fresh none entries =
     keep_entries old.map.entries new (token, fresh)
     (entries ∙ insert_entry-new token_eq old.map token fresh none)
+
+-- ---- steps
+-- what is stored beside an account stays if the whole of it does
+pub further-same : (old new : Accounts) (token : Token) → new.further ≡ old.further
+    → further_at new token ≡ further_at old token
+unfolding further_at
+further-same old new token same = rw same refl
+
+-- the account of a token that was there or was opened stands for its taps
+opened-kept : (table : Fares) (old mid : Accounts) (token : Token) (position : ℕ)
+    (taps : List TapIn)
+    → HasPositionFor old mid token position → mid.further ≡ old.further
+    → HasKept table old token taps → HasKept table mid token taps
+opened-kept table old mid token position taps made further kept =
+    rw (made.now, further-same old mid token further)
+    (holds_or table (bytes_of token) (kept_at old token) made.kept (further_at old token) taps
+    made.is
+    kept)
+
+-- a step after a look-up, of which the token's account came
+pub steps-from : (table : Fares) (token : Token) (tap : TapIn) (old mid new : Accounts)
+    (reply : Reply) (position : ℕ) → HasPositionFor old mid token position
+    → mid.further ≡ old.further → mid.counting ≡ old.counting
+    → ((other : Token) → token_eq token other ≡ false → kept_at mid other ≡ kept_at old other)
+    → Steps table token tap mid new reply → Steps table token tap old new reply
+steps-from table token tap old mid new reply position made further counting others steps = record {
+  reply = λ taps kept. steps.reply taps (opened-kept table old mid token position taps made further
+      kept);
+  kept = λ taps kept. steps.kept taps (opened-kept table old mid token position taps made further
+      kept);
+  counted = λ counts. steps.counted counts
+      ∙ ap (λ (s : Sums). add_sums s (sums_of_replies (reply ∷ [])))
+      (ap counted made.now ∙ counted_or (kept_at old token) made.kept made.is);
+  counting = λ counts. rw (← counting) (steps.counting counts);
+  few = steps.few;
+  others = λ other apart.
+      let stays = steps.others other apart in
+      record {
+        kept = stays.kept ∙ others other apart;
+        further = stays.further ∙ further-same old mid other further;
+      };
+}
+
+-- a place at which a token is
+pub there-of : {old new : Accounts} {token : Token} {position : ℕ}
+    → HasPositionFor old new token position → IsPosition new token position
+there-of made = record { kept = made.kept; at = made.at; is = made.now }
+
+-- so its taps are kept there
+pub kept-from : (table : Fares) (old mid : Accounts) (token : Token) (position : ℕ)
+    → HasPositionFor old mid token position → mid.further ≡ old.further
+    → (taps : List TapIn) × HasKept table old token taps
+    → (taps : List TapIn) × HasKept table mid token taps
+kept-from table old mid token position made further (taps, kept) =
+    (taps, opened-kept table old mid token position taps made further kept)
+
+-- what was there stands on, and an account that was opened stands for no taps
+still-made : (old : Option KeptAccount) (here : KeptAccount) → IsKeptOrFresh old here
+    → StillRepresents old (Some here)
+still-made None here is = record {
+  kept = λ fares token further taps empty. rw (empty.0, empty.1) (is.0 fares token);
+  sums = is.1;
+}
+still-made (Some old) here is = on-same (ap (λ (k : KeptAccount). Some k) is)
+
+-- after a look-up
+pub still-opened : (old mid : Accounts) (token : Token) (position : ℕ)
+    → HasPositionFor old mid token position
+    → mid.further ≡ old.further
+    → ((other : Token) → token_eq token other ≡ false → kept_at mid other ≡ kept_at old other)
+    → (other : Token) → StillKept old mid other
+still-opened old mid token position made further others other = record {
+  still = ⊎_elim
+      (λ (same : token_eq token other ≡ true).
+      let is : token ≡ other = same_token token other same in
+      subst (λ (t : Token). StillRepresents (kept_at old t) (kept_at mid t)) is
+      (rw made.now (still-made (kept_at old token) made.kept made.is)))
+      (λ (apart : token_eq token other ≡ false). on-same (others other apart))
+      (cases_Bool (token_eq token other));
+  further = further-same old mid other further;
+}
+
+-- and if nothing was written then
+pub still-from : (old mid new : Accounts) → ((other : Token) → StillKept old mid other)
+    → ((other : Token) → StaysKept mid new other) → (other : Token) → StillKept old new other
+still-from old mid new one two other =
+    let still = one other in
+    let stays = two other in
+    record {
+      still = rw stays.kept still.still;
+      further = stays.further ∙ still.further;
+    }
+
+-- the same of accounts that stayed
+pub stays-still : (old new : Accounts) → ((other : Token) → kept_at new other ≡ kept_at old other)
+    → new.further ≡ old.further → (other : Token) → StillKept old new other
+stays-still old new same further other = record {
+  still = on-same (same other);
+  further = further-same old new other further;
+}
+
+-- and of accounts of which the map stayed, and what is stored beside it
+pub stays-beside : (old new : Accounts) → new.map ≡ old.map
+    → new.further.entries ≡ old.further.entries → (other : Token) → StaysKept old new other
+unfolding kept_at further_at
+stays-beside old new same beside other = record {
+  kept = ap (λ map. get token_eq map other) same;
+  further = ap (λ (es : List (Token × Further)).
+      unwrap_or (lookup (token_eq other) es) no_further) beside;
+}
+
+-- what stands at a token's place is what is kept of it
+pub account-at : (accounts : Accounts) (token : Token) (position : ℕ) (here : KeptAccount)
+    {there : Token} → IsPosition accounts token position
+    → slice_get accounts.map.entries position ≡ Some (there, here)
+    → kept_at accounts token ≡ Some here
+unfolding kept_in
+account-at accounts token position here is at =
+    is.is ∙ ap (λ (o : Option (Token × KeptAccount)). Some (kept_in o here)) (sym is.at ∙ at)
+
+-- which stands for the token's taps without caps
+pub kept-plain : (table : Fares) (accounts : Accounts) (token : Token) (position : ℕ)
+    (here : KeptAccount) (taps : List TapIn) {there : Token} → IsPosition accounts token position
+    → slice_get accounts.map.entries position ≡ Some (there, here)
+    → HasKept table accounts token taps
+    → plain.Represents (rules_of table (bytes_of token)) here.account taps
+unfolding capped_rules_of
+kept-plain table accounts token position here taps is at kept =
+    (rw (account-at accounts token position here is at) at kept).account
+
+-- or, with what is stored beside it, with caps
+pub kept-capped : (table : Fares) (accounts : Accounts) (token : Token) (position : ℕ)
+    (taps : List TapIn) (is : IsPosition accounts token position)
+    → HasKept table accounts token taps
+    → Represents (capped_rules_of table (bytes_of token))
+    (capped_of is.kept (further_at accounts token)) taps
+kept-capped table accounts token position taps is kept = rw is.is at kept
+
+pub same-kept : {one other : KeptAccount} → Some one ≡ Some other → one ≡ other
+same-kept same = cc

@@ -4,12 +4,12 @@ use Rattle.std.proofs.Common.{Option, sym, subst, ⊎_elim}
 use Rattle.std.proofs.lemmas.Bool.{cases_Bool}
 use Rattle.tariffs.specs.Fares.{Fares}
 use Rattle.account_rule.specs.declared.tap.TapIn.{TapIn}
-use Rattle.account_rule.specs.TokenRules.{rules_of}
 use Rattle.shard_book.specs.declared.accounts.Accounts.{Accounts}
 use Rattle.shard_book.specs.declared.accounts.KeptAccount.{KeptAccount}
+use Rattle.fare_caps.specs.CapMeanings.{capped_rules_of}
 use Rattle.histories.specs.declared.entry.Entry.{Entry}
 use Rattle.tap_views.specs.declared.token.Token.{Token}
-use Rattle.shard_book.specs.inside.Accounts.{kept_at, IsKept}
+use Rattle.shard_book.specs.inside.Accounts.{HasKept, IsKept, StaysKept, further_at, kept_at}
 use Rattle.histories.specs.Entry.{tap_of, taps_of}
 use Rattle.shard_book.specs.inside.Sound.{AreKept}
 use Rattle.tap_views.proofs.TokenLemmas.{same_token}
@@ -20,27 +20,25 @@ use Rattle.histories.proofs.Histories.{taps-push}
 -- others stayed
 pub kept-push : (table : Fares) (accounts after : Accounts) (entries : List Entry) (entry : Entry)
     → AreKept table accounts entries
-    → IsKept (rules_of table (bytes_of entry.token)) (kept_at after entry.token)
-    (taps_of table entry.token entries ++ tap_of table entry ∷ [])
-    → ((other : Token) → token_eq entry.token other ≡ false
-    → kept_at after other ≡ kept_at accounts other)
+    → HasKept table after entry.token (taps_of table entry.token entries ++ tap_of table entry ∷ [])
+    → ((other : Token) → token_eq entry.token other ≡ false → StaysKept accounts after other)
     → AreKept table after (entries ++ entry ∷ [])
 unfolding AreKept
 kept-push table accounts after entries entry kept own_kept others = λ token.
-    subst (λ (taps : List TapIn). IsKept (rules_of table (bytes_of token)) (kept_at after token)
-    taps) (sym (taps-push table token entries entry))
+    subst (λ (taps : List TapIn). HasKept table after token taps)
+    (sym (taps-push table token entries entry))
     (⊎_elim
     (λ (same : token_eq entry.token token ≡ true).
     let is : entry.token ≡ token = same_token entry.token token same in
-    subst (λ (b : Bool). IsKept (rules_of table (bytes_of token)) (kept_at after token)
+    subst (λ (b : Bool). HasKept table after token
     (cond b (taps_of table token entries ++ tap_of table entry ∷ []) (taps_of table token entries)))
     (sym same)
-    (subst (λ (t : Token). IsKept (rules_of table (bytes_of t)) (kept_at after t)
+    (subst (λ (t : Token). HasKept table after t
     (taps_of table t entries ++ tap_of table entry ∷ [])) is own_kept))
     (λ (apart : token_eq entry.token token ≡ false).
-    subst (λ (b : Bool). IsKept (rules_of table (bytes_of token)) (kept_at after token)
+    let stays = others token apart in
+    subst (λ (b : Bool). HasKept table after token
     (cond b (taps_of table token entries ++ tap_of table entry ∷ []) (taps_of table token entries)))
     (sym apart)
-    (subst (λ (a : Option KeptAccount). IsKept (rules_of table (bytes_of token)) a
-    (taps_of table token entries)) (sym (others token apart)) (kept token)))
+    (rw (stays.kept, stays.further) (kept token)))
     (cases_Bool (token_eq entry.token token)))

@@ -1,5 +1,5 @@
 -- What holds of the windows of a token's taps.
-use Rattle.std.specs.Prelude.{◌≡◌, ◌≤◌, ℕ, List, [], map, filter, flat_map, All, sum_by}
+use Rattle.std.specs.Prelude.{◌≡◌, ◌≤◌, ℕ, List, [], map, filter, flat_map, All, length, sum_by}
 use Rattle.tariffs.specs.Fares.{Fares, terms_at}
 use Rattle.tariffs.specs.TableMeaning.{TableMeaning}
 use Rattle.tariffs.specs.declared.terms.Terms.{Terms}
@@ -8,6 +8,12 @@ use Rattle.account_rule.specs.Laws.{GrowsWithinLimits, charge_reply, is_ride}
 use Rattle.account_rule.specs.TokenRules.{rules_of}
 use Rattle.account_rule.specs.Taps.{LiveTap}
 use Rattle.account_rule.specs.Windows.{charges, paid_rides, window_cents, windows}
+use Rattle.account_rule.specs.declared.tap.TapIn.{TapIn}
+use Rattle.fare_caps.specs.CapMeanings.{capped_rules_of}
+use Rattle.fare_caps.specs.CapWindows.{Charged, all_caps, cents_for, charged, counted_in}
+use Rattle.fare_caps.specs.CapWindows.{windows_of}
+use Rattle.fare_caps.specs.Caps.{CapRules, CappedRules}
+use Rattle.fare_caps.specs.Laws.{KeepsCeiling}
 use Rattle.histories.specs.declared.entry.Entry.{Entry}
 use Rattle.tap_views.specs.declared.token.Token.{Token}
 use Rattle.histories.specs.Entry.{own, taps_of, reply_of}
@@ -35,10 +41,25 @@ pub record BlocksAreLimited (terms : LiveTap → Terms) (limits : Terms)
   pub paid : (sums_of_replies replied).paid ≡ sum_by (paid_rides terms) blocks
   pub cents : (sums_of_replies replied).cents ≡ sum_by (window_cents terms) blocks
 
--- the windows of the token's taps keep the limits of its terms, and share what its entries were
--- charged
-abbrev pub WindowsKeepLimits : Fares → List Entry → Token → Type 0
-WindowsKeepLimits table entries token =
-    let rules = rules_of table (bytes_of token) in
-    BlocksAreLimited rules.terms (terms_at table.meaning (bytes_of token)) table.later
-    (windows rules (taps_of table token entries)) (map reply_of (own token entries))
+-- No window of a cap, or of `window`, counts more than the highest ceiling of its rides. The rides
+-- cost what the replies say, and the windows of each cap add up to what it counts of them.
+pub record CapsAreLimited (rules : CappedRules) (taps : List TapIn) (replied : List Reply)
+    : Type 0 where
+  pub ceilings : All (KeepsCeiling (charged rules taps)) (all_caps rules)
+  pub shared : (cap : CapRules)
+      → sum_by (counted_in cap) (windows_of cap (charged rules taps))
+      ≡ sum_by (cents_for cap) (charged rules taps)
+  pub cents : (sums_of_replies replied).cents
+      ≡ sum_by (λ (one : Charged). one.cents) (charged rules taps)
+
+-- The windows of the token's taps keep the limits of its terms, and share what its entries were
+-- charged: without caps the windows of `window`, and with caps those of each.
+pub record WindowsKeepLimits (table : Fares) (entries : List Entry) (token : Token)
+    : Type 0 where
+  pub alone : length table.meaning.caps ≡ 0
+      → BlocksAreLimited (rules_of table (bytes_of token)).terms
+      (terms_at table.meaning (bytes_of token)) table.later
+      (windows (rules_of table (bytes_of token)) (taps_of table token entries))
+      (map reply_of (own token entries))
+  pub capped : CapsAreLimited (capped_rules_of table (bytes_of token))
+      (taps_of table token entries) (map reply_of (own token entries))

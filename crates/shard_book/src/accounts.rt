@@ -1,24 +1,26 @@
 //! The accounts of a book, by token: the one place that knows their kind of map.
 
-ghost use Rattle.std.specs.Prelude.{◌≡◌, ◌<◌, ◌≤◌, List, [], ◌∷◌, ◌++◌, length, map, is_some, IfOk};
-ghost use Rattle.std.specs.Prelude.{IfNone, IfSome, OnOk, OnErr, None, Some, true, false, IsTrue};
-ghost use Rattle.std.specs.Prelude.{slice_get};
+ghost use Rattle.std.specs.Prelude.{◌≡◌, ◌<◌, ◌≤◌, ℕ, List, [], ◌∷◌, ◌++◌, length, map, is_some};
+ghost use Rattle.std.specs.Prelude.{IfNone, IfOk, IfSome, OnOk, OnErr, None, Some, true, false};
+ghost use Rattle.std.specs.Prelude.{IsTrue, slice_get};
 ghost use Rattle.std.specs.Option.{ForSome};
-ghost use Rattle.account_rule.specs.Replies.{reply};
-ghost use Rattle.account_rule.specs.TokenRules.{TokenRules, rules_of};
-ghost use Rattle.account_rule.specs.Represents.{Represents, RepresentsSome};
 ghost use Rattle.account_rule.specs.declared.tap.TapIn.{TapIn};
-ghost use Rattle.shard_book.specs.inside.Accounts.{kept_at, counted, pairs_of, IsCounting, IsKept};
-ghost use Rattle.shard_book.specs.inside.Accounts.{HasPositionFor, IsPosition, StillRepresents};
+ghost use Rattle.fare_caps.specs.CapMeanings.{capped_rules_of};
+ghost use Rattle.fare_caps.specs.Represents.{Represents, no_further};
+ghost use Rattle.tariffs.specs.Fares.{Fares};
+ghost use Rattle.shard_book.specs.inside.Accounts.{further_at, kept_at, pairs_of, HasKept, IsKept};
+ghost use Rattle.shard_book.specs.inside.Accounts.{HasPositionFor, IsPosition, StaysKept, Steps};
+ghost use Rattle.shard_book.specs.inside.Accounts.{IsCounting, StillKept, capped_of};
+ghost use Rattle.shard_book.specs.declared.accounts.KeptAccount.{KeptAccount};
 ghost use Rattle.shard_book.specs.inside.Counting.{AreCounted, AreSummed};
 ghost use Rattle.shard_book.specs.inside.Packed.{HasToken, KeepPositions, tokens_of};
 ghost use Rattle.histories.specs.Counts.{token_counts};
 ghost use Rattle.histories.specs.declared.entry.Entry.{Entry};
-ghost use Rattle.histories.specs.Sums.{sums_of_replies, add_sums};
 ghost use Rattle.tap_views.specs.Token.{bytes_of, token_eq};
 ghost use Rattle.tap_views.specs.declared.token.Token.{Token};
 
 use account_rule::{Account, Reply, TapIn};
+use fare_caps::{CappedAccount, Further};
 use histories::{Counts, HashSeed, TokenCounts};
 use indexmap::IndexMap;
 use indexmap::map::Entry as MapEntry;
@@ -40,17 +42,22 @@ pub(crate) struct KeptAccount {
 #[derive(Drop)]
 pub(crate) struct Accounts {
     pub(crate) map: IndexMap<Token, KeptAccount, HashSeed>,
+    /// What the accounts store if the table has caps. Empty otherwise, so that an account fills a
+    /// cache line.
+    further: IndexMap<Token, Further, HashSeed>,
     /// False once one of the counts would be too large.
     counting: bool,
 }
 
 impl Accounts {
-    #[tactic(auto, unfolding(crate::specs::inside::Accounts::kept_at))]
+    #[tactic(auto, unfolding(crate::specs::inside::Accounts::kept_at, crate::specs::inside::Accounts::further_at))]
     pub(crate) fn new(alloc: Global, seed: HashSeed) -> Self
-        ensures { (token : Token) → kept_at result token ≡ None }
+        ensures kept { (token : Token) → kept_at result token ≡ None }
+        ensures further { (token : Token) → further_at result token ≡ no_further }
     {
         Accounts {
             map: IndexMap::with_hasher(alloc, seed),
+            further: IndexMap::with_hasher(alloc, seed),
             counting: true,
         }
     }
@@ -60,14 +67,28 @@ impl Accounts {
     }
 
     #[tactic(auto, unfolding(crate::specs::inside::Accounts::kept_at))]
-    pub(crate) fn account_of(&self, token: Token) -> Account
-        ensures { (rules : TokenRules) (taps : List TapIn)
-            → IsKept rules (kept_at self.now token) taps
-            → Represents rules result taps }
+    pub(crate) fn account_of(&self, token: Token) -> CappedAccount
+        ensures { (fares : Fares) (name : List ℕ) (taps : List TapIn)
+            → IsKept (capped_rules_of fares name) (kept_at self.now token)
+            (further_at self.now token) taps
+            → Represents (capped_rules_of fares name) result taps }
     {
         match self.map.get(&token) {
-            Some(kept) => kept.account,
-            None => Account::fresh(),
+            Some(kept) => CappedAccount {
+                account: kept.account,
+                further: self.further_of(token),
+            },
+            None => CappedAccount::fresh(),
+        }
+    }
+
+    #[tactic(auto, unfolding(crate::specs::inside::Accounts::further_at))]
+    fn further_of(&self, token: Token) -> Further
+        ensures { result ≡ further_at self.now token }
+    {
+        match self.further.get(&token) {
+            Some(further) => *further,
+            None => Further::none(),
         }
     }
 
@@ -79,6 +100,7 @@ impl Accounts {
         ensures others { OnOk result ((other : Token) → token_eq token other ≡ false
             → kept_at self.new other ≡ kept_at self.old other) }
         ensures counting { self.new.counting ≡ self.old.counting }
+        ensures further { self.new.further ≡ self.old.further }
         ensures positions { KeepPositions (tokens_of self.old) (tokens_of self.new) }
         ensures err { OnErr result ((other : Token)
             → kept_at self.new other ≡ kept_at self.old other) }
@@ -91,7 +113,7 @@ impl Accounts {
             MapEntry::Occupied(kept) => Ok(kept.index() as u32),
             MapEntry::Vacant(position) => {
                 position.insert(KeptAccount {
-                    account: Account::fresh(),
+                    account: CappedAccount::fresh().account,
                     counts: Counts::new(),
                 });
                 Ok(last as u32)
@@ -118,6 +140,7 @@ impl Accounts {
         ensures others { OnOk result ((other : Token) → token_eq token other ≡ false
             → kept_at self.new other ≡ kept_at self.old other) }
         ensures counting { self.new.counting ≡ self.old.counting }
+        ensures further { self.new.further ≡ self.old.further }
         ensures positions { KeepPositions (tokens_of self.old) (tokens_of self.new) }
         ensures err { OnErr result ((other : Token)
             → kept_at self.new other ≡ kept_at self.old other) }
@@ -131,6 +154,7 @@ impl Accounts {
         ensures others { OnOk result ((other : Token) → token_eq token other ≡ false
             → kept_at self.new other ≡ kept_at self.old other) }
         ensures counting { self.new.counting ≡ self.old.counting }
+        ensures further { self.new.further ≡ self.old.further }
         ensures positions { KeepPositions (tokens_of self.old) (tokens_of self.new) }
         ensures err { OnErr result ((other : Token)
             → kept_at self.new other ≡ kept_at self.old other) }
@@ -144,7 +168,6 @@ impl Accounts {
 
     /// No look-up is needed if the account is at the known index; another one costs time alone. The
     /// token comes with its bytes, as the tap has them, so that no step writes them down.
-    #[tactic(auto, unfolding(crate::specs::inside::Accounts::kept_at))]
     pub(crate) fn step(
         &mut self,
         table: &FareTable,
@@ -158,34 +181,104 @@ impl Accounts {
         requires clock { clock.now ≡ table.now.zone }
         requires mode { ForSome tap.mode (λ mode. mode.position < length table.now.meaning.modes) }
         requires early { tap.moment < 4_102_444_800_000 }
-        requires kept { (taps : List TapIn)
-            × IsKept (rules_of table.now (bytes_of token)) (kept_at self.old token) taps }
+        requires kept { (taps : List TapIn) × HasKept table.now self.old token taps }
 
-        ensures reply { IfOk result (λ done. (taps : List TapIn)
-            → IsKept (rules_of table.now (bytes_of token)) (kept_at self.old token) taps
-            → done.1 ≡ reply (rules_of table.now (bytes_of token)) taps tap) }
-        ensures kept { OnOk result ((taps : List TapIn)
-            → IsKept (rules_of table.now (bytes_of token)) (kept_at self.old token) taps
-            → IsKept (rules_of table.now (bytes_of token)) (kept_at self.new token)
-            (taps ++ tap ∷ [])) }
-        ensures counted { IfOk result (λ done. IsCounting self.new
-            → counted (kept_at self.new token)
-            ≡ add_sums (counted (kept_at self.old token)) (sums_of_replies (done.1 ∷ []))) }
+        ensures steps { IfOk result (λ done. Steps table.now token tap self.old self.new done.1) }
         ensures counting { IsCounting self.new → IsCounting self.old }
-        ensures few { IfOk result (λ done. done.1.cents ≤ 100_000) }
-        ensures position { IfOk result (λ done. slice_get (tokens_of self.new) done.0 ≡ Some token) }
+        ensures position { IfOk result
+            (λ done. slice_get (tokens_of self.new) done.0 ≡ Some token) }
         ensures positions { KeepPositions (tokens_of self.old) (tokens_of self.new) }
-        ensures others { OnOk result ((other : Token) → token_eq token other ≡ false
-            → kept_at self.new other ≡ kept_at self.old other) }
-        ensures err { OnErr result ((other : Token)
-            → kept_at self.new other ≡ kept_at self.old other) }
+        ensures err { OnErr result ((other : Token) → StillKept self.old self.new other) }
     {
         let position = self.position(token, known)?;
+        if table.has_caps() {
+            // A copy, so that a run without caps has the tap in registers.
+            let again = TapIn {
+                moment: tap.moment,
+                mode: tap.mode,
+            };
+            let reply = self.capped_step(table, clock, token, bytes, again, position)?;
+            return Ok((position, reply));
+        }
+        let reply = self.plain_step(table, clock, token, bytes, tap, position);
+        Ok((position, reply))
+    }
+
+    /// The table has no caps.
+    #[inline(always)]
+    #[tactic(auto, unfolding(crate::specs::inside::Accounts::kept_at))]
+    fn plain_step(
+        &mut self,
+        table: &FareTable,
+        clock: &Clock,
+        token: Token,
+        bytes: &[u8],
+        tap: TapIn,
+        position: u32,
+    ) -> Reply
+        requires none { length table.now.meaning.caps ≡ 0 }
+        requires there { IsPosition self.old token position }
+        requires bytes { bytes.now ≡ bytes_of token }
+        requires clock { clock.now ≡ table.now.zone }
+        requires mode { ForSome tap.mode (λ mode. mode.position < length table.now.meaning.modes) }
+        requires early { tap.moment < 4_102_444_800_000 }
+        requires kept { (taps : List TapIn) × HasKept table.now self.old token taps }
+        ensures steps { Steps table.now token tap self.old self.new result }
+        ensures tokens { tokens_of self.new ≡ tokens_of self.old }
+    {
         let (_, kept) = self.map.pair_mut(position as usize);
         let reply = kept.account.step(table, clock, bytes, tap);
         let was_counted = kept.counts.add(reply);
         self.counting = self.counting & was_counted;
-        Ok((position, reply))
+        reply
+    }
+
+    /// Kept out of `step`, so that a run without caps has a compare there and no more.
+    #[inline(never)]
+    #[tactic(auto, unfolding(crate::specs::inside::Accounts::kept_at, crate::specs::inside::Accounts::further_at))]
+    fn capped_step(
+        &mut self,
+        table: &FareTable,
+        clock: &Clock,
+        token: Token,
+        bytes: &[u8],
+        tap: TapIn,
+        position: u32,
+    ) -> Result<Reply, NoMemory>
+        requires there { IsPosition self.old token position }
+        requires bytes { bytes.now ≡ bytes_of token }
+        requires clock { clock.now ≡ table.now.zone }
+        requires mode { ForSome tap.mode (λ mode. mode.position < length table.now.meaning.modes) }
+        requires early { tap.moment < 4_102_444_800_000 }
+        requires kept { (taps : List TapIn) × HasKept table.now self.old token taps }
+        ensures steps { IfOk result (Steps table.now token tap self.old self.new) }
+        ensures counting { IsCounting self.new → IsCounting self.old }
+        ensures tokens { tokens_of self.new ≡ tokens_of self.old }
+        ensures err { OnErr result ((other : Token) → StaysKept self.old self.new other) }
+    {
+        let mut account = self.capped_at(position, token);
+        let reply = account.step(table, clock, bytes, tap);
+        self.further.insert(token, account.further)?;
+        let (_, kept) = self.map.pair_mut(position as usize);
+        kept.account = account.account;
+        let was_added = kept.counts.add(reply);
+        self.counting = self.counting & was_added;
+        Ok(reply)
+    }
+
+    #[tactic(auto, unfolding(crate::specs::inside::Accounts::kept_at))]
+    fn capped_at(&self, position: u32, token: Token) -> CappedAccount
+        requires { IsPosition self.now token position }
+        ensures { (kept : KeptAccount) → kept_at self.now token ≡ Some kept
+            → result ≡ capped_of kept (further_at self.now token) }
+    {
+        match self.map.get_index(position as usize) {
+            Some((_, kept)) => CappedAccount {
+                account: kept.account,
+                further: self.further_of(token),
+            },
+            None => unreachable!(),
+        }
     }
 
     #[inline(always)]

@@ -3,8 +3,8 @@
 ghost use Rattle.std.specs.Prelude.{◌≡◌, ◌<◌, ◌≤◌, [], length, map, slice_get, IfOk, OnOk, OnErr};
 ghost use Rattle.std.specs.Prelude.{IsTrue, Some};
 ghost use Rattle.tap_views.specs.Shards.{shard_of_token};
-ghost use Rattle.account_rule.specs.TokenRules.{rules_of};
-ghost use Rattle.account_rule.specs.Represents.{Represents};
+ghost use Rattle.fare_caps.specs.CapMeanings.{capped_rules_of};
+ghost use Rattle.fare_caps.specs.Represents.{Represents};
 ghost use Rattle.shard_book.specs.inside.Counting.{AddsSums};
 ghost use Rattle.histories.specs.Counts.{token_counts};
 ghost use Rattle.histories.specs.Entry.{TokensFit, taps_of};
@@ -15,7 +15,8 @@ ghost use Rattle.histories.specs.History.{IsLegal};
 use crate::accounts::Accounts;
 use crate::packed::PackedEntry;
 use crate::prefetch::NO_POSITION;
-use account_rule::{Account, Reply, TapIn};
+use account_rule::{Reply, TapIn};
+use fare_caps::CappedAccount;
 use histories::{Entry, HashSeed, TokenCounts};
 use std::alloc::Global;
 use std::marker::Model;
@@ -175,8 +176,8 @@ impl ShardBook {
         Ok(true)
     }
 
-    pub(crate) fn account_of(&self, token: Token) -> Account
-        ensures { Represents (rules_of self.now.table (bytes_of token)) result
+    pub(crate) fn account_of(&self, token: Token) -> CappedAccount
+        ensures { Represents (capped_rules_of self.now.table (bytes_of token)) result
             (taps_of self.now.table token self.now.entries) }
     {
         self.accounts.account_of(token)

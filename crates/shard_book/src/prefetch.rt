@@ -29,6 +29,7 @@ impl Accounts {
     pub(crate) fn open_early(&mut self, token: Token, known: u32) -> Result<u32, NoMemory>
         ensures stays { (other : Token)
             → StillRepresents (kept_at self.old other) (kept_at self.new other) }
+        ensures further { self.new.further ≡ self.old.further }
         ensures counting { self.new.counting ≡ self.old.counting }
         ensures positions { KeepPositions (tokens_of self.old) (tokens_of self.new) }
     {

@@ -46,7 +46,7 @@ impl ShardBook {
         let token = *token;
         let entries = own_entries(alloc, self, token)?;
         let totals = totals_of_entries(&entries);
-        let window = self.account_of(token).window();
+        let window = self.account_of(token).window(self.table());
         Ok(Statement {
             token,
             lines: Lines::of(entries),

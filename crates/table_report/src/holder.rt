@@ -8,13 +8,16 @@ pub enum KeyHolder {
     Top,
     /// The class at this place in the order of the names.
     Class(usize),
+    /// The cap at this place in the order of the names.
+    Cap(usize),
     /// The element of `validators` at this place.
     Range(usize),
 }
 
-const TOP: [Key; 9] = [
+const TOP: [Key; 10] = [
     Key::Modes,
     Key::Transfers,
+    Key::Caps,
     Key::Classes,
     Key::DefaultClass,
     Key::Validators,
@@ -24,14 +27,17 @@ const TOP: [Key; 9] = [
     Key::DayStarts,
 ];
 
-const CLASS: [Key; 6] = [
+const CLASS: [Key; 7] = [
     Key::Fare,
     Key::Rides,
     Key::Ceiling,
     Key::Fares,
+    Key::ClassCaps,
     Key::RideTransfers,
     Key::TransferMinutes,
 ];
+
+const CAP: [Key; 2] = [Key::CapWindow, Key::CapModes];
 
 const RANGE: [Key; 3] = [Key::First, Key::Last, Key::ModeName];
 
@@ -39,6 +45,7 @@ pub(crate) fn known_keys(holder: KeyHolder) -> &'static [Key] {
     match holder {
         KeyHolder::Top => &TOP,
         KeyHolder::Class(_) => &CLASS,
+        KeyHolder::Cap(_) => &CAP,
         KeyHolder::Range(_) => &RANGE,
     }
 }

@@ -18,21 +18,46 @@ fn add_ignored<'a>(
     Ok(())
 }
 
-/// The keys of a text that its rules ignore, each with its holder: those at the top, then
-/// those of the classes in the order of their names, then those of the elements of `validators`.
+/// Those of the tables in a table at the top, in the order of their names.
+fn add_of_tables<'a, F: Fn(usize) -> KeyHolder>(
+    found: &mut Vec<(KeyHolder, &'a str)>,
+    table: &'a Table,
+    key: &str,
+    holder: F,
+) -> Result<(), AllocError>
+    requires { F.IsAlwaysCallable holder }
+{
+    if let Some(Value::Table(tables)) = table.get(key) {
+        for (position, (_name, value)) in tables.iter().enumerate() {
+            if let Value::Table(keys) = value {
+                add_ignored(found, holder(position), keys)?;
+            }
+        }
+    }
+    Ok(())
+}
+
+/// The keys of a text that its rules ignore, each with its holder: those at the top, then those of
+/// the caps and of the classes in the order of their names, then those of the elements of
+/// `validators`.
 pub(crate) fn ignored_keys(
     alloc: Global,
     table: &Table,
 ) -> Result<Vec<(KeyHolder, &str)>, AllocError> {
     let mut found = Vec::new(alloc);
     add_ignored(&mut found, KeyHolder::Top, table)?;
-    if let Some(Value::Table(classes)) = table.get("classes") {
-        for (position, (_name, value)) in classes.iter().enumerate() {
-            if let Value::Table(keys) = value {
-                add_ignored(&mut found, KeyHolder::Class(position), keys)?;
-            }
-        }
-    }
+    add_of_tables(
+        &mut found,
+        table,
+        "caps",
+        |position| KeyHolder::Cap(position),
+    )?;
+    add_of_tables(
+        &mut found,
+        table,
+        "classes",
+        |position| KeyHolder::Class(position),
+    )?;
     if let Some(Value::Array(elements)) = table.get("validators") {
         for (position, value) in elements.iter().enumerate() {
             if let Value::Table(keys) = value {

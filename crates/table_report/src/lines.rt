@@ -64,6 +64,56 @@ fn push_transfers(text: &mut String, fares: &FareTable) -> Result<(), AllocError
     Ok(())
 }
 
+/// Each cap with its window and the modes that it counts.
+fn push_caps(text: &mut String, tree: &Table, fares: &FareTable) -> Result<(), AllocError> {
+    let Some(caps) = table_at(tree, "caps") else {
+        return Ok(());
+    };
+    let count = fares.cap_names().len();
+    write!(text, "caps {count}\n")?;
+    for (position, (name, value)) in caps.iter().enumerate() {
+        let window = match value.as_table() {
+            Some(keys) => text_at(keys, "window"),
+            None => "",
+        };
+        write!(text, "cap {name} window {window} modes")?;
+        push_counted(text, fares, position)?;
+        text.push_str("\n")?;
+    }
+    Ok(())
+}
+
+fn text_at<'t>(keys: &'t Table, key: &str) -> &'t str {
+    match keys.get(key) {
+        Some(value) => value.as_str().unwrap_or(""),
+        None => "",
+    }
+}
+
+fn push_counted(text: &mut String, fares: &FareTable, cap: usize) -> Result<(), AllocError> {
+    let Some(cap) = fares.caps().get(cap) else {
+        return Ok(());
+    };
+    for (position, mode) in fares.mode_names().iter().enumerate() {
+        if let Some(true) = cap.counts.get(position) {
+            write!(text, " {mode}")?;
+        }
+    }
+    Ok(())
+}
+
+/// The ceilings that a class names, by the names of the caps.
+fn push_ceilings(text: &mut String, name: &str, keys: &Table) -> Result<(), AllocError> {
+    let Some(caps) = table_at(keys, "caps") else {
+        return Ok(());
+    };
+    for (cap, value) in caps {
+        let cents = value.as_integer().unwrap_or(0);
+        write!(text, "ceiling {name} {cap} cents {cents}\n")?;
+    }
+    Ok(())
+}
+
 /// By the index of each class.
 fn riders_of(alloc: Global, fares: &FareTable) -> Result<Vec<u64>, AllocError> {
     let mut counts = Vec::new(alloc);
@@ -108,6 +158,7 @@ fn push_class(
         Some(named) => push_fares(text, name, fares, class, named)?,
         None => push_prices(text, name, class.terms)?,
     }
+    push_ceilings(text, name, keys)?;
     push_ride_transfers(text, name, class, keys)
 }
 
@@ -227,6 +278,7 @@ pub(crate) fn lines_of(
     push_text_at(&mut text, tree, "day_starts")?;
     push_modes(&mut text, fares)?;
     push_transfers(&mut text, fares)?;
+    push_caps(&mut text, tree, fares)?;
     push_classes(alloc, &mut text, tree, fares)?;
     push_ranges(&mut text, fares)?;
     push_riders(&mut text, tree, fares, wanted.has_riders)?;

@@ -20,16 +20,20 @@ pub(crate) struct ReadText<'a, 't> {
     pub(crate) fares: &'t FareTable,
 }
 
-fn holder_path(alloc: Global, classes: &[String], holder: KeyHolder) -> Result<String, AllocError> {
+fn name_at(names: &[String], position: usize) -> &str {
+    match names.get(position) {
+        Some(name) => name.as_str(),
+        None => "",
+    }
+}
+
+fn holder_path(alloc: Global, fares: &FareTable, holder: KeyHolder) -> Result<String, AllocError> {
     match holder {
         KeyHolder::Top => Ok(String::new(alloc)),
         KeyHolder::Class(position) => {
-            let name = match classes.get(position) {
-                Some(name) => name.as_str(),
-                None => "",
-            };
-            key_path(alloc, "classes", name)
+            key_path(alloc, "classes", name_at(fares.class_names(), position))
         }
+        KeyHolder::Cap(position) => key_path(alloc, "caps", name_at(fares.cap_names(), position)),
         KeyHolder::Range(position) => item_path(alloc, "validators", position),
     }
 }
@@ -54,11 +58,10 @@ fn ignored_line(
     alloc: Global,
     read: &ReadText<'_, '_>,
     positions: &Positions,
-    classes: &[String],
     ignored: (KeyHolder, &str),
 ) -> Result<String, AllocError> {
     let (holder, key) = ignored;
-    let path = key_path(alloc, holder_path(alloc, classes, holder)?.as_str(), key)?;
+    let path = key_path(alloc, holder_path(alloc, read.fares, holder)?.as_str(), key)?;
     let mut line = begin(alloc, read, positions, path.as_str())?;
     let path = path.as_str();
     write!(line, "{path} is ignored")?;
@@ -101,9 +104,8 @@ pub(crate) fn warnings_of(
     let mut lines = String::new(alloc);
     if !keys.is_empty() || !ranges.is_empty() {
         let positions = Positions::of(alloc, read.text)?;
-        let classes = read.fares.class_names();
         for (holder, key) in &keys {
-            let line = ignored_line(alloc, read, &positions, classes, (*holder, key))?;
+            let line = ignored_line(alloc, read, &positions, (*holder, key))?;
             lines.push_str(line.as_str())?;
         }
         for position in &ranges {

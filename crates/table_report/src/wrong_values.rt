@@ -1,6 +1,7 @@
 //! What is wrong with a text that is not a fare table: each wrong value, where it is, and what has
 //! to be in its place.
 
+mod caps;
 mod checks;
 mod people;
 mod ranges;

@@ -61,6 +61,7 @@ abbrev pub no_class : Class
 no_class = record {
   terms = record { fare = 0; rides = 0; ceiling = 0 };
   fares = [];
+  caps = [];
   transfers = record { taps = 0; time = 0 };
 }
 
@@ -75,6 +76,10 @@ terms_on class mode = record class.terms { fare = slice_index class.fares mode }
 -- what the class at the place pays for a ride on the mode
 abbrev pub ride_terms : TableMeaning → ℕ → ℕ → Terms
 ride_terms meaning position mode = terms_on (class_at meaning position) mode
+
+-- the ceiling of the class at the place for a cap
+abbrev pub cap_ceiling : TableMeaning → ℕ → ℕ → ℕ
+cap_ceiling meaning position cap = slice_index_or (class_at meaning position).caps cap 100_000_000
 
 -- what the rides of the class at the place give
 abbrev pub transfer_terms : TableMeaning → ℕ → TransferTerms

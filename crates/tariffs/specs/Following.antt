@@ -3,8 +3,8 @@ use Rattle.std.specs.Prelude.{◌≡◌, ◌≢◌, ℕ, ◌<◌, ◌≤◌, Lis
 use Rattle.tariffs.specs.Fares.{Fares}
 use Rattle.tariffs.specs.TableMeaning.{TableMeaning}
 use Rattle.tariffs.specs.declared.follow_fault.FollowFault.{FollowFault}
-use Rattle.tariffs.specs.declared.follow_fault.FollowFault.TheVariants.{Date, Followed, Modes}
-use Rattle.tariffs.specs.declared.follow_fault.FollowFault.TheVariants.{NoMemory, Zone}
+use Rattle.tariffs.specs.declared.follow_fault.FollowFault.TheVariants.{Caps, Date, Followed}
+use Rattle.tariffs.specs.declared.follow_fault.FollowFault.TheVariants.{Modes, NoMemory, Zone}
 
 -- the moment from which the last of these is valid, else the earlier one
 abbrev pub last_from : ℕ → List (ℕ × TableMeaning) → ℕ
@@ -16,11 +16,13 @@ abbrev pub with_next : Fares → ℕ → TableMeaning → Fares
 with_next fares from next = record fares { later = fares.later ++ (from, next) ∷ [] }
 
 -- The next table can follow from the moment on: the tables before it are valid from earlier
--- moments, the first one from 0 on, it has their zone and their modes, and none follows it already.
+-- moments, the first one from 0 on, it has their zone, their modes and the names of their caps, and
+-- none follows it already.
 pub record CanFollow (fares : Fares) (from : ℕ) (next : Fares) : Type 0 where
   pub date : last_from 0 fares.later < from
   pub zone : next.meaning.zone ≡ fares.meaning.zone
   pub modes : next.meaning.modes ≡ fares.meaning.modes
+  pub caps : next.meaning.cap_names ≡ fares.meaning.cap_names
   pub alone : next.later ≡ []
 
 -- the first of these that does not hold, or that all hold and an allocation failed
@@ -31,7 +33,12 @@ IsFollowFault fares from next Zone =
 IsFollowFault fares from next Modes =
     (last_from 0 fares.later < from) × (next.meaning.zone ≡ fares.meaning.zone)
     × (next.meaning.modes ≢ fares.meaning.modes)
+IsFollowFault fares from next Caps =
+    (last_from 0 fares.later < from) × (next.meaning.zone ≡ fares.meaning.zone)
+    × (next.meaning.modes ≡ fares.meaning.modes)
+    × (next.meaning.cap_names ≢ fares.meaning.cap_names)
 IsFollowFault fares from next Followed =
     (last_from 0 fares.later < from) × (next.meaning.zone ≡ fares.meaning.zone)
-    × (next.meaning.modes ≡ fares.meaning.modes) × (next.later ≢ [])
+    × (next.meaning.modes ≡ fares.meaning.modes)
+    × (next.meaning.cap_names ≡ fares.meaning.cap_names) × (next.later ≢ [])
 IsFollowFault fares from next NoMemory = CanFollow fares from next

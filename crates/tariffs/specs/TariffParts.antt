@@ -4,7 +4,7 @@ use Rattle.std.specs.Map.{values_of}
 use Rattle.tariffs.specs.Terms.{IsBoundedClass}
 use Rattle.tariffs.specs.Zone.{zone_rule, zone_text}
 use Rattle.tariffs.specs.declared.tariff.TariffParts.{TariffParts}
-use Rattle.tariffs.specs.WindowSpan.{IsBoundedSpan}
+use Rattle.tariffs.specs.WindowSpan.{IsBoundedLength, IsBoundedSpan}
 use Rattle.tariffs.specs.TariffView.{TariffView}
 use Rattle.tariffs.specs.Validators.{are_modes_below}
 
@@ -16,6 +16,8 @@ view_of parts = record {
     transfers = parts.transfers;
     classes = parts.classes.items;
     names = map string_bytes parts.names.items;
+    caps = parts.caps.items;
+    cap_names = map string_bytes parts.cap_names.items;
     standard = parts.standard;
     ranges = parts.ranges;
     riders = parts.riders;
@@ -25,13 +27,16 @@ view_of parts = record {
   zone = record { rule = zone_rule parts.zone };
 }
 
--- at most 32 modes, ranges of modes of the tariff, classes and days of windows within their bounds,
--- a name of each class, and places that have a class
+-- at most 32 modes and three caps, ranges of modes of the tariff, classes and days of windows
+-- within their bounds, a name of each class and cap, and places that have a class
 pub record AreSound (parts : TariffParts) : Type 0 where
   pub few : length parts.modes.items ≤ 32
   pub known : are_modes_below (length parts.modes.items) parts.ranges ≡ true
   pub classes : All IsBoundedClass parts.classes.items
   pub named : length parts.names.items ≡ length parts.classes.items
+  pub caps : All (λ cap. IsBoundedLength cap.length) parts.caps.items
+  pub few_caps : length parts.caps.items ≤ 3
+  pub caps_named : length parts.cap_names.items ≡ length parts.caps.items
   pub standard : parts.standard < length parts.classes.items
   pub window : IsBoundedSpan parts.window
   pub riders : All (λ position. position < length parts.classes.items) (values_of parts.riders)

@@ -16,5 +16,6 @@ pub record IsBoundedClass (class : Class) : Type 0 where
   pub terms : AreBoundedTerms class.terms
   pub fares : All (λ fare. fare ≤ 100_000) class.fares
   pub modes : length class.fares ≡ 32
+  pub caps : All (λ ceiling. ceiling ≤ 100_000_000) class.caps
   pub taps : class.transfers.taps ≤ 255
   pub time : class.transfers.time ≤ 86_400_000

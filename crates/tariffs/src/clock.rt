@@ -145,8 +145,7 @@ fn civil_window_end(zone: &TimeZone<'static>, span: WindowSpan, moment: u64) -> 
     end_after(moment, window_end.as_millisecond())
 }
 
-/// The date that clocks of the zone show at the moment if they are set back to 00:00 as a day
-/// starts.
+/// The date that clocks show at the moment if they are set back to 00:00 as a day starts.
 fn day_at(zone: &TimeZone<'static>, day_starts: u32, moment: u64) -> Date
     requires starts { day_starts < 1_440 }
     requires moment { moment < 4_102_444_800_000 }

@@ -14,6 +14,9 @@ pub enum FollowFault {
     /// Its modes have other names, or the same names in another order.
     #[error("it has other modes")]
     Modes,
+    /// Its caps have other names.
+    #[error("it has other caps")]
+    Caps,
     /// A table follows it already.
     #[error("a table follows it already")]
     Followed,

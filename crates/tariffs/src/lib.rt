@@ -1,8 +1,8 @@
-//! What a fare table means, looked up at every tap. Transfers and caps are the rule of the MTA's
-//! OMNY. Every number, name, pair and class is data, which `fare_table` reads from a text. A moment
-//! is in milliseconds since 1970-01-01T00:00Z.
+//! What a fare table means, looked up at every tap. Every number, name, pair and class is data,
+//! which `fare_table` reads from a text. A moment is in milliseconds since 1970-01-01T00:00Z.
 #![tactic(auto)]
 
+mod cap_terms;
 mod class;
 mod clock;
 mod follow_fault;
@@ -18,6 +18,7 @@ mod validators;
 mod window_span;
 mod zone;
 
+pub use cap_terms::{CapTerms, MAX_CAPS, NO_CEILING};
 pub use class::Class;
 pub use clock::Clock;
 pub use follow_fault::FollowFault;

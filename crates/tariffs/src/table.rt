@@ -1,6 +1,7 @@
 //! The fare table and its look-ups.
-ghost use Rattle.std.specs.Prelude.{◌≡◌, ℕ, ◌<◌, ◌≤◌, [], length, option_map, IfSome, IfErr, IfOk};
-ghost use Rattle.std.specs.Prelude.{IsTrue, IsOk, None, Some, All, map, slice_get, string_bytes};
+ghost use Rattle.std.specs.Prelude.{◌≡◌, ◌≢◌, ℕ, ◌<◌, ◌≤◌, [], length, option_map, IfSome, IfErr};
+ghost use Rattle.std.specs.Prelude.{IfOk, IsTrue, IsOk, None, Some, All, false, map, slice_get};
+ghost use Rattle.std.specs.Prelude.{string_bytes, true};
 ghost use Rattle.tariffs.specs.Fares.{meaning_at, mode_at, terms_at};
 ghost use Rattle.tariffs.specs.Following.{CanFollow, IsFollowFault, with_next};
 ghost use Rattle.tariffs.specs.Following as spec;
@@ -8,8 +9,9 @@ ghost use Rattle.tariffs.specs.inside.Table.{started, dated_meaning, same_names,
 ghost use Rattle.std.specs.Arc.{arc_value};
 ghost use Rattle.tariffs.specs.Riders.{by_bytes};
 ghost use Rattle.tariffs.specs.Terms.{AreBoundedTerms, IsBoundedClass};
-ghost use Rattle.tariffs.specs.WindowSpan.{IsBoundedSpan};
+ghost use Rattle.tariffs.specs.WindowSpan.{IsBoundedLength, IsBoundedSpan};
 
+use crate::cap_terms::CapTerms;
 use crate::class::Class;
 use crate::clock::Clock;
 use crate::follow_fault::FollowFault;
@@ -217,6 +219,33 @@ impl FareTable {
         self.first.default_class()
     }
 
+    /// The caps beside `window` by index.
+    #[inline]
+    pub fn caps(&self) -> &[CapTerms]
+        ensures caps { result.now ≡ self.now.meaning.caps }
+        ensures few { length result.now ≤ 3 }
+        ensures bounds { All (λ cap. IsBoundedLength cap.length) result.now }
+    {
+        self.first.caps()
+    }
+
+    /// Whether there are caps beside `window`. All tariffs have as many.
+    #[inline(always)]
+    pub fn has_caps(&self) -> bool
+        ensures none { result ≡ false → length self.now.meaning.caps ≡ 0 }
+        ensures some { result ≡ true → length self.now.meaning.caps ≢ 0 }
+    {
+        self.first.caps().len() != 0
+    }
+
+    /// The names of the caps by index, in their byte order. All tariffs have the same.
+    pub fn cap_names(&self) -> &[String]
+        ensures names { map string_bytes result.now ≡ self.now.meaning.cap_names }
+        ensures each { length result.now ≡ length self.now.meaning.caps }
+    {
+        self.first.cap_names()
+    }
+
     /// The pairs of indices of modes with a transfer, each once, in the order of the text.
     pub fn pairs(&self) -> &[(u8, u8)]
         ensures { result.now ≡ self.now.meaning.transfers }
@@ -310,6 +339,9 @@ impl FareTable {
         }
         if !same_names(self.mode_names(), next.mode_names()) {
             return Some(FollowFault::Modes);
+        }
+        if !same_names(self.cap_names(), next.cap_names()) {
+            return Some(FollowFault::Caps);
         }
         if !next.later.as_slice().is_empty() {
             return Some(FollowFault::Followed);

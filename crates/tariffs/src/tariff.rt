@@ -1,15 +1,16 @@
 //! A tariff: what one text of a fare table says, and its look-ups.
 ghost use Rattle.std.specs.Prelude.{◌≡◌, ◌<◌, ◌≤◌, length, option_map, IfSome, Some, map};
 ghost use Rattle.std.specs.Prelude.{All, slice_get, string_bytes};
-ghost use Rattle.tariffs.specs.Fares.{class_of, is_permitted, mode_in, ride_terms, terms_at};
-ghost use Rattle.tariffs.specs.Fares.{transfer_terms};
+ghost use Rattle.tariffs.specs.Fares.{cap_ceiling, class_of, is_permitted, mode_in, ride_terms};
+ghost use Rattle.tariffs.specs.Fares.{terms_at, transfer_terms};
 ghost use Rattle.tariffs.specs.inside.PosixRule.{HasRule, rule_of};
 ghost use Rattle.tariffs.specs.Riders.{by_bytes};
-ghost use Rattle.tariffs.specs.WindowSpan.{IsBoundedSpan};
+ghost use Rattle.tariffs.specs.WindowSpan.{IsBoundedLength, IsBoundedSpan};
 ghost use Rattle.tariffs.specs.Zone.{zone_rule, zone_text};
 ghost use Rattle.tariffs.specs.TariffParts.{AreSound, view_of};
 ghost use Rattle.tariffs.specs.Terms.{AreBoundedTerms, IsBoundedClass};
 
+use crate::cap_terms::{CapTerms, NO_CEILING};
 use crate::class::Class;
 use crate::clock::Clock;
 use crate::mode::Mode;
@@ -25,8 +26,7 @@ use std::collections::BTreeMap;
 use std::marker::Model;
 use tap_views::Token;
 
-/// What one text of a fare table says: the fares that are valid at a moment. Look-ups take no
-/// memory. Those of validators and riders are binary searches, which a hint or a mark mostly saves.
+/// What one text of a fare table says: the fares valid at a moment. Look-ups take no memory.
 #[derive(Drop)]
 pub struct Tariff {
     parts: TariffParts,
@@ -55,6 +55,10 @@ pub struct TariffParts {
     pub classes: Vec<Class>,
     /// The names of the classes by index.
     pub names: Vec<String>,
+    /// The caps beside `window`, at most three.
+    pub caps: Vec<CapTerms>,
+    /// The names of the caps by index.
+    pub cap_names: Vec<String>,
     /// The index of the default class.
     pub standard: u32,
     /// The ranges of validators and their modes.
@@ -138,6 +142,18 @@ impl Tariff {
         }
     }
 
+    /// The ceiling of the class for the cap at the index, in cents.
+    pub fn cap_ceiling(&self, class: u32, cap: usize) -> u32
+        requires { class < length self.now.meaning.classes }
+        ensures ceiling { result ≡ cap_ceiling self.now.meaning class cap }
+        ensures high { result ≤ 100_000_000 }
+    {
+        match self.parts.classes[class as usize].caps.get(cap) {
+            Some(ceiling) => *ceiling,
+            None => NO_CEILING,
+        }
+    }
+
     /// What the rides of the class at the index give: a number of taps, and a time.
     pub fn transfer_terms(&self, class: u32) -> TransferTerms
         requires { class < length self.now.meaning.classes }
@@ -178,6 +194,23 @@ impl Tariff {
         ensures there { result < length self.now.meaning.classes }
     {
         self.parts.standard
+    }
+
+    /// The caps beside `window` by index.
+    pub fn caps(&self) -> &[CapTerms]
+        ensures caps { result.now ≡ self.now.meaning.caps }
+        ensures few { length result.now ≤ 3 }
+        ensures bounds { All (λ cap. IsBoundedLength cap.length) result.now }
+    {
+        self.parts.caps.as_slice()
+    }
+
+    /// The names of the caps by index, in their byte order.
+    pub fn cap_names(&self) -> &[String]
+        ensures names { map string_bytes result.now ≡ self.now.meaning.cap_names }
+        ensures each { length result.now ≡ length self.now.meaning.caps }
+    {
+        self.parts.cap_names.as_slice()
     }
 
     /// The pairs of indices of modes with a transfer, each once, in the order of the text.

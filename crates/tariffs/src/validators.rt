@@ -102,8 +102,7 @@ fn range_at<'a>(
     range_by_halves(ranges, firsts, number)
 }
 
-/// At most one of the hinted range and the next has the number, so a wrong hint gives no wrong
-/// range. The choice is a sum and no branch: numbers come in no order that a processor predicts.
+/// The choice is a sum and no branch: numbers come in no order that a processor predicts.
 fn range_near<'a>(
     ranges: &'a [(u32, RangeRest)],
     hint: usize,

@@ -139,6 +139,7 @@ impl fmt::Display for WrongFareTable {
             TableFault::Rider => f.write_str("a rider or a class is not one of the table"),
             TableFault::NoMemory => f.write_str("out of memory"),
             TableFault::Zone => f.write_str("the zone is no POSIX rule"),
+            TableFault::Cap => f.write_str("a name is no cap of the table"),
         }
     }
 }

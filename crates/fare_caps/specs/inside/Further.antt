@@ -5,28 +5,29 @@ use Rattle.tariffs.specs.ClockView.{ClockView}
 use Rattle.tariffs.specs.Until.{window_end_in}
 use Rattle.tariffs.specs.declared.terms.Terms.{Terms}
 use Rattle.account_rule.specs.Windows.{charge}
-use Rattle.fare_caps.specs.CapMeanings.{said_of, terms_at}
+use Rattle.tariffs.specs.TableMeaning.{TableMeaning}
+use Rattle.tariffs.specs.declared.cap_terms.CapTerms.{CapTerms}
+use Rattle.fare_caps.specs.CapMeanings.{said_of}
 use Rattle.fare_caps.specs.Caps.{opened_until}
 use Rattle.fare_caps.specs.Charges.{cap_cents, cap_paid, lesser, lowered}
-use Rattle.fare_caps.specs.declared.cap.Cap.{Cap}
-use Rattle.fare_caps.specs.declared.cap.RideCap.{RideCap}
+use Rattle.fare_caps.specs.declared.ride_cap.RideCap.{RideCap}
 use Rattle.fare_caps.specs.declared.cap_charge.CapCharge.{CapCharge}
 use Rattle.fare_caps.specs.declared.cap_charge.CapLeft.{CapLeft}
 use Rattle.fare_caps.specs.declared.cap_window.CapWindow.{CapWindow}
 use Rattle.fare_caps.specs.declared.further.Further.{Further}
 use Rattle.fare_caps.specs.declared.further.RideCaps.{RideCaps}
 
--- what the cap at the index says of the ride
-abbrev pub said_at : List Cap → ℕ → ℕ → ℕ → ℕ → Option RideCap
-said_at caps moment mode class index =
-    option_map (λ cap. said_of (terms_at cap moment) mode class) (slice_get caps index)
+-- what the cap at the index says of the ride by what is valid, if there are so many caps
+abbrev pub said_at : List CapTerms → TableMeaning → ℕ → ℕ → ℕ → Option RideCap
+said_at caps meaning mode class index =
+    option_map (λ cap. said_of meaning index mode class) (slice_get caps index)
 
 -- what all caps say of the ride
-abbrev pub said_by : List Cap → ℕ → ℕ → ℕ → RideCaps
-said_by caps moment mode class = record {
-  first = said_at caps moment mode class 0;
-  second = said_at caps moment mode class 1;
-  third = said_at caps moment mode class 2;
+abbrev pub said_by : List CapTerms → TableMeaning → ℕ → ℕ → RideCaps
+said_by caps meaning mode class = record {
+  first = said_at caps meaning mode class 0;
+  second = said_at caps meaning mode class 1;
+  third = said_at caps meaning mode class 2;
 }
 
 -- the window of the ride

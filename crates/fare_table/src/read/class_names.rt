@@ -4,7 +4,7 @@ ghost use Rattle.toml.specs.View.{table_view};
 ghost use Rattle.fare_table.specs.ByteOrder.{in_byte_order};
 ghost use Rattle.fare_table.specs.Classes as spec;
 ghost use Rattle.fare_table.specs.Classes.{count_of};
-ghost use Rattle.fare_table.specs.Classes.{names_in};
+ghost use Rattle.fare_table.specs.Members.{names_in};
 ghost use Rattle.fare_table.specs.inside.OrFault.{Answers};
 ghost use Rattle.fare_table.specs.declared.fault.TableFault.{TableFault};
 

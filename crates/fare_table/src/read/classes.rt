@@ -9,6 +9,7 @@ ghost use Rattle.fare_table.specs.declared.fault.TableFault.{TableFault};
 ghost use Rattle.fare_table.specs.inside.OrFault.{Answers, seen_through};
 ghost use Rattle.tariffs.specs.Terms.{AreBoundedTerms, IsBoundedClass};
 
+use super::caps::cap_named;
 use super::members::{
     hold_numbers, hold_tables, number_at, number_in, number_or, of_kind, optional, table_at,
     text_at,
@@ -20,7 +21,7 @@ use crate::bounds::{
 };
 use crate::fault::{Key, TableFault};
 use std::alloc::Global;
-use tariffs::{Class, MAX_MODES, Terms, TransferTerms};
+use tariffs::{Class, MAX_CAPS, MAX_MODES, NO_CEILING, Terms, TransferTerms};
 use toml::{Table, Value};
 
 const MINUTE_MS: u32 = 60_000;
@@ -48,42 +49,51 @@ fn is_empty(classes: &Table) -> bool
 pub(crate) fn classes_from(
     alloc: Global,
     modes: &[String],
+    caps: &[String],
     classes: &Table,
 ) -> Result<Vec<Class>, TableFault>
-    requires { length modes.now ≤ 32 }
+    requires modes { length modes.now ≤ 32 }
+    requires caps { length caps.now ≤ 3 }
     ensures answer { Answers (λ v. v.items) result
-        (spec.classes_from (map string_bytes modes.now) [] (table_view classes.now)) }
+        (spec.classes_from (map string_bytes modes.now) (map string_bytes caps.now) []
+        (table_view classes.now)) }
     ensures bounds { IfOk result (λ v. All IsBoundedClass v.items) }
     ensures count { IfOk result (λ v. vec_len v ≡ count_of (table_view classes.now)) }
 {
     let mut found = Vec::new(alloc);
     for (_name, value) in classes {
-        let class = class_in(modes, value)?;
+        let class = class_in(modes, caps, value)?;
         found.push(class)?;
     }
     Ok(found)
 }
 
-fn class_in(modes: &[String], value: &Value) -> Result<Class, TableFault>
-    requires { length modes.now ≤ 32 }
-    ensures class { result ≡ spec.class_in (map string_bytes modes.now) (view value.now) }
+fn class_in(modes: &[String], caps: &[String], value: &Value) -> Result<Class, TableFault>
+    requires modes { length modes.now ≤ 32 }
+    requires caps { length caps.now ≤ 3 }
+    ensures class { result ≡ spec.class_in (map string_bytes modes.now)
+        (map string_bytes caps.now) (view value.now) }
     ensures bounds { IfOk result IsBoundedClass }
 {
-    class_of(modes, of_kind(value.as_table(), Key::Classes)?)
+    class_of(modes, caps, of_kind(value.as_table(), Key::Classes)?)
 }
 
 #[tactic(auto, unfolding(crate::specs::Classes::class_of))]
-fn class_of(modes: &[String], element: &Table) -> Result<Class, TableFault>
-    requires { length modes.now ≤ 32 }
-    ensures class { result ≡ spec.class_of (map string_bytes modes.now) (table_view element.now) }
+fn class_of(modes: &[String], caps: &[String], element: &Table) -> Result<Class, TableFault>
+    requires modes { length modes.now ≤ 32 }
+    requires caps { length caps.now ≤ 3 }
+    ensures class { result ≡ spec.class_of (map string_bytes modes.now)
+        (map string_bytes caps.now) (table_view element.now) }
     ensures bounds { IfOk result IsBoundedClass }
 {
     let terms = terms_of(element)?;
     let fares = fares_of(modes, terms.fare, optional(element, "fares"))?;
+    let ceilings = ceilings_of(caps, optional(element, "caps"))?;
     let transfers = ride_transfers_of(element)?;
     Ok(Class {
         terms,
         fares,
+        caps: ceilings,
         transfers,
     })
 }
@@ -177,6 +187,47 @@ fn fares_from(modes: &[String], fare: u32, members: &Table) -> Result<[u32; MAX_
         fares[position as usize] = cents;
     }
     Ok(fares)
+}
+
+fn ceilings_of(caps: &[String], value: Option<&Value>) -> Result<[u32; MAX_CAPS], TableFault>
+    requires { length caps.now ≤ 3 }
+    ensures ceilings { result ≡ spec.ceilings_of (map string_bytes caps.now)
+        (option_map (λ v. view v.now) value.entry) }
+    ensures bounds { IfOk result (λ ceilings. All (λ cents. cents ≤ 100_000_000) ceilings) }
+{
+    let Some(value) = value else {
+        return Ok(no_ceilings());
+    };
+    let named = of_kind(value.as_table(), Key::ClassCaps)?;
+    if !hold_numbers(named) {
+        return Err(TableFault::Kind {
+            key: Key::ClassCaps,
+        });
+    }
+    ceilings_from(caps, named)
+}
+
+fn no_ceilings() -> [u32; MAX_CAPS]
+    ensures ceilings { result ≡ replicate 3 100_000_000 }
+    ensures bounds { All (λ cents. cents ≤ 100_000_000) result }
+    ensures caps { length result ≡ 3 }
+{
+    [NO_CEILING; MAX_CAPS]
+}
+
+fn ceilings_from(caps: &[String], members: &Table) -> Result<[u32; MAX_CAPS], TableFault>
+    requires { length caps.now ≤ 3 }
+    ensures ceilings { result ≡ spec.ceilings_from (map string_bytes caps.now)
+        (replicate 3 100_000_000) (table_view members.now) }
+    ensures bounds { IfOk result (λ ceilings. All (λ cents. cents ≤ 100_000_000) ceilings) }
+{
+    let mut ceilings = no_ceilings();
+    for (name, value) in members {
+        let position = cap_named(caps, name.as_str())?;
+        let cents = number_in(value, Key::ClassCaps, 1, MAX_CEILING_CENTS)?;
+        ceilings[position as usize] = cents;
+    }
+    Ok(ceilings)
 }
 
 #[tactic(auto, unfolding(crate::specs::Classes::ride_transfers_of))]

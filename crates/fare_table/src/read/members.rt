@@ -110,6 +110,12 @@ pub(crate) fn are_tables(array: &Array) -> bool
     array.iter().all(Value::is_table)
 }
 
+pub(crate) fn are_texts(array: &Array) -> bool
+    ensures { result ≡ spec.are_texts (array_view array.now) }
+{
+    array.iter().all(Value::is_str)
+}
+
 pub(crate) fn hold_tables(table: &Table) -> bool
     ensures { result ≡ spec.hold_tables (table_view table.now) }
 {

@@ -55,7 +55,7 @@ fn is_count(modes: usize) -> bool
     1 <= modes && modes <= MAX_MODES
 }
 
-fn are_short_words(names: &[String]) -> bool
+pub(crate) fn are_short_words(names: &[String]) -> bool
     ensures { result ≡ list_all spec.is_mode_name (map string_bytes names.now) }
 {
     for name in names {

@@ -5,6 +5,7 @@ ghost use Rattle.fare_table.specs.inside.OrFault.{Answers};
 ghost use Rattle.fare_table.specs.TableMeaning.{meaning_of_tree};
 ghost use Rattle.fare_table.specs.Meaning.{IsClockOf};
 
+use super::caps::caps_of;
 use super::class_names::names_of;
 use super::classes::{classes_from, classes_of, default_of};
 use super::modes::modes_of;
@@ -25,8 +26,9 @@ pub(crate) fn tariff_of(alloc: Global, table: &Table) -> Result<Tariff, TableFau
 {
     let modes = modes_of(alloc, table)?;
     let transfers = transfers_of(alloc, &modes, table)?;
+    let capped = caps_of(alloc, &modes, table)?;
     let members = classes_of(table)?;
-    let classes = classes_from(alloc, &modes, members)?;
+    let classes = classes_from(alloc, &modes, &capped.names, members)?;
     let names = names_of(alloc, members)?;
     let standard = default_of(members, table)?;
     let ranges = ranges_of(alloc, &modes, table)?;
@@ -38,6 +40,8 @@ pub(crate) fn tariff_of(alloc: Global, table: &Table) -> Result<Tariff, TableFau
         transfers,
         classes,
         names,
+        caps: capped.caps,
+        cap_names: capped.names,
         standard,
         ranges,
         riders,

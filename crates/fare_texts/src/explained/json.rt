@@ -14,7 +14,8 @@ use super::windows::windows_of;
 use crate::Explainer;
 use crate::digits::Digits;
 use crate::names::{answer_name, mode_name};
-use account_rule::{NoTransfer, Reason, WindowView};
+use account_rule::{NoTransfer, WindowView};
+use fare_caps::CappedReason;
 use histories::{Entry, Totals, totals_of_entries};
 use std::alloc::{AllocError, Global};
 use tap_views::{NoMemory, Token};
@@ -146,11 +147,12 @@ fn write_why(
     table: &FareTable,
     clock: &Clock,
     moment: u64,
-    reason: Reason,
+    reason: CappedReason,
     none: Option<NoTransfer>,
 ) -> Result<(), AllocError>
     ensures { OnOk result (string_bytes text.new ≡ string_bytes text.old
-        ++ why_json clock.now table.now.meaning.modes moment reason none) }
+        ++ why_json clock.now table.now.meaning.modes table.now.meaning.cap_names moment reason
+        none) }
 {
     let because = Because {
         table,

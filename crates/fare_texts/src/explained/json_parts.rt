@@ -3,7 +3,9 @@
 ghost use Rattle.std.specs.Prelude.{◌≡◌, [], Some, slice_index_or};
 
 use crate::local::local_at;
-use account_rule::{Charge, NoTransfer, Reason};
+use crate::names::cap_name;
+use account_rule::{Charge, NoTransfer};
+use fare_caps::{CapCharge, CappedReason};
 use std::fmt;
 use tariffs::{Clock, FareTable, Mode, Terms};
 
@@ -64,16 +66,16 @@ impl fmt::Display for Paying {
     }
 }
 
-/// What decided the cents of a ride.
+/// How `window` decided the cents of a ride.
 #[derive(Clone, Copy)]
-struct Decided(Charge);
+struct ByWindow(Charge);
 
-impl fmt::Display for Decided {
-    ghost use Rattle.fare_texts.specs.ExplainedJson.{charge_json};
+impl fmt::Display for ByWindow {
+    ghost use Rattle.fare_texts.specs.ExplainedJson.{window_charge_json};
 
-    ghost output = { λ decided. Some (charge_json decided.0) };
+    ghost output = { λ decided. Some (window_charge_json decided.0) };
 
-    #[tactic(auto, unfolding(crate::specs::ExplainedJson::charge_json))]
+    #[tactic(auto, unfolding(crate::specs::ExplainedJson::window_charge_json))]
     fn fmt<W: fmt::Write>(&self, f: &mut fmt::Formatter<W>) -> fmt::Result {
         match self.0 {
             Charge::Full { position, cents: _ } => {
@@ -89,6 +91,64 @@ impl fmt::Display for Decided {
                 write!(f, "\"kind\":\"ceiling\",\"ride\":{ride}")
             }
             Charge::RideLimitReached => f.write_str("\"kind\":\"ride-limit\",\"ride\":null"),
+        }
+    }
+}
+
+/// How a cap decided them.
+#[derive(Clone, Copy)]
+struct ByCap<'a> {
+    kind: &'a str,
+    position: u32,
+    name: &'a str,
+}
+
+impl fmt::Display for ByCap<'_> {
+    ghost use Rattle.fare_texts.specs.ExplainedJson.{cap_json};
+
+    ghost output = { λ by. Some (cap_json by.kind.now by.position by.name.now) };
+
+    #[tactic(auto, unfolding(crate::specs::ExplainedJson::cap_json))]
+    fn fmt<W: fmt::Write>(&self, f: &mut fmt::Formatter<W>) -> fmt::Result {
+        let kind = self.kind;
+        let name = self.name;
+        let ride = u64::from(self.position) + 1;
+        write!(f, "\"kind\":\"{kind}\",\"cap\":\"{name}\",\"ride\":{ride}")
+    }
+}
+
+/// What decided the cents of a ride.
+#[derive(Clone, Copy)]
+struct Decided<'a> {
+    table: &'a FareTable,
+    charge: CapCharge,
+}
+
+impl fmt::Display for Decided<'_> {
+    ghost use Rattle.fare_texts.specs.ExplainedJson.{charge_json};
+
+    ghost output = { λ decided. Some (charge_json decided.table.now.meaning.cap_names
+        decided.charge) };
+
+    fn fmt<W: fmt::Write>(&self, f: &mut fmt::Formatter<W>) -> fmt::Result {
+        match self.charge {
+            CapCharge::ByWindow { charge } => ByWindow(charge).fmt(f),
+            CapCharge::CapCut {
+                position,
+                cents: _,
+                cap,
+            } => ByCap {
+                kind: "cap-cut",
+                position,
+                name: cap_name(self.table, cap),
+            }
+            .fmt(f),
+            CapCharge::CapReached { position, cap } => ByCap {
+                kind: "cap",
+                position,
+                name: cap_name(self.table, cap),
+            }
+            .fmt(f),
         }
     }
 }
@@ -135,26 +195,27 @@ fn name_of(table: &FareTable, mode: Mode) -> &str
 pub(crate) struct Because<'a> {
     pub(crate) table: &'a FareTable,
     pub(crate) clock: &'a Clock,
-    pub(crate) reason: Reason,
+    pub(crate) reason: CappedReason,
 }
 
 impl fmt::Display for Because<'_> {
     ghost use Rattle.fare_texts.specs.ExplainedJson.{reason_json};
 
-    ghost output = { λ b. Some (reason_json b.clock.now b.table.now.meaning.modes b.reason) };
+    ghost output = { λ b. Some (reason_json b.clock.now b.table.now.meaning.modes
+        b.table.now.meaning.cap_names b.reason) };
 
     fn fmt<W: fmt::Write>(&self, f: &mut fmt::Formatter<W>) -> fmt::Result {
         let clock = self.clock;
         match self.reason {
-            Reason::Unknown => f.write_str("{\"kind\":\"unknown\"}"),
-            Reason::Stale { latest } => {
+            CappedReason::Unknown => f.write_str("{\"kind\":\"unknown\"}"),
+            CappedReason::Stale { latest } => {
                 let at = At {
                     clock,
                     moment: latest,
                 };
                 write!(f, "{{\"kind\":\"stale\",\"points_at\":{at}}}")
             }
-            Reason::Transfer { moment, mode } => {
+            CappedReason::Transfer { moment, mode } => {
                 let at = At { clock, moment };
                 let mode = name_of(self.table, mode);
                 write!(
@@ -162,12 +223,15 @@ impl fmt::Display for Because<'_> {
                     "{{\"kind\":\"transfer\",\"points_at\":{at},\"mode\":\"{mode}\"}}"
                 )
             }
-            Reason::Ride {
+            CappedReason::Ride {
                 start,
                 until,
                 charge,
             } => {
-                let decided = Decided(charge);
+                let decided = Decided {
+                    table: self.table,
+                    charge,
+                };
                 let within = Within {
                     clock,
                     start,
@@ -261,7 +325,7 @@ pub(crate) struct Lacking<'a> {
     pub(crate) table: &'a FareTable,
     pub(crate) clock: &'a Clock,
     pub(crate) moment: u64,
-    pub(crate) reason: Reason,
+    pub(crate) reason: CappedReason,
     pub(crate) none: Option<NoTransfer>,
 }
 
@@ -273,7 +337,7 @@ impl fmt::Display for Lacking<'_> {
 
     fn fmt<W: fmt::Write>(&self, f: &mut fmt::Formatter<W>) -> fmt::Result {
         match self.reason {
-            Reason::Ride { .. } => match self.none {
+            CappedReason::Ride { .. } => match self.none {
                 Some(none) => Lack {
                     table: self.table,
                     clock: self.clock,
@@ -283,7 +347,9 @@ impl fmt::Display for Lacking<'_> {
                 .fmt(f),
                 None => f.write_str("null"),
             },
-            Reason::Unknown | Reason::Stale { .. } | Reason::Transfer { .. } => f.write_str("null"),
+            CappedReason::Unknown | CappedReason::Stale { .. } | CappedReason::Transfer { .. } => {
+                f.write_str("null")
+            }
         }
     }
 }

@@ -9,7 +9,8 @@ ghost use Rattle.fare_texts.specs.Explained.{AreExplainedAfter, IsExplainedLine}
 use crate::{
     Explainer, write_entry_words, write_local, write_moment, write_no_transfer, write_reason_words,
 };
-use account_rule::{NoTransfer, Reason};
+use account_rule::NoTransfer;
+use fare_caps::CappedReason;
 use histories::Entry;
 use std::alloc::AllocError;
 use tap_views::{NoMemory, Token};
@@ -22,7 +23,7 @@ fn write_line(
     table: &FareTable,
     clock: &Clock,
     entry: &Entry,
-    reason: &Reason,
+    reason: &CappedReason,
     none: Option<NoTransfer>,
 ) -> Result<(), AllocError>
     requires clock { clock.now ≡ table.now.zone }

@@ -1,7 +1,7 @@
 //! The lines of a token's windows.
 
 ghost use Rattle.std.specs.Prelude.{◌≡◌, ◌++◌, List, ℕ, OnOk, codes, map, string_bytes};
-ghost use Rattle.account_rule.specs.TokenRules.{rules_of};
+ghost use Rattle.fare_caps.specs.CapMeanings.{capped_rules_of};
 ghost use Rattle.histories.specs.Entry.{tap_of};
 ghost use Rattle.tap_views.specs.Token.{bytes_of};
 ghost use Rattle.fare_texts.specs.Explained.{AreEarlierLines, AreWindowLines, IsLastLine};
@@ -73,7 +73,7 @@ pub(crate) fn write_windows(
 ) -> Result<(), NoMemory>
     requires { clock.now ≡ table.now.zone }
     ensures { OnOk result ((written : List ℕ)
-        × AreWindowLines table.now.zone (rules_of table.now (bytes_of token))
+        × AreWindowLines table.now.zone (capped_rules_of table.now (bytes_of token))
         (map (tap_of table.now) entries.now) written
         × (string_bytes text.new ≡ string_bytes text.old ++ written)) }
 {

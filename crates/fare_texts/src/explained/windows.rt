@@ -2,12 +2,11 @@
 
 ghost use Rattle.std.specs.Prelude.{◌≡◌, ◌++◌, IfOk, OnOk, map};
 ghost use Rattle.account_rule.specs.Laws.{is_ride};
-ghost use Rattle.account_rule.specs.TokenRules.{rules_of};
-ghost use Rattle.account_rule.specs.Windows.{last_window};
+ghost use Rattle.fare_caps.specs.CapMeanings.{capped_rules_of};
+ghost use Rattle.fare_caps.specs.CappedReplies.{capped_window};
 ghost use Rattle.histories.specs.Entry.{tap_of};
 ghost use Rattle.tap_views.specs.Token.{bytes_of};
-ghost use Rattle.fare_texts.specs.Explained.{earlier_windows};
-ghost use Rattle.fare_texts.specs.inside.Windows.{window_ended};
+ghost use Rattle.fare_texts.specs.Explained.{earlier_windows, window_ended};
 
 use crate::Explainer;
 use account_rule::{Answer, Reply, WindowView};
@@ -54,17 +53,18 @@ pub(crate) fn windows_of(
 ) -> Result<(Vec<WindowView>, Option<WindowView>), NoMemory>
     requires { clock.now ≡ table.now.zone }
     ensures earlier { IfOk result (λ windows. windows.0.items
-        ≡ earlier_windows (rules_of table.now (bytes_of token))
+        ≡ earlier_windows (capped_rules_of table.now (bytes_of token))
         (map (tap_of table.now) entries.now)) }
     ensures last { IfOk result (λ windows. windows.1
-        ≡ last_window (rules_of table.now (bytes_of token)) (map (tap_of table.now) entries.now)) }
+        ≡ capped_window (capped_rules_of table.now (bytes_of token))
+        (map (tap_of table.now) entries.now)) }
 {
     let mut explainer = Explainer::of(token);
     let mut earlier = Vec::new(alloc);
     for entry in entries {
-        let window = explainer.window();
+        let window = explainer.window(table);
         let reason = explainer.explain_next(table, clock, entry)?;
         keep_ended(&mut earlier, window, is_ride(reason.reply()), entry.moment)?;
     }
-    Ok((earlier, explainer.window()))
+    Ok((earlier, explainer.window(table)))
 }

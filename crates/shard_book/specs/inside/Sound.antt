@@ -1,24 +1,21 @@
 -- What always holds of a book's parts.
 use Rattle.std.specs.Prelude.{ℕ, ◌<◌, ◌≤◌, List}
 use Rattle.tariffs.specs.Fares.{Fares}
-use Rattle.account_rule.specs.TokenRules.{rules_of}
 use Rattle.shard_book.specs.declared.accounts.Accounts.{Accounts}
 use Rattle.histories.specs.declared.entry.Entry.{Entry}
 use Rattle.shard_book.specs.declared.packed.PackedEntry.{PackedEntry}
 use Rattle.tap_views.specs.declared.token.Token.{Token}
-use Rattle.shard_book.specs.inside.Accounts.{kept_at, IsCounting, IsKept}
+use Rattle.shard_book.specs.inside.Accounts.{HasKept, IsCounting}
 use Rattle.shard_book.specs.Book.{AreOfShard}
 use Rattle.shard_book.specs.inside.Counting.{AreCounted}
 use Rattle.histories.specs.Entry.{TokensFit, taps_of}
 use Rattle.histories.specs.History.{IsLegal}
 use Rattle.shard_book.specs.inside.Packed.{ArePlaced, history_of, tokens_of}
-use Rattle.tap_views.specs.Token.{bytes_of}
 
 -- the accounts represent the taps of their tokens
 unfoldable pub AreKept : Fares → Accounts → List Entry → Type 0
 AreKept table accounts entries =
-    (token : Token) → IsKept (rules_of table (bytes_of token)) (kept_at accounts token)
-    (taps_of table token entries)
+    (token : Token) → HasKept table accounts token (taps_of table token entries)
 
 -- the history is legal, of tokens of 16 bytes and of the shard alone, and the accounts represent it
 -- and, while they count, count it

@@ -1,5 +1,6 @@
 //! What is wrong with the modes, the transfers, the classes, the zone and the window of a text.
 
+use super::caps::{check_caps, check_ceilings};
 use super::people::{check_default, check_riders};
 use super::ranges::check_ranges;
 use super::wrong::{Wrong, Wrongs};
@@ -25,7 +26,7 @@ const CLASS: &str = "a table with fare and, if it has them, rides and ceiling";
 
 const ZONE: &str = "a POSIX rule, as \"EST5EDT,M3.2.0,M11.1.0\", not a place";
 
-const WINDOW: &str =
+pub(super) const WINDOW: &str =
     "1 to 31 days as \"7 days\", or \"calendar day\", \"calendar week\", \"calendar month\"";
 
 const DAY_STARTS: &str = "a time from \"00:00\" to \"23:59\"";
@@ -91,7 +92,7 @@ pub(super) fn are_all<F: Fn(&Value) -> bool>(
 }
 
 /// Whether a name can be that of a mode.
-fn is_mode_name(name: &str) -> bool {
+pub(super) fn is_mode_name(name: &str) -> bool {
     1 <= name.len() && name.len() <= MAX_MODE_NAME_BYTES && are_letters(name.as_bytes())
 }
 
@@ -325,11 +326,13 @@ fn check_class(
     path: &str,
     class: &Table,
     modes: &Option<Vec<&str>>,
+    caps: &[&str],
 ) -> Result<(), AllocError> {
     check_key(wrongs, path, class, Key::Fare, ", in cents")?;
     check_optional(wrongs, path, class, Key::Rides, "")?;
     check_optional(wrongs, path, class, Key::Ceiling, ", in cents")?;
     check_fares(wrongs, path, class, modes)?;
+    check_ceilings(wrongs, path, class, caps)?;
     check_ride_transfers(wrongs, path, class)?;
     check_optional(wrongs, path, class, Key::TransferMinutes, ", in minutes")
 }
@@ -338,6 +341,7 @@ fn check_classes(
     wrongs: &mut Wrongs,
     classes: &Table,
     modes: &Option<Vec<&str>>,
+    caps: &[&str],
 ) -> Result<(), AllocError> {
     let mut succeeded = true;
     for (name, value) in classes {
@@ -353,7 +357,7 @@ fn check_classes(
     for (name, value) in classes {
         let path = key_path(wrongs.alloc, "classes", name.as_str())?;
         if let Some(class) = value.as_table() {
-            check_class(wrongs, path.as_str(), class, modes)?;
+            check_class(wrongs, path.as_str(), class, modes, caps)?;
         }
     }
     Ok(())
@@ -364,6 +368,7 @@ fn classes_of<'t>(
     wrongs: &mut Wrongs,
     tree: &'t Table,
     modes: &Option<Vec<&str>>,
+    caps: &[&str],
 ) -> Result<Option<&'t Table>, AllocError> {
     let Some(value) = tree.get("classes") else {
         wrongs.missing("", "classes", CLASSES)?;
@@ -376,7 +381,7 @@ fn classes_of<'t>(
     if classes.is_empty() {
         wrongs.value(top(wrongs.alloc, "classes")?, value, CLASSES)?;
     }
-    check_classes(wrongs, classes, modes)?;
+    check_classes(wrongs, classes, modes, caps)?;
     Ok(Some(classes))
 }
 
@@ -421,7 +426,8 @@ pub(super) fn wrongs_of(alloc: Global, tree: &Table) -> Result<Vec<Wrong>, Alloc
     let mut wrongs = Wrongs::new(alloc);
     let modes = modes_of(&mut wrongs, tree)?;
     check_transfers(&mut wrongs, tree, &modes)?;
-    let classes = classes_of(&mut wrongs, tree, &modes)?;
+    let caps = check_caps(&mut wrongs, tree, &modes)?;
+    let classes = classes_of(&mut wrongs, tree, &modes, &caps)?;
     check_default(&mut wrongs, tree, classes)?;
     check_ranges(&mut wrongs, tree, &modes)?;
     check_riders(&mut wrongs, tree, classes)?;

@@ -9,9 +9,8 @@ use tap_views::NoMemory;
 /// The steps for each range: two ranges then rarely end in one step.
 const STEPS_FOR_EACH: u64 = 4;
 
-/// Hints of which of some disjoint ranges has a number, which the caller checks. The numbers from
-/// the lowest last number to the highest are divided into steps of one width. For each step the
-/// first range that ends in it or after it is stored: it has the step's numbers, or the next one.
+/// Hints of which of some disjoint ranges has a number, which the caller checks. The numbers are
+/// divided into steps of one width, each with the first range that ends in it or after it.
 #[derive(Drop)]
 pub(crate) struct Hints {
     lowest: u32,

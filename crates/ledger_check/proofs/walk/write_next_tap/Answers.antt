@@ -1,6 +1,6 @@
 use Rattle.std.proofs.Common.{◌≡◌, ℕ, ◌+◌, ◌^◌, ◌<◌, ◌++◌, ◌∷◌, [], List, length, refl, sym, ap}
 use Rattle.std.proofs.Common.{subst, ◌∙◌, arith, string_bytes}
-use Rattle.account_rule.specs.declared.reason.Reason.{Reason}
+use Rattle.fare_caps.specs.declared.capped_reason.CappedReason.{CappedReason}
 use Rattle.histories.specs.Entry.{own}
 use Rattle.histories.specs.declared.entry.Entry.{Entry}
 use Rattle.tap_views.specs.declared.token.Token.{Token}
@@ -44,7 +44,7 @@ returns c = λ run holds.
           (sym written)
           (subst (λ (n : ℕ). IsLedgerLine fares tap.token n entry why line.0)
           (posted.number ∙ ap (λ n. n + 1) explained.counted)
-          (subst (λ (w : Reason). IsLedgerLine fares tap.token after.number entry w line.0)
+          (subst (λ (w : CappedReason). IsLedgerLine fares tap.token after.number entry w line.0)
           (posted.reason before explained
           ∙ ap (λ (t : Token). reason_after fares t before entry) token)
           line.1));

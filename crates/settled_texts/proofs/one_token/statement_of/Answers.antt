@@ -1,8 +1,8 @@
 use Rattle.std.proofs.Common.{◌≡◌, List, map, ap, refl, sym, ◌∙◌}
 use Rattle.tap_views.specs.Token.{bytes_of}
 use Rattle.tap_views.specs.declared.token.Token.{Token}
-use Rattle.account_rule.specs.TokenRules.{rules_of}
-use Rattle.account_rule.specs.Windows.{last_window}
+use Rattle.fare_caps.specs.CapMeanings.{capped_rules_of}
+use Rattle.fare_caps.specs.CappedReplies.{capped_window}
 use Rattle.histories.specs.Entry.{own, tap_of, taps_of}
 use Rattle.histories.specs.Sums.{sums}
 use Rattle.histories.specs.declared.entry.Entry.{Entry}
@@ -30,11 +30,11 @@ returns c = λ history is.
         lines = c.of.ensures ∙ same;
         totals = c.totals_of_entries-totals.ensures.sums
             ∙ ap sums (c.deref.ensures.value ∙ same);
-        window = c.window.ensures fares entries c.in_ok-entries.ensures.replay
-            ∙ ap (λ (t : Token). last_window (rules_of fares (bytes_of t))
+        window = c.window.ensures entries c.in_ok-entries.ensures.replay
+            ∙ ap (λ (t : Token). capped_window (capped_rules_of fares (bytes_of t))
             (map (tap_of fares) (own t entries)))
             c.in_ok-entries.ensures.token
-            ∙ ap (λ (es : List Entry). last_window (rules_of fares (bytes_of token))
+            ∙ ap (λ (es : List Entry). capped_window (capped_rules_of fares (bytes_of token))
             (map (tap_of fares) es))
             again;
       };

@@ -16,30 +16,30 @@ explain_step-reason-requires-clause-holds c = (c.requires.holds.0, c.requires.ho
 
 -- there are no caps
 
-pub returns-then-len-eq0-clause-reason : goal.returns-then-len-eq0-clause-reason
+pub returns-then-not-has_caps-clause-reason : goal.returns-then-not-has_caps-clause-reason
 unfolding capped_rules_of
-returns-then-len-eq0-clause-reason c = λ taps holds.
+returns-then-not-has_caps-clause-reason c = λ taps holds.
     c.uncapped.ensures
-    ∙ (empty-step c.args.table.now c.args.caps.now c.args.token.now c.explain_step-reason.new.self
+    ∙ (empty-step c.args.table.now c.args.token.now c.explain_step-reason.new.self
     c.args.self.now.further taps c.args.tap c.explain_step-reason.result
-    (omega (arith, c.len.ensures.count, c.if-len-eq0.true))
+    (c.has_caps.ensures.none c.if-not-has_caps.true)
     (c.explain_step-reason.ensures.reason taps holds.account)
     (c.explain_step-reason.ensures.holds taps holds.account)).reason
 
-pub returns-then-len-eq0-clause-holds : goal.returns-then-len-eq0-clause-holds
+pub returns-then-not-has_caps-clause-holds : goal.returns-then-not-has_caps-clause-holds
 unfolding capped_rules_of
-returns-then-len-eq0-clause-holds c = λ taps holds.
-    (empty-step c.args.table.now c.args.caps.now c.args.token.now c.explain_step-reason.new.self
+returns-then-not-has_caps-clause-holds c = λ taps holds.
+    (empty-step c.args.table.now c.args.token.now c.explain_step-reason.new.self
     c.args.self.now.further taps c.args.tap c.explain_step-reason.result
-    (omega (arith, c.len.ensures.count, c.if-len-eq0.true))
+    (c.has_caps.ensures.none c.if-not-has_caps.true)
     (c.explain_step-reason.ensures.reason taps holds.account)
     (c.explain_step-reason.ensures.holds taps holds.account)).holds
 
-pub returns-then-len-eq0-clause-some : goal.returns-then-len-eq0-clause-some
+pub returns-then-not-has_caps-clause-some : goal.returns-then-not-has_caps-clause-some
 unfolding RepresentsSome
-returns-then-len-eq0-clause-some c = (
+returns-then-not-has_caps-clause-some c = (
   c.requires.holds.0 ++ c.args.tap ∷ [],
-  returns-then-len-eq0-clause-holds c c.requires.holds.0 c.requires.holds.1,
+  returns-then-not-has_caps-clause-holds c c.requires.holds.0 c.requires.holds.1,
 )
 
 -- the tap is no ride
@@ -48,7 +48,7 @@ pub returns-in_default-clause-reason : goal.returns-in_default-clause-reason
 unfolding capped_rules_of
 returns-in_default-clause-reason c = λ taps holds.
     c.uncapped-in_default.ensures
-    ∙ (free-step c.args.table.now c.args.caps.now c.args.token.now c.explain_step-reason.new.self
+    ∙ (free-step c.args.table.now c.args.token.now c.explain_step-reason.new.self
     c.args.self.now.further taps c.args.tap c.explain_step-reason.result
     (c.explain_step-reason.ensures.reason taps holds.account)
     (c.explain_step-reason.ensures.holds taps holds.account) holds.further
@@ -57,7 +57,7 @@ returns-in_default-clause-reason c = λ taps holds.
 pub returns-in_default-clause-holds : goal.returns-in_default-clause-holds
 unfolding capped_rules_of
 returns-in_default-clause-holds c = λ taps holds.
-    (free-step c.args.table.now c.args.caps.now c.args.token.now c.explain_step-reason.new.self
+    (free-step c.args.table.now c.args.token.now c.explain_step-reason.new.self
     c.args.self.now.further taps c.args.tap c.explain_step-reason.result
     (c.explain_step-reason.ensures.reason taps holds.account)
     (c.explain_step-reason.ensures.holds taps holds.account) holds.further
@@ -75,28 +75,27 @@ returns-in_default-clause-some c = (
 pub charge_ride-requires-clause-room : goal.charge_ride-requires-clause-room
 unfolding RepresentsSome
 charge_ride-requires-clause-room c =
-    has-room c.args.table.now c.args.caps.now c.args.token.now c.args.self.now.further _
-    (λ none. omega (arith, none, c.len.ensures.count, c.if-len-eq0.false))
+    has-room c.args.table.now c.args.token.now c.args.self.now.further _
+    (c.has_caps.ensures.some c.if-not-has_caps.false)
     c.requires.holds.1.further
 
 is_ride : (c : After-charge_ride) (taps : List TapIn)
-    → Represents (capped_rules_of c.args.table.now c.args.caps.now c.args.token.now) c.args.self.now
+    → Represents (capped_rules_of c.args.table.now c.args.token.now) c.args.self.now
     taps
-    → IsStep (capped_rules_of c.args.table.now c.args.caps.now c.args.token.now) taps c.args.tap
+    → IsStep (capped_rules_of c.args.table.now c.args.token.now) taps c.args.tap
     (Ride c.in-Some.ride.start c.in-Some.ride.until c.charge_ride.result)
     c.explain_step-reason.new.self c.charge_ride.new.self
 unfolding capped_rules_of
 is_ride c taps holds =
-    ride-step-by c.args.table.now c.args.caps.now c.args.token.now c.explain_step-reason.new.self
+    ride-step-by c.args.table.now c.args.token.now c.explain_step-reason.new.self
     c.args.self.now.further c.charge_ride.new.self taps c.args.tap c.explain_step-reason.result
     c.in-Some.ride c.charge_ride.result c.args.clock.now c.at-tariff.result.now.meaning
-    c.class_of-class.result
-    (omega (arith, c.len.ensures.count, c.len.ensures.few))
-    (λ none. omega (arith, none, c.len.ensures.count, c.if-len-eq0.false))
+    c.class_of-class.result c.caps.result.now
+    (c.has_caps.ensures.some c.if-not-has_caps.false)
     (c.explain_step-reason.ensures.reason taps holds.account)
     (c.explain_step-reason.ensures.holds taps holds.account) holds.further
     (sym c.ride_seen.ensures ∙ c.in-Some.is) c.requires.clock c.at-tariff.ensures.meaning
-    c.class_of-class.ensures.class c.charge_ride.ensures.bounds c.charge_ride.ensures.room
+    c.class_of-class.ensures.class c.caps.ensures.caps c.charge_ride.ensures.bounds c.charge_ride.ensures.room
     c.charge_ride.ensures.charge c.charge_ride.ensures.state
 
 pub returns-clause-reason : goal.returns-clause-reason

@@ -8,10 +8,11 @@ use Rattle.tariffs.specs.Terms.{IsBoundedClass}
 use Rattle.tariffs.specs.declared.class.Class.{Class}
 use Rattle.fare_table.proofs.read.classes.classes_from.Goals as goal
 
-classes-step : (modes : List (List ℕ)) (earlier found : List Class) (key : List ℕ) (value : Data)
-    (more : Members) (one : Class) → class_in modes value ≡ Ok one → found ≡ earlier ++ one ∷ []
-    → classes_from modes earlier (member key value more) ≡ classes_from modes found more
-classes-step modes earlier found key value more one is same = rw (is, same)
+classes-step : (modes caps : List (List ℕ)) (earlier found : List Class) (key : List ℕ)
+    (value : Data) (more : Members) (one : Class) → class_in modes caps value ≡ Ok one
+    → found ≡ earlier ++ one ∷ []
+    → classes_from modes caps earlier (member key value more) ≡ classes_from modes caps found more
+classes-step modes caps earlier found key value more one is same = rw (is, same)
 
 all_with : (earlier found : List Class) (one : Class) → All IsBoundedClass earlier
     → IsBoundedClass one → found ≡ earlier ++ one ∷ [] → All IsBoundedClass found
@@ -28,6 +29,7 @@ count-step whole earlier found one key value more is same =
 pub loop-name-preserved : goal.loop-name-preserved
 loop-name-preserved c =
     let modes = map string_bytes c.args.modes.now in
+    let caps = map string_bytes c.args.caps.now in
     let classes = members_view c.args.classes.now.entries in
     let earlier = c.loop-name.found.items in
     let found = c.push.new.self.items in
@@ -39,8 +41,9 @@ loop-name-preserved c =
     record {
       same =
           c.loop-name.invariant.same
-          ∙ ap (λ more. classes_from modes earlier (members_view more)) c.in-Some.ensures.steps
-          ∙ classes-step modes earlier found key value more one (sym c.in_ok-class.ensures.class)
+          ∙ ap (λ more. classes_from modes caps earlier (members_view more)) c.in-Some.ensures.steps
+          ∙ classes-step modes caps earlier found key value more one
+          (sym c.in_ok-class.ensures.class)
           same;
       bounds = all_with earlier found one c.loop-name.invariant.bounds c.in_ok-class.ensures.bounds
           same;

@@ -7,8 +7,10 @@ use Rattle.fare_table.proofs.read.classes.classes_from.Given as goal
 abbrev pub invariant-loop-name : goal.invariant-loop-name
 invariant-loop-name l = record {
   -- the classes of the whole are those found and those of what is left
-  same : classes_from (map string_bytes l.modes) [] (members_view l.classes.entries)
-      ≡ classes_from (map string_bytes l.modes) l.found.items (members_view l._name-iterator);
+  same : classes_from (map string_bytes l.modes) (map string_bytes l.caps) []
+      (members_view l.classes.entries)
+      ≡ classes_from (map string_bytes l.modes) (map string_bytes l.caps) l.found.items
+      (members_view l._name-iterator);
   bounds : All IsBoundedClass l.found.items;
   count : count_of (members_view l.classes.entries)
       ≡ length l.found.items + count_of (members_view l._name-iterator);

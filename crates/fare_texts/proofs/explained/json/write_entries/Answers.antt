@@ -4,7 +4,7 @@ use Rattle.std.proofs.Common.{subst, ◌∙◌, string_bytes, append_assoc, appe
 use Rattle.std.proofs.lemmas.List.{length-take-le}
 use Rattle.std.specs.Prelude.{Option}
 use Rattle.account_rule.specs.declared.no_transfer.NoTransfer.{NoTransfer}
-use Rattle.account_rule.specs.declared.reason.Reason.{Reason}
+use Rattle.fare_caps.specs.declared.capped_reason.CappedReason.{CappedReason}
 use Rattle.tariffs.specs.Fares.{Fares}
 use Rattle.histories.specs.declared.entry.Entry.{Entry}
 use Rattle.tap_views.specs.declared.token.Token.{Token}
@@ -31,14 +31,14 @@ entries-push fares token earlier (first ∷ entries) entry =
     ∙ sym (append_assoc line rest (entry_json fares token (earlier ++ first ∷ entries) entry))
 
 -- an entry's line by its number, its reason and why it is no transfer
-abbrev line_by : Fares → Entry → ℕ → Reason → Option NoTransfer → List ℕ
+abbrev line_by : Fares → Entry → ℕ → CappedReason → Option NoTransfer → List ℕ
 line_by fares entry number why lack =
     what_json fares number entry
-    ++ why_json fares.zone fares.meaning.modes entry.moment why lack
+    ++ why_json fares.zone fares.meaning.modes fares.meaning.cap_names entry.moment why lack
 
 -- the lines of the first entries, and the next one's
 next_json : (fares : Fares) (token : Token) (entries : List Entry) (position : ℕ) (other : Entry)
-    → position < length entries → (start before after : List ℕ) (number : ℕ) (why : Reason)
+    → position < length entries → (start before after : List ℕ) (number : ℕ) (why : CappedReason)
     (lack : Option NoTransfer) → number ≡ length (take position entries)
     → why ≡ reason_after fares token (take position entries) (get_or entries position other)
     → lack ≡ no_transfer_after fares token (take position entries) (get_or entries position other)
@@ -51,7 +51,7 @@ next_json fares token entries position other within start before after number wh
     let entry = get_or entries position other in
     more
     ∙ ap (λ n. before ++ line_by fares entry n why lack) is_number
-    ∙ ap (λ (w : Reason). before ++ line_by fares entry (length done) w lack) is_why
+    ∙ ap (λ (w : CappedReason). before ++ line_by fares entry (length done) w lack) is_why
     ∙ ap (λ (l : Option NoTransfer). before
     ++ line_by fares entry (length done) (reason_after fares token done entry) l) is_lack
     ∙ ap (λ (t : List ℕ). t ++ entry_json fares token done entry) is

@@ -1,9 +1,9 @@
 -- Each round explains one entry more, and keeps the window that it ends.
 use Rattle.std.proofs.Common.{List, map, take, sym, ap, subst, ◌∙◌, arith}
 use Rattle.std.proofs.lemmas.List.{length-take-le, take_all}
-use Rattle.account_rule.specs.Reasons.{replied_by}
-use Rattle.account_rule.specs.TokenRules.{rules_of}
-use Rattle.account_rule.proofs.ReasonLemmas.{reply-follows}
+use Rattle.fare_caps.specs.CappedReplies.{replied_by}
+use Rattle.fare_caps.specs.CapMeanings.{capped_rules_of}
+use Rattle.fare_caps.proofs.AnswerLemmas.{capped-follows}
 use Rattle.histories.specs.Entry.{tap_of}
 use Rattle.histories.specs.declared.entry.Entry.{Entry}
 use Rattle.tap_views.specs.Token.{bytes_of}
@@ -40,11 +40,11 @@ loop-entry-preserved c =
     let within = c.loop-entry-test.true in
     let so_far = c.loop-entry.invariant in
     let done = take position entries in
-    let rules = rules_of fares (bytes_of c.args.token) in
+    let rules = capped_rules_of fares (bytes_of c.args.token) in
     let taps = map (tap_of fares) done in
-    let window = rw so_far.of at (c.window-window.ensures fares done so_far.explained) in
+    let window = rw so_far.of at (c.window-window.ensures done so_far.explained) in
     let why = rw so_far.of at (c.in_ok-reason.ensures.reason done so_far.explained) in
-    let answered = c.reply.ensures ∙ ap replied_by why ∙ sym (reply-follows rules taps _) in
+    let answered = c.reply.ensures ∙ ap replied_by why ∙ sym (capped-follows rules taps _) in
     record {
       explained = subst (λ (es : List Entry). HasExplained fares c.explain_next.new.self es)
           (sym (taken entries position _ within))
@@ -59,6 +59,6 @@ pub returns-clause-last : goal.returns-clause-last
 returns-clause-last c =
     let so_far = c.loop-entry.invariant in
     let all = take_all c.loop-entry.entry-index c.args.entries.now c.loop-entry-test.false in
-    rw so_far.of at (c.window.ensures c.args.table.now c.args.entries.now
+    rw so_far.of at (c.window.ensures c.args.entries.now
     (subst (λ (es : List Entry). HasExplained c.args.table.now c.loop-entry.explainer es) all
     so_far.explained))

@@ -1,5 +1,5 @@
 use Rattle.std.proofs.Common.{◌≡◌, map, take}
-use Rattle.account_rule.specs.TokenRules.{rules_of}
+use Rattle.fare_caps.specs.CapMeanings.{capped_rules_of}
 use Rattle.histories.specs.Entry.{tap_of}
 use Rattle.tap_views.specs.Token.{bytes_of}
 use Rattle.fare_texts.specs.Explainers.{HasExplained}
@@ -12,6 +12,6 @@ invariant-loop-entry l = record {
   explained : HasExplained l.table l.explainer (take l.entry-index l.entries);
   of : l.explainer.token ≡ l.fn.token;
   earlier : l.earlier.items
-      ≡ earlier_windows (rules_of l.table (bytes_of l.fn.token))
+      ≡ earlier_windows (capped_rules_of l.table (bytes_of l.fn.token))
       (map (tap_of l.table) (take l.entry-index l.entries));
 }

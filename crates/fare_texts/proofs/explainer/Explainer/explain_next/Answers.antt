@@ -2,9 +2,9 @@
 use Rattle.std.proofs.Common.{◌+◌, ◌∷◌, [], ◌++◌, List, map, ap, sym, subst, ◌∙◌}
 use Rattle.std.proofs.Common.{length-append}
 use Rattle.std.proofs.lemmas.List.{map-append}
-use Rattle.account_rule.specs.Reasons.{reason}
-use Rattle.account_rule.specs.TokenRules.{rules_of}
-use Rattle.account_rule.specs.Represents.{Represents, RepresentsSome}
+use Rattle.fare_caps.specs.CapMeanings.{capped_rules_of}
+use Rattle.fare_caps.specs.CappedReplies.{capped_reason}
+use Rattle.fare_caps.specs.Represents.{Represents, RepresentsSome}
 use Rattle.account_rule.specs.declared.tap.TapIn.{TapIn}
 use Rattle.histories.specs.Entry.{tap_of}
 use Rattle.tap_views.specs.Token.{bytes_of}
@@ -19,10 +19,10 @@ explain_step-reason-requires-clause-holds c =
 
 pub returns-clause-reason : goal.returns-clause-reason
 returns-clause-reason c = λ earlier explained.
-    let of = rules_of c.args.table.now (bytes_of c.args.self.now.token) in
+    let of = capped_rules_of c.args.table.now (bytes_of c.args.self.now.token) in
     let taps = map (tap_of c.args.table.now) earlier in
     (rw c.bytes-bytes.ensures at c.explain_step-reason.ensures.reason) taps explained.holds
-    ∙ ap (λ (t : TapIn). reason of taps t) c.in_ok-tap.ensures.tap
+    ∙ ap (λ (t : TapIn). capped_reason of taps t) c.in_ok-tap.ensures.tap
 
 pub returns-clause-mode : goal.returns-clause-mode
 returns-clause-mode c =
@@ -33,7 +33,7 @@ returns-clause-mode c =
 
 pub returns-clause-explained : goal.returns-clause-explained
 returns-clause-explained c = λ earlier explained.
-    let of = rules_of c.args.table.now (bytes_of c.args.self.now.token) in
+    let of = capped_rules_of c.args.table.now (bytes_of c.args.self.now.token) in
     let tap = tap_of c.args.table.now in
     let taps = map tap earlier in
     let longer = ap (λ (t : TapIn). taps ++ t ∷ []) c.in_ok-tap.ensures.tap

@@ -4,6 +4,7 @@ use Rattle.account_rule.specs.NoTransfers.{HasModesBelow}
 use Rattle.account_rule.specs.TokenRules.{rules_of}
 use Rattle.account_rule.specs.declared.no_transfer.NoTransfer.{NoTransfer}
 use Rattle.account_rule.specs.declared.tap.TapIn.{TapIn}
+use Rattle.fare_caps.specs.CapMeanings.{capped_rules_of}
 use Rattle.histories.proofs.Histories.{tap_of-post}
 use Rattle.histories.specs.Entry.{tap_of}
 use Rattle.tap_views.specs.Token.{bytes_of}
@@ -18,6 +19,7 @@ returns-in_err-mode-clause-lacks c = λ earlier explained.
     rw mode c.from_residual.ensures
 
 pub returns-clause-lacks : goal.returns-clause-lacks
+unfolding capped_rules_of
 returns-clause-lacks c = λ earlier explained.
     let fares = c.args.table.now in
     let mode : (tap_of fares c.args.entry.now).mode ≡ Some c.in_ok-mode.mode =
@@ -25,14 +27,14 @@ returns-clause-lacks c = λ earlier explained.
     c.mode_of.ensures.mode) ∙ c.in_ok-mode.was in
     rw mode (ap (λ (n : NoTransfer). Some n)
     ((rw c.bytes-bytes.ensures at c.no_transfer.ensures.lacks) (map (tap_of fares) earlier)
-    explained.holds))
+    explained.holds.account))
 
 pub returns-clause-modes : goal.returns-clause-modes
-unfolding rules_of
+unfolding rules_of capped_rules_of
 returns-clause-modes c = λ lack is.
     let fares = c.args.table.now in
     let same : c.no_transfer.result ≡ lack = cc in
     subst (HasModesBelow (length fares.meaning.modes)) same
     (c.no_transfer.ensures.modes (rules_of fares (bytes_of c.args.self.now.token))
-    (map (tap_of fares) c.requires.explained.0) c.requires.explained.1.holds
+    (map (tap_of fares) c.requires.explained.0) c.requires.explained.1.holds.account
     c.in_ok-mode.ensures.within)

@@ -2,4 +2,5 @@ use Rattle.std.proofs.Common.{refl}
 use Rattle.fare_texts.proofs.explainer.Explainer.of.Goals as goal
 
 pub returns-clause-explained : goal.returns-clause-explained
-returns-clause-explained c = λ fares. record { holds = c.fresh.ensures.holds _; counted = refl }
+returns-clause-explained c =
+    λ fares. record { holds = c.fresh.ensures.holds fares _; counted = refl }

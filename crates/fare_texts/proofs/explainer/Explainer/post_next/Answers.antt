@@ -6,10 +6,10 @@ use Rattle.std.proofs.lemmas.List.{map-append}
 use Rattle.tariffs.specs.Fares.{Fares, mode_at}
 use Rattle.tariffs.specs.declared.mode.Mode.{Mode}
 use Rattle.tap_views.specs.declared.token.Token.{Token}
-use Rattle.account_rule.specs.Reasons.{reason, replied_by}
-use Rattle.account_rule.specs.Replies.{reply}
-use Rattle.account_rule.specs.TokenRules.{rules_of}
-use Rattle.account_rule.specs.Represents.{Represents, RepresentsSome}
+use Rattle.fare_caps.specs.CapMeanings.{capped_rules_of}
+use Rattle.fare_caps.specs.CappedReplies.{capped_reason, capped_reply, replied_by}
+use Rattle.fare_caps.specs.Represents.{Represents, RepresentsSome}
+use Rattle.fare_caps.proofs.AnswerLemmas.{capped-follows}
 use Rattle.account_rule.specs.declared.reply.Answer.TheVariants.{Unknown}
 use Rattle.account_rule.specs.declared.reply.Reply.{Reply}
 use Rattle.account_rule.specs.declared.tap.TapIn.{TapIn}
@@ -65,22 +65,22 @@ reason_of : (c : goal.After-entry-1) (earlier : List Entry) (entry : Entry)
     → c.explain_step-reason.result
     ≡ reason_after c.args.table.now c.args.self.now.token earlier entry
 reason_of c earlier entry explained at when =
-    let of = rules_of c.args.table.now (bytes_of c.args.self.now.token) in
+    let of = capped_rules_of c.args.table.now (bytes_of c.args.self.now.token) in
     let taps = map (tap_of c.args.table.now) earlier in
     (rw c.bytes-bytes.ensures at c.explain_step-reason.ensures.reason) taps explained.holds
-    ∙ ap (λ (t : TapIn). reason of taps t) (same_tap c.args.table.now entry c.mode_of.result
+    ∙ ap (λ (t : TapIn). capped_reason of taps t) (same_tap c.args.table.now entry c.mode_of.result
     c.args.validator c.args.moment c.mode_of.ensures.mode at when)
 
 pub returns-clause-entry : goal.returns-clause-entry
 returns-clause-entry c = λ earlier explained.
     let fares = c.args.table.now in
     let token = c.args.self.now.token in
-    let of = rules_of fares (bytes_of token) in
+    let of = capped_rules_of fares (bytes_of token) in
     let taps = map (tap_of fares) earlier in
     let tap = unreported token c.args.validator c.args.moment in
-    let replied : c.reply-reply.result ≡ reply of taps (tap_of fares tap) =
+    let replied : c.reply-reply.result ≡ capped_reply of taps (tap_of fares tap) =
     c.reply-reply.ensures ∙ ap (λ w. replied_by w) (reason_of c earlier tap explained refl refl)
-    ∙ sym (c.replies_follow_reasons.ensures.replies of taps (tap_of fares tap)) in
+    ∙ sym (capped-follows of taps (tap_of fares tap)) in
     ap (λ (r : Reply). with_reply tap r) replied
 
 pub returns-clause-reason : goal.returns-clause-reason
@@ -90,7 +90,7 @@ pub returns-clause-explained : goal.returns-clause-explained
 returns-clause-explained c = λ earlier explained.
     let fares = c.args.table.now in
     let token = c.args.self.now.token in
-    let of = rules_of fares (bytes_of token) in
+    let of = capped_rules_of fares (bytes_of token) in
     let taps = map (tap_of fares) earlier in
     let entry = with_reply (unreported token c.args.validator c.args.moment) c.reply-reply.result in
     let longer = ap (λ (t : TapIn). taps ++ t ∷ []) (same_tap fares entry c.mode_of.result

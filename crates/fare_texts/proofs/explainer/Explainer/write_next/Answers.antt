@@ -1,6 +1,6 @@
 -- The line has the number and the reason of the next entry.
 use Rattle.std.proofs.Common.{ℕ, ◌+◌, ap, subst, ◌∙◌}
-use Rattle.account_rule.specs.declared.reason.Reason.{Reason}
+use Rattle.fare_caps.specs.declared.capped_reason.CappedReason.{CappedReason}
 use Rattle.tap_views.specs.declared.token.Token.{Token}
 use Rattle.fare_texts.specs.LedgerLines.{IsLedgerLine, reason_after}
 use Rattle.fare_texts.proofs.explainer.Explainer.write_next.Goals as goal
@@ -19,7 +19,7 @@ returns-clause-line c = λ earlier explained.
           (subst (λ (t : Token). IsLedgerLine fares t c.explain_next.new.self.number entry why
           line.0)
           next.token
-          (subst (λ (w : Reason). IsLedgerLine fares c.explain_next.new.self.token
+          (subst (λ (w : CappedReason). IsLedgerLine fares c.explain_next.new.self.token
           c.explain_next.new.self.number entry w line.0) (next.reason earlier explained) line.1)),
       line.2,
     )

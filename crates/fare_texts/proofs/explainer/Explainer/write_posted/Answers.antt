@@ -1,6 +1,6 @@
 -- The line has the number and the reason of the tap's entry.
 use Rattle.std.proofs.Common.{ℕ, ◌+◌, [], ◌∷◌, ◌++◌, ap, subst, ◌∙◌}
-use Rattle.account_rule.specs.declared.reason.Reason.{Reason}
+use Rattle.fare_caps.specs.declared.capped_reason.CappedReason.{CappedReason}
 use Rattle.tap_views.specs.declared.token.Token.{Token}
 use Rattle.histories.specs.declared.entry.Entry.{Entry}
 use Rattle.fare_texts.specs.LedgerLines.{IsLedgerLine, IsLedgerLineAfter, reason_after}
@@ -23,7 +23,7 @@ returns-clause-line c = λ earlier explained.
           (subst (λ (t : Token). IsLedgerLine fares t c.post_next-posted.new.self.number posted.0
           why line.0)
           next.token
-          (subst (λ (w : Reason). IsLedgerLine fares c.post_next-posted.new.self.token
+          (subst (λ (w : CappedReason). IsLedgerLine fares c.post_next-posted.new.self.token
           c.post_next-posted.new.self.number posted.0 w line.0) (next.reason earlier explained)
           line.1))),
       line.2,

@@ -1,9 +1,9 @@
 use Rattle.std.proofs.Common.{◌≡◌, List, ◌∷◌, ◌++◌, cond, ap, sym, subst, ◌∙◌, []}
-use Rattle.account_rule.specs.Replies.{reply}
-use Rattle.account_rule.specs.Represents.{Represents, RepresentsSome}
-use Rattle.account_rule.specs.TokenRules.{rules_of}
 use Rattle.account_rule.specs.declared.reply.Reply.{Reply}
 use Rattle.account_rule.specs.declared.tap.TapIn.{TapIn}
+use Rattle.fare_caps.specs.CapMeanings.{capped_rules_of}
+use Rattle.fare_caps.specs.CappedReplies.{capped_reply}
+use Rattle.fare_caps.specs.Represents.{Represents, RepresentsSome}
 use Rattle.tap_views.specs.Token.{bytes_of}
 use Rattle.tap_views.specs.declared.token.Token.{Token}
 use Rattle.histories.specs.Entry.{tap_of, taps_of}
@@ -27,11 +27,11 @@ returns-clause-entry c = λ earlier posted.
     let fares = c.args.table.now in
     let token = c.args.self.now.token in
     let tap = unposted c.args.tap.now in
-    let of = rules_of fares (bytes_of token) in
+    let of = capped_rules_of fares (bytes_of token) in
     let taps = taps_of fares token earlier in
-    let replied : c.step-reply.result ≡ reply of taps (tap_of fares tap) =
+    let replied : c.step-reply.result ≡ capped_reply of taps (tap_of fares tap) =
     (rw c.named_bytes-bytes.ensures.bytes at c.step-reply.ensures.reply) taps posted
-    ∙ ap (λ (t : TapIn). reply of taps t) c.seen-seen.ensures.tap in
+    ∙ ap (λ (t : TapIn). capped_reply of taps t) c.seen-seen.ensures.tap in
     let named : Entry = record {
       token = token;
       validator = tap.validator;
@@ -46,7 +46,8 @@ returns-clause-entry c = λ earlier posted.
       moment = tap.moment;
       answer = tap.answer;
       cents = tap.cents;
-    }) (reply (rules_of fares (bytes_of t)) (taps_of fares t earlier) (tap_of fares tap)))
+    }) (capped_reply (capped_rules_of fares (bytes_of t)) (taps_of fares t earlier)
+    (tap_of fares tap)))
     (sym c.requires.its)
 
 pub returns-clause-posted : goal.returns-clause-posted
@@ -54,7 +55,7 @@ unfolding HasPosted tap_of
 returns-clause-posted c = λ earlier posted.
     let fares = c.args.table.now in
     let token = c.args.self.now.token in
-    let of = rules_of fares (bytes_of token) in
+    let of = capped_rules_of fares (bytes_of token) in
     let taps = taps_of fares token earlier in
     let longer = ap (λ (t : TapIn). taps ++ t ∷ []) c.seen-seen.ensures.tap
     ∙ sym (taps-push fares token earlier _

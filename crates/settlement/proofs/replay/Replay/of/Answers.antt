@@ -1,7 +1,7 @@
 use Rattle.std.proofs.Common.{List, map, ap, sym, subst}
-use Rattle.account_rule.specs.Represents.{Represents}
-use Rattle.account_rule.specs.TokenRules.{rules_of}
 use Rattle.account_rule.specs.declared.tap.TapIn.{TapIn}
+use Rattle.fare_caps.specs.CapMeanings.{capped_rules_of}
+use Rattle.fare_caps.specs.Represents.{Represents}
 use Rattle.tap_views.specs.Token.{bytes_of}
 use Rattle.histories.specs.Entry.{tap_of, taps_of}
 use Rattle.settlement.specs.Replays.{HasPosted}
@@ -10,7 +10,7 @@ use Rattle.settlement.proofs.replay.Replay.of.Goals as goal
 pub returns-clause-none : goal.returns-clause-none
 unfolding HasPosted taps_of
 returns-clause-none c = λ fares earlier none.
-    let rules = rules_of fares (bytes_of c.args.token) in
+    let rules = capped_rules_of fares (bytes_of c.args.token) in
     subst (λ (ts : List TapIn). Represents rules c.fresh.result ts)
     (sym (ap (map (tap_of fares)) none))
-    (c.fresh.ensures.holds rules)
+    (c.fresh.ensures.holds fares (bytes_of c.args.token))

@@ -30,14 +30,14 @@ returns-in-Occupied-clause-positions c = keep_found c.args.self.now.map.entries 
 pub returns-in-Vacant-clause-made : goal.returns-in-Vacant-clause-made
 unfolding kept_at
 returns-in-Vacant-clause-made c =
-    let fresh : KeptAccount = record { account = c.fresh.result; counts = c.new.result } in
+    let fresh : KeptAccount = record { account = c.fresh.result.account; counts = c.new.result } in
     made_last c.args.self.now _ c.args.token _ fresh c.len-last.ensures.len
     (rw c.in-Vacant.is at c.in_ok-kept.ensures.found) (search rules) (search rules)
-    c.fresh.ensures.holds c.new.ensures
+    (λ fares name. rw (← c.fresh.ensures.further) (c.fresh.ensures.holds fares name)) c.new.ensures
 
 pub returns-in-Vacant-clause-positions : goal.returns-in-Vacant-clause-positions
 unfolding kept_at
 returns-in-Vacant-clause-positions c =
-    let fresh : KeptAccount = record { account = c.fresh.result; counts = c.new.result } in
+    let fresh : KeptAccount = record { account = c.fresh.result.account; counts = c.new.result } in
     keep_opened c.args.self.now _ c.args.token fresh
     (rw c.in-Vacant.is at c.in_ok-kept.ensures.found) (search rules)

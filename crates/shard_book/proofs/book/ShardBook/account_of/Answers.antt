@@ -1,6 +1,6 @@
 use Rattle.std.proofs.Common.{subst}
-use Rattle.account_rule.specs.TokenRules.{rules_of}
-use Rattle.account_rule.specs.Represents.{Represents}
+use Rattle.fare_caps.specs.CapMeanings.{capped_rules_of}
+use Rattle.fare_caps.specs.Represents.{Represents}
 use Rattle.shard_book.specs.Book.{Book}
 use Rattle.histories.specs.Entry.{taps_of}
 use Rattle.shard_book.specs.inside.Sound.{AreKept}
@@ -10,7 +10,7 @@ use Rattle.shard_book.proofs.book.ShardBook.account_of.Goals as goal
 pub returns : goal.returns
 unfolding AreKept
 returns c =
-    subst (λ (book : Book). Represents (rules_of book.table (bytes_of c.args.token))
+    subst (λ (book : Book). Represents (capped_rules_of book.table (bytes_of c.args.token))
     c.account_of.result
     (taps_of book.table c.args.token book.entries)) c.self.view_is
-    (c.account_of.ensures _ _ (c.self.invariant.sound.kept c.args.token))
+    (c.account_of.ensures _ _ _ (c.self.invariant.sound.kept c.args.token))

@@ -3,6 +3,7 @@ use Rattle.tariffs.specs.Fares.{Fares}
 use Rattle.shard_book.specs.Book.{Book}
 use Rattle.histories.specs.declared.entry.Entry.{Entry}
 use Rattle.shard_book.specs.inside.Packed.{tokens_of}
+use Rattle.shard_book.proofs.AccountsLemmas.{further-same}
 use Rattle.shard_book.proofs.PackedLemmas.{history-kept}
 use Rattle.shard_book.proofs.SoundLemmas.{book-on}
 use Rattle.shard_book.proofs.book.ShardBook.open_early.Goals as goal
@@ -10,6 +11,8 @@ use Rattle.shard_book.proofs.book.ShardBook.open_early.Goals as goal
 pub invariant_of-self : goal.invariant_of-self
 invariant_of-self c =
     book-on refl c.open_early.ensures.positions c.open_early.ensures.stays
+    (λ other. further-same c.self.inside.accounts c.open_early.new.self other
+    c.open_early.ensures.further)
     (λ counting. rw c.open_early.ensures.counting at counting) c.self.invariant
 
 abbrev book_of : Fares → ℕ → ℕ → List Entry → Book

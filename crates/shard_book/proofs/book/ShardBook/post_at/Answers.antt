@@ -10,7 +10,7 @@ use Rattle.shard_book.specs.inside.Sound.{AreKept, IsSound}
 use Rattle.tap_views.specs.Token.{bytes_of}
 use Rattle.tap_views.proofs.Choices.{OnErr_any}
 use Rattle.shard_book.proofs.PackedLemmas.{history-push, history-same, placed-push}
-use Rattle.shard_book.proofs.SoundLemmas.{book-same, sound-post}
+use Rattle.shard_book.proofs.SoundLemmas.{book-still, sound-post}
 use Rattle.shard_book.proofs.book.ShardBook.post_at.Goals as goal
 use Rattle.shard_book.proofs.book.ShardBook.post_at.Goals.{After-push_reserved}
 
@@ -27,7 +27,7 @@ book_of table shard shards entries =
 
 pub invariant_of-self-in_err-position : goal.invariant_of-self-in_err-position
 invariant_of-self-in_err-position c =
-    book-same c.reserve.ensures.items c.in_err-position.ensures.positions
+    book-still c.reserve.ensures.items c.in_err-position.ensures.positions
     c.in_err-position.ensures.err
     c.in_err-position.ensures.counting c.self.invariant
 
@@ -43,7 +43,7 @@ returns-in_err-position-clause-err c =
 
 pub returns-in_err-position-clause-legal : goal.returns-in_err-position-clause-legal
 returns-in_err-position-clause-legal c =
-    (book-same c.reserve.ensures.items c.in_err-position.ensures.positions
+    (book-still c.reserve.ensures.items c.in_err-position.ensures.positions
     c.in_err-position.ensures.err
     c.in_err-position.ensures.counting c.self.invariant).sound.legal
 
@@ -97,11 +97,7 @@ sound c =
     ∙ sym (ap (λ (b : Book). b.shard) view))
     c.of-token.ensures.fits
     c.mode_of-mode.ensures.mode
-    c.in_ok-position.ensures.reply
-    c.in_ok-position.ensures.kept
-    c.in_ok-position.ensures.counted
-    c.in_ok-position.ensures.counting
-    c.in_ok-position.ensures.others
+    c.in_ok-position.ensures.steps
 
 pub invariant_of-self-2 : goal.invariant_of-self-2
 invariant_of-self-2 c = record {

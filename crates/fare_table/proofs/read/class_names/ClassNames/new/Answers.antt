@@ -1,7 +1,7 @@
 use Rattle.std.proofs.Common.{◌∙◌, ◌++◌, ap, append-nil, map, string_bytes, sym}
 use Rattle.toml.specs.View.{members_view}
 use Rattle.fare_table.proofs.NameLemmas.{names_push, ordered_view}
-use Rattle.fare_table.specs.Classes.{names_in}
+use Rattle.fare_table.specs.Members.{names_in}
 use Rattle.fare_table.proofs.read.class_names.ClassNames.new.Goals as goal
 
 pub loop-name-preserved : goal.loop-name-preserved

@@ -1,6 +1,6 @@
 use Rattle.std.proofs.Common.{◌≡◌, ◌++◌, map}
 use Rattle.toml.specs.View.{members_view}
-use Rattle.fare_table.specs.Classes.{names_in}
+use Rattle.fare_table.specs.Members.{names_in}
 use Rattle.fare_table.proofs.read.class_names.ClassNames.new.Given as goal
 
 -- the names of the whole are those found and those of what is left

@@ -1,0 +1,66 @@
+//! What a cap says of one ride.
+
+ghost use Rattle.std.specs.Prelude.{◌≡◌, ◌<◌, ◌≤◌, IfSome, length};
+ghost use Rattle.tariffs.specs.WindowSpan.{IsBoundedSpan};
+ghost use Rattle.fare_caps.specs.CapMeanings.{said_of};
+ghost use Rattle.fare_caps.specs.inside.Further.{said_at};
+
+use tariffs::{CapTerms, Mode, Tariff, WindowLength, WindowSpan};
+
+/// What a cap says of one ride.
+#[derive(Clone, Copy)]
+pub(crate) struct RideCap {
+    pub(crate) span: WindowSpan,
+    pub(crate) counts: bool,
+    pub(crate) ceiling: u32,
+}
+
+impl RideCap {
+    /// What the cap at the index says of a ride of the class on the mode, if the table has so many.
+    pub(crate) fn said(
+        caps: &[CapTerms],
+        index: usize,
+        tariff: &Tariff,
+        class: u32,
+        mode: Mode,
+    ) -> Option<RideCap>
+        requires { class < length tariff.now.meaning.classes }
+        ensures said { result ≡ said_at caps.now tariff.now.meaning mode.position class index }
+        ensures span { IfSome result (λ cap. IsBoundedSpan cap.span) }
+        ensures ceiling { IfSome result (λ cap. cap.ceiling ≤ 100_000_000) }
+    {
+        caps.get(index)?;
+        Some(RideCap::of(index, tariff, class, mode))
+    }
+
+    fn of(index: usize, tariff: &Tariff, class: u32, mode: Mode) -> RideCap
+        requires { class < length tariff.now.meaning.classes }
+        ensures said { result ≡ said_of tariff.now.meaning index mode.position class }
+        ensures span { IsBoundedSpan result.span }
+        ensures ceiling { result.ceiling ≤ 100_000_000 }
+    {
+        let ceiling = tariff.cap_ceiling(class, index);
+        let day_starts = tariff.window_span().day_starts;
+        match tariff.caps().get(index) {
+            Some(cap) => RideCap {
+                span: WindowSpan {
+                    length: cap.length,
+                    day_starts,
+                },
+                counts: match cap.counts.get(mode.position as usize) {
+                    Some(counts) => *counts,
+                    None => false,
+                },
+                ceiling,
+            },
+            None => RideCap {
+                span: WindowSpan {
+                    length: WindowLength::CalendarDay,
+                    day_starts,
+                },
+                counts: false,
+                ceiling,
+            },
+        }
+    }
+}
