@@ -62,18 +62,42 @@ impl CappedAccount {
         ensures some { RepresentsSome (capped_rules_of table.now token.now) self.new }
         ensures few { result.cents ≤ 100_000 }
     {
-        if !table.has_caps() {
-            return self.account.step(table, clock, token, tap);
+        if table.has_caps_at(tap.moment) {
+            return self.capped_step(table, clock, token, tap.mode, tap.moment);
         }
-        // Copies, so that a run without caps has the account in registers.
-        let mut capped = *self;
-        let again = TapIn {
-            moment: tap.moment,
-            mode: tap.mode,
-        };
-        let reply = capped.explain_step(table, clock, token, again).reply();
-        *self = capped;
-        reply
+        self.account.step(table, clock, token, tap)
+    }
+
+    /// Kept out of `step`, with scalars for the tap: a local of `step`, or a tap whose address is
+    /// taken, would cost a run without caps some stores at each tap.
+    #[cold]
+    #[inline(never)]
+    fn capped_step(
+        &mut self,
+        table: &FareTable,
+        clock: &Clock,
+        token: &[u8],
+        mode: Option<Mode>,
+        moment: u64,
+    ) -> Reply
+        requires clock { clock.now ≡ table.now.zone }
+        requires token { length token.now ≡ 16 }
+        requires mode { ForSome mode (λ mode. mode.position < length table.now.meaning.modes) }
+        requires early { moment < 4_102_444_800_000 }
+        requires holds { RepresentsSome (capped_rules_of table.now token.now) self.old }
+        ensures reply { (taps : List TapIn)
+            → Represents (capped_rules_of table.now token.now) self.old taps
+            → result ≡ capped_reply (capped_rules_of table.now token.now) taps
+            (record { moment = moment; mode = mode }) }
+        ensures holds { (taps : List TapIn)
+            → Represents (capped_rules_of table.now token.now) self.old taps
+            → Represents (capped_rules_of table.now token.now) self.new
+            (taps ++ record { moment = moment; mode = mode } ∷ []) }
+        ensures some { RepresentsSome (capped_rules_of table.now token.now) self.new }
+        ensures few { result.cents ≤ 100_000 }
+    {
+        self.explain_step(table, clock, token, TapIn { moment, mode })
+            .reply()
     }
 
     /// As `step`, but returns the reason, from which the reply follows. Takes no memory.

@@ -191,13 +191,9 @@ impl Accounts {
         ensures err { OnErr result ((other : Token) → StillKept self.old self.new other) }
     {
         let position = self.position(token, known)?;
-        if table.has_caps() {
-            // A copy, so that a run without caps has the tap in registers.
-            let again = TapIn {
-                moment: tap.moment,
-                mode: tap.mode,
-            };
-            let reply = self.capped_step(table, clock, token, bytes, again, position)?;
+        if table.has_caps_at(tap.moment) {
+            let TapIn { moment, mode } = tap;
+            let reply = self.capped_step(table, clock, token, bytes, mode, moment, position)?;
             return Ok((position, reply));
         }
         let reply = self.plain_step(table, clock, token, bytes, tap, position);

@@ -31,7 +31,8 @@ use tap_views::{NoMemory, Token};
 pub struct FareTable {
     /// One for all clones: each book has a clone, and none changes it.
     first: Arc<Tariff>,
-    /// The moment from which the next tariff is valid, for one compare. `u64::MAX` if none follows.
+    /// The moment from which the next tariff is valid, for one compare. `u64::MAX` if none follows,
+    /// and 0 if there are caps.
     until: u64,
     /// The tariffs that follow, in the order of their dates.
     later: Vec<DatedTariff>,
@@ -48,7 +49,7 @@ impl Model for FareTable {
 
     ghost view = { λ t. fares_of (arc_value t.first) t.later.items };
 
-    ghost invariant = { λ t. AreDated (arc_value t.first).meaning.modes t.until
+    ghost invariant = { λ t. AreDated (arc_value t.first).meaning t.until
         (map dated_meaning t.later.items) };
 }
 
@@ -65,9 +66,14 @@ impl FareTable {
         ensures zone { IfOk result (λ t. t.zone ≡ tariff.zone) }
         ensures alone { IfOk result (λ t. t.later ≡ []) }
     {
+        let until = if tariff.caps().len() == 0 {
+            u64::MAX
+        } else {
+            0
+        };
         Ok(FareTable {
             first: Arc::new(alloc, tariff)?,
-            until: u64::MAX,
+            until,
             later: Vec::new(alloc),
         })
     }
@@ -238,6 +244,15 @@ impl FareTable {
         self.first.caps().len() != 0
     }
 
+    /// The same: at a moment of the first tariff by the compare of `is_first_at` alone.
+    #[inline(always)]
+    pub fn has_caps_at(&self, moment: u64) -> bool
+        ensures none { result ≡ false → length self.now.meaning.caps ≡ 0 }
+        ensures some { result ≡ true → length self.now.meaning.caps ≢ 0 }
+    {
+        self.until <= moment && self.has_caps()
+    }
+
     /// The names of the caps by index, in their byte order. All tariffs have the same.
     pub fn cap_names(&self) -> &[String]
         ensures names { map string_bytes result.now ≡ self.now.meaning.cap_names }
@@ -354,7 +369,9 @@ impl FareTable {
         ensures { IfOk result (λ _. self.new ≡ with_next self.old from (arc_value tariff).meaning) }
     {
         self.later.push(DatedTariff { from, tariff })?;
-        self.until = self.later[0].from;
+        if self.until > 0 {
+            self.until = self.later[0].from;
+        }
         Ok(())
     }
 }

@@ -1,6 +1,6 @@
 -- What holds of the tariffs of every fare table, and what contracts see of them.
-use Rattle.std.specs.Prelude.{◌≡◌, ℕ, suc, if◌then◌else◌, nat_le, List, [], ◌∷◌, All, map}
-use Rattle.std.specs.Prelude.{Bool, true, false, Option, Some, None}
+use Rattle.std.specs.Prelude.{◌≡◌, ℕ, ◌<◌, ◌≤◌, suc, if◌then◌else◌, nat_le, List, [], ◌∷◌, All}
+use Rattle.std.specs.Prelude.{Bool, true, false, length, map, Option, Some, None}
 use Rattle.std.specs.Arc.{arc_value}
 use Rattle.std.specs.Cmp.Lexicographic.{pointwise}
 use Rattle.tariffs.specs.Names.{same_name}
@@ -31,11 +31,12 @@ first_from (next ∷ later) = next.0
 abbrev pub HasModes : List (List ℕ) → ℕ × TableMeaning → Type 0
 HasModes modes next = next.1.modes ≡ modes
 
--- the first date is at hand, and all tables have the modes of the first one
-pub record AreDated (modes : List (List ℕ)) (until : ℕ) (later : List (ℕ × TableMeaning))
+-- the first date is at hand, or 0 if there are caps, and all tables have the modes of the first one
+pub record AreDated (meaning : TableMeaning) (until : ℕ) (later : List (ℕ × TableMeaning))
     : Type 0 where
-  pub first : until ≡ first_from later
-  pub alike : All (HasModes modes) later
+  pub first : until ≤ first_from later
+  pub plain : 0 < until → length meaning.caps ≡ 0
+  pub alike : All (HasModes meaning.modes) later
 
 -- how many of the tables that follow are valid at the moment or were before, up to the first that
 -- is not yet
