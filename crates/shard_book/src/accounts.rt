@@ -26,7 +26,7 @@ use indexmap::IndexMap;
 use indexmap::map::Entry as MapEntry;
 use std::alloc::Global;
 use tap_views::{NoMemory, Token};
-use tariffs::{Clock, FareTable};
+use tariffs::{Clock, FareTable, Mode};
 
 /// The most accounts of a book, below 2^32: a history's entry has 32 bits for the account's index.
 const MAX_ACCOUNTS: usize = 4_294_967_295;
@@ -190,12 +190,10 @@ impl Accounts {
         ensures positions { KeepPositions (tokens_of self.old) (tokens_of self.new) }
         ensures err { OnErr result ((other : Token) → StillKept self.old self.new other) }
     {
-        let position = self.position(token, known)?;
         if table.has_caps_at(tap.moment) {
-            let TapIn { moment, mode } = tap;
-            let reply = self.capped_step(table, clock, token, bytes, mode, moment, position)?;
-            return Ok((position, reply));
+            return self.capped_step(table, clock, token, bytes, tap.mode, tap.moment, known);
         }
+        let position = self.position(token, known)?;
         let reply = self.plain_step(table, clock, token, bytes, tap, position);
         Ok((position, reply))
     }
@@ -229,7 +227,9 @@ impl Accounts {
         reply
     }
 
-    /// Kept out of `step`, so that a run without caps has a compare there and no more.
+    /// Kept out of `step`, with scalars for the tap: a local of `step`, or a tap whose address is
+    /// taken, would cost a run without caps some stores at each tap.
+    #[cold]
     #[inline(never)]
     #[tactic(auto, unfolding(crate::specs::inside::Accounts::kept_at, crate::specs::inside::Accounts::further_at))]
     fn capped_step(
@@ -238,28 +238,34 @@ impl Accounts {
         clock: &Clock,
         token: Token,
         bytes: &[u8],
-        tap: TapIn,
-        position: u32,
-    ) -> Result<Reply, NoMemory>
-        requires there { IsPosition self.old token position }
+        mode: Option<Mode>,
+        moment: u64,
+        known: u32,
+    ) -> Result<(u32, Reply), NoMemory>
         requires bytes { bytes.now ≡ bytes_of token }
         requires clock { clock.now ≡ table.now.zone }
-        requires mode { ForSome tap.mode (λ mode. mode.position < length table.now.meaning.modes) }
-        requires early { tap.moment < 4_102_444_800_000 }
+        requires mode { ForSome mode (λ mode. mode.position < length table.now.meaning.modes) }
+        requires early { moment < 4_102_444_800_000 }
         requires kept { (taps : List TapIn) × HasKept table.now self.old token taps }
-        ensures steps { IfOk result (Steps table.now token tap self.old self.new) }
+        ensures steps { IfOk result (λ done. Steps table.now token
+            (record { moment = moment; mode = mode }) self.old self.new done.1) }
         ensures counting { IsCounting self.new → IsCounting self.old }
-        ensures tokens { tokens_of self.new ≡ tokens_of self.old }
-        ensures err { OnErr result ((other : Token) → StaysKept self.old self.new other) }
+        ensures position { IfOk result
+            (λ done. slice_get (tokens_of self.new) done.0 ≡ Some token) }
+        ensures positions { KeepPositions (tokens_of self.old) (tokens_of self.new) }
+        ensures err { OnErr result ((other : Token) → StillKept self.old self.new other) }
     {
+        let position = self.position(token, known)?;
         let mut account = self.capped_at(position, token);
-        let reply = account.step(table, clock, bytes, tap);
+        let reply = account
+            .explain_step(table, clock, bytes, TapIn { moment, mode })
+            .reply();
         self.further.insert(token, account.further)?;
         let (_, kept) = self.map.pair_mut(position as usize);
         kept.account = account.account;
         let was_added = kept.counts.add(reply);
         self.counting = self.counting & was_added;
-        Ok(reply)
+        Ok((position, reply))
     }
 
     #[tactic(auto, unfolding(crate::specs::inside::Accounts::kept_at))]
