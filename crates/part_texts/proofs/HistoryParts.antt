@@ -39,7 +39,7 @@ use Rattle.sorted_taps.specs.Positions.{DoJoin, first_position}
 use Rattle.part_texts.specs.Sections.{is_token_above}
 use Rattle.part_texts.specs.Shown.{part_text, sum_up}
 use Rattle.part_texts.specs.inside.Shown.{are_joined, is_none_after}
-use Rattle.part_texts.specs.inside.Shown.{IsNextPart, IsRight, SoFar, adds_to, are_next_parts}
+use Rattle.part_texts.specs.inside.Shown.{IsNextPart, IsRight, SoFar, adds_to, are_next}
 use Rattle.part_texts.specs.inside.Shown.{are_posted_to, are_increasing, are_tokens_increasing}
 use Rattle.part_texts.specs.inside.Shown.{last_of, nothing_so_far, tokens_of}
 use Rattle.sorted_taps.specs.declared.positions.Position.{Position}
@@ -529,7 +529,7 @@ follow : (files : ℕ) (ends : List (Option Position)) (taps : List ℕ) (histor
     (last : Option Token) (parts : List HistoryPart) → length ends ≡ files
     → DoJoin ends (spans_of parts) → GoesOn files taps history last parts
     → (all_ends : List (Option Position)) × (all_last : Option Token)
-    × are_next_parts false (so_far ends taps history last) (map report_of parts)
+    × are_next IsNextPart false (so_far ends taps history last) (map report_of parts)
     (so_far all_ends (added taps (numbers_of parts)) (history ++ whole_history parts) all_last)
 follow files ends taps history last [] number join goes = (
   ends,
@@ -572,11 +572,11 @@ follow files ends taps history last (p ∷ ps) number join goes =
         so_far (to_ends p.spans) (added taps p.taps) (history ++ p.history)
             (last_of last (sums_by_token p.history)),
         part,
-        subst (λ ts. are_next_parts false (so_far (to_ends p.spans) (added taps p.taps)
+        subst (λ ts. are_next IsNextPart false (so_far (to_ends p.spans) (added taps p.taps)
             (history ++ p.history) (last_of last (sums_by_token p.history))) (map report_of ps)
             (so_far all_ends ts (history ++ (p.history ++ whole_history ps)) all_last))
             (added_assoc taps p.taps (numbers_of ps))
-            (subst (λ h. are_next_parts false (so_far (to_ends p.spans) (added taps p.taps)
+            (subst (λ h. are_next IsNextPart false (so_far (to_ends p.spans) (added taps p.taps)
             (history ++ p.history) (last_of last (sums_by_token p.history))) (map report_of ps)
             (so_far all_ends (added (added taps p.taps) (numbers_of ps)) h all_last))
             (append_assoc history p.history (whole_history ps)) more),
@@ -589,7 +589,7 @@ starts_as = refl
 
 begins : (files : ℕ) (p : HistoryPart) (ps : List HistoryPart) → AreRight files (p ∷ ps)
     → (all_ends : List (Option Position)) × (all_last : Option Token)
-    × are_next_parts true nothing_so_far (map report_of (p ∷ ps))
+    × are_next IsNextPart true nothing_so_far (map report_of (p ∷ ps))
     (so_far all_ends (numbers_of (p ∷ ps)) (whole_history (p ∷ ps)) all_last)
 begins files p ps right =
     let rest = whole_history ps in

@@ -1,10 +1,10 @@
 -- Runs over texts whose lines are known.
 use Rattle.std.proofs.Common.{◌≡◌, ◌∙◌, ◌+◌, ◌==◌, ℕ, Bool, false, cond, List, [], ◌∷◌, ◌++◌}
 use Rattle.std.proofs.Common.{length}
-use Rattle.std.proofs.Common.{Result, Ok, Err, refl, sym, ap, arith, append_assoc, length-append}
+use Rattle.std.proofs.Common.{Result, Ok, refl, sym, ap, arith, append_assoc, length-append}
 use Rattle.std.specs.Prelude.{nat_lt}
 use Rattle.std.proofs.lemmas.Bool.Decides.{nat_tests}
-use Rattle.line_folds.specs.Folds.{bounded, carry, lines_of, run, to_first}
+use Rattle.line_folds.specs.Folds.{bounded, lines_of, run, to_first}
 use Rattle.report_texts.proofs.OneLine.{HasNoFeed, IsOneLine}
 
 no_ten : (x : ℕ) → ¬ (x ≡ 10) → (x == 10) ≡ false
@@ -34,34 +34,31 @@ not_long line is =
     ap length is.shown ∙ length-append is.front (10 ∷ []) in
     let s = is.short in grind (arith, nat_tests, size, s)
 
--- by the text, which has so many lines, the one state leads to the other
-abbrev pub Leads : {S W : Type 0} → (S → Bool) → W → (S → List ℕ → Result S W) → S → List ℕ → ℕ → S
-    → Type 0
-Leads done long step s text count t =
-    (number : ℕ) (rest : List ℕ)
-    → run done (bounded long step) number s (lines_of (text ++ rest))
-    ≡ run done (bounded long step) (number + count) t (lines_of rest)
+-- by the text the one state leads to the other
+pub record Leads {S W : Type 0} (done : S → Bool) (long : W) (step : S → List ℕ → Result S W) (s : S)
+    (text : List ℕ) (t : S) : Type 0 where
+  pub on : (number : ℕ) (rest : List ℕ) → (next : ℕ)
+      × (run done (bounded long step) number s (lines_of (text ++ rest))
+      ≡ run done (bounded long step) next t (lines_of rest))
 
-module _ {S W : Type 0} (done : S → Bool) (long : W) (step : S → List ℕ → Result S W) where
-  pub by_nothing : (s : S) → Leads done long step s [] 0 s
-  by_nothing s number rest =
-      ap (λ n. run done (bounded long step) n s (lines_of rest)) (omega arith)
+module _ {S W : Type 0} {done : S → Bool} {long : W} {step : S → List ℕ → Result S W} where
+  pub by_nothing : {s : S} → Leads done long step s [] s
+  by_nothing = record { on = λ number rest. (number, refl) }
 
-  pub by_line : (s t : S) (line : List ℕ) → IsOneLine 1000 line → done s ≡ false
-      → step s line ≡ Ok t → Leads done long step s line 1 t
-  by_line s t line is goes taken number rest =
-      ap (run done (bounded long step) number s) (first_line 1000 line rest is)
-      ∙ ap (λ b. cond b (Ok (number, s, line ∷ lines_of rest))
-      (carry (λ next. run done (bounded long step) (number + 1) next (lines_of rest))
-      (λ why. (number, why)) (bounded long step s line))) goes
-      ∙ ap (carry (λ next. run done (bounded long step) (number + 1) next (lines_of rest))
-      (λ why. (number, why)))
-      (ap (λ b. cond b (Err long) (step s line)) (not_long line is) ∙ taken)
+  pub by_line : {s t : S} {line : List ℕ} → IsOneLine 1000 line → done s ≡ false
+      → step s line ≡ Ok t → Leads done long step s line t
+  by_line {s = s} {line = line} is goes taken = record { on = λ number rest. (
+    number + 1,
+    ap (run done (bounded long step) number s) (first_line 1000 line rest is)
+        ∙ rw (goes, not_long line is, taken),
+  ) }
 
-  pub by_both : (s t u : S) (a b : List ℕ) (m n : ℕ) → Leads done long step s a m t
-      → Leads done long step t b n u → Leads done long step s (a ++ b) (m + n) u
-  by_both s t u a b m n first second number rest =
-      ap (λ (l : List ℕ). run done (bounded long step) number s (lines_of l))
-      (append_assoc a b rest)
-      ∙ first number (b ++ rest) ∙ second (number + m) rest
-      ∙ ap (λ k. run done (bounded long step) k u (lines_of rest)) (omega arith)
+  pub by_both : {s t u : S} {a b : List ℕ} → Leads done long step s a t
+      → Leads done long step t b u → Leads done long step s (a ++ b) u
+  by_both {s = s} {a = a} {b = b} first second = record { on = λ number rest.
+      let (next, one) = first.on number (b ++ rest) in
+      let (last, two) = second.on next rest in (
+        last,
+        ap (λ (l : List ℕ). run done (bounded long step) number s (lines_of l))
+            (append_assoc a b rest) ∙ one ∙ two,
+      ) }

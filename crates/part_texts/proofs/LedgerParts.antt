@@ -2,7 +2,7 @@
 use Rattle.std.proofs.Common.{◌≡◌, ◌∙◌, ◌<◌, ◌^◌, ℕ, true, false, List, [], ◌∷◌}
 use Rattle.std.proofs.Common.{◌++◌, length, map}
 use Rattle.std.proofs.Common.{Option, None, Ok, refl, sym, ap, subst, arith, append_assoc}
-use Rattle.std.proofs.Common.{append-nil, All}
+use Rattle.std.proofs.Common.{append-nil, All, Bool}
 use Rattle.std.specs.List.{AllByRecursion, AllZip}
 use Rattle.std.specs.declared.cmp.Ordering.TheVariants.{Less}
 use Rattle.std.proofs.lemmas.List.{map-append}
@@ -28,8 +28,8 @@ use Rattle.part_texts.specs.HistoryParts.{AreIncreasing, HistoryPart, histories_
 use Rattle.part_texts.specs.LedgerParts.{DoJoinUp, IsPartLedger}
 use Rattle.part_texts.specs.Merged.{merge_of}
 use Rattle.part_texts.specs.Shown.{SpanFits}
-use Rattle.part_texts.specs.inside.Shown.{are_joined, is_none_after}
-use Rattle.part_texts.specs.inside.ShownLedgers.{PartLedger, all_lines, are_next_ledgers}
+use Rattle.part_texts.specs.inside.Shown.{are_next, is_none_after}
+use Rattle.part_texts.specs.inside.ShownLedgers.{IsNextLedger, PartLedger, all_lines}
 use Rattle.part_texts.specs.inside.ShownLedgers.{ledger_text}
 use Rattle.part_texts.proofs.HistoryParts.{all_ascending, ends_length, from_ends, joined_first}
 use Rattle.part_texts.proofs.HistoryParts.{joined_next, may_end_all, same_number, spans_of, to_ends}
@@ -162,41 +162,57 @@ module _ (fares : Fares) where
       (texts : List (List ℕ)) (are : AllZip (IsPartLedger fares) parts texts) → length ends ≡ files
       → files < 2 ^ 64 → AllByRecursion (λ (p : HistoryPart). length p.spans ≡ files) parts
       → AllByRecursion (λ (p : HistoryPart). AllByRecursion SpanFits p.spans) parts
-      → DoJoin ends (spans_of parts) → are_next_ledgers false ends (ledgers_of parts texts are)
-  next_ledgers files ends [] [] are number few lengths positions join = tt
+      → DoJoin ends (spans_of parts) → (all : Bool × List (Option Position))
+      × are_next IsNextLedger false (true, ends) (ledgers_of parts texts are) all
+  next_ledgers files ends [] [] are number few lengths positions join = ((true, ends), refl)
   next_ledgers files ends [] (t ∷ ts) are number few lengths positions join = absurd are
   next_ledgers files ends (p ∷ ps) [] are number few lengths positions join = absurd are
   next_ledgers files ends (p ∷ ps) (t ∷ ts) are number few lengths positions join =
       let ends_valid = may_end_all p.spans (spans_of ps) join.1 in
-      let size : length p.spans ≡ files = lengths.0 in (
-        to_ends p.spans,
-        omega (arith, size, few),
-        positions.0,
-        same_number (length p.spans) (length ends) (size ∙ sym number),
-        subst (λ b. are_joined false b ends p.spans (to_ends p.spans)) (none_after_too ps ts are.1)
-            (subst (λ e. are_joined false (is_none_after (spans_of ps)) e p.spans (to_ends p.spans))
-            (append-nil (from_ends p.spans) ∙ sym join.0)
-            (joined_next (is_none_after (spans_of ps)) [] p.spans ends_valid)),
-        next_ledgers files (to_ends p.spans) ps ts are.1 (ends_length p.spans ∙ size) few lengths.1
-            positions.1 join.1,
+      let size : length p.spans ≡ files = lengths.0 in
+      let (all, more) = next_ledgers files (to_ends p.spans) ps ts are.1 (ends_length p.spans ∙ size)
+      few lengths.1 positions.1 join.1 in (
+        all,
+        (
+          (true, to_ends p.spans),
+          record {
+            few = omega (arith, size, few);
+            fit = positions.0;
+            kind = refl;
+            files = same_number (length p.spans) (length ends) (size ∙ sym number);
+            joined = rw (← (none_after_too ps ts are.1), join.0, ← (append-nil (from_ends p.spans)))
+                (joined_next (is_none_after (spans_of ps)) [] p.spans ends_valid);
+            ledger = refl;
+          },
+          more,
+        ),
       )
 
   pub first_ledgers : (files : ℕ) (p : HistoryPart) (ps : List HistoryPart) (t : List ℕ)
       (ts : List (List ℕ)) (are : AllZip (IsPartLedger fares) (p ∷ ps) (t ∷ ts))
-      → DoJoinUp files (p ∷ ps) → are_next_ledgers true [] (ledgers_of (p ∷ ps) (t ∷ ts) are)
+      → DoJoinUp files (p ∷ ps) → (all : Bool × List (Option Position))
+      × are_next IsNextLedger true (false, []) (ledgers_of (p ∷ ps) (t ∷ ts) are) all
   first_ledgers files p ps t ts are join =
       let whole = join.whole in
       let few = join.few in
       let ends_valid = may_end_all p.spans (spans_of ps) whole.1 in
-      let size : length p.spans ≡ files = join.number.0 in (
-        to_ends p.spans,
-        omega (arith, size, few),
-        join.positions.0,
-        refl,
-        subst (λ b. are_joined true b [] p.spans (to_ends p.spans)) (none_after_too ps ts are.1)
-            (joined_first (is_none_after (spans_of ps)) [] p.spans whole.0 ends_valid),
-        next_ledgers files (to_ends p.spans) ps ts are.1 (ends_length p.spans ∙ size) join.few
-            join.number.1 join.positions.1 whole.1,
+      let size : length p.spans ≡ files = join.number.0 in
+      let (all, more) = next_ledgers files (to_ends p.spans) ps ts are.1 (ends_length p.spans ∙ size)
+      join.few join.number.1 join.positions.1 whole.1 in (
+        all,
+        (
+          (true, to_ends p.spans),
+          record {
+            few = omega (arith, size, few);
+            fit = join.positions.0;
+            kind = refl;
+            files = refl;
+            joined = rw (← (none_after_too ps ts are.1))
+                (joined_first (is_none_after (spans_of ps)) [] p.spans whole.0 ends_valid);
+            ledger = refl;
+          },
+          more,
+        ),
       )
 
   pub whole_lines : (parts : List HistoryPart) (texts : List (List ℕ))
@@ -220,8 +236,8 @@ module _ (fares : Fares) where
   merged_is_whole files p ps (t ∷ ts) join are text is = record {
     lines = all_lines (ledgers_of (p ∷ ps) (t ∷ ts) are);
     of_each = whole_lines (p ∷ ps) (t ∷ ts) are join.increase;
-    whole = ledgers_merge (record { spans = p.spans; lines = are.0.over.lines })
-        (ledgers_of ps ts are.1)
-        (first_ledgers files p ps t ts are join) text
+    whole = let (all, next) = first_ledgers files p ps t ts are join in
+        ledgers_merge (record { spans = p.spans; lines = are.0.over.lines })
+        (ledgers_of ps ts are.1) all next text
         (ap merge_of (texts_are (p ∷ ps) (t ∷ ts) are) ∙ is);
   }

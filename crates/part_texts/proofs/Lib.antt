@@ -11,6 +11,7 @@ pub mod ShownFronts
 pub mod ShownSections
 pub mod KeySums
 pub mod Tables
+pub mod ShownParts
 pub mod ShownReports
 pub mod HistoryParts
 pub mod ShownLedgers

@@ -286,8 +286,8 @@ module _ (fares : Fares) where
   readable_are_merged files p ps (t ∷ ts) join are read = (
     head_text ++ all_lines (ledgers_of fares (p ∷ ps) (t ∷ ts) are),
     ap merge_of (sym (texts_are fares (p ∷ ps) (t ∷ ts) are))
-        ∙ ledgers_read (record { spans = p.spans; lines = are.0.over.lines })
-        (ledgers_of fares ps ts are.1)
-        (first_ledgers fares files p ps t ts are join)
-        (all_read None (p ∷ ps) (t ∷ ts) are join.increase tt read),
+        ∙ (let (all, next) = first_ledgers fares files p ps t ts are join in
+        ledgers_read (record { spans = p.spans; lines = are.0.over.lines })
+        (ledgers_of fares ps ts are.1) all next
+        (all_read None (p ∷ ps) (t ∷ ts) are join.increase tt read)),
   )

@@ -27,29 +27,15 @@ use Rattle.part_texts.specs.declared.merging.Open.{Open}
 use Rattle.part_texts.proofs.Written.{cut_on, written_on}
 
 -- ---- one line
-module _ {S : Type 0} (done : S → Bool) (plain : S → List ℕ → Result S Wrong) (number : ℕ) (s : S)
+module _ {S : Type 0} (done : S → Bool) (plain : S → List ℕ → Result S Wrong) {number : ℕ} {s : S}
   where
-    goes_on : (line : List ℕ) (lines : List (List ℕ)) (said : Result S Wrong) → done s ≡ false
-        → bounded Form plain s line ≡ said
-        → run done (bounded Form plain) number s (line ∷ lines)
-        ≡ carry (λ next. run done (bounded Form plain) (number + 1) next lines)
-        (λ why. (number, why)) said
-    goes_on line lines said goes is =
-        ap (λ b. cond b (Ok (number, s, line ∷ lines))
-        (carry (λ next. run done (bounded Form plain) (number + 1) next lines)
-        (λ why. (number, why)) (bounded Form plain s line))) goes
-        ∙ ap (carry (λ next. run done (bounded Form plain) (number + 1) next lines)
-        (λ why. (number, why))) is
-
-    pub run_line : (lines rest : List (List ℕ)) (line : List ℕ) (said : Result S Wrong)
+    pub run_line : {lines rest : List (List ℕ)} {line : List ℕ} {said : Result S Wrong}
         → done s ≡ false → (lines ≡ line ∷ rest) × (nat_lt 1024 (length line) ≡ false)
         → plain s line ≡ said
         → run done (bounded Form plain) number s lines
         ≡ carry (λ next. run done (bounded Form plain) (number + 1) next rest)
         (λ why. (number, why)) said
-    run_line lines rest line said goes (shown, short) is =
-        ap (run done (bounded Form plain) number s) shown
-        ∙ goes_on line rest said goes (ap (λ b. cond b (Err Form) (plain s line)) short ∙ is)
+    run_line goes (shown, short) is = rw (shown, goes, short, is)
 
     -- a line that could not be read
     pub run_unread : {T : Type 0}
@@ -60,9 +46,8 @@ module _ {S : Type 0} (done : S → Bool) (plain : S → List ℕ → Result S W
         → IsPartFault (end (run done (bounded Form plain) number s lines)) position calls why
     run_unread end position lines rest line calls (fault.Line text at why) ends goes
         (is_text, is_at, is_why, long, more, shown, far) =
-        ap end (ap (run done (bounded Form plain) number s) shown
-        ∙ goes_on long more (Err Form) goes (ap (λ b. cond b (Err Form) (plain s long)) far))
-        ∙ ends (number, Form) ∙ (λ i. Err (sym is_text i, (sym is_at i, sym is_why i)))
+        ap end (rw (shown, goes, far)) ∙ ends (number, Form)
+        ∙ (λ i. Err (sym is_text i, (sym is_at i, sym is_why i)))
     run_unread end position lines rest line calls (fault.Unread text) ends goes read = read
     run_unread end position lines rest line calls (fault.Write why) ends goes bad = absurd bad
     run_unread end position lines rest line calls fault.NoMemory ends goes read = tt
@@ -83,68 +68,50 @@ pub record IsAtFront (first now : FrontsView) (start from : Lines) (number : ℕ
   pub same : (whole : List ℕ) → CanBe (calls_of from) whole
       → front_run 1 first (lines_at start whole) ≡ front_run number now (lines_at from whole)
 
-at_done : (number : ℕ) (now : FrontsView) (lines : List (List ℕ)) → front_done now ≡ true
-    → front_run number now lines ≡ Ok (number, now, lines)
-at_done number now [] done = refl
-at_done number now (line ∷ lines) done =
-    ap (λ b. cond b (Ok (number, now, line ∷ lines))
-    (carry (λ next. front_run (number + 1) next lines) (λ why. (number, why))
-    (bounded Form front_step now line))) done
+module _ {first now : FrontsView} {start from : Lines} {number : ℕ}
+    (at : IsAtFront first now start from number) (position : ℕ) (whole : List ℕ) where
+  at_done : (lines : List (List ℕ)) → front_done now ≡ true
+      → front_run number now lines ≡ Ok (number, now, lines)
+  at_done [] done = refl
+  at_done (line ∷ lines) done = rw done
 
-ended : (position number : ℕ) (now : FrontsView) (lines : List (List ℕ)) (b : Bool)
-    → front_done now ≡ b → front_end position (Ok (number, now, lines))
-    ≡ cond b (Ok (now, opened (number, now, lines))) (Err (position, (number, Form)))
-ended position number now lines b is =
-    ap (λ b. cond {A = Result (FrontsView × OpenView) WrongLine} b
-    (Ok (now, opened (number, now, lines))) (Err (position, (number, Form)))) is
+  pub front_whole : (part : Open) → CanBe (calls_of from) whole → front_done now ≡ true
+      → ((lines : List (List ℕ)) → opened (number, now, lines) ≡ view_of part lines)
+      → front_end position (front_run 1 first (lines_at start whole))
+      ≡ Ok (now, view_of part (lines_at from whole))
+  front_whole part can done is =
+      ap (front_end position) (at.same whole can ∙ at_done (lines_at from whole) done)
+      ∙ rw done (ap (λ v. Ok (now, v)) (is (lines_at from whole)))
 
-pub front_whole : (position : ℕ) (first now : FrontsView) (start from : Lines) (number : ℕ)
-    (part : Open) (whole : List ℕ) → IsAtFront first now start from number
-    → CanBe (calls_of from) whole → front_done now ≡ true
-    → ((lines : List (List ℕ)) → opened (number, now, lines) ≡ view_of part lines)
-    → front_end position (front_run 1 first (lines_at start whole))
-    ≡ Ok (now, view_of part (lines_at from whole))
-front_whole position first now start from number part whole at can done is =
-    ap (front_end position) (at.same whole can ∙ at_done number now (lines_at from whole) done)
-    ∙ ended position number now (lines_at from whole) true done
-    ∙ ap (λ v. Ok (now, v)) (is (lines_at from whole))
+  module _ {next : Lines} (read_on : Follows from next) (can : CanBe (calls_of next) whole)
+      (goes : front_done now ≡ false) where
+    pub front_short : lines_at from whole ≡ []
+        → front_end position (front_run 1 first (lines_at start whole))
+        ≡ Err (position, (number, Form))
+    front_short none =
+        ap (front_end position) (at.same whole (read_on.back whole can) ∙ ap (front_run number now) none)
+        ∙ rw goes
 
-pub front_short : (position : ℕ) (first now : FrontsView) (start from next : Lines) (number : ℕ)
-    (whole : List ℕ) → IsAtFront first now start from number → Follows from next
-    → CanBe (calls_of next) whole → front_done now ≡ false → lines_at from whole ≡ []
-    → front_end position (front_run 1 first (lines_at start whole))
-    ≡ Err (position, (number, Form))
-front_short position first now start from next number whole at after can goes none =
-    ap (front_end position) (at.same whole (after.back whole can)
-    ∙ ap (front_run number now) none)
-    ∙ ended position number now [] false goes
+    pub front_unread : (line : List ℕ) (why : MergeFault)
+        → LineRead (lines_at from whole) line (lines_at next whole) (position, number)
+        (calls_of next) (Err why)
+        → IsPartFault (front_end position (front_run 1 first (lines_at start whole))) position
+        (calls_of next) why
+    front_unread line why read =
+        fault_same (front_end position (front_run 1 first (lines_at start whole)))
+        (front_end position (front_run number now (lines_at from whole))) position (calls_of next) why
+        (ap (front_end position) (at.same whole (read_on.back whole can)))
+        (run_unread front_done front_step (front_end position) position (lines_at from whole)
+        (lines_at next whole) line (calls_of next) why (λ wrong. refl) goes read)
 
-pub front_unread : (position : ℕ) (first now : FrontsView) (start from next : Lines) (number : ℕ)
-    (line whole : List ℕ) (why : MergeFault) → IsAtFront first now start from number
-    → Follows from next → CanBe (calls_of next) whole → front_done now ≡ false
-    → LineRead (lines_at from whole) line (lines_at next whole) (position, number) (calls_of next)
-    (Err why)
-    → IsPartFault (front_end position (front_run 1 first (lines_at start whole))) position
-    (calls_of next) why
-front_unread position first now start from next number line whole why at after can goes read =
-    fault_same (front_end position (front_run 1 first (lines_at start whole)))
-    (front_end position (front_run number now (lines_at from whole))) position (calls_of next) why
-    (ap (front_end position) (at.same whole (after.back whole can)))
-    (run_unread front_done front_step number now (front_end position) position
-    (lines_at from whole) (lines_at next whole) line (calls_of next) why (λ wrong. refl) goes read)
-
-pub front_line : (first now : FrontsView) (start from next : Lines) (number : ℕ)
-    (line whole : List ℕ) (said : Result FrontsView Wrong)
-    → IsAtFront first now start from number → Follows from next → CanBe (calls_of next) whole
-    → front_done now ≡ false
-    → (lines_at from whole ≡ line ∷ lines_at next whole) × (nat_lt 1024 (length line) ≡ false)
-    → front_step now line ≡ said
-    → front_run 1 first (lines_at start whole)
-    ≡ carry (λ then. front_run (number + 1) then (lines_at next whole)) (λ why. (number, why)) said
-front_line first now start from next number line whole said at after can goes read is =
-    at.same whole (after.back whole can)
-    ∙ run_line front_done front_step number now (lines_at from whole) (lines_at next whole) line
-    said goes read is
+    pub front_line : {line : List ℕ} {said : Result FrontsView Wrong}
+        → (lines_at from whole ≡ line ∷ lines_at next whole) × (nat_lt 1024 (length line) ≡ false)
+        → front_step now line ≡ said
+        → front_run 1 first (lines_at start whole)
+        ≡ carry (λ then. front_run (number + 1) then (lines_at next whole)) (λ why. (number, why))
+        said
+    front_line read is =
+        at.same whole (read_on.back whole can) ∙ run_line front_done front_step goes read is
 
 -- ---- the lines after it
 abbrev never : SectionView → Bool
@@ -169,16 +136,16 @@ pub record IsCopying (part : Open) (last : Option Token) (now : SectionView) (st
   pub lines : (whole : List ℕ) → CanBe (calls_of from) whole
       → joined (lines_at start whole) ≡ text ++ joined (lines_at from whole)
 
-module _ (position : ℕ) (part : Open) (last : Option Token) (now : SectionView)
-    (start from next : Lines) (number : ℕ) (before after : Run)
+module _ {part : Open} {last : Option Token} {now : SectionView} {start from next : Lines}
+    {number : ℕ} {before after : Run} (position : ℕ)
     (at : IsCopying part last now start from number before after) (read_on : Follows from next)
   where
     -- the lines end here
-    pub section_done : (end : Option Wrong) → section_end now ≡ end → (whole : List ℕ)
+    pub section_done : {end : Option Wrong} → section_end now ≡ end → (whole : List ℕ)
         → CanBe (calls_of next) whole → lines_at from whole ≡ []
         → section_of position last (view_of part (lines_at start whole))
         ≡ end_or (position, (number, Form)) now end
-    section_done end is whole can none =
+    section_done is whole can none =
         ap (section_ended position) (at.same whole (read_on.back whole can)
         ∙ ap (section_run number now) none)
         ∙ ap (end_or (position, (number, Form)) now) is
@@ -192,7 +159,7 @@ module _ (position : ℕ) (part : Open) (last : Option Token) (now : SectionView
       end,
       λ whole can. (
         now,
-        section_done None is whole can (none whole can),
+        section_done is whole can (none whole can),
         refl,
         at.lines whole (read_on.back whole can)
             ∙ ap (λ l. at.text ++ joined l) (none whole can) ∙ append-nil at.text,
@@ -218,27 +185,26 @@ module _ (position : ℕ) (part : Open) (last : Option Token) (now : SectionView
       ),
     )
 
-    module _ (line : List ℕ) (then : SectionView) (taken : section_step now line ≡ Ok then)
+    module _ {line : List ℕ} {then : SectionView} (taken : section_step now line ≡ Ok then)
         (read : (whole : List ℕ) → CanBe (calls_of next) whole
         → (lines_at from whole ≡ line ∷ lines_at next whole)
         × (nat_lt 1024 (length line) ≡ false)) where
-      pub copied_more : (now_after : Run) → now_after ≡ with_written after line
+      pub copied_more : {now_after : Run} → now_after ≡ with_written after line
           → IsCopying part last then start next (number + 1) before now_after
-      copied_more now_after more = record {
+      copied_more {now_after = now_after} more = record {
         follows = follows_on start from next at.follows read_on;
         text = at.text ++ line;
         wrote = written_on before after now_after at.text line at.wrote more;
         same = λ whole can. at.same whole (read_on.back whole can)
-            ∙ run_line never section_step number now (lines_at from whole) (lines_at next whole) line
-            (Ok then) refl (read whole can) taken;
+            ∙ run_line never section_step refl (read whole can) taken;
         lines = λ whole can. at.lines whole (read_on.back whole can)
             ∙ ap (λ l. at.text ++ joined l) (read whole can).0
             ∙ sym (append_assoc at.text line (joined (lines_at next whole)));
       }
 
-      pub copied_cut : (now_after : Run) (why : WriteFault) → IsCut after now_after line why
+      pub copied_cut : {now_after : Run} (why : WriteFault) → IsCut after now_after line why
           → Copies position last part start next before now_after (Err (fault.Write why))
-      copied_cut now_after why cut = (
+      copied_cut {now_after = now_after} why cut = (
         at.text ++ cut.front,
         cut_on before after now_after at.text line why at.wrote cut,
         λ whole can. (
@@ -247,8 +213,6 @@ module _ (position : ℕ) (part : Open) (last : Option Token) (now : SectionView
           at.lines whole (read_on.back whole can)
               ∙ ap (λ l. at.text ++ joined l) (read whole can).0
               ∙ ap (λ l. at.text ++ (l ++ joined (lines_at next whole))) cut.whole
-              ∙ ap (λ l. at.text ++ l)
-              (append_assoc cut.front cut.rest (joined (lines_at next whole)))
-              ∙ sym (append_assoc at.text cut.front (cut.rest ++ joined (lines_at next whole))),
+              ∙ simp append_assoc,
         ),
       )

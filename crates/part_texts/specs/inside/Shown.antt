@@ -112,12 +112,12 @@ pub record IsNextPart (first final : Bool) (before : SoFar) (p : PartReport) (af
     pub increase : are_tokens_increasing before.last p.tokens
     pub last_is : after.last ≡ last_of before.last p.tokens
 
--- the parts follow, one after the other
-abbrev pub are_next_parts : Bool → SoFar → List PartReport → SoFar → Type 0
-are_next_parts first before [] after = before ≡ after
-are_next_parts first before (p ∷ ps) after =
-    (next : SoFar) × IsNextPart first (is_none_after ps) before p next
-    × are_next_parts false next ps after
+-- the parts follow, one after the other: each after those so far, and whether it is first and last
+abbrev pub are_next : {P Q : Type 0} → (Bool → Bool → Q → P → Q → Type 0) → Bool → Q → List P → Q
+    → Type 0
+are_next IsNext first before [] after = before ≡ after
+are_next {Q = Q} IsNext first before (p ∷ ps) after =
+    (next : Q) × IsNext first (is_none_after ps) before p next × are_next IsNext false next ps after
 
 -- the tokens of all parts
 abbrev pub tokens_of : List PartReport → List (Token × Sums)

@@ -8,7 +8,7 @@ use Rattle.part_texts.specs.EntryLines.{entry_token_in}
 use Rattle.part_texts.specs.Heads.{part_head}
 use Rattle.part_texts.specs.Sections.{may_follow}
 use Rattle.part_texts.specs.Shown.{SpanFits}
-use Rattle.part_texts.specs.inside.Shown.{are_joined, is_none_after}
+use Rattle.part_texts.specs.inside.Shown.{are_joined}
 use Rattle.sorted_taps.specs.declared.positions.Position.{Position}
 use Rattle.sorted_taps.specs.declared.positions.FileSpan.{FileSpan}
 
@@ -25,13 +25,15 @@ ledger_text p = part_head p.spans ++ (head_text ++ p.lines)
 abbrev pub all_lines : List PartLedger → List ℕ
 all_lines parts = flat_map (λ part. part.lines) parts
 
--- the parts' fronts follow, one after the other, after these ends of files
-abbrev pub are_next_ledgers : Bool → List (Option Position) → List PartLedger → Type 0
-are_next_ledgers first ends [] = Unit {0}
-are_next_ledgers first ends (p ∷ ps) =
-    (next : List (Option Position)) × (length p.spans < 2 ^ 64) × AllByRecursion SpanFits p.spans
-    × ((first || nat_eq (length p.spans) (length ends)) ≡ true)
-    × are_joined first (is_none_after ps) ends p.spans next × are_next_ledgers false next ps
+-- The part's front follows, after fronts of ledgers (if so) that end so in each file.
+pub record IsNextLedger (first last : Bool) (before : Bool × List (Option Position)) (p : PartLedger)
+    (after : Bool × List (Option Position)) : Type 0 where
+  pub few : length p.spans < 2 ^ 64
+  pub fit : AllByRecursion SpanFits p.spans
+  pub kind : (first || before.0) ≡ true
+  pub files : (first || nat_eq (length p.spans) (length before.1)) ≡ true
+  pub joined : are_joined first last before.1 p.spans after.1
+  pub ledger : after.0 ≡ true
 
 -- a line of a ledger, and its token
 pub record EntryLine : Type 0 where
