@@ -1,24 +1,21 @@
 -- Two bills side by side: the pairs are those of both lists, in order, as long as both have one.
-use Rattle.std.proofs.Common.{◌≡◌, ◌<◌, ◌≤◌, ◌+◌, ℕ, zero, suc, List, [], ◌∷◌, ◌++◌, Option, Some}
-use Rattle.std.proofs.Common.{None, Bool, true, false, refl, sym, ap, subst, ◌∙◌, arith, length}
-use Rattle.std.proofs.Common.{All, flat_map, get_or, map}
-use Rattle.std.specs.Prelude.{⊤}
+use Rattle.std.proofs.Common.{◌≡◌, List, [], ◌∷◌, ◌++◌, Option, Some}
+use Rattle.std.proofs.Common.{None, Bool, true, false, refl, sym, ap, subst, ◌∙◌}
+use Rattle.std.proofs.Common.{All, flat_map, map}
 use Rattle.std.specs.List.{AllByRecursion}
-use Rattle.std.specs.List.Sorted.{IsSorted}
 use Rattle.std.specs.Ordering.{is_lt, ordering_reverse}
 use Rattle.std.specs.declared.cmp.Ordering.{Ordering}
 use Rattle.std.specs.declared.cmp.Ordering.TheVariants.{Less, Equal, Greater}
-use Rattle.std.proofs.lemmas.List.Elements.{All-from_recursion}
 use Rattle.std.proofs.lemmas.List.Sorted.{ranks_by}
 use Rattle.ledger_changes.specs.Changes.{AreCorrections, AreSideBySide, IsSameOrListed, IsSomeLine}
-use Rattle.ledger_changes.specs.Changes.{Pair, UseUp, UsesUp}
+use Rattle.ledger_changes.specs.Changes.{Pair, UsesUp}
 use Rattle.ledger_changes.specs.Changes.{afters, befores, beside, both_rows, changes_between}
 use Rattle.ledger_changes.specs.Changes.{only_new, only_old, pairs_by, pairs_with, row_of}
 use Rattle.ledger_fields.specs.Rows.{Charge, Key, Row}
 use Rattle.ledger_changes.specs.Rows.{key_cmp}
 use Rattle.ledger_changes.proofs.Keys.{key_cmp_total, same_key}
 use Rattle.ledger_changes.proofs.Listed.{kept}
-use Rattle.ledger_changes.proofs.Sorted.{AreNondecreasing, ascend_all, ascend_none, ascend_tail}
+use Rattle.ledger_changes.proofs.Sorted.{AreNondecreasing}
 
 abbrev rows_in : Option Row → List Row
 rows_in None = []
@@ -32,24 +29,19 @@ Le key later = is_lt (key_cmp later key) ≡ false
 abbrev pub Lt : Key → Key → Type 0
 Lt key later = Le key later × (key ≡ later → ⊥)
 
--- ---- pairs in order, one by one
-abbrev pub UsesAll : Pair → List Pair → Type 0
+-- ---- one pair and those that follow
+abbrev UsesAll : Pair → List Pair → Type 0
 UsesAll pair pairs = AllByRecursion (UsesUp pair) pairs
 
-abbrev pub Ordered : List Pair → Type 0
-Ordered [] = ⊤
-Ordered (pair ∷ pairs) =
-    IsSomeLine pair.before pair.after × AllByRecursion (λ later. Le pair.key later.key) pairs
-    × UsesAll pair pairs × Ordered pairs
-
 -- a pair has a line of one of the bills
-up_all : (key : Key) (pairs : List Pair) → Ordered pairs
+up_all : (key : Key) (pairs : List Pair)
+    → AllByRecursion (λ pair. IsSomeLine pair.before pair.after) pairs
     → AllByRecursion (λ row. Le key row.key) (befores pairs)
     → AllByRecursion (λ row. Le key row.key) (afters pairs)
     → AllByRecursion (λ later. Le key later.key) pairs
-up_all key [] order olds news = tt
-up_all key (pair ∷ pairs) order olds news =
-    by_sides pair.before pair.after order.0 (up_all key pairs order.3) olds news
+up_all key [] some olds news = tt
+up_all key (pair ∷ pairs) some olds news =
+    by_sides pair.before pair.after some.0 (up_all key pairs some.1) olds news
   where
     by_sides : (b a : Option Charge) → IsSomeLine b a
         → (AllByRecursion (λ row. Le key row.key) (befores pairs)
@@ -94,56 +86,6 @@ uses_all pair (later ∷ pairs) olds news = (
   uses_all pair pairs (λ none. (olds none).1) (λ none. (news none).1),
 )
 
--- ---- from order, one by one, to lists side by side
-sorted_more : (pair next : Pair) (pairs : List Pair) → Le pair.key next.key
-    → IsSorted (λ a b. key_cmp a.key b.key) (next ∷ pairs)
-    → IsSorted (λ a b. key_cmp a.key b.key) (pair ∷ next ∷ pairs)
-sorted_more pair next pairs first rest = each
-  where
-    each : (k : ℕ) (d : Pair) → 0 ≤ k → k + 1 < length (pair ∷ next ∷ pairs)
-        → is_lt (key_cmp (get_or (pair ∷ next ∷ pairs) (k + 1) d).key
-        (get_or (pair ∷ next ∷ pairs) k d).key) ≡ false
-    each zero d low high = first
-    each (suc k) d low high =
-        let next_one : suc (k + 1) ≡ suc k + 1 = omega arith in
-        subst (λ (n : ℕ). is_lt (key_cmp (get_or (pair ∷ next ∷ pairs) n d).key
-        (get_or (next ∷ pairs) k d).key) ≡ false) next_one
-        (rest k d (omega arith) (omega (arith, high)))
-
-sorted_pairs : (pairs : List Pair) → Ordered pairs → IsSorted (λ a b. key_cmp a.key b.key) pairs
-sorted_pairs [] order = λ k d low high. absurd (omega (arith, high))
-sorted_pairs (pair ∷ []) order = λ k d low high. absurd (omega (arith, high))
-sorted_pairs (pair ∷ next ∷ pairs) order =
-    sorted_more pair next pairs order.1.0 (sorted_pairs (next ∷ pairs) order.3)
-
-tight_pairs : (pairs : List Pair) → Ordered pairs → UseUp pairs
-unfolding UseUp
-tight_pairs [] order = tt
-tight_pairs (pair ∷ pairs) order =
-    (All-from_recursion (UsesUp pair) pairs order.2, tight_pairs pairs order.3)
-
-some_pairs : (pairs : List Pair) → Ordered pairs
-    → AllByRecursion (λ pair. IsSomeLine pair.before pair.after) pairs
-some_pairs [] order = tt
-some_pairs (pair ∷ pairs) order = (order.0, some_pairs pairs order.3)
-
--- the pairs of these rows
-pub record IsPaired (olds news : List Row) (pairs : List Pair) : Type 0 where
-  pub order : Ordered pairs
-  pub of_old : befores pairs ≡ olds
-  pub of_new : afters pairs ≡ news
-
-pub side_by_side : (olds news : List Row) (pairs : List Pair) → IsPaired olds news pairs
-    → AreSideBySide olds news pairs
-side_by_side olds news pairs is = record {
-  olds = is.of_old;
-  news = is.of_new;
-  some = All-from_recursion (λ pair. IsSomeLine pair.before pair.after) pairs
-      (some_pairs pairs is.order);
-  sorted = sorted_pairs pairs is.order;
-  tight = tight_pairs pairs is.order;
-}
-
 -- ---- one pair more
 pub record IsFirst (b a : Option Row) (pair : Pair) (olds news : List Row) : Type 0 where
   pub old : row_of pair.key pair.before ≡ rows_in b
@@ -155,27 +97,21 @@ pub record IsFirst (b a : Option Row) (pair : Pair) (olds news : List Row) : Typ
   pub news_past : pair.after ≡ None → AllByRecursion (λ row. Lt pair.key row.key) news
 
 pub paired_more : (b a : Option Row) (pair : Pair) (olds news : List Row) (pairs : List Pair)
-    → IsFirst b a pair olds news → IsPaired olds news pairs
-    → IsPaired (rows_in b ++ olds) (rows_in a ++ news) (pair ∷ pairs)
+    → IsFirst b a pair olds news → AreSideBySide olds news pairs
+    → AreSideBySide (rows_in b ++ olds) (rows_in a ++ news) (pair ∷ pairs)
 paired_more b a pair olds news pairs first is = record {
-  order = (
-    first.some,
-    up_all pair.key pairs is.order
-        (subst (AllByRecursion (λ row. Le pair.key row.key)) (sym is.of_old) first.olds_up)
-        (subst (AllByRecursion (λ row. Le pair.key row.key)) (sym is.of_new) first.news_up),
+  olds = ap (λ (rows : List Row). rows ++ befores pairs) first.old
+      ∙ ap (λ (rows : List Row). rows_in b ++ rows) is.olds;
+  news = ap (λ (rows : List Row). rows ++ afters pairs) first.new
+      ∙ ap (λ (rows : List Row). rows_in a ++ rows) is.news;
+  some = (first.some, is.some);
+  sorted = (up_all pair.key pairs is.some (rw is.olds first.olds_up) (rw is.news first.news_up), is.sorted);
+  tight = (
     uses_all pair pairs
-        (λ none. none_of (λ later. later.before) pair.key pairs
-        (subst (AllByRecursion (λ row. Lt pair.key row.key)) (sym is.of_old)
-        (first.olds_past none)))
-        (λ none. none_of (λ later. later.after) pair.key pairs
-        (subst (AllByRecursion (λ row. Lt pair.key row.key)) (sym is.of_new)
-        (first.news_past none))),
-    is.order,
+        (λ none. none_of (λ later. later.before) pair.key pairs (rw is.olds (first.olds_past none)))
+        (λ none. none_of (λ later. later.after) pair.key pairs (rw is.news (first.news_past none))),
+    is.tight,
   );
-  of_old = ap (λ (rows : List Row). rows ++ befores pairs) first.old
-      ∙ ap (λ (rows : List Row). rows_in b ++ rows) is.of_old;
-  of_new = ap (λ (rows : List Row). rows ++ afters pairs) first.new
-      ∙ ap (λ (rows : List Row). rows_in a ++ rows) is.of_new;
 }
 
 -- ---- the first pair of two bills
@@ -201,7 +137,7 @@ past_first : (key : Key) (row : Row) (rows : List Row) → key_cmp key row.key �
     → AllByRecursion (λ later. Lt key later.key) (row ∷ rows)
 past_first key row rows less up = (
   lt_le key row.key row.key less (le_same row.key),
-  all_map (λ later up. lt_le key row.key later.key less up) rows (ascend_all row rows up),
+  all_map (λ later up. lt_le key row.key later.key less up) rows up.0,
 )
   where
     le_same : (k : Key) → Le k k
@@ -224,7 +160,7 @@ first_old old olds news up past = record {
   old = refl;
   new = refl;
   some = tt;
-  olds_up = ascend_all old olds up;
+  olds_up = up.0;
   news_up = ups old.key news past;
   olds_past = λ none. absurd (cc);
   news_past = λ none. past;
@@ -238,7 +174,7 @@ first_new new olds news up past = record {
   new = refl;
   some = tt;
   olds_up = ups new.key olds past;
-  news_up = ascend_all new news up;
+  news_up = up.0;
   olds_past = λ none. past;
   news_past = λ none. absurd (cc);
 }
@@ -250,9 +186,9 @@ first_both old new olds news same up also = record {
   old = refl;
   new = ap (λ (key : Key). record { key = key; charge = new.charge } ∷ []) same;
   some = tt;
-  olds_up = ascend_all old olds up;
+  olds_up = up.0;
   news_up = subst (λ (key : Key). AllByRecursion (λ later. Le key later.key) news) (sym same)
-      (ascend_all new news also);
+      also.0;
   olds_past = λ none. absurd (cc);
   news_past = λ none. absurd (cc);
 }
@@ -265,27 +201,27 @@ equal_same a b e =
     same_key a b (ap is_lt e) (ap is_lt (key_cmp_total.antisymm b a ∙ ap ordering_reverse e))
 
 -- ---- all pairs
-paired_news : (news : List Row) → AreNondecreasing news → IsPaired [] news (map only_new news)
-paired_news [] up = record { order = tt; of_old = refl; of_new = refl }
+paired_news : (news : List Row) → AreNondecreasing news → AreSideBySide [] news (map only_new news)
+paired_news [] up = record { olds = refl; news = refl; some = tt; sorted = tt; tight = tt }
 paired_news (new ∷ news) up =
     paired_more None (Some new) (only_new new) [] news (map only_new news)
     (first_new new [] news up tt)
-    (paired_news news (ascend_tail new news up))
+    (paired_news news up.1)
 
 paired_with : (old : Row) (olds news : List Row) → AreNondecreasing (old ∷ olds)
     → AreNondecreasing news
-    → ((rest : List Row) → AreNondecreasing rest → IsPaired olds rest (beside olds rest))
-    → IsPaired (old ∷ olds) news (pairs_with (λ rest. beside olds rest) old news)
+    → ((rest : List Row) → AreNondecreasing rest → AreSideBySide olds rest (beside olds rest))
+    → AreSideBySide (old ∷ olds) news (pairs_with (λ rest. beside olds rest) old news)
 paired_with old olds [] up also more =
     paired_more (Some old) None (only_old old) olds [] (beside olds [])
-    (first_old old olds [] up tt) (more [] ascend_none)
+    (first_old old olds [] up tt) (more [] tt)
 paired_with old olds (new ∷ news) up also more =
     by_order (key_cmp old.key new.key) refl
-    (paired_with old olds news up (ascend_tail new news also) more)
+    (paired_with old olds news up also.1 more)
   where
     by_order : (order : Ordering) → key_cmp old.key new.key ≡ order
-        → IsPaired (old ∷ olds) news (pairs_with (λ rest. beside olds rest) old news)
-        → IsPaired (old ∷ olds) (new ∷ news) (pairs_by order old new (beside olds (new ∷ news))
+        → AreSideBySide (old ∷ olds) news (pairs_with (λ rest. beside olds rest) old news)
+        → AreSideBySide (old ∷ olds) (new ∷ news) (pairs_by order old new (beside olds (new ∷ news))
         (beside olds news) (pairs_with (λ rest. beside olds rest) old news))
     by_order Less e rest =
         paired_more (Some old) None (only_old old) olds (new ∷ news) (beside olds (new ∷ news))
@@ -294,7 +230,7 @@ paired_with old olds (new ∷ news) up also more =
     by_order Equal e rest =
         paired_more (Some old) (Some new) (both_rows old new) olds news (beside olds news)
         (first_both old new olds news (equal_same old.key new.key e) up also)
-        (more news (ascend_tail new news also))
+        (more news also.1)
     by_order Greater e rest =
         paired_more None (Some new) (only_new new) (old ∷ olds) news
         (pairs_with (λ rest. beside olds rest) old news)
@@ -302,20 +238,16 @@ paired_with old olds (new ∷ news) up also more =
         (past_first new.key old olds (greater_less old.key new.key e) up)) rest
 
 paired : (olds news : List Row) → AreNondecreasing olds → AreNondecreasing news
-    → IsPaired olds news (beside olds news)
+    → AreSideBySide olds news (beside olds news)
 paired [] news up also = paired_news news also
 paired (old ∷ olds) news up also =
     paired_with old olds news up also
-    (λ rest increases. paired olds rest (ascend_tail old olds up) increases)
-
-pub are_beside : (olds news : List Row) → AreNondecreasing olds → AreNondecreasing news
-    → AreSideBySide olds news (beside olds news)
-are_beside olds news up also = side_by_side olds news (beside olds news) (paired olds news up also)
+    (λ rest increases. paired olds rest up.1 increases)
 
 pub are_corrections : (olds news : List Row) → AreNondecreasing olds → AreNondecreasing news
     → AreCorrections olds news (changes_between olds news)
 are_corrections olds news up also =
-    record { pairs = beside olds news; beside = are_beside olds news up also; listed = refl }
+    record { pairs = beside olds news; beside = paired olds news up also; listed = refl }
 
 pub are_alike : (olds news : List Row)
     → All (IsSameOrListed (changes_between olds news)) (beside olds news)

@@ -1,30 +1,28 @@
 -- The sums of each token: corrections in order are cut where the token changes.
 use Rattle.std.proofs.Common.{◌≡◌, ◌+◌, ℕ, suc, List, [], ◌∷◌, ◌++◌, Some, Bool, true}
 use Rattle.std.proofs.Common.{false, cond, refl, sym, ap, subst, ◌∙◌, arith, length, length-append}
-use Rattle.std.proofs.Common.{append_assoc, append-nil, filter, get_or, All}
+use Rattle.std.proofs.Common.{append_assoc, append-nil, filter}
 use Rattle.std.specs.Prelude.{⊤, Contains}
 use Rattle.std.specs.Cmp.{IsTotalOrder}
 use Rattle.std.specs.Cmp.Lexicographic.{on_texts}
 use Rattle.std.specs.List.{AllByRecursion}
-use Rattle.std.specs.List.Sorted.{IsSorted, IsStrictlySortedBy}
+use Rattle.std.specs.List.Sorted.{IsStrictlySortedBy}
 use Rattle.std.specs.Ordering.{is_eq, is_lt, ordering_reverse, ordering_then}
 use Rattle.std.specs.declared.cmp.Ordering.{Ordering}
 use Rattle.std.specs.declared.cmp.Ordering.TheVariants.{Less, Equal, Greater}
 use Rattle.std.proofs.lemmas.Cmp.{tied_itself}
-use Rattle.std.proofs.lemmas.List.Elements.{All-from_recursion, filter-append, recursion_from_All}
-use Rattle.std.proofs.lemmas.List.Kept.{IsSortedBy-filter}
-use Rattle.std.proofs.lemmas.List.Sorted.{ranks_by, sorted_far}
+use Rattle.std.proofs.lemmas.List.Elements.{filter-append}
 use Rattle.std.proofs.lemmas.List.Sums.{sum_by-append}
 use Rattle.ledger_changes.specs.Changes.{AreCorrections, Pair, is_changed}
 use Rattle.ledger_fields.specs.Rows.{Key, Row}
-use Rattle.ledger_changes.specs.Rows.{is_same_text, key_cmp, text_cmp}
+use Rattle.ledger_changes.specs.Rows.{AreInOrder, is_same_text, key_cmp, text_cmp}
 use Rattle.ledger_changes.specs.Texts.{cents_of, is_removed}
 use Rattle.ledger_changes.specs.Tokens.{Sums, is_added}
 use Rattle.ledger_changes.specs.Tokens.{is_kept, is_of_token, of_token, sums_of, token_line}
 use Rattle.ledger_changes.specs.Tokens.{tokens_lines}
 use Rattle.ledger_changes.specs.Tokens.{TokenSum, add_changes, add_sums, all_lines, last_sums}
 use Rattle.ledger_changes.specs.Tokens.{HasTokens, lines_of_changes, no_sums, sums_line}
-use Rattle.ledger_changes.proofs.Keys.{key_cmp_total, tied}
+use Rattle.ledger_changes.proofs.Keys.{tied}
 
 -- ---- tokens
 text_total : IsTotalOrder text_cmp
@@ -100,32 +98,34 @@ all_weaker : {P Q : Pair → Type 0} → ((change : Pair) → P change → Q cha
 all_weaker f [] all = tt
 all_weaker f (change ∷ changes) all = (f change all.0, all_weaker f changes all.1)
 
-abbrev pub InOrder : List Pair → Type 0
-InOrder changes = IsSorted (λ a b. key_cmp a.key b.key) changes
-
-order_tail : (change : Pair) (changes : List Pair) → InOrder (change ∷ changes) → InOrder changes
-order_tail change changes up = λ k d low high.
-    let next : suc k + 1 ≡ suc (k + 1) = omega arith in
-    subst (λ (n : ℕ). is_lt (key_cmp (get_or (change ∷ changes) n d).key (get_or changes k d).key)
-    ≡ false) next (up (suc k) d (omega arith) (omega (arith, high)))
-
-increases : (changes : List Pair) → InOrder changes → Ascends changes
+increases : (changes : List Pair) → AreInOrder (λ change. change.key) changes
+    → Ascends (filter is_changed changes)
 increases [] up = tt
-increases (change ∷ changes) up =
-    let all : All (λ later. is_lt (key_cmp later.key change.key) ≡ false) changes = λ j d high.
-    sorted_far (λ a b. is_lt (key_cmp a.key b.key)) (ranks_by key_cmp_total (λ (p : Pair). p.key))
-    (change ∷ changes) up 0 (suc j) d (omega arith) (omega (arith, high)) in (
-      all_weaker (key_not_below change.key) changes
-          (recursion_from_All (λ later. is_lt (key_cmp later.key change.key) ≡ false) changes all),
-      increases changes (order_tail change changes up),
-    )
+increases (change ∷ changes) up = by_test (is_changed change) (increases changes up.1)
+  where
+    kept : (changes : List Pair)
+        → AllByRecursion (λ later. is_lt (key_cmp later.key change.key) ≡ false) changes
+        → AllByRecursion (NotBelow change.key.token) (filter is_changed changes)
+    kept [] all = tt
+    kept (later ∷ changes) all =
+        one (is_changed later) (key_not_below change.key later all.0) (kept changes all.1)
+      where
+        one : (b : Bool) → NotBelow change.key.token later
+            → AllByRecursion (NotBelow change.key.token) (filter is_changed changes)
+            → AllByRecursion (NotBelow change.key.token)
+            (cond b (later ∷ filter is_changed changes) (filter is_changed changes))
+        one true first more = (first, more)
+        one false first more = more
+
+    by_test : (b : Bool) → Ascends (filter is_changed changes)
+        → Ascends (cond b (change ∷ filter is_changed changes) (filter is_changed changes))
+    by_test true more = (kept changes up.0, more)
+    by_test false more = more
 
 pub corrections_ascend : (old new : List Row) (changes : List Pair) → AreCorrections old new changes
     → Ascends changes
 corrections_ascend old new changes are =
-    subst Ascends (sym are.listed) (increases (filter is_changed are.pairs)
-    (IsSortedBy-filter (λ a b. is_lt (key_cmp a.key b.key))
-    (ranks_by key_cmp_total (λ (p : Pair). p.key)) is_changed are.pairs are.beside.sorted))
+    subst Ascends (sym are.listed) (increases are.pairs are.beside.sorted)
 
 -- ---- sums
 count_append : (p : Pair → Bool) (xs ys : List Pair)
@@ -361,8 +361,8 @@ tokens_by [] order = record {
   tokens = [];
   are = record {
     increasing = tt;
-    some = All-from_recursion (Has []) [] tt;
-    all = All-from_recursion (Listed []) [] tt;
+    some = tt;
+    all = tt;
   };
   shown = refl;
 }
@@ -376,8 +376,8 @@ tokens_by (change ∷ changes) order =
       tokens = s ∷ from.more;
       are = record {
         increasing = (from.above, from.increasing);
-        some = All-from_recursion (Has (change ∷ changes)) (s ∷ from.more) from.some;
-        all = All-from_recursion (Listed (s ∷ from.more)) (change ∷ changes) from.all;
+        some = from.some;
+        all = from.all;
       };
       shown = from.shown;
     }

@@ -21,7 +21,7 @@ use Rattle.ledger_changes.specs.declared.row.LedgerRow.{LedgerRow}
 use Rattle.ledger_changes.specs.inside.Readings.{IsWrongAs, rows_with}
 use Rattle.ledger_changes.specs.inside.Views.{row_in as row_at, row_of}
 use Rattle.world.specs.Run.{Calls}
-use Rattle.ledger_changes.proofs.Sorted.{AreNondecreasing, ascend_more, ascend_none, ascend_one}
+use Rattle.ledger_changes.proofs.Sorted.{AreNondecreasing, ascend_more}
 
 -- ---- one line
 abbrev goes_on : ℕ → List (List ℕ) → Result Row WrongLine → Result (List Row) (ℕ × WrongLine)
@@ -141,8 +141,8 @@ ascend_from None row rows stays up = up
 ascend_from (Some before) row rows stays up = ascend_more before row rows stays up
 
 no_rows : (before : Option Row) → AreNondecreasingFrom before []
-no_rows None = ascend_none
-no_rows (Some row) = ascend_one row
+no_rows None = tt
+no_rows (Some row) = (tt, tt)
 
 wrong_is_right : {A E : Type 0} (e : E) (a : A) → Err e ≡ Ok a → ⊥
 wrong_is_right e a is = cc

@@ -5,7 +5,6 @@ use Rattle.std.specs.Prelude.{Contains}
 use Rattle.std.specs.List.{AllByRecursion, sum_by}
 use Rattle.std.specs.List.Sorted.{IsStrictlySortedBy}
 use Rattle.std.specs.declared.cmp.Ordering.TheVariants.{Less}
-use Rattle.std.proofs.lemmas.List.Elements.{recursion_from_All}
 use Rattle.std.proofs.lemmas.List.Sums.{sum_by-cons}
 use Rattle.std.proofs.lemmas.Map.Keys.{sorted_head, sorted_tail}
 use Rattle.std.proofs.lemmas.Map.Made.{Contains-tail}
@@ -122,10 +121,9 @@ pub tokens_add : (old new : List Row) (changes : List Pair) (tokens : List (List
     → TokensAddUp old new changes tokens
 unfolding of_one
 tokens_add old new changes tokens are by =
-    let all = recursion_from_All (Listed tokens) changes by.all in
-    let after = sums_by_token (λ change. cents_of change.after) tokens by.increasing changes all in
+    let after = sums_by_token (λ change. cents_of change.after) tokens by.increasing changes by.all in
     let before = sums_by_token (λ change. cents_of change.before) tokens by.increasing changes
-    all in
+    by.all in
     let up = adds_up old new changes are (λ key charge. charge.cents) in
     let weight_after = sum_same
     (λ change. weight_of (λ key charge. charge.cents) change.key change.after)

@@ -1,12 +1,12 @@
 -- What changed from one bill to the next.
-use Rattle.std.specs.Prelude.{◌≡◌, ◌+◌, ℕ, Bool, true, false, not, List, [], ◌∷◌, All, filter}
+use Rattle.std.specs.Prelude.{◌≡◌, ◌+◌, ℕ, Bool, true, false, not, List, [], ◌∷◌, filter}
 use Rattle.std.specs.Prelude.{flat_map, map}
 use Rattle.std.specs.Prelude.{Option, None, Some, ⊤, sum_by, Contains, ◌⊎◌}
-use Rattle.std.specs.List.Sorted.{IsSorted}
 use Rattle.std.specs.declared.cmp.Ordering.{Ordering}
 use Rattle.std.specs.declared.cmp.Ordering.TheVariants.{Less, Equal, Greater}
 use Rattle.ledger_fields.specs.Rows.{Charge, Key, Row}
-use Rattle.ledger_changes.specs.Rows.{is_same_charge, key_cmp}
+use Rattle.ledger_changes.specs.Rows.{AreInOrder, is_same_charge, key_cmp}
+use Rattle.std.specs.List.{AllByRecursion}
 
 -- a line of one bill beside the line of the other that has the same key; a line that has none
 -- beside it is alone
@@ -38,17 +38,17 @@ pub record UsesUp (pair later : Pair) : Type 0 where
   pub before : pair.key ≡ later.key → pair.before ≡ None → later.before ≡ None
   pub after : pair.key ≡ later.key → pair.after ≡ None → later.after ≡ None
 
-unfoldable pub UseUp : List Pair → Type 0
+abbrev pub UseUp : List Pair → Type 0
 UseUp [] = ⊤
-UseUp (pair ∷ pairs) = All (UsesUp pair) pairs × UseUp pairs
+UseUp (pair ∷ pairs) = AllByRecursion (UsesUp pair) pairs × UseUp pairs
 
 -- The lines of both bills, side by side in the order of their keys: each line is there once, in its
 -- bill's order, and lines of one key are paired as long as both bills have one.
 pub record AreSideBySide (old new : List Row) (pairs : List Pair) : Type 0 where
   pub olds : befores pairs ≡ old
   pub news : afters pairs ≡ new
-  pub some : All (λ pair. IsSomeLine pair.before pair.after) pairs
-  pub sorted : IsSorted (λ a b. key_cmp a.key b.key) pairs
+  pub some : AllByRecursion (λ pair. IsSomeLine pair.before pair.after) pairs
+  pub sorted : AreInOrder (λ pair. pair.key) pairs
   pub tight : UseUp pairs
 
 -- the pair of a row of the one and a row of the other

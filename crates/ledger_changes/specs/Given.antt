@@ -1,6 +1,6 @@
 -- Corrections that are given in pieces: what they have given of two ledgers that are read side by
 -- side, and what is left.
-use Rattle.std.specs.Prelude.{◌≡◌, ◌⊎◌, ⊤, ℕ, Bool, List, [], ◌++◌, Option, None, Some, Result, Err}
+use Rattle.std.specs.Prelude.{◌≡◌, ◌⊎◌, ◌+◌, ⊤, ℕ, Bool, List, ◌++◌, Option, None, Some, Result, Err}
 use Rattle.std.specs.Prelude.{option_map}
 use Rattle.recorded_lines.specs.Texts.{CanBe, IsFresh, calls_of}
 use Rattle.recorded_lines.specs.Unread.{IsUnread}
@@ -10,8 +10,8 @@ use Rattle.ledger_fields.specs.Rows.{Row}
 use Rattle.ledger_changes.specs.Changes.{Pair}
 use Rattle.ledger_changes.specs.Ledgers.{rows_of}
 use Rattle.ledger_changes.specs.Texts.{removed_in}
-use Rattle.ledger_changes.specs.Tokens.{TokenSum, changes_of_both, corrections_of, head_of, last_sums}
-use Rattle.ledger_changes.specs.Tokens.{lines_of_changes}
+use Rattle.ledger_changes.specs.Tokens.{TokenSum, changes_of_both, corrections_of, last_sums}
+use Rattle.ledger_changes.specs.Tokens.{lines_of_changes, sums_line, text_of}
 use Rattle.ledger_changes.specs.declared.changes.Corrections.{Corrections}
 use Rattle.ledger_changes.specs.declared.fault.Bill.TheVariants.{New, Old}
 use Rattle.ledger_changes.specs.declared.fault.CorrectionsFault.{CorrectionsFault}
@@ -25,29 +25,26 @@ use Rattle.ledger_changes.specs.inside.Views.{sum_in}
 abbrev pub Said : Type 0
 Said = Result (List Row) (ℕ × WrongLine)
 
--- these corrections, and more after them if these are known
-abbrev pub After : List Pair → Option (List Pair) → Option (List Pair)
-After done rest = option_map (λ pairs. done ++ pairs) rest
+-- What is left of a text, of these corrections, after these open sums and so many removed lines: the
+-- rest, and how many lines are removed in all.
+abbrev pub text_left : Bool → ℕ → Option TokenSum → List Pair → List ℕ × ℕ
+text_left by_token removed last changes = (
+  lines_of_changes by_token last changes ++ sums_line (last_sums by_token last changes),
+  removed + removed_in changes,
+)
 
--- The corrections of two ledgers are these, and those of what is left of both. A line that is wrong
--- in what is left is the first wrong one of its ledger.
-pub record Left (old0 new0 old new : Said) (done : List Pair) : Type 0 where
-  pub left : changes_of_both old0 new0 ≡ After done (changes_of_both old new)
-  pub wrong_old : (wrong : ℕ × WrongLine) → old ≡ Err wrong → old0 ≡ Err wrong
-  pub wrong_new : (wrong : ℕ × WrongLine) → new ≡ Err wrong → new0 ≡ Err wrong
+abbrev pub after_text : List ℕ → List ℕ × ℕ → List ℕ × ℕ
+after_text text rest = (text ++ rest.0, rest.1)
 
--- the text has the header line and the lines of these corrections, but for the open sums
-pub record Wrote (by_token : Bool) (text : List ℕ) (removed : ℕ) (last : Option TokenSum) (done : List Pair) : Type 0 where
-  pub written : text ≡ head_of by_token ++ lines_of_changes by_token None done
-  pub open_sums : last ≡ last_sums by_token None done
-  pub counted : removed ≡ removed_in done
-
--- this text is of the first corrections of two ledgers, of which this is left
+-- The text of the corrections of two ledgers is this one, and after it what is left of both gives. A
+-- line that is wrong in what is left is the first wrong one of its ledger.
 pub record Walked (by_token : Bool) (text : List ℕ) (removed : ℕ) (last : Option TokenSum)
     (old new old0 new0 : Said) : Type 0 where
-  pub done : List Pair
-  pub rest : Left old0 new0 old new done
-  pub wrote : Wrote by_token text removed last done
+  pub rest : option_map (text_of by_token) (changes_of_both old0 new0)
+      ≡ option_map (λ changes. after_text text (text_left by_token removed last changes))
+      (changes_of_both old new)
+  pub wrong_old : (wrong : ℕ × WrongLine) → old ≡ Err wrong → old0 ≡ Err wrong
+  pub wrong_new : (wrong : ℕ × WrongLine) → new ≡ Err wrong → new0 ≡ Err wrong
 
 -- the same, of what reads gave of both, whatever follows
 abbrev pub IsWalked : Bool → List ℕ → ℕ → Option TokenSum → LedgerRows → LedgerRows → Type 0

@@ -1,5 +1,6 @@
 -- The corrections of each token, summed, and their text: CSV, a line for each token.
-use Rattle.std.specs.Prelude.{◌≡◌, ◌+◌, ℕ, Bool, true, false, List, [], ◌∷◌, ◌++◌, All, Contains, codes}
+use Rattle.std.specs.Prelude.{◌≡◌, ◌+◌, ℕ, Bool, true, false, List, [], ◌∷◌, ◌++◌, Contains, codes}
+use Rattle.std.specs.List.{AllByRecursion}
 use Rattle.std.specs.Prelude.{Result, Ok, Err, if◌then◌else◌, option_map}
 use Rattle.std.specs.Prelude.{Option, None, Some, filter, flat_map, length, sum_by}
 use Rattle.std.specs.Fmt.{decimal}
@@ -155,8 +156,8 @@ corrections_of by_token old new =
 -- these are the tokens that have a correction: each once, increasing
 pub record AreTokensOf (changes : List Pair) (tokens : List (List ℕ)) : Type 0 where
   pub increasing : IsStrictlySortedBy text_cmp tokens
-  pub some : All (λ token. ¬ (of_token token changes ≡ [])) tokens
-  pub all : All (λ change. Contains tokens change.key.token) changes
+  pub some : AllByRecursion (λ token. ¬ (of_token token changes ≡ [])) tokens
+  pub all : AllByRecursion (λ change. Contains tokens change.key.token) changes
 
 -- a line for each of these tokens, with the sums of its corrections
 abbrev pub tokens_lines : List Pair → List (List ℕ) → List ℕ

@@ -1,11 +1,10 @@
 //! Laws of corrections.
 
 ghost use Rattle.std.specs.Prelude.{◌≡◌, ℕ, List, All, Ok, false, true};
-ghost use Rattle.std.specs.List.Sorted.{IsSorted};
 ghost use Rattle.ledger_changes.specs.Changes.{AddUp, AreCorrections, IsSameOrListed, Pair};
 ghost use Rattle.ledger_changes.specs.Changes.{beside, changes_between};
 ghost use Rattle.ledger_changes.specs.Ledgers.{rows_of};
-ghost use Rattle.ledger_changes.specs.Rows.{key_cmp};
+ghost use Rattle.ledger_changes.specs.Rows.{AreInOrder};
 ghost use Rattle.ledger_changes.specs.Texts.{corrections_lines};
 ghost use Rattle.ledger_changes.specs.Tokens.{AreTokensOf, HasTokens, TokensAddUp, all_lines};
 ghost use Rattle.ledger_fields.specs.Rows.{Row};
@@ -13,15 +12,14 @@ ghost use Rattle.ledger_fields.specs.Rows.{Row};
 /// The rows of a settled ledger are in the order of their keys.
 pub fn ledgers_are_sorted()
     ensures { (text : List ℕ) (rows : List Row) → rows_of text ≡ Ok rows
-        → IsSorted (λ a b. key_cmp a.key b.key) rows }
+        → AreInOrder (λ row. row.key) rows }
 {}
 
 /// Bills in order are side by side in the corrections: each line is there once, in its bill's
 /// order, and lines of one key are paired as long as both bills have one.
 pub fn bills_are_side_by_side()
-    ensures { (old new : List Row) → IsSorted (λ a b. key_cmp a.key b.key) old
-        → IsSorted (λ a b. key_cmp a.key b.key) new
-        → AreCorrections old new (changes_between old new) }
+    ensures { (old new : List Row) → AreInOrder (λ row. row.key) old
+        → AreInOrder (λ row. row.key) new → AreCorrections old new (changes_between old new) }
 {}
 
 /// Corrections add up: the change of every sum over lines is the sum of the lines' changes.

@@ -2,13 +2,12 @@ use Rattle.std.proofs.Common.{◌∙◌, ◌∷◌, ◌++◌, [], ap, append_ass
 use Rattle.std.proofs.Common.{sym, Option, List, ℕ, option_map}
 use Rattle.std.specs.Prelude.{option_to_list}
 use Rattle.std.proofs.lemmas.Result.{err_from_is_err_and}
-use Rattle.recorded_lines.specs.Texts.{calls_of, left}
+use Rattle.recorded_lines.specs.Texts.{calls_of}
 use Rattle.recorded_lines.proofs.Reading.{follows_on, follows_self}
 use Rattle.ledger_changes.specs.Changes.{is_changed}
 use Rattle.ledger_changes.specs.Given.{IsWalked}
-use Rattle.ledger_changes.specs.Ledgers.{rows_of}
 use Rattle.ledger_changes.specs.Tokens.{lines_of_changes, sums_line}
-use Rattle.ledger_changes.specs.inside.Pairs.{next_sides, pairs_of}
+use Rattle.ledger_changes.specs.inside.Pairs.{next_sides}
 use Rattle.ledger_changes.specs.declared.pairs.LinePair.{LinePair}
 use Rattle.ledger_changes.specs.declared.row.LedgerRow.{LedgerRow}
 use Rattle.ledger_changes.specs.inside.Readings.{rows_at}
@@ -66,7 +65,7 @@ returns-in_err-before-clause-stopped c =
     (λ whole. rows_at c.loop.old whole) (c.loop.invariant.old_bill ∙ of_old)
     c.in_err-before.ensures.wrong (λ whole can wrong is.
     (c.loop.invariant.walked text w whole new.reading.bytes
-    (c.row_if.ensures.follows.back whole can) (can_be_read new)).rest.wrong_old wrong is))
+    (c.row_if.ensures.follows.back whole can) (can_be_read new)).wrong_old wrong is))
 
 pub returns-in_err-after-clause-stopped : goal.returns-in_err-after-clause-stopped
 returns-in_err-after-clause-stopped c =
@@ -78,38 +77,25 @@ returns-in_err-after-clause-stopped c =
     (calls_of c.row_if-in-loop.new.self.from) (λ whole. rows_at c.loop.new whole)
     (c.loop.invariant.new_bill ∙ of_new) c.in_err-after.ensures.wrong (λ whole can wrong is.
     (c.loop.invariant.walked text w old.reading.bytes whole (can_be_read old)
-    (c.row_if-in-loop.ensures.follows.back whole can)).rest.wrong_new wrong is))
+    (c.row_if-in-loop.ensures.follows.back whole can)).wrong_new wrong is))
 
 pub returns-in_default-clause-given : goal.returns-in_default-clause-given
 returns-in_default-clause-given c = (
   λ old new.
       let (o, n) = c.loop.invariant.ended old new in
       (c.in_ok-before.ensures.ended o, c.in_ok-after.ensures.ended n),
-  λ text w o n can_o can_n.
-      let by_token = c.args.is_by_token in
-      let piece = c.loop.piece.items in
-      let last = sum_in c.loop.tally.last in
-      let sides = c.next_sides-has_old.ensures
+  λ text w o n can_o can_n. moved_end (c.loop.invariant.walked text w o n (c.row_if.ensures.follows.back o can_o)
+      (c.row_if-in-loop.ensures.follows.back n can_n))
+      (moved c.loop.old c.loop.new o n (c.next_sides-has_old.ensures
       ∙ ap (λ (row : Option LedgerRow). next_sides (row_in row) (row_in c.row-in-loop.result.now))
       c.row.ensures
       ∙ ap (λ (row : Option LedgerRow). next_sides (row_in c.loop.old.row) (row_in row))
-      c.row-in-loop.ensures in
-      let pairs = pairs_of (row_in c.in_ok-before.before) (row_in c.in_ok-after.after) in
-      let none = sym
-      (ap (λ (pair : Option LinePair). option_to_list (option_map pair_of pair)) c.in_default.is)
-      ∙ c.of_rows.ensures in
-      moved_end by_token (text ++ piece) (text ++ c.push_sums.new.text.items) c.loop.tally.removed
-      last (rows_at c.row_if.new.self o) (rows_at c.row_if-in-loop.new.self n) pairs (rows_of o)
-      (rows_of n) none (ap (λ (p : List ℕ). text ++ p) c.in_ok-push_sums.ensures
-      ∙ sym (append_assoc text piece (sums_line last)))
-      (moved by_token (text ++ piece) c.loop.tally.removed last (rows_at c.row_if.new.self o)
-      (rows_at c.row_if-in-loop.new.self n) c.loop.old.row c.loop.new.row
-      c.in_ok-before.before c.in_ok-after.after c.loop.old.number c.loop.new.number
-      (left c.loop.old.from o) (left c.loop.new.from n) c.next_sides-has_old.result (rows_of o)
-      (rows_of n) sides c.in_ok-before.ensures.row c.in_ok-after.ensures.row
-      (c.in_ok-before.ensures.moved o can_o) (c.in_ok-after.ensures.moved n can_n)
-      (c.loop.invariant.walked text w o n (c.row_if.ensures.follows.back o can_o)
-      (c.row_if-in-loop.ensures.follows.back n can_n))),
+      c.row-in-loop.ensures) c.in_ok-before.ensures.row c.in_ok-after.ensures.row
+      (c.in_ok-before.ensures.moved o can_o) (c.in_ok-after.ensures.moved n can_n))
+      (sym (ap (λ (pair : Option LinePair). option_to_list (option_map pair_of pair)) c.in_default.is)
+      ∙ c.of_rows.ensures)
+      (ap (λ (p : List ℕ). text ++ p) c.in_ok-push_sums.ensures
+      ∙ sym (append_assoc text c.loop.piece.items (sums_line (sum_in c.loop.tally.last)))),
 )
 
 pub loop-preserved : goal.loop-preserved
@@ -121,35 +107,18 @@ loop-preserved c = record {
   ended = λ old new.
       let (o, n) = c.loop.invariant.ended old new in
       (c.in_ok-before.ensures.ended o, c.in_ok-after.ensures.ended n);
-  walked = λ text w o n can_o can_n.
-      let by_token = c.args.is_by_token in
-      let piece = c.loop.piece.items in
-      let last = sum_in c.loop.tally.last in
-      let sides = c.next_sides-has_old.ensures
+  walked = λ text w o n can_o can_n. moved_next (c.loop.invariant.walked text w o n (c.row_if.ensures.follows.back o can_o)
+      (c.row_if-in-loop.ensures.follows.back n can_n))
+      (moved c.loop.old c.loop.new o n (c.next_sides-has_old.ensures
       ∙ ap (λ (row : Option LedgerRow). next_sides (row_in row) (row_in c.row-in-loop.result.now))
       c.row.ensures
       ∙ ap (λ (row : Option LedgerRow). next_sides (row_in c.loop.old.row) (row_in row))
-      c.row-in-loop.ensures in
-      let pairs = pairs_of (row_in c.in_ok-before.before) (row_in c.in_ok-after.after) in
-      let pair = pair_of c.in-Some.pair in
-      let some = sym
-      (ap (λ (pair : Option LinePair). option_to_list (option_map pair_of pair)) c.in-Some.is)
-      ∙ c.of_rows.ensures in
-      moved_next by_token (text ++ piece)
-      (lines_of_changes by_token last (filter is_changed (pair ∷ [])))
-      (text ++ c.take_pair.new.piece.items) c.loop.tally.removed c.take_pair.new.tally.removed last
-      (sum_in c.take_pair.new.tally.last) (rows_at c.row_if.new.self o)
-      (rows_at c.row_if-in-loop.new.self n) pairs pair (rows_of o) (rows_of n) some
+      c.row-in-loop.ensures) c.in_ok-before.ensures.row c.in_ok-after.ensures.row
+      (c.in_ok-before.ensures.moved o can_o) (c.in_ok-after.ensures.moved n can_n))
+      (sym (ap (λ (pair : Option LinePair). option_to_list (option_map pair_of pair)) c.in-Some.is)
+      ∙ c.of_rows.ensures)
       (ap (λ (p : List ℕ). text ++ p) c.in_ok-take_pair.ensures.lines
-      ∙ sym (append_assoc text piece
-      (lines_of_changes by_token last (filter is_changed (pair ∷ [])))))
-      refl c.in_ok-take_pair.ensures.sums c.in_ok-take_pair.ensures.removed
-      (moved by_token (text ++ piece) c.loop.tally.removed last (rows_at c.row_if.new.self o)
-      (rows_at c.row_if-in-loop.new.self n) c.loop.old.row c.loop.new.row
-      c.in_ok-before.before c.in_ok-after.after c.loop.old.number c.loop.new.number
-      (left c.loop.old.from o) (left c.loop.new.from n) c.next_sides-has_old.result (rows_of o)
-      (rows_of n) sides c.in_ok-before.ensures.row c.in_ok-after.ensures.row
-      (c.in_ok-before.ensures.moved o can_o) (c.in_ok-after.ensures.moved n can_n)
-      (c.loop.invariant.walked text w o n (c.row_if.ensures.follows.back o can_o)
-      (c.row_if-in-loop.ensures.follows.back n can_n)));
+      ∙ sym (append_assoc text c.loop.piece.items (lines_of_changes c.args.is_by_token
+      (sum_in c.loop.tally.last) (filter is_changed (pair_of c.in-Some.pair ∷ [])))))
+      c.in_ok-take_pair.ensures.sums c.in_ok-take_pair.ensures.removed;
 }

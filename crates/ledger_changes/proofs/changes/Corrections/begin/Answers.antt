@@ -29,8 +29,7 @@ returns-in-Ok-begin-clause-given c =
       of_new = c.in-Ok-begin.ensures.bill ∙ c.requires.of_new;
       ended_old = c.in-Ok.ensures.ended;
       ended_new = c.in-Ok-begin.ensures.ended;
-      walked = λ o n can_o can_n. walk_first self.is_by_token _ _ _ _ (rows_of o) (rows_of n)
-          c.requires.none c.requires.closed
+      walked = λ o n can_o can_n. walk_first self.is_by_token c.requires.none c.requires.closed
           (c.in-Ok.ensures.read o can_o ∙ ap rows_of (all_left self.old.from o c.requires.fresh_old))
           (c.in-Ok-begin.ensures.read n can_n
           ∙ ap rows_of (all_left self.new.from n c.requires.fresh_new));
