@@ -1,12 +1,12 @@
 -- Parts that are read one after the other: their fronts, and then their lines.
 use Rattle.std.proofs.Common.{◌≡◌, ◌∙◌, ◌+◌, ◌<◌, ◌≤◌, ℕ, suc, zero, List, [], ◌∷◌, ◌++◌}
 use Rattle.std.proofs.Common.{Bool, Option, None, Some, Result, Ok, Err, ap, append-nil, append_assoc}
-use Rattle.std.proofs.Common.{arith, drop, get_or, get_or-set_same, length, map, refl, set, subst, sym}
-use Rattle.std.proofs.Common.{take}
+use Rattle.std.proofs.Common.{arith, drop, get_or, length, map, refl, set, subst, sym}
+use Rattle.std.proofs.Common.{take, length-append}
 use Rattle.std.specs.Prelude.{All, nat_le, slice_get}
 use Rattle.std.specs.List.{AllZip}
 use Rattle.std.proofs.lemmas.Bool.Decides.{nat_tests}
-use Rattle.std.proofs.lemmas.List.{drop-drop, drop-set-lt, drop_all, drop_more, length-set, take_all}
+use Rattle.std.proofs.lemmas.List.{drop-drop, drop-set-lt, drop_all, drop_more, take_all}
 use Rattle.std.proofs.lemmas.List.{take_more_set}
 use Rattle.std.proofs.lemmas.List.Elements.{All-drop, All-head, All-map, All-push}
 use Rattle.std.proofs.lemmas.List.Elements.{All-weaker}
@@ -31,7 +31,7 @@ use Rattle.part_texts.specs.declared.fault.MergeFault.{MergeFault}
 use Rattle.part_texts.specs.declared.fault.MergeFault.TheVariants.{Line, Unread, Write, NoMemory}
 use Rattle.part_texts.specs.declared.merging.Open.{Open}
 use Rattle.part_texts.proofs.Parts.{TextAt, can_be_read, can_before, follow_on, follow_self}
-use Rattle.part_texts.proofs.Parts.{follow_set, text_at, views_at, views_length}
+use Rattle.part_texts.proofs.Parts.{follow_length, follow_set, text_here, views_at, views_length}
 use Rattle.part_texts.proofs.Parts.{views_more}
 use Rattle.part_texts.proofs.Written.{written_more, written_none, written_on}
 
@@ -96,12 +96,15 @@ none_opened first parts from none = record {
   same = λ texts can. ap (λ ps. fronts_of first (views_of ps from texts) texts) (sym none);
 }
 
-module _ (first now mid : FrontsView) (parts : List Open) (start from : List Lines) (i : ℕ)
-    (d next : Lines) (at : AreOpened first now parts start from i) (fresh : All IsFresh start)
-    (count : ℕ) (all : count ≡ length from) (within : i < length from)
-    (read_on : Follows (get_or from i d) next) (begins : mid ≡ started i count now) where
+module _ {first now mid : FrontsView} {parts : List Open} {start from : List Lines} {i : ℕ}
+    {next : Lines} (d : Lines) (at : AreOpened first now parts start from i) (fresh : All IsFresh start)
+    (some : i < length start) (read_on : Follows (get_or from i d) next)
+    (begins : mid ≡ started i (length start) now) where
   abbrev one : Lines
   one = get_or from i d
+
+  within : i < length from
+  within = let l = follow_length start from at.follow in omega (arith, l, some)
 
   pub opened_on : AllZip Follows start (set from i next)
   opened_on = follow_on start from (set from i next) at.follow
@@ -117,48 +120,39 @@ module _ (first now mid : FrontsView) (parts : List Open) (start from : List Lin
   now_at texts can = can_before from (set from i next) texts
       (follow_set from i next d within read_on) can
 
-  here : (texts : List (List ℕ)) → AllZip CanBe (map calls_of (set from i next)) texts
-      → TextAt texts next i (length from)
-  here texts can =
-      subst (TextAt texts next i) (length-set from i next)
-      (subst (λ l. TextAt texts l i (length (set from i next)))
-      (get_or-set_same from i next next within)
-      (text_at (set from i next) texts i next
-      (let l = length-set from i next in omega (arith, l, within)) can))
-
   -- what all of them give, by the front of this one
-  by_front : (texts : List (List ℕ))
-      (can : AllZip CanBe (map calls_of (set from i next)) texts)
-      → fronts_of first [] texts
-      ≡ and_then (front_of i mid (left one (here texts can).text))
+  by_front : (texts : List (List ℕ)) → AllZip CanBe (map calls_of (set from i next)) texts
+      → (t : TextAt texts next i (length from)) → fronts_of first [] texts
+      ≡ and_then (front_of i mid (left one t.text))
       (λ read. fronts_of read.0 (views_of parts from texts ++ read.1 ∷ []) (drop (i + 1) texts))
-  by_front texts can =
-      let t = here texts can in
+  by_front texts can t =
       let n = at.number in
+      let l = follow_length start from at.follow in
       let views = views_of parts from texts in
       let number : length views ≡ i =
       views_length parts from texts (omega (arith, n, within)) (now_at texts can) ∙ n in
-      at.same texts (now_at texts can) ∙ ap (fronts_of now views) t.here
-      ∙ ap (λ r. and_then r (λ read. fronts_of read.0 (views ++ read.1 ∷ []) (drop (i + 1) texts)))
-      (ap (λ n. front_of n (at_part n (drop (i + 1) texts) now) t.text) number
-      ∙ ap (λ s. front_of i s t.text)
-      (sym (begins ∙ at_started i count (drop (i + 1) texts) now (all ∙ t.number)))
-      ∙ ap (front_of i mid)
-      (sym (ap (λ (l : List ℕ). l ++ drop (length (calls_of one).reading.bytes) t.text)
-      is_fresh.none ∙ ap (λ (l : List ℕ). drop (length l) t.text) is_fresh.unread)))
+      let fresh : left one t.text ≡ t.text = rw (is_fresh.none, is_fresh.unread) in
+      at.same texts (now_at texts can)
+      ∙ rw (
+        t.here,
+        number,
+        fresh,
+        begins ∙ at_started i (length start) (drop (i + 1) texts) now
+            (sym l ∙ t.number),
+      )
 
-  pub one_opened : (new : FrontsView) (part : Open) (more : List Open) → more ≡ parts ++ part ∷ []
+  pub one_opened : {new : FrontsView} {more : List Open} (part : Open) → more ≡ parts ++ part ∷ []
       → ((whole : List ℕ) → CanBe (calls_of next) whole
       → FrontRead (front_of i mid (left one whole)) new (lines_at next whole) i (calls_of next)
       (Ok part))
       → AreOpened first new more start (set from i next) (i + 1)
-  one_opened new part more pushed read = record {
-    number = ap length pushed ∙ grown parts part ∙ ap (λ n. n + 1) at.number;
+  one_opened {new = new} part pushed read = record {
+    number = ap length pushed ∙ length-append parts (part ∷ []) ∙ ap (λ n. n + 1) at.number;
     follow = opened_on;
     rest = drop-set-lt (i + 1) from i next (omega arith) ∙ rests;
     same = λ texts can.
-        let t = here texts can in
-        by_front texts can
+        let t = text_here from next i within texts can in
+        by_front texts can t
         ∙ ap (λ r. and_then r (λ read. fronts_of read.0 (views_of parts from texts ++ read.1 ∷ [])
         (drop (i + 1) texts))) (read t.text t.can)
         ∙ ap (λ views. fronts_of new views (drop (i + 1) texts))
@@ -169,10 +163,6 @@ module _ (first now mid : FrontsView) (parts : List Open) (start from : List Lin
         (ap (λ n. drop n texts) at.number ∙ t.here)));
   }
     where
-      grown : (xs : List Open) (x : Open) → length (xs ++ x ∷ []) ≡ length xs + 1
-      grown [] x = refl
-      grown (y ∷ xs) x = let l = grown xs x in omega (arith, l)
-
       rests : drop (i + 1) from ≡ drop (i + 1) start
       rests = sym (drop-drop 1 i from) ∙ ap (drop 1) at.rest ∙ drop-drop 1 i start
 
@@ -182,16 +172,17 @@ module _ (first now mid : FrontsView) (parts : List Open) (start from : List Lin
       → (texts : List (List ℕ)) → AllZip CanBe (map calls_of (set from i next)) texts
       → IsFaultOf (fronts_of first [] texts) (map calls_of (set from i next)) fault
   not_opened fault read texts can =
-      let t = here texts can in
-      part_fault _ _ _ from i next fault within (by_front texts can) (read t.text t.can)
+      let t = text_here from next i within texts can in
+      part_fault _ _ _ from i next fault within (by_front texts can t) (read t.text t.can)
 
-pub all_opened : (first now : FrontsView) (parts : List Open) (start from : List Lines) (i : ℕ)
-    → AreOpened first now parts start from i → length from ≤ i → (texts : List (List ℕ))
+pub all_opened : {first now : FrontsView} {parts : List Open} {start from : List Lines} {i : ℕ}
+    → AreOpened first now parts start from i → length start ≤ i → (texts : List (List ℕ))
     → AllZip CanBe (map calls_of from) texts
     → fronts_of first [] texts ≡ Ok (now, views_of parts from texts)
-all_opened first now parts start from i at all texts can =
+all_opened {now = now} {parts = parts} {start = start} {from = from} {i = i} at past texts can =
+    let l = follow_length start from at.follow in
     at.same texts can
-    ∙ ap (fronts_of now (views_of parts from texts)) (none_at from texts i all can)
+    ∙ ap (fronts_of now (views_of parts from texts)) (none_at from texts i (omega (arith, l, past)) can)
   where
     none_at : (from : List Lines) (texts : List (List ℕ)) (i : ℕ) → length from ≤ i
         → AllZip CanBe (map calls_of from) texts → drop i texts ≡ []
@@ -229,27 +220,25 @@ none_copied parts from r = record {
   lines = λ texts can. refl;
 }
 
-module _ (parts : List Open) (start from : List Lines) (i : ℕ) (last : Option Token)
-    (before now after : Run) (part : Open) (d next : Lines)
-    (at : AreCopied parts start from i last before now) (few : length parts ≡ length from)
-    (within : i < length from) (part_is : part ≡ get_or parts i part)
+module _ {parts : List Open} {start from : List Lines} {i : ℕ} {last : Option Token}
+    {before now : Run} {part : Open} {next : Lines} (d : Lines)
+    (at : AreCopied parts start from i last before now) (same : length parts ≡ length start)
+    (some : i < length start) (part_is : part ≡ get_or parts i part)
     (read_on : Follows (get_or from i d) next) where
   abbrev old : Lines
   old = get_or from i d
 
+  few : length parts ≡ length from
+  few = same ∙ sym (follow_length start from at.follow)
+
+  inside : i < length from
+  inside = let l = follow_length start from at.follow in omega (arith, l, some)
+
   on : AllZip Follows from (set from i next)
-  on = follow_set from i next d within read_on
+  on = follow_set from i next d inside read_on
 
   pub copied_on : AllZip Follows start (set from i next)
   copied_on = follow_on start from (set from i next) at.follow on
-
-  text_of : (texts : List (List ℕ)) → AllZip CanBe (map calls_of (set from i next)) texts
-      → TextAt texts next i (length (set from i next))
-  text_of texts can =
-      subst (λ l. TextAt texts l i (length (set from i next)))
-      (get_or-set_same from i next next within)
-      (text_at (set from i next) texts i next
-      (let l = length-set from i next in omega (arith, l, within)) can)
 
   abbrev later : List (List ℕ) → List OpenView
   later texts = views_of (drop (i + 1) parts) (drop (i + 1) from) (drop (i + 1) texts)
@@ -258,7 +247,7 @@ module _ (parts : List Open) (start from : List Lines) (i : ℕ) (last : Option 
       → views_of (drop i parts) (drop i from) (drop i texts)
       ≡ view_of part (lines_at old text) ∷ later texts
   split texts text here =
-      views_at parts from texts i part d text (omega (arith, few, within)) within here
+      views_at parts from texts i part d text (omega (arith, few, inside)) inside here
       ∙ ap (λ p. view_of p (lines_at old text) ∷ later texts) (sym part_is)
 
   passed : (texts : List (List ℕ))
@@ -268,17 +257,16 @@ module _ (parts : List Open) (start from : List Lines) (i : ℕ) (last : Option 
       ap (λ f. views_of (drop (i + 1) parts) f (drop (i + 1) texts))
       (sym (drop-set-lt (i + 1) from i next (omega arith)))
 
-  pub one_copied : (end : Option Token)
-      → Copies i last part old next now after (Ok end)
+  pub one_copied : {end : Option Token} {after : Run} → Copies i last part old next now after (Ok end)
       → AreCopied parts start (set from i next) (i + 1) end before after
-  one_copied end (more, wrote, ends, said) = record {
+  one_copied {end = end} {after = after} (more, wrote, ends, said) = record {
     follow = copied_on;
-    ended = subst (All IsEndAt) (sym (take_more_set from i next within))
+    ended = subst (All IsEndAt) (sym (take_more_set from i next inside))
         (All-push IsEndAt (take i from) next at.ended ends);
     text = at.text ++ more;
     wrote = written_on before now after at.text more at.wrote wrote;
     same = λ texts can.
-        let t = text_of texts can in
+        let t = text_here from next i inside texts can in
         let (s, section, last_is, lines) = said t.text t.can in
         at.same texts (can_before from (set from i next) texts on can)
         ∙ ap (sections_of i last) (split texts t.text t.here)
@@ -287,7 +275,7 @@ module _ (parts : List Open) (start from : List Lines) (i : ℕ) (last : Option 
         ∙ ap (λ l. sections_of (i + 1) l (later texts)) last_is
         ∙ ap (sections_of (i + 1) end) (passed texts);
     lines = λ texts can.
-        let t = text_of texts can in
+        let t = text_here from next i inside texts can in
         let (s, section, last_is, lines) = said t.text t.can in
         at.lines texts (can_before from (set from i next) texts on can)
         ∙ ap (λ views. at.text ++ lines_left views) (split texts t.text t.here)
@@ -296,44 +284,44 @@ module _ (parts : List Open) (start from : List Lines) (i : ℕ) (last : Option 
         ∙ ap (λ views. (at.text ++ more) ++ lines_left views) (passed texts);
   }
 
-  pub not_copied : (fault : MergeFault) → Copies i last part old next now after (Err fault)
+  pub not_copied : (after : Run) (fault : MergeFault) → Copies i last part old next now after (Err fault)
       → CopiesAll parts start (set from i next) before after (Err fault)
-  not_copied fault (more, leaves, said) = (
+  not_copied after fault (more, leaves, said) = (
     at.text ++ more,
     subst (λ r. Leaves fault r after)
         (ap (λ r. with_written r more) at.wrote ∙ written_more before at.text more) leaves,
     λ texts can.
-        let t = text_of texts can in
+        let t = text_here from next i inside texts can in
         let back = can_before from (set from i next) texts on can in
         let (wrong, rest, lines) = said t.text t.can in (
           part_fault (section_of i last (view_of part (lines_at old t.text)))
               (λ (s : SectionView). sections_of (i + 1) s.last (later texts))
-              (sections_of 0 None (views_of parts start texts)) from i next fault within
+              (sections_of 0 None (views_of parts start texts)) from i next fault inside
               (at.same texts back ∙ ap (sections_of i last) (split texts t.text t.here)) wrong,
           rest ++ lines_left (later texts),
           at.lines texts back
               ∙ ap (λ views. at.text ++ lines_left views) (split texts t.text t.here)
               ∙ ap (λ l. at.text ++ (l ++ lines_left (later texts))) lines
-              ∙ ap (λ l. at.text ++ l) (append_assoc more rest (lines_left (later texts)))
-              ∙ sym (append_assoc at.text more (rest ++ lines_left (later texts))),
+              ∙ simp append_assoc,
         ),
   )
 
-pub all_copied : (parts : List Open) (start from : List Lines) (i : ℕ) (last : Option Token)
-    (before after : Run) → AreCopied parts start from i last before after
-    → length parts ≡ length from → length from ≤ i
+pub all_copied : {parts : List Open} {start from : List Lines} {i : ℕ} {last : Option Token}
+    {before after : Run} → AreCopied parts start from i last before after
+    → length parts ≡ length start → length start ≤ i
     → CopiesAll parts start from before after (Ok tt)
-all_copied parts start from i last before after at few past = (
+all_copied {parts = parts} {start = start} {from = from} {i = i} {last = last} at same past = (
   at.text,
   at.wrote,
-  subst (All IsEndAt) (take_all i from past) at.ended,
+  subst (All IsEndAt) (take_all i from (let l = follow_length start from at.follow in
+      omega (arith, l, past))) at.ended,
   λ texts can. (
     last,
     at.same texts can ∙ ap (λ ps. sections_of i last (views_of ps (drop i from) (drop i texts)))
-        (drop_all i parts (omega (arith, few, past))),
+        (drop_all i parts (omega (arith, same, past))),
     at.lines texts can
         ∙ ap (λ ps. at.text ++ lines_left (views_of ps (drop i from) (drop i texts)))
-        (drop_all i parts (omega (arith, few, past))) ∙ append-nil at.text,
+        (drop_all i parts (omega (arith, same, past))) ∙ append-nil at.text,
   ),
 )
 

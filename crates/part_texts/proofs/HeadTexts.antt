@@ -49,10 +49,8 @@ pub in_line : (start a b c d done : List ℕ) (file : ℕ) (span : FileSpan)
     → done ≡ d ++ codes "\n" → done ≡ start ++ span_line file span
 unfolding span_line
 in_line start a b c d done file span p1 p2 p3 p4 p5 =
-    p5 ∙ ap (λ t. t ++ codes "\n") (p4 ∙ ap (λ t. t ++ to_text span.to)
-    (p3 ∙ ap (λ t. t ++ codes " to ") (p2 ∙ ap (λ t. t ++ position_text span.from) p1)))
-    ∙ joined start (codes "file ") (decimal file) (codes " from ") (position_text span.from)
-    (codes " to ") (to_text span.to) (codes "\n")
+    rw (p5, p4, p3, p2, p1) (joined start (codes "file ") (decimal file) (codes " from ")
+    (position_text span.from) (codes " to ") (to_text span.to) (codes "\n"))
   where
     joined : (s f n w p t e l : List ℕ) → ((((s ++ (f ++ (n ++ w))) ++ p) ++ t) ++ e) ++ l
         ≡ s ++ (f ++ (n ++ (w ++ (p ++ (t ++ (e ++ l))))))

@@ -228,11 +228,7 @@ joined_next last news (span ∷ spans) ends = (
   from_ends spans ++ news,
   refl,
   ends.0,
-  subst (λ all. are_joined false last ((from_ends spans ++ news) ++ span.to ∷ []) spans all)
-      (append_assoc news (span.to ∷ []) (to_ends spans))
-      (subst (λ e. are_joined false last e spans ((news ++ span.to ∷ []) ++ to_ends spans))
-      (sym (append_assoc (from_ends spans) news (span.to ∷ [])))
-      (joined_next last (news ++ span.to ∷ []) spans ends.1)),
+  simp append_assoc (simp append_assoc at (joined_next last (news ++ span.to ∷ []) spans ends.1)),
 )
 
 pub joined_first : (last : Bool) (news : List (Option Position)) (spans : List FileSpan)
@@ -245,9 +241,7 @@ joined_first last news (span ∷ spans) from ends =
       news,
       ap (λ (p : Position). Some (p, news)) here,
       ends.0,
-      subst (λ all. are_joined true last (news ++ span.to ∷ []) spans all)
-          (append_assoc news (span.to ∷ []) (to_ends spans))
-          (joined_first last (news ++ span.to ∷ []) spans more ends.1),
+      simp append_assoc at (joined_first last (news ++ span.to ∷ []) spans more ends.1),
     )
 
 may_all : (spans : List FileSpan) → MayAllEnd false spans
@@ -273,20 +267,16 @@ posted_first : (news ns : List ℕ) (posted : ℕ) → posted + sum_up ns < 2 ^ 
 posted_first news [] posted few =
     (sym (append-nil news), (let e : posted ≡ posted + 0 = omega arith in e))
 posted_first news (n ∷ ns) posted few =
-    let sum : (posted + n) + sum_up ns ≡ posted + (n + sum_up ns) = omega arith in (
+    let sum : (posted + n) + sum_up ns ≡ posted + (n + sum_up ns) = omega arith in
+    let none : 0 + n ≡ n = omega arith in (
       0,
       news,
       refl,
       omega (arith, few),
       omega (arith, few),
       omega (arith, few),
-      subst (λ all. are_posted_to true (news ++ (0 + n) ∷ []) (posted + n) ns all
-          (posted + (n + sum_up ns)))
-          (ap (λ k. (news ++ k ∷ []) ++ ns) (let e : 0 + n ≡ n = omega arith in e)
-          ∙ append_assoc news (n ∷ []) ns)
-          (subst (λ s. are_posted_to true (news ++ (0 + n) ∷ []) (posted + n) ns
-          ((news ++ (0 + n) ∷ []) ++ ns) s) sum
-          (posted_first (news ++ (0 + n) ∷ []) ns (posted + n) (omega (arith, few)))),
+      rw none (simp (append_assoc, sum) at
+          (posted_first (news ++ n ∷ []) ns (posted + n) (omega (arith, few)))),
     )
 
 posted_next : (olds news ns : List ℕ) (posted : ℕ) → length olds ≡ length ns
@@ -304,15 +294,8 @@ posted_next (o ∷ olds) news (n ∷ ns) posted same few all =
       omega (arith, few),
       omega (arith, all),
       omega (arith, few),
-      subst (λ to. are_posted_to false ((olds ++ news) ++ (o + n) ∷ []) (posted + n) ns to
-          (posted + (n + sum_up ns))) (append_assoc news ((o + n) ∷ []) (added olds ns))
-          (subst (λ s. are_posted_to false ((olds ++ news) ++ (o + n) ∷ []) (posted + n) ns
-          ((news ++ (o + n) ∷ []) ++ added olds ns) s) sum
-          (subst (λ from. are_posted_to false from (posted + n) ns
-          ((news ++ (o + n) ∷ []) ++ added olds ns) ((posted + n) + sum_up ns))
-          (sym (append_assoc olds news ((o + n) ∷ [])))
-          (posted_next olds (news ++ (o + n) ∷ []) ns (posted + n) (omega (arith, same))
-          (omega (arith, few)) (omega (arith, all))))),
+      simp append_assoc (simp (append_assoc, sum) at (posted_next olds (news ++ (o + n) ∷ []) ns
+          (posted + n) (omega (arith, same)) (omega (arith, few)) (omega (arith, all)))),
     )
 
 added_sum : (xs ys : List ℕ) → sum_up (added xs ys) ≡ sum_up xs + sum_up ys
@@ -551,13 +534,10 @@ follow files ends taps history last (p ∷ ps) number join goes =
     let ends_valid = may_end_all p.spans (spans_of ps) join.1 in
     let joined : are_joined false (is_none_after (map report_of ps)) ends p.spans
     (to_ends p.spans) =
-    subst (λ b. are_joined false b ends p.spans (to_ends p.spans)) (none_after ps)
-    (subst (λ e. are_joined false (is_none_after (spans_of ps)) e p.spans (to_ends p.spans))
-    (append-nil (from_ends p.spans) ∙ sym join.0)
-    (joined_next (is_none_after (spans_of ps)) [] p.spans ends_valid)) in
+    rw (← (none_after ps), join.0, ← (append-nil (from_ends p.spans)))
+    (joined_next (is_none_after (spans_of ps)) [] p.spans ends_valid) in
     let posted : are_posted_to false taps 0 p.taps (added taps p.taps) (0 + sum_up p.taps) =
-    subst (λ t. are_posted_to false t 0 p.taps (added taps p.taps) (0 + sum_up p.taps))
-    (append-nil taps) (posted_next taps [] p.taps 0 same small is.sums) in
+    rw append-nil at (posted_next taps [] p.taps 0 same small is.sums) in
     let part = one_part false (is_none_after (map report_of ps)) ends taps history last p goes.fit.0
     (same_number (length p.spans) (length ends) (goes.number.0 ∙ sym number)) joined posted is.few
     is.above is.below in
@@ -572,14 +552,8 @@ follow files ends taps history last (p ∷ ps) number join goes =
         so_far (to_ends p.spans) (added taps p.taps) (history ++ p.history)
             (last_of last (sums_by_token p.history)),
         part,
-        subst (λ ts. are_next IsNextPart false (so_far (to_ends p.spans) (added taps p.taps)
-            (history ++ p.history) (last_of last (sums_by_token p.history))) (map report_of ps)
-            (so_far all_ends ts (history ++ (p.history ++ whole_history ps)) all_last))
-            (added_assoc taps p.taps (numbers_of ps))
-            (subst (λ h. are_next IsNextPart false (so_far (to_ends p.spans) (added taps p.taps)
-            (history ++ p.history) (last_of last (sums_by_token p.history))) (map report_of ps)
-            (so_far all_ends (added (added taps p.taps) (numbers_of ps)) h all_last))
-            (append_assoc history p.history (whole_history ps)) more),
+        rw (added_assoc taps p.taps (numbers_of ps), append_assoc history p.history (whole_history ps))
+            at more,
       ),
     )
 
@@ -600,8 +574,7 @@ begins files p ps right =
     let ends_valid = may_end_all p.spans (spans_of ps) whole.1 in
     let small : 0 + sum_up p.taps < 2 ^ 64 = omega (arith, now, all, few) in
     let joined : are_joined true (is_none_after (map report_of ps)) [] p.spans (to_ends p.spans) =
-    subst (λ b. are_joined true b [] p.spans (to_ends p.spans)) (none_after ps)
-    (joined_first (is_none_after (spans_of ps)) [] p.spans whole.0 ends_valid) in
+    rw (← (none_after ps)) (joined_first (is_none_after (spans_of ps)) [] p.spans whole.0 ends_valid) in
     let posted : are_posted_to true [] 0 p.taps (added [] p.taps) (0 + sum_up p.taps) =
     posted_first [] p.taps 0 small in
     let part = one_part true (is_none_after (map report_of ps)) [] [] [] None p right.fit.0 refl

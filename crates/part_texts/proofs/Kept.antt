@@ -66,18 +66,4 @@ pub added_one : (v : ℕ) (old new : List (ℕ × Totals)) (kept sum : Sums) (al
     → Some (sums_of all) ≡ sums_within kept sum → new ≡ insert_entry nat_cmp old v all
     → with_validator (shown_sums sums_of old) (v, sum) ≡ Some (shown_sums sums_of new)
 added_one v old new kept sum all is fits put =
-    ap (λ s. option_map (λ sums. insert_entry nat_cmp (shown_sums sums_of old) v sums)
-    (sums_within s sum))
-    (sym is)
-    ∙ ap (option_map (λ sums. insert_entry nat_cmp (shown_sums sums_of old) v sums)) (sym fits)
-    ∙ ap Some (sym (inserted_shown v all old) ∙ ap (shown_sums sums_of) (sym put))
-
-pub not_added : (v : ℕ) (old : List (ℕ × Totals)) (kept sum : Sums)
-    → kept ≡ unwrap_or (lookup (is_at (nat_cmp v)) (shown_sums sums_of old)) no_sums
-    → None ≡ sums_within kept sum
-    → with_validator (shown_sums sums_of old) (v, sum) ≡ None
-not_added v old kept sum is full =
-    ap (λ s. option_map (λ sums. insert_entry nat_cmp (shown_sums sums_of old) v sums)
-    (sums_within s sum))
-    (sym is)
-    ∙ ap (option_map (λ sums. insert_entry nat_cmp (shown_sums sums_of old) v sums)) (sym full)
+    rw (← is, ← fits) (ap Some (sym (inserted_shown v all old) ∙ ap (shown_sums sums_of) (sym put)))

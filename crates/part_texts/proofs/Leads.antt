@@ -47,18 +47,22 @@ module _ {S W : Type 0} {done : S → Bool} {long : W} {step : S → List ℕ �
 
   pub by_line : {s t : S} {line : List ℕ} → IsOneLine 1000 line → done s ≡ false
       → step s line ≡ Ok t → Leads done long step s line t
-  by_line {s = s} {line = line} is goes taken = record { on = λ number rest. (
-    number + 1,
-    ap (run done (bounded long step) number s) (first_line 1000 line rest is)
-        ∙ rw (goes, not_long line is, taken),
-  ) }
+  by_line {s = s} {line = line} is goes taken = record {
+    on = λ number rest. (
+      number + 1,
+      ap (run done (bounded long step) number s) (first_line 1000 line rest is)
+          ∙ rw (goes, not_long line is, taken),
+    );
+  }
 
   pub by_both : {s t u : S} {a b : List ℕ} → Leads done long step s a t
       → Leads done long step t b u → Leads done long step s (a ++ b) u
-  by_both {s = s} {a = a} {b = b} first second = record { on = λ number rest.
-      let (next, one) = first.on number (b ++ rest) in
-      let (last, two) = second.on next rest in (
-        last,
-        ap (λ (l : List ℕ). run done (bounded long step) number s (lines_of l))
-            (append_assoc a b rest) ∙ one ∙ two,
-      ) }
+  by_both {s = s} {a = a} {b = b} first second = record {
+    on = λ number rest.
+        let (next, one) = first.on number (b ++ rest) in
+        let (last, two) = second.on next rest in (
+          last,
+          ap (λ (l : List ℕ). run done (bounded long step) number s (lines_of l))
+              (append_assoc a b rest) ∙ one ∙ two,
+        );
+  }

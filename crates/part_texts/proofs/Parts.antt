@@ -1,8 +1,9 @@
 -- Parts that are read on, each at its place.
-use Rattle.std.proofs.Common.{◌≡◌, ◌∙◌, ◌+◌, ◌<◌, ◌≤◌, ℕ, suc, zero, List, [], ◌∷◌, ◌++◌, ap, arith}
+use Rattle.std.proofs.Common.{subst, ◌≡◌, ◌∙◌, ◌+◌, ◌<◌, ◌≤◌, ℕ, suc, zero, List, [], ◌∷◌, ◌++◌, ap, arith}
 use Rattle.std.proofs.Common.{append-nil, drop, get_or, length, map, refl, set, sym}
 use Rattle.std.specs.List.{AllZip}
-use Rattle.std.proofs.lemmas.List.{drop_more}
+use Rattle.std.proofs.lemmas.List.{drop_more, length-set}
+use Rattle.std.proofs.Common.{get_or-set_same}
 use Rattle.recorded_lines.specs.Texts.{CanBe, Follows, calls_of}
 use Rattle.recorded_lines.specs.declared.text.Lines.{Lines}
 use Rattle.recorded_lines.proofs.Reading.{follows_on, follows_self}
@@ -38,20 +39,6 @@ follow_length [] [] follow = refl
 follow_length [] (y ∷ b) follow = absurd follow
 follow_length (x ∷ a) [] follow = absurd follow
 follow_length (x ∷ a) (y ∷ b) follow = let l = follow_length a b follow.1 in omega (arith, l)
-
--- how many they are stays the same
-pub counted : (a b : List Lines) (count : ℕ) → AllZip Follows a b → count ≡ length a
-    → count ≡ length b
-counted a b count follow is = is ∙ sym (follow_length a b follow)
-
-pub below : (a b : List Lines) (count i : ℕ) → AllZip Follows a b → count ≡ length a → i < count
-    → i < length b
-below a b count i follow is within =
-    let l = counted a b count follow is in omega (arith, l, within)
-
-pub passed : (a b : List Lines) (count i : ℕ) → AllZip Follows a b → count ≡ length a
-    → count ≤ i → length b ≤ i
-passed a b count i follow is past = let l = counted a b count follow is in omega (arith, l, past)
 
 pub can_before : (a b : List Lines) (texts : List (List ℕ)) → AllZip Follows a b
     → AllZip CanBe (map calls_of b) texts → AllZip CanBe (map calls_of a) texts
@@ -109,6 +96,17 @@ text_at (one ∷ from) (text ∷ texts) (suc i) d within can =
           let n = rest.number in
           let l = ap (λ n. length (drop n (text ∷ texts))) same in omega (arith, n, l);
     }
+
+-- the text of the part that was read on
+pub text_here : (from : List Lines) (next : Lines) (i : ℕ) → i < length from
+    → (texts : List (List ℕ)) → AllZip CanBe (map calls_of (set from i next)) texts
+    → TextAt texts next i (length from)
+text_here from next i within texts can =
+    subst (TextAt texts next i) (length-set from i next)
+    (subst (λ l. TextAt texts l i (length (set from i next)))
+    (get_or-set_same from i next next within)
+    (text_at (set from i next) texts i next
+    (let l = length-set from i next in omega (arith, l, within)) can))
 
 -- ---- parts whose fronts are read
 pub views_length : (parts : List Open) (from : List Lines) (texts : List (List ℕ))

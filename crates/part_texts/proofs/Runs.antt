@@ -1,5 +1,5 @@
 -- One part, read and copied line by line.
-use Rattle.std.proofs.Common.{◌≡◌, ◌∙◌, ◌+◌, ℕ, Bool, true, false, cond, List, [], ◌∷◌, ◌++◌, Option}
+use Rattle.std.proofs.Common.{◌≡◌, ◌∙◌, ◌+◌, ℕ, Bool, true, false, List, [], ◌∷◌, ◌++◌, Option}
 use Rattle.std.proofs.Common.{None, Result, Ok, Err, ap, append-nil, append_assoc, length, refl}
 use Rattle.std.proofs.Common.{subst, sym}
 use Rattle.std.specs.Prelude.{nat_lt}
@@ -15,7 +15,7 @@ use Rattle.world.specs.Writes.{IsCut}
 use Rattle.world.specs.declared.faults.WriteFault.{WriteFault}
 use Rattle.part_texts.specs.Fronts.{FrontsView}
 use Rattle.part_texts.specs.FrontSteps.{front_done, front_step}
-use Rattle.part_texts.specs.Merged.{OpenView, WrongLine, end_or, front_end}
+use Rattle.part_texts.specs.Merged.{WrongLine, end_or, front_end}
 use Rattle.part_texts.specs.Merged.{opened, section_at, section_ended, section_of}
 use Rattle.part_texts.specs.Reads.{Leaves}
 use Rattle.part_texts.specs.Sections.{SectionView, section_end, section_step}
@@ -27,7 +27,7 @@ use Rattle.part_texts.specs.declared.merging.Open.{Open}
 use Rattle.part_texts.proofs.Written.{cut_on, written_on}
 
 -- ---- one line
-module _ {S : Type 0} (done : S → Bool) (plain : S → List ℕ → Result S Wrong) {number : ℕ} {s : S}
+module _ {S : Type 0} (done : S → Bool) (plain : S → List ℕ → Result S Wrong) (number : ℕ) (s : S)
   where
     pub run_line : {lines rest : List (List ℕ)} {line : List ℕ} {said : Result S Wrong}
         → done s ≡ false → (lines ≡ line ∷ rest) × (nat_lt 1024 (length line) ≡ false)
@@ -101,7 +101,7 @@ module _ {first now : FrontsView} {start from : Lines} {number : ℕ}
         fault_same (front_end position (front_run 1 first (lines_at start whole)))
         (front_end position (front_run number now (lines_at from whole))) position (calls_of next) why
         (ap (front_end position) (at.same whole (read_on.back whole can)))
-        (run_unread front_done front_step (front_end position) position (lines_at from whole)
+        (run_unread front_done front_step number now (front_end position) position (lines_at from whole)
         (lines_at next whole) line (calls_of next) why (λ wrong. refl) goes read)
 
     pub front_line : {line : List ℕ} {said : Result FrontsView Wrong}
@@ -111,7 +111,7 @@ module _ {first now : FrontsView} {start from : Lines} {number : ℕ}
         ≡ carry (λ then. front_run (number + 1) then (lines_at next whole)) (λ why. (number, why))
         said
     front_line read is =
-        at.same whole (read_on.back whole can) ∙ run_line front_done front_step goes read is
+        at.same whole (read_on.back whole can) ∙ run_line front_done front_step number now goes read is
 
 -- ---- the lines after it
 abbrev never : SectionView → Bool
@@ -196,7 +196,7 @@ module _ {part : Open} {last : Option Token} {now : SectionView} {start from nex
         text = at.text ++ line;
         wrote = written_on before after now_after at.text line at.wrote more;
         same = λ whole can. at.same whole (read_on.back whole can)
-            ∙ run_line never section_step refl (read whole can) taken;
+            ∙ run_line never section_step number now refl (read whole can) taken;
         lines = λ whole can. at.lines whole (read_on.back whole can)
             ∙ ap (λ l. at.text ++ joined l) (read whole can).0
             ∙ sym (append_assoc at.text line (joined (lines_at next whole)));

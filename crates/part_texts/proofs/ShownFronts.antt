@@ -66,8 +66,14 @@ span_taken : (s : FrontsView) (files left file : ℕ) (rest : List (Option Posit
 span_taken s files left file rest span where_is small fits start ends =
     let few : file < 2 ^ 64 = omega (arith, where_is, small) in
     by_line (span_is_one file span few fits) refl
-    (rw (span_complete file span few fits, position_is files file left where_is, start,
-    same_position span.from, ends, one_less left))
+    (rw (
+      span_complete file span few fits,
+      position_is files file left where_is,
+      start,
+      same_position span.from,
+      ends,
+      one_less left,
+    ))
 
 pub spans_taken : (s : FrontsView) (files file : ℕ) (all : List (Option Position))
     (spans : List FileSpan) → file + length spans ≡ files → files < 2 ^ 64
@@ -99,8 +105,14 @@ upload_taken : (s : FrontsView) (uploads left upload posted n before : ℕ) (res
 upload_taken s uploads left upload posted n before rest where_is small fits found all_fit sum_fits =
     let few : upload < 2 ^ 64 = omega (arith, where_is, small) in
     by_line (upload_is_one upload n few fits) refl
-    (rw (upload_complete upload (Posted n) few fits, position_is uploads upload left where_is, found,
-    plus_fits before n all_fit, plus_fits posted n sum_fits, one_less left))
+    (rw (
+      upload_complete upload (Posted n) few fits,
+      position_is uploads upload left where_is,
+      found,
+      plus_fits before n all_fit,
+      plus_fits posted n sum_fits,
+      one_less left,
+    ))
 
 pub posted_taken : (s : FrontsView) (uploads upload posted sum : ℕ) (all ns : List ℕ)
     → upload + length ns ≡ uploads → uploads < 2 ^ 64

@@ -25,9 +25,7 @@ use Rattle.histories.specs.Sums.{Sums, add_sums, sums, sums_of_replies}
 use Rattle.histories.specs.SumsByKey.{entries_of_validator, sums_by_validator, validator_of}
 use Rattle.histories.specs.SumsByKey.{validators}
 use Rattle.histories.specs.declared.entry.Entry.{Entry}
-use Rattle.histories.proofs.IncreasingLemmas.{increasing-is, increasing-unique}
-use Rattle.tap_views.proofs.Choices.{or_swap}
-use Rattle.std.proofs.Math.Bool.{or_self_left}
+use Rattle.histories.proofs.IncreasingLemmas.{below_all, increasing-is, increasing-unique}
 use Rattle.histories.proofs.SumsLemmas.{sums-append, sums-taps}
 use Rattle.part_texts.specs.Fronts.{no_sums, sums_within, with_validator}
 use Rattle.part_texts.specs.inside.Shown.{are_added}
@@ -54,13 +52,6 @@ above_same f g v (k ∷ keys) other above =
     let less = above.0 in
     (other k (λ same. grind (arith, nat_tests, less, same)), above_same f g v keys other above.1)
 
-less_above : (v k : ℕ) (keys : List ℕ) → nat_cmp v k ≡ Less
-    → AllByRecursion (λ z. nat_cmp k z ≡ Less) keys → AllByRecursion (λ z. nat_cmp v z ≡ Less) keys
-less_above v k [] less above = tt
-less_above v k (z ∷ keys) less above =
-    let next = above.0 in
-    (grind (arith, nat_tests, less, next), less_above v k keys less above.1)
-
 -- one key's sums are set
 set_one : (f g : ℕ → Sums) (v : ℕ) (x : Sums) (keys : List ℕ) → g v ≡ x
     → ((k : ℕ) → ¬ (k ≡ v) → f k ≡ g k) → IsStrictlySortedBy nat_cmp keys
@@ -79,7 +70,7 @@ set_one f g v x (k ∷ keys) here other increases =
         ap (λ (s : Sums). (v, s) ∷ (k, f k) ∷ table f keys) (sym here)
         ∙ ap (λ (t : List (ℕ × Sums)). (v, g v) ∷ t) (table_same f g (k ∷ keys) (
           other k (λ same. grind (arith, nat_tests, less, same)),
-          above_same f g v keys other (less_above v k keys less increases.0),
+          above_same f g v keys other (below_all nat_cmp_total number_ties v k keys less increases.0),
         ))
     set_at Equal tied more =
         let same = number_ties v k tied in
@@ -120,82 +111,30 @@ found f v (k ∷ keys) none = found_at (nat_cmp v k) refl (found f v keys)
         order
         ∙ more (λ out. none (ap (λ o. is_eq o || has keys v) order ∙ out))
 
--- ---- one key more in a rising list
-insert-member : (keys : List ℕ) (key q : ℕ)
-    → has (insert_key nat_cmp keys key) q ≡ (eq_by_cmp nat_cmp q key || has keys q)
-insert-member [] key q = refl
-insert-member (k ∷ keys) key q = member_at (nat_cmp key k) refl (insert-member keys key q)
-  where
-    member_at : (o : Ordering) → nat_cmp key k ≡ o
-        → has (insert_key nat_cmp keys key) q ≡ (eq_by_cmp nat_cmp q key || has keys q)
-        → has (match_ordering o (key ∷ k ∷ keys) (k ∷ keys) (k ∷ insert_key nat_cmp keys key)) q
-        ≡ (eq_by_cmp nat_cmp q key || (eq_by_cmp nat_cmp q k || has keys q))
-    member_at Less is more = refl
-    member_at Equal tied more =
-        sym (or_self_left (eq_by_cmp nat_cmp q k) (has keys q))
-        ∙ ap (λ (z : ℕ). eq_by_cmp nat_cmp q z || (eq_by_cmp nat_cmp q k || has keys q))
-        (sym (number_ties key k tied))
-    member_at Greater is more =
-        ap (λ (b : Bool). eq_by_cmp nat_cmp q k || b) more
-        ∙ or_swap (eq_by_cmp nat_cmp q k) (eq_by_cmp nat_cmp q key) (has keys q)
-
-insert-above : (low : ℕ) (keys : List ℕ) (key : ℕ) → AllByRecursion (λ z. nat_cmp low z ≡ Less) keys
-    → nat_cmp low key ≡ Less
-    → AllByRecursion (λ z. nat_cmp low z ≡ Less) (insert_key nat_cmp keys key)
-insert-above low [] key above less = (less, tt)
-insert-above low (k ∷ keys) key above less =
-    above_at (nat_cmp key k) (insert-above low keys key above.1 less)
-  where
-    above_at : (o : Ordering)
-        → AllByRecursion (λ z. nat_cmp low z ≡ Less) (insert_key nat_cmp keys key)
-        → AllByRecursion (λ z. nat_cmp low z ≡ Less)
-        (match_ordering o (key ∷ k ∷ keys) (k ∷ keys) (k ∷ insert_key nat_cmp keys key))
-    above_at Less more = (less, above)
-    above_at Equal more = above
-    above_at Greater more = (above.0, more)
-
-insert-increases : (keys : List ℕ) (key : ℕ) → IsStrictlySortedBy nat_cmp keys
-    → IsStrictlySortedBy nat_cmp (insert_key nat_cmp keys key)
-unfolding IsStrictlySortedBy
-insert-increases [] key increases = (tt, tt)
-insert-increases (k ∷ keys) key increases =
-    increases_at (nat_cmp key k) refl (insert-increases keys key increases.1)
-  where
-    increases_at : (o : Ordering) → nat_cmp key k ≡ o
-        → IsStrictlySortedBy nat_cmp (insert_key nat_cmp keys key)
-        → IsStrictlySortedBy nat_cmp
-        (match_ordering o (key ∷ k ∷ keys) (k ∷ keys) (k ∷ insert_key nat_cmp keys key))
-    increases_at Less less more = ((less, less_above key k keys less increases.0), increases)
-    increases_at Equal is more = increases
-    increases_at Greater greater more =
-        (insert-above k keys key increases.0 (grind (arith, nat_tests, greater)), more)
+-- ---- one key more
+sorted_more : (ks : List ℕ) (v : ℕ)
+    → insert_key nat_cmp (increasing nat_cmp ks) v ≡ increasing nat_cmp (v ∷ ks)
+unfolding increasing
+sorted_more ks v = refl
 
 -- ---- two histories, one behind the other
 abbrev pub at_validator : ℕ → List Entry → Sums
 at_validator v entries = sums (entries_of_validator v entries)
 
-abbrev pub inserted : List ℕ → List ℕ → List ℕ
-inserted keys [] = keys
-inserted keys (v ∷ vs) = inserted (insert_key nat_cmp keys v) vs
+abbrev done_after : List ℕ → List ℕ → List ℕ
+done_after done [] = done
+done_after done (v ∷ vs) = done_after (v ∷ done) vs
 
-inserted_increase : (keys vs : List ℕ) → IsStrictlySortedBy nat_cmp keys
-    → IsStrictlySortedBy nat_cmp (inserted keys vs)
-inserted_increase keys [] increase = increase
-inserted_increase keys (v ∷ vs) increase =
-    inserted_increase (insert_key nat_cmp keys v) vs (insert-increases keys v increase)
-
-or_moved : (a b c : Bool) → ((a || b) || c) ≡ (b || (a || c))
-or_moved true true c = refl
-or_moved true false c = refl
-or_moved false true c = refl
-or_moved false false c = refl
-
-inserted_has : (keys vs : List ℕ) (q : ℕ) → has (inserted keys vs) q ≡ (has keys q || has vs q)
-inserted_has keys [] q = sym (or-false (has keys q))
-inserted_has keys (v ∷ vs) q =
-    inserted_has (insert_key nat_cmp keys v) vs q
-    ∙ ap (λ b. b || has vs q) (insert-member keys v q)
-    ∙ or_moved (eq_by_cmp nat_cmp q v) (has keys q) (has vs q)
+done_has : (done vs : List ℕ) (k : ℕ) → has (done_after done vs) k ≡ (has done k || has vs k)
+done_has done [] k = sym (or-false (has done k))
+done_has done (v ∷ vs) k =
+    done_has (v ∷ done) vs k ∙ or_moved (eq_by_cmp nat_cmp k v) (has done k) (has vs k)
+  where
+    or_moved : (a b c : Bool) → ((a || b) || c) ≡ (b || (a || c))
+    or_moved true true c = refl
+    or_moved true false c = refl
+    or_moved false true c = refl
+    or_moved false false c = refl
 
 has_append : (xs ys : List ℕ) (q : ℕ) → has (xs ++ ys) q ≡ (has xs q || has ys q)
 has_append [] ys q = refl
@@ -207,20 +146,17 @@ has_append (x ∷ xs) ys q =
     or_joined true b c = refl
     or_joined false b c = refl
 
-pub keys_inserted : (xs ys : List Entry)
-    → inserted (validators xs) (validators ys) ≡ validators (xs ++ ys)
+keys_inserted : (xs ys : List Entry)
+    → increasing nat_cmp (done_after (map validator_of xs) (validators ys)) ≡ validators (xs ++ ys)
 unfolding validators
 keys_inserted xs ys =
-    let front = increasing-is nat_cmp_total number_ties (map validator_of xs) in
+    let keys = done_after (map validator_of xs) (increasing nat_cmp (map validator_of ys)) in
+    let joined = increasing-is nat_cmp_total number_ties keys in
     let back = increasing-is nat_cmp_total number_ties (map validator_of ys) in
     let whole = increasing-is nat_cmp_total number_ties (map validator_of (xs ++ ys)) in
-    increasing-unique nat_cmp_total number_ties _ _
-    (inserted_increase (increasing nat_cmp (map validator_of xs))
-    (increasing nat_cmp (map validator_of ys)) front.increases)
-    whole.increases
-    (λ q. inserted_has (increasing nat_cmp (map validator_of xs))
-    (increasing nat_cmp (map validator_of ys)) q
-    ∙ ap (λ b. b || has (increasing nat_cmp (map validator_of ys)) q) (front.same q)
+    increasing-unique nat_cmp_total number_ties _ _ joined.increases whole.increases
+    (λ q. joined.same q
+    ∙ done_has (map validator_of xs) (increasing nat_cmp (map validator_of ys)) q
     ∙ ap (λ b. has (map validator_of xs) q || b) (back.same q)
     ∙ sym (has_append (map validator_of xs) (map validator_of ys) q)
     ∙ ap (λ keys. has keys q) (sym (map-append validator_of xs ys))
@@ -287,10 +223,6 @@ module _ (xs ys : List Entry) (few : length (xs ++ ys) ≤ 2 ^ 95) where
   abbrev mixed : List ℕ → ℕ → Sums
   mixed done v = cond (has done v) (at_validator v (xs ++ ys)) (at_validator v xs)
 
-  abbrev done_after : List ℕ → List ℕ → List ℕ
-  done_after done [] = done
-  done_after done (v ∷ vs) = done_after (v ∷ done) vs
-
   mixed_out : (done : List ℕ) (v : ℕ) → has done v ≡ false → mixed done v ≡ at_validator v xs
   mixed_out done v out = ap (λ b. cond b (at_validator v (xs ++ ys)) (at_validator v xs)) out
 
@@ -304,15 +236,17 @@ module _ (xs ys : List Entry) (few : length (xs ++ ys) ≤ 2 ^ 95) where
       let t : is_eq (nat_cmp k v) ≡ false = grind (arith, nat_tests, other) in
       ap (λ b. cond (b || has done k) (at_validator k (xs ++ ys)) (at_validator k xs)) (sym t)
 
-  one_more : (done keys : List ℕ) (v : ℕ) → IsStrictlySortedBy nat_cmp keys → has done v ≡ false
-      → ((k : ℕ) → has keys k ≡ false → has (validators xs) k ≡ false)
-      → with_validator (table (mixed done) keys) (v, at_validator v ys)
-      ≡ Some (table (mixed (v ∷ done)) (insert_key nat_cmp keys v))
-  one_more done keys v increases out of_xs =
+  one_more : (done ks : List ℕ) (v : ℕ) → has done v ≡ false
+      → ((k : ℕ) → has ks k ≡ false → at_validator k xs ≡ no_sums)
+      → with_validator (table (mixed done) (increasing nat_cmp ks)) (v, at_validator v ys)
+      ≡ Some (table (mixed (v ∷ done)) (increasing nat_cmp (v ∷ ks)))
+  one_more done ks v out of_xs =
+      let keys = increasing nat_cmp ks in
+      let risen = increasing-is nat_cmp_total number_ties ks in
       let here : unwrap_or (lookup (is_key (nat_cmp v)) (table (mixed done) keys)) no_sums
       ≡ at_validator v xs =
       found (mixed done) v keys
-      (λ absent. mixed_out done v out ∙ none_at v xs (of_xs v absent))
+      (λ absent. mixed_out done v out ∙ of_xs v (sym (risen.same v) ∙ absent))
       ∙ mixed_out done v out in
       let small : (at_validator v (xs ++ ys)).taps ≤ 2 ^ 95 =
       (let n = sums-taps (entries_of_validator v (xs ++ ys)) in
@@ -323,7 +257,8 @@ module _ (xs ys : List Entry) (few : length (xs ++ ys) ≤ 2 ^ 95) where
       (within (at_validator v xs) (at_validator v ys) (at_validator v (xs ++ ys)) (both_at v xs ys)
       small)
       ∙ ap Some (set_one (mixed done) (mixed (v ∷ done)) v (at_validator v (xs ++ ys)) keys
-      (mixed_here done v) (mixed_other done v) increases)
+      (mixed_here done v) (mixed_other done v) risen.increases
+      ∙ ap (table (mixed (v ∷ done))) (sorted_more ks v))
 
   still_out : (v : ℕ) (done vs : List ℕ) → AllByRecursion (λ u. nat_cmp v u ≡ Less) vs
       → AllByRecursion (λ u. has done u ≡ false) vs
@@ -334,36 +269,23 @@ module _ (xs ys : List Entry) (few : length (xs ++ ys) ≤ 2 ^ 95) where
       let t : is_eq (nat_cmp u v) ≡ false = grind (arith, nat_tests, less) in
       (ap (λ b. b || has done u) t ∙ out.0, still_out v done vs above.1 out.1)
 
-  more_keys : (keys : List ℕ) (v : ℕ)
-      → ((k : ℕ) → has keys k ≡ false → has (validators xs) k ≡ false)
-      → (k : ℕ) → has (insert_key nat_cmp keys v) k ≡ false → has (validators xs) k ≡ false
-  more_keys keys v of_xs k absent =
-      of_xs k (second (eq_by_cmp nat_cmp k v) (has keys k)
-      (sym (insert-member keys v k) ∙ absent))
+  all_more : (done ks vs : List ℕ) → IsStrictlySortedBy nat_cmp vs
+      → AllByRecursion (λ u. has done u ≡ false) vs
+      → ((k : ℕ) → has ks k ≡ false → at_validator k xs ≡ no_sums)
+      → are_added (table (mixed done) (increasing nat_cmp ks)) (table (λ v. at_validator v ys) vs)
+      (table (mixed (done_after done vs)) (increasing nat_cmp (done_after ks vs)))
+  unfolding IsStrictlySortedBy
+  all_more done ks [] increase out of_xs = refl
+  all_more done ks (v ∷ vs) increase out of_xs = (
+    table (mixed (v ∷ done)) (increasing nat_cmp (v ∷ ks)),
+    one_more done ks v out.0 of_xs,
+    all_more (v ∷ done) (v ∷ ks) vs increase.1 (still_out v done vs increase.0 out.1)
+        (λ k absent. of_xs k (second (eq_by_cmp nat_cmp k v) (has ks k) absent)),
+  )
     where
       second : (a b : Bool) → (a || b) ≡ false → b ≡ false
       second true b none = absurd (false≢true (sym none))
       second false b none = none
-
-  all_more : (done keys vs : List ℕ) → IsStrictlySortedBy nat_cmp keys
-      → IsStrictlySortedBy nat_cmp vs → AllByRecursion (λ u. has done u ≡ false) vs
-      → ((k : ℕ) → has keys k ≡ false → has (validators xs) k ≡ false)
-      → are_added (table (mixed done) keys) (table (λ v. at_validator v ys) vs)
-      (table (mixed (done_after done vs)) (inserted keys vs))
-  unfolding IsStrictlySortedBy
-  all_more done keys [] increases increase out of_xs = refl
-  all_more done keys (v ∷ vs) increases increase out of_xs = (
-    table (mixed (v ∷ done)) (insert_key nat_cmp keys v),
-    one_more done keys v increases out.0 of_xs,
-    all_more (v ∷ done) (insert_key nat_cmp keys v) vs
-        (insert-increases keys v increases) increase.1
-        (still_out v done vs increase.0 out.1) (more_keys keys v of_xs),
-  )
-
-  done_has : (done vs : List ℕ) (k : ℕ) → has (done_after done vs) k ≡ (has done k || has vs k)
-  done_has done [] k = sym (or-false (has done k))
-  done_has done (v ∷ vs) k =
-      done_has (v ∷ done) vs k ∙ or_moved (eq_by_cmp nat_cmp k v) (has done k) (has vs k)
 
   all_out : (vs : List ℕ) → AllByRecursion (λ u. has [] u ≡ false) vs
   all_out [] = tt
@@ -401,22 +323,19 @@ module _ (xs ys : List Entry) (few : length (xs ++ ys) ≤ 2 ^ 95) where
   all_same f g [] same = tt
   all_same f g (k ∷ keys) same = (same k, all_same f g keys same)
 
-  begins_as : (k : ℕ) → at_validator k xs ≡ mixed [] k
-  begins_as k = refl
-
   -- the sums by validator of the second, added to those of the first, are those of both
   pub validators_added : are_added (sums_by_validator xs) (sums_by_validator ys)
       (sums_by_validator (xs ++ ys))
   unfolding sums_by_validator validators
   validators_added =
+      let vs = increasing nat_cmp (map validator_of ys) in
       let front = increasing-is nat_cmp_total number_ties (map validator_of xs) in
       let back = increasing-is nat_cmp_total number_ties (map validator_of ys) in
       subst (λ (all : List (ℕ × Sums)). are_added (sums_by_validator xs) (sums_by_validator ys) all)
-      (table_same (mixed (done_after [] (validators ys))) (λ k. at_validator k (xs ++ ys))
-      (inserted (validators xs) (validators ys))
-      (all_same (mixed (done_after [] (validators ys))) (λ k. at_validator k (xs ++ ys))
-      (inserted (validators xs) (validators ys)) ends_as)
+      (table_same (mixed (done_after [] vs)) (λ k. at_validator k (xs ++ ys))
+      (increasing nat_cmp (done_after (map validator_of xs) vs))
+      (all_same (mixed (done_after [] vs)) (λ k. at_validator k (xs ++ ys))
+      (increasing nat_cmp (done_after (map validator_of xs) vs)) ends_as)
       ∙ ap (table (λ k. at_validator k (xs ++ ys))) (keys_inserted xs ys))
-      (all_more [] (validators xs) (validators ys) front.increases back.increases
-      (all_out (validators ys))
-      (λ k absent. absent))
+      (all_more [] (map validator_of xs) vs back.increases (all_out vs)
+      (λ k absent. none_at k xs (front.same k ∙ absent)))

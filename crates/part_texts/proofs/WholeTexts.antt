@@ -78,21 +78,10 @@ pub front_joined : (s : FrontsView) (uploads validators : ℕ) (none a b c d e w
     → e ≡ d ++ flat_map validator_line s.validators
     → whole ≡ e ++ number_line (codes "tokens ") s.tokens → whole ≡ report_front s
 front_joined s uploads validators none a b c d e whole n m p0 p1 p2 p3 p4 p5 p6 =
-    let u : List ℕ = number_line (codes "uploads ") (length (map Posted s.taps)) in
-    let l : List ℕ = upload_lines 0 (map Posted s.taps) in
-    let t : List ℕ = totals_line s.totals in
-    let v : List ℕ = number_line (codes "validators ") (length s.validators) in
-    let f : List ℕ = flat_map validator_line s.validators in
-    let k : List ℕ = number_line (codes "tokens ") s.tokens in
-    let a_is : a ≡ u = p1 ∙ ap (λ x. x ++ number_line (codes "uploads ") uploads) p0
-    ∙ ap (number_line (codes "uploads ")) (n ∙ sym (map_length Posted s.taps)) in
-    let b_is : b ≡ u ++ l = p2 ∙ ap (λ x. x ++ l) a_is in
-    let c_is : c ≡ (u ++ l) ++ t = p3 ∙ ap (λ x. x ++ t) b_is in
-    let d_is : d ≡ ((u ++ l) ++ t) ++ v =
-    p4 ∙ ap (λ x. x ++ number_line (codes "validators ") validators) c_is
-    ∙ ap (λ x. ((u ++ l) ++ t) ++ number_line (codes "validators ") x) m in
-    let e_is : e ≡ (((u ++ l) ++ t) ++ v) ++ f = p5 ∙ ap (λ x. x ++ f) d_is in
-    p6 ∙ ap (λ x. x ++ k) e_is ∙ joined u l t v f k
+    rw (p6, p5, p4, p3, p2, p1, p0, n, m, map_length Posted s.taps)
+    (joined (number_line (codes "uploads ") (length s.taps)) (upload_lines 0 (map Posted s.taps))
+    (totals_line s.totals) (number_line (codes "validators ") (length s.validators))
+    (flat_map validator_line s.validators) (number_line (codes "tokens ") s.tokens))
   where
     joined : (u l t v f k : List ℕ) → ((((u ++ l) ++ t) ++ v) ++ f) ++ k
         ≡ (u ++ l) ++ (t ++ ((v ++ f) ++ k))

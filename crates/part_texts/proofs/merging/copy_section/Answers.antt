@@ -1,9 +1,7 @@
-use Rattle.std.proofs.Common.{◌≡◌, ◌∙◌, [], Err, List, Ok, Some, ap, false, refl, subst, sym, ℕ}
+use Rattle.std.proofs.Common.{◌∙◌, [], ap, false, refl, sym}
 use Rattle.histories.specs.Sums.{Sums}
 use Rattle.recorded_lines.specs.Texts.{calls_of}
 use Rattle.recorded_lines.proofs.Reading.{follows_on, follows_self}
-use Rattle.world.specs.Run.{with_written}
-use Rattle.world.specs.Writes.{IsCut}
 use Rattle.part_texts.specs.Merged.{section_ended}
 use Rattle.part_texts.specs.Sections.{section_step}
 use Rattle.part_texts.specs.inside.Opened.{joined, lines_at}
@@ -27,22 +25,17 @@ loop-number-init g c = record {
 
 pub returns-in-None-clause-follows : goal.returns-in-None-clause-follows
 returns-in-None-clause-follows g c =
-    follows_on c.args.from.now c.loop-number.from c.next_line.new.from
-    c.loop-number.invariant.follows c.next_line.ensures.follows
+    follows_on _ _ _ c.loop-number.invariant.follows c.next_line.ensures.follows
 
 pub returns-in-None-clause-copied : goal.returns-in-None-clause-copied
 returns-in-None-clause-copied g c =
-    copied_whole c.args.position c.args.part.now c.args.last (section_view c.loop-number.section)
-    c.args.from.now c.loop-number.from c.next_line.new.from c.loop-number.number
-    (g.W.Inputs.run c.args.world.now) (g.W.Inputs.run c.loop-number.world)
-    c.loop-number.invariant c.next_line.ensures.follows (sym c.end.ensures ∙ c.in-None.is)
-    (c.in-Ok-false.ensures.ended c.in-Ok-false.field-0-test)
+    copied_whole c.args.position c.loop-number.invariant c.next_line.ensures.follows
+    (sym c.end.ensures ∙ c.in-None.is) (c.in-Ok-false.ensures.ended c.in-Ok-false.field-0-test)
     (λ whole can. (rw c.in-Ok-false.field-0-test at (c.in-Ok-false.ensures.read whole can)).0)
 
 pub returns-in-Some-clause-follows : goal.returns-in-Some-clause-follows
 returns-in-Some-clause-follows g c =
-    follows_on c.args.from.now c.loop-number.from c.next_line.new.from
-    c.loop-number.invariant.follows c.next_line.ensures.follows
+    follows_on _ _ _ c.loop-number.invariant.follows c.next_line.ensures.follows
 
 pub returns-in-Some-clause-copied : goal.returns-in-Some-clause-copied
 returns-in-Some-clause-copied g c =
@@ -50,12 +43,8 @@ returns-in-Some-clause-copied g c =
       at.text,
       at.wrote,
       λ whole can. (
-        section_done c.args.position c.args.part.now c.args.last
-            (section_view c.loop-number.section) c.args.from.now c.loop-number.from
-            c.next_line.new.from c.loop-number.number (g.W.Inputs.run c.args.world.now)
-            (g.W.Inputs.run c.loop-number.world) at c.next_line.ensures.follows
-            (Some c.in-Some.why) (sym c.end.ensures ∙ c.in-Some.is) whole can
-            (rw c.in-Ok-false.field-0-test at (c.in-Ok-false.ensures.read whole can)).0,
+        section_done c.args.position at c.next_line.ensures.follows (sym c.end.ensures ∙ c.in-Some.is)
+            whole can (rw c.in-Ok-false.field-0-test at (c.in-Ok-false.ensures.read whole can)).0,
         joined (lines_at c.loop-number.from whole),
         at.lines whole (c.next_line.ensures.follows.back whole can),
       ),
@@ -63,82 +52,53 @@ returns-in-Some-clause-copied g c =
 
 pub returns-in-Err-clause-follows : goal.returns-in-Err-clause-follows
 returns-in-Err-clause-follows g c =
-    follows_on c.args.from.now c.loop-number.from c.next_line.new.from
-    c.loop-number.invariant.follows c.next_line.ensures.follows
+    follows_on _ _ _ c.loop-number.invariant.follows c.next_line.ensures.follows
 
 pub returns-in-Err-clause-copied : goal.returns-in-Err-clause-copied
 returns-in-Err-clause-copied g c =
-    copied_to c.args.position c.args.part.now c.args.last (section_view c.loop-number.section)
-    c.args.from.now c.loop-number.from c.next_line.new.from c.loop-number.number
-    (g.W.Inputs.run c.args.world.now) (g.W.Inputs.run c.loop-number.world)
-    c.loop-number.invariant c.next_line.ensures.follows c.in-Err.fault c.in-Err.ensures.unwritten
+    copied_to c.args.position c.loop-number.invariant c.next_line.ensures.follows c.in-Err.fault
+    c.in-Err.ensures.unwritten
     (λ whole can. run_unread (λ s. false) section_step c.loop-number.number
-    (section_view c.loop-number.section) (section_ended c.args.position) c.args.position
-    (lines_at c.loop-number.from whole) (lines_at c.next_line.new.from whole)
+    (section_view c.loop-number.section) (section_ended c.args.position)
+    c.args.position (lines_at c.loop-number.from whole) (lines_at c.next_line.new.from whole)
     c.next_line.new.line.items (calls_of c.next_line.new.from) c.in-Err.fault (λ wrong. refl) refl
     (c.in-Err.ensures.read whole can))
 
 pub returns-in-Err-trailing-clause-follows : goal.returns-in-Err-trailing-clause-follows
 returns-in-Err-trailing-clause-follows g c =
-    follows_on c.args.from.now c.loop-number.from c.next_line.new.from
-    c.loop-number.invariant.follows c.next_line.ensures.follows
+    follows_on _ _ _ c.loop-number.invariant.follows c.next_line.ensures.follows
 
 pub returns-in-Err-trailing-clause-copied : goal.returns-in-Err-trailing-clause-copied
 returns-in-Err-trailing-clause-copied g c =
-    let now = section_view c.loop-number.section in
-    copied_to c.args.position c.args.part.now c.args.last now
-    c.args.from.now c.loop-number.from c.next_line.new.from c.loop-number.number
-    (g.W.Inputs.run c.args.world.now) (g.W.Inputs.run c.loop-number.world)
-    c.loop-number.invariant c.next_line.ensures.follows
+    copied_to c.args.position c.loop-number.invariant c.next_line.ensures.follows
     (Line c.args.position c.loop-number.number c.in-Err-trailing.why) (λ r. refl)
-    (λ whole can. ap (section_ended c.args.position)
-    (run_line (λ s. false) section_step c.loop-number.number now (lines_at c.loop-number.from whole)
-    (lines_at c.next_line.new.from whole) c.next_line.new.line.items (Err c.in-Err-trailing.why)
-    refl (rw c.in-Ok-true.field-0-test at (c.in-Ok-true.ensures.read whole can))
-    (subst (λ (l : List ℕ). section_step now l ≡ Err c.in-Err-trailing.why) c.deref.ensures.value
-    c.in-Err-trailing.ensures)))
+    (λ whole can. ap (section_ended c.args.position) (run_line (λ s. false) section_step
+    c.loop-number.number (section_view c.loop-number.section) refl
+    (rw c.in-Ok-true.field-0-test at (c.in-Ok-true.ensures.read whole can))
+    (rw c.deref.ensures.value at c.in-Err-trailing.ensures)))
 
 pub returns-in-Err-write-clause-follows : goal.returns-in-Err-write-clause-follows
 returns-in-Err-write-clause-follows g c =
-    follows_on c.args.from.now c.loop-number.from c.next_line.new.from
-    c.loop-number.invariant.follows c.next_line.ensures.follows
+    follows_on _ _ _ c.loop-number.invariant.follows c.next_line.ensures.follows
 
 pub returns-in-Err-write-clause-copied : goal.returns-in-Err-write-clause-copied
 returns-in-Err-write-clause-copied g c =
-    let now = section_view c.loop-number.section in
-    let run = g.W.Inputs.run c.loop-number.world in
-    copied_cut c.args.position c.args.part.now c.args.last now
-    c.args.from.now c.loop-number.from c.next_line.new.from c.loop-number.number
-    (g.W.Inputs.run c.args.world.now) run c.loop-number.invariant c.next_line.ensures.follows
-    c.next_line.new.line.items (section_view c.in-Ok.next)
-    (subst (λ (l : List ℕ). section_step now l ≡ Ok (section_view c.in-Ok.next))
-    c.deref.ensures.value c.in-Ok.ensures)
+    copied_cut c.args.position c.loop-number.invariant c.next_line.ensures.follows
+    (rw c.deref.ensures.value at c.in-Ok.ensures)
     (λ whole can. rw c.in-Ok-true.field-0-test at (c.in-Ok-true.ensures.read whole can))
-    (g.W.Inputs.run c.write.new.self) c.in-Err-write.why
-    (subst (λ (l : List ℕ). IsCut run (g.W.Inputs.run c.write.new.self) l c.in-Err-write.why)
-    c.deref-in-loop-number.ensures.value c.in-Err-write.ensures.cut)
+    c.in-Err-write.why (rw c.deref-in-loop-number.ensures.value at c.in-Err-write.ensures.cut)
 
 pub loop-number-preserved : goal.loop-number-preserved
 loop-number-preserved g c =
-    let now = section_view c.loop-number.section in
-    let run = g.W.Inputs.run c.loop-number.world in
-    copied_more c.args.position c.args.part.now c.args.last now
-    c.args.from.now c.loop-number.from c.next_line.new.from c.loop-number.number
-    (g.W.Inputs.run c.args.world.now) run c.loop-number.invariant c.next_line.ensures.follows
-    c.next_line.new.line.items (section_view c.in-Ok.next)
-    (subst (λ (l : List ℕ). section_step now l ≡ Ok (section_view c.in-Ok.next))
-    c.deref.ensures.value c.in-Ok.ensures)
+    copied_more c.args.position c.loop-number.invariant c.next_line.ensures.follows
+    (rw c.deref.ensures.value at c.in-Ok.ensures)
     (λ whole can. rw c.in-Ok-true.field-0-test at (c.in-Ok-true.ensures.read whole can))
-    (g.W.Inputs.run c.write.new.self)
-    (c.in-Ok-write.ensures.whole ∙ ap (λ (l : List ℕ). with_written run l) c.deref-in-loop-number.ensures.value)
+    (rw c.deref-in-loop-number.ensures.value at c.in-Ok-write.ensures.whole)
 
 pub returns-clause-follows : goal.returns-clause-follows
 returns-clause-follows g c = c.loop-number.invariant.follows
 
 pub returns-clause-copied : goal.returns-clause-copied
 returns-clause-copied g c =
-    copied_to c.args.position c.args.part.now c.args.last (section_view c.loop-number.section)
-    c.args.from.now c.loop-number.from c.loop-number.from c.loop-number.number
-    (g.W.Inputs.run c.args.world.now) (g.W.Inputs.run c.loop-number.world)
-    c.loop-number.invariant (follows_self c.loop-number.from) NoMemory (λ r. refl)
-    (λ whole can. tt)
+    copied_to c.args.position c.loop-number.invariant (follows_self c.loop-number.from) NoMemory
+    (λ r. refl) (λ whole can. tt)

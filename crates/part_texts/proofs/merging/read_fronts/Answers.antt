@@ -1,7 +1,7 @@
-use Rattle.std.proofs.Common.{arith, length, refl}
+use Rattle.std.proofs.Common.{arith}
 use Rattle.part_texts.specs.inside.Fronts.{fronts_view}
 use Rattle.part_texts.proofs.AllParts.{all_opened, none_opened, not_opened, one_opened, opened_on}
-use Rattle.part_texts.proofs.Parts.{below, counted, passed}
+use Rattle.part_texts.proofs.Parts.{follow_length}
 use Rattle.part_texts.proofs.merging.read_fronts.Goals as goal
 
 pub loop-position-init : goal.loop-position-init
@@ -11,65 +11,29 @@ loop-position-init c =
 
 pub returns-in-Err-clause-follow : goal.returns-in-Err-clause-follow
 returns-in-Err-clause-follow c =
-    opened_on (fronts_view c.args.fronts.now) (fronts_view c.loop-position.fronts)
-    (fronts_view c.begin.new.self) c.loop-position.opens.items c.args.parts.now
-    c.loop-position.parts c.loop-position.position c.index-parts-position.result
-    c.read_front.new.from c.loop-position.invariant c.requires (length c.args.parts.now)
-    (counted c.args.parts.now c.loop-position.parts (length c.args.parts.now)
-    c.loop-position.invariant.follow refl)
-    (below c.args.parts.now c.loop-position.parts (length c.args.parts.now) c.loop-position.position
-    c.loop-position.invariant.follow refl c.loop-position-test.true)
-    c.read_front.ensures.follows c.begin.ensures
+    opened_on _ c.loop-position.invariant c.requires c.loop-position-test.true c.read_front.ensures.follows
+    c.begin.ensures
 
 pub returns-in-Err-clause-read : goal.returns-in-Err-clause-read
 returns-in-Err-clause-read c =
-    not_opened (fronts_view c.args.fronts.now) (fronts_view c.loop-position.fronts)
-    (fronts_view c.begin.new.self) c.loop-position.opens.items c.args.parts.now
-    c.loop-position.parts c.loop-position.position c.index-parts-position.result
-    c.read_front.new.from c.loop-position.invariant c.requires (length c.args.parts.now)
-    (counted c.args.parts.now c.loop-position.parts (length c.args.parts.now)
-    c.loop-position.invariant.follow refl)
-    (below c.args.parts.now c.loop-position.parts (length c.args.parts.now) c.loop-position.position
-    c.loop-position.invariant.follow refl c.loop-position-test.true)
-    c.read_front.ensures.follows c.begin.ensures c.in-Err.fault
-    c.in-Err.ensures.read
+    not_opened _ c.loop-position.invariant c.requires c.loop-position-test.true c.read_front.ensures.follows
+    c.begin.ensures c.in-Err.fault c.in-Err.ensures.read
 
 pub returns-in_default-clause-follow : goal.returns-in_default-clause-follow
 returns-in_default-clause-follow c =
-    opened_on (fronts_view c.args.fronts.now) (fronts_view c.loop-position.fronts)
-    (fronts_view c.begin.new.self) c.loop-position.opens.items c.args.parts.now
-    c.loop-position.parts c.loop-position.position c.index-parts-position.result
-    c.read_front.new.from c.loop-position.invariant c.requires (length c.args.parts.now)
-    (counted c.args.parts.now c.loop-position.parts (length c.args.parts.now)
-    c.loop-position.invariant.follow refl)
-    (below c.args.parts.now c.loop-position.parts (length c.args.parts.now) c.loop-position.position
-    c.loop-position.invariant.follow refl c.loop-position-test.true)
-    c.read_front.ensures.follows c.begin.ensures
+    opened_on _ c.loop-position.invariant c.requires c.loop-position-test.true c.read_front.ensures.follows
+    c.begin.ensures
 
 pub loop-position-preserved : goal.loop-position-preserved
 loop-position-preserved c =
-    one_opened (fronts_view c.args.fronts.now) (fronts_view c.loop-position.fronts)
-    (fronts_view c.begin.new.self) c.loop-position.opens.items c.args.parts.now
-    c.loop-position.parts c.loop-position.position c.index-parts-position.result
-    c.read_front.new.from c.loop-position.invariant c.requires (length c.args.parts.now)
-    (counted c.args.parts.now c.loop-position.parts (length c.args.parts.now)
-    c.loop-position.invariant.follow refl)
-    (below c.args.parts.now c.loop-position.parts (length c.args.parts.now) c.loop-position.position
-    c.loop-position.invariant.follow refl c.loop-position-test.true)
-    c.read_front.ensures.follows c.begin.ensures
-    (fronts_view c.read_front.new.fronts) c.in-Ok.part c.push.new.self.items
-    c.in-Ok-push.ensures.items c.in-Ok.ensures.read
+    one_opened _ c.loop-position.invariant c.requires c.loop-position-test.true c.read_front.ensures.follows
+    c.begin.ensures c.in-Ok.part c.in-Ok-push.ensures.items c.in-Ok.ensures.read
 
 pub returns-clause-follow : goal.returns-clause-follow
 returns-clause-follow c = c.loop-position.invariant.follow
 
 pub returns-clause-read : goal.returns-clause-read
-returns-clause-read c = λ texts can.
-    all_opened (fronts_view c.args.fronts.now) (fronts_view c.loop-position.fronts)
-    c.loop-position.opens.items c.args.parts.now c.loop-position.parts c.loop-position.position
-    c.loop-position.invariant
-    (passed c.args.parts.now c.loop-position.parts (length c.args.parts.now) c.loop-position.position
-    c.loop-position.invariant.follow refl c.loop-position-test.false) texts can
+returns-clause-read c = all_opened c.loop-position.invariant c.loop-position-test.false
 
 pub returns-clause-number : goal.returns-clause-number
 returns-clause-number c =
@@ -77,6 +41,5 @@ returns-clause-number c =
       arith,
       c.loop-position.invariant.number,
       c.loop-position-test.false,
-      counted c.args.parts.now c.loop-position.parts (length c.args.parts.now)
-          c.loop-position.invariant.follow refl,
+      follow_length c.args.parts.now c.loop-position.parts c.loop-position.invariant.follow,
     )
