@@ -29,19 +29,6 @@ goes_on number lines said =
     carry (λ row. cons_row row (rows_from (number + 1) (Some row) lines)) (λ why. (number, why))
     said
 
-next_line : (number : ℕ) (before : Option Row) (text line : List ℕ) (lines : List (List ℕ))
-    (said : Result Row WrongLine) → lines_of text ≡ line ∷ lines → row_after before line ≡ said
-    → rows_from number before (lines_of text) ≡ goes_on number lines said
-next_line number before text line lines said shown is =
-    ap (rows_from number before) shown ∙ ap (goes_on number lines) is
-
--- a line of at most 1,024 bytes
-short_line : (before : Option Row) (line : List ℕ) (row : Option Row)
-    → nat_lt 1024 (length line) ≡ false
-    → row_in line ≡ row → row_after before line ≡ placed before row
-short_line before line row short is =
-    ap (λ (b : Bool). cond b (Err Form) (placed before (row_in line))) short ∙ ap (placed before) is
-
 pub rows_end : (number : ℕ) (before : Option Row) (text : List ℕ) → text ≡ []
     → rows_from number before (lines_of text) ≡ Ok []
 rows_end number before text none = ap (λ (t : List ℕ). rows_from number before (lines_of t)) none
@@ -49,16 +36,12 @@ rows_end number before text none = ap (λ (t : List ℕ). rows_from number befor
 pub rows_long : (number : ℕ) (before : Option Row) (text line : List ℕ) (lines : List (List ℕ))
     → lines_of text ≡ line ∷ lines → nat_lt 1024 (length line) ≡ true
     → rows_from number before (lines_of text) ≡ Err (number, Form)
-rows_long number before text line lines shown long =
-    next_line number before text line lines (Err Form) shown
-    (ap (λ (b : Bool). cond b (Err Form) (placed before (row_in line))) long)
+rows_long number before text line lines shown long = rw (shown, long)
 
 pub rows_form : (number : ℕ) (before : Option Row) (text line : List ℕ) (lines : List (List ℕ))
     → lines_of text ≡ line ∷ lines → nat_lt 1024 (length line) ≡ false → row_in line ≡ None
     → rows_from number before (lines_of text) ≡ Err (number, Form)
-rows_form number before text line lines shown short none =
-    next_line number before text line lines (Err Form) shown
-    (short_line before line None short none)
+rows_form number before text line lines shown short none = rw (shown, short, none)
 
 pub rows_order : (number : ℕ) (before : Option Row) (text line : List ℕ) (lines : List (List ℕ))
     (row : Row)
@@ -66,9 +49,7 @@ pub rows_order : (number : ℕ) (before : Option Row) (text line : List ℕ) (li
     → does_decrease before row ≡ true
     → rows_from number before (lines_of text) ≡ Err (number, Order)
 rows_order number before text line lines row shown short some is_decrease =
-    next_line number before text line lines (Err Order) shown
-    (short_line before line (Some row) short some
-    ∙ ap (λ (b : Bool). cond b (Err Order) (Ok row)) is_decrease)
+    rw (shown, short, some, is_decrease)
 
 pub rows_more : (number : ℕ) (before : Option Row) (text line rest : List ℕ) (row : Row)
     → lines_of text ≡ line ∷ lines_of rest → nat_lt 1024 (length line) ≡ false
@@ -76,18 +57,11 @@ pub rows_more : (number : ℕ) (before : Option Row) (text line rest : List ℕ)
     → does_decrease before row ≡ false
     → rows_from number before (lines_of text) ≡ rows_with (Some row) number rest
 rows_more number before text line rest row shown short some stays =
-    next_line number before text line (lines_of rest) (Ok row) shown
-    (short_line before line (Some row) short some
-    ∙ ap (λ (b : Bool). cond b (Err Order) (Ok row)) stays)
+    rw (shown, short, some, stays)
 
 -- ---- the head line
 pub head_none : (text : List ℕ) → text ≡ [] → rows_of text ≡ Err (1, Form)
 head_none text none = ap rows_of none
-
-head_by : (text line : List ℕ) (lines : List (List ℕ)) (b : Bool) → lines_of text ≡ line ∷ lines
-    → bytes_eq line head_text ≡ b → rows_of text ≡ cond b (rows_from 2 None lines) (Err (1, Form))
-head_by text line lines b shown is =
-    ap rows_after_head shown ∙ ap (λ (t : Bool). cond t (rows_from 2 None lines) (Err (1, Form))) is
 
 other_bytes : (a b : List ℕ) (r : Bool) → bytes_eq a b ≡ r → (a ≡ b → ⊥) → r ≡ false
 other_bytes a b false is other = refl
@@ -96,8 +70,7 @@ other_bytes a b true is other = absurd (other ((bytes_eq-Decides a b).0 is))
 pub head_other : (text line : List ℕ) (lines : List (List ℕ)) → lines_of text ≡ line ∷ lines
     → (line ≡ head_text → ⊥) → rows_of text ≡ Err (1, Form)
 head_other text line lines shown other =
-    head_by text line lines false shown
-    (other_bytes line head_text (bytes_eq line head_text) refl other)
+    rw (shown, other_bytes line head_text (bytes_eq line head_text) refl other)
 
 pub head_long : (text line : List ℕ) (lines : List (List ℕ)) → lines_of text ≡ line ∷ lines
     → nat_lt 1024 (length line) ≡ true → rows_of text ≡ Err (1, Form)
@@ -107,8 +80,7 @@ head_long text line lines shown long =
 
 pub head_is : (text line rest : List ℕ) → lines_of text ≡ line ∷ lines_of rest → line ≡ head_text
     → rows_of text ≡ rows_from 2 None (lines_of rest)
-head_is text line rest shown is =
-    head_by text line (lines_of rest) true shown ((bytes_eq-Decides line head_text).1 is)
+head_is text line rest shown is = rw (shown, (bytes_eq-Decides line head_text).1 is)
 
 -- a line that is wrong after a row
 pub wrong_rows : (row : Option LedgerRow) (is_none : Bool) (bill : Bill) (calls : Calls)
