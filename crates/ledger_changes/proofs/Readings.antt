@@ -10,7 +10,7 @@ use Rattle.fare_texts.specs.LedgerLines.{head_text}
 use Rattle.line_folds.specs.Folds.{carry, lines_of}
 use Rattle.ledger_fields.specs.Lines.{row_in}
 use Rattle.ledger_fields.specs.Rows.{Row}
-use Rattle.ledger_changes.specs.Ledgers.{cons_row, does_decrease, placed, row_after}
+use Rattle.ledger_changes.specs.Ledgers.{cons_row, does_decrease, placed}
 use Rattle.ledger_changes.specs.Ledgers.{rows_after_head, rows_from, rows_of}
 use Rattle.ledger_changes.specs.declared.fault.WrongLine.{WrongLine}
 use Rattle.ledger_changes.specs.declared.fault.WrongLine.TheVariants.{Form, Order}
