@@ -1,5 +1,5 @@
 -- Lines up to their line feed.
-use Rattle.std.proofs.Common.{◌≡◌, ◌==◌, ◌+◌, ◌-◌, ◌<◌, ◌≤◌, ℕ, zero, suc, Bool, true, false, List, []}
+use Rattle.std.proofs.Common.{◌≡◌, ◌==◌, ◌+◌, ◌-◌, ◌<◌, ℕ, zero, suc, Bool, true, false, List, []}
 use Rattle.std.proofs.Common.{◌∷◌, ◌++◌, length, take, drop, Some, None, cond, refl, sym}
 use Rattle.std.proofs.Common.{ap, ◌∙◌, arith, append_assoc, append-nil}
 use Rattle.std.specs.Prelude.{nat_lt, slice_index}
@@ -79,17 +79,12 @@ plain_more (x ∷ xs) ys p q = (p.0, plain_more xs ys p.1 q)
 whole_line : (front rest : List ℕ) → IsPlain front
     → lines_of (front ++ (10 ∷ rest)) ≡ (front ++ 10 ∷ []) ∷ lines_of rest
 whole_line [] rest plain = refl
-whole_line (x ∷ xs) rest plain =
-    ap (λ b. cond b ((x ∷ []) ∷ lines_of (xs ++ (10 ∷ rest)))
-    (to_first x (lines_of (xs ++ (10 ∷ rest))))) plain.0
-    ∙ ap (to_first x) (whole_line xs rest plain.1)
+whole_line (x ∷ xs) rest plain = rw (plain.0, whole_line xs rest plain.1)
 
 last_line : (front : List ℕ) → IsPlain front → 0 < length front → lines_of front ≡ front ∷ []
 last_line [] plain some = absurd (omega (arith, some))
-last_line (x ∷ []) plain some = ap (λ b. cond b ((x ∷ []) ∷ []) ((x ∷ []) ∷ [])) plain.0
-last_line (x ∷ y ∷ xs) plain some =
-    ap (λ b. cond b ((x ∷ []) ∷ lines_of (y ∷ xs)) (to_first x (lines_of (y ∷ xs)))) plain.0
-    ∙ ap (to_first x) (last_line (y ∷ xs) plain.1 (omega arith))
+last_line (x ∷ []) plain some = rw plain.0
+last_line (x ∷ y ∷ xs) plain some = rw (plain.0, last_line (y ∷ xs) plain.1 (omega arith))
 
 long_line : (front rest : List ℕ) → IsPlain front → 0 < length front
     → (more : List ℕ) × (lines : List (List ℕ))
@@ -108,9 +103,7 @@ long_line (x ∷ y ∷ xs) rest plain some =
     let (more, lines, is) = long_line (y ∷ xs) rest plain.1 (omega arith) in (
       more,
       lines,
-      ap (λ b. cond b ((x ∷ []) ∷ lines_of (y ∷ xs ++ rest))
-          (to_first x (lines_of (y ∷ xs ++ rest)))) plain.0
-          ∙ ap (to_first x) is,
+      rw (plain.0, is),
     )
 
 -- a line with its line feed, of which this was taken before

@@ -154,13 +154,9 @@ pub line_more : (first now next : Lines) (line line' : List ℕ) → IsAtLine fi
 line_more first now next line line' at same (plain, none, is) = record {
   follows = follows_same first now next at.follows same;
   plain = subst IsPlain (sym is) (plain_more line (pending now) at.plain plain);
-  text = λ whole can.
-      let rest = drop (length (calls_of now).reading.bytes) whole in
-      at.text whole (same_text now next whole same can)
-      ∙ sym (append_assoc line (pending now) rest)
-      ∙ ap (λ (l : List ℕ). l ++ rest) (sym is)
-      ∙ ap (λ (l : List ℕ). line' ++ (l ++ rest)) (sym none)
-      ∙ ap (λ (l : List ℕ). line' ++ l) (sym (same_rest now next whole same));
+  text = λ whole can. at.text whole (same_text now next whole same can)
+      ∙ rw (is, same_rest now next whole same, none) (sym (append_assoc line (pending now)
+      (drop (length (calls_of now).reading.bytes) whole)));
 }
 
 pub line_on : (first now next : Lines) (line : List ℕ) → IsAtLine first now line

@@ -1,8 +1,6 @@
-use Rattle.std.proofs.Common.{◌≡◌, ◌<◌, Bool, arith, false, length, refl, subst, true}
+use Rattle.std.proofs.Common.{◌≡◌, ◌<◌, arith, false, length, refl, true}
 use Rattle.std.specs.Prelude.{nat_lt}
 use Rattle.std.proofs.lemmas.Bool.Decides.{nat_tests}
-use Rattle.recorded_lines.specs.Texts.{pending}
-use Rattle.recorded_lines.specs.inside.Taken.{HasTaken}
 use Rattle.recorded_lines.proofs.Reading.{at_line, follows_on, follows_same, line_end, line_last}
 use Rattle.recorded_lines.proofs.Reading.{line_long, line_more, line_on, line_whole}
 use Rattle.recorded_lines.proofs.text.Lines.read_line.Goals as goal
@@ -12,22 +10,19 @@ loop-init c = at_line c.args.self.now c.args.self.now c.clear.new.self.items ref
 
 pub returns-in_default-clause-follows : goal.returns-in_default-clause-follows
 returns-in_default-clause-follows c =
-    follows_same c.args.self.now c.loop.self c.take_line.new.self c.loop.invariant.follows
-    c.take_line.ensures.stream
+    follows_same _ _ _ c.loop.invariant.follows c.take_line.ensures.stream
 
 pub returns-in_default-clause-unread : goal.returns-in_default-clause-unread
 returns-in_default-clause-unread c = λ is. absurd (cc)
 
 pub returns-then-len-gt-MAX_LINE_BYTES-clause-follows : goal.returns-then-len-gt-MAX_LINE_BYTES-clause-follows
 returns-then-len-gt-MAX_LINE_BYTES-clause-follows c =
-    follows_same c.args.self.now c.loop.self c.take_line.new.self c.loop.invariant.follows
-    c.take_line.ensures.stream
+    follows_same _ _ _ c.loop.invariant.follows c.take_line.ensures.stream
 
 pub returns-then-len-gt-MAX_LINE_BYTES-clause-next : goal.returns-then-len-gt-MAX_LINE_BYTES-clause-next
 returns-then-len-gt-MAX_LINE_BYTES-clause-next c = λ whole can.
     let long : nat_lt 1024 (length c.take_line.new.line.items) ≡ true = grind (arith, nat_tests) in
-    line_long c.args.self.now c.loop.self c.take_line.new.self c.loop.line.items
-    c.take_line.new.line.items c.in-Ok.is_whole c.loop.invariant c.take_line.ensures.stream
+    line_long _ _ c.take_line.new.self _ _ c.in-Ok.is_whole c.loop.invariant c.take_line.ensures.stream
     c.in-Ok.ensures.taken long whole can
 
 pub returns-then-len-gt-MAX_LINE_BYTES-clause-ended : goal.returns-then-len-gt-MAX_LINE_BYTES-clause-ended
@@ -35,16 +30,13 @@ returns-then-len-gt-MAX_LINE_BYTES-clause-ended c = λ is. absurd (cc)
 
 pub returns-then-is_whole-clause-follows : goal.returns-then-is_whole-clause-follows
 returns-then-is_whole-clause-follows c =
-    follows_same c.args.self.now c.loop.self c.take_line.new.self c.loop.invariant.follows
-    c.take_line.ensures.stream
+    follows_same _ _ _ c.loop.invariant.follows c.take_line.ensures.stream
 
 pub returns-then-is_whole-clause-next : goal.returns-then-is_whole-clause-next
 returns-then-is_whole-clause-next c = λ whole can.
     let short : nat_lt 1024 (length c.take_line.new.line.items) ≡ false = grind (arith, nat_tests) in (
-      line_whole c.args.self.now c.loop.self c.take_line.new.self c.loop.line.items
-          c.take_line.new.line.items c.loop.invariant c.take_line.ensures.stream
-          (subst (HasTaken (pending c.loop.self) (pending c.take_line.new.self)
-          c.loop.line.items c.take_line.new.line.items) c.if-is_whole.true c.in-Ok.ensures.taken) whole can,
+      line_whole _ _ c.take_line.new.self _ _ c.loop.invariant c.take_line.ensures.stream
+          (rw c.if-is_whole.true at c.in-Ok.ensures.taken) whole can,
       short,
     )
 
@@ -52,24 +44,19 @@ pub returns-then-is_whole-clause-ended : goal.returns-then-is_whole-clause-ended
 returns-then-is_whole-clause-ended c = λ is. absurd (cc)
 
 pub read_more-requires : goal.read_more-requires
-read_more-requires c = (subst (HasTaken (pending c.loop.self) (pending c.take_line.new.self)
-    c.loop.line.items c.take_line.new.line.items) c.if-is_whole.false c.in-Ok.ensures.taken).1
+read_more-requires c = (rw c.if-is_whole.false at c.in-Ok.ensures.taken).1
 
 pub returns-then-is_empty-clause-follows : goal.returns-then-is_empty-clause-follows
 returns-then-is_empty-clause-follows c =
-    follows_on c.args.self.now c.take_line.new.self c.read_more.new.self
-    (follows_same c.args.self.now c.loop.self c.take_line.new.self c.loop.invariant.follows
-    c.take_line.ensures.stream) c.read_more.ensures.follows
+    follows_on _ _ _ (follows_same _ _ _ c.loop.invariant.follows c.take_line.ensures.stream)
+    c.read_more.ensures.follows
 
 pub returns-then-is_empty-clause-next : goal.returns-then-is_empty-clause-next
 returns-then-is_empty-clause-next c = λ whole can.
     let none : length c.take_line.new.line.items ≡ 0 = grind (arith, nat_tests) in
     line_end c.args.self.now c.read_more.new.self c.take_line.new.line.items
-    (line_on c.args.self.now c.take_line.new.self c.read_more.new.self
-    c.take_line.new.line.items (line_more c.args.self.now c.loop.self c.take_line.new.self
-    c.loop.line.items c.take_line.new.line.items c.loop.invariant c.take_line.ensures.stream
-    (subst (HasTaken (pending c.loop.self) (pending c.take_line.new.self)
-    c.loop.line.items c.take_line.new.line.items) c.if-is_whole.false c.in-Ok.ensures.taken)) c.read_more.ensures.follows
+    (line_on _ _ _ _ (line_more _ _ _ _ _ c.loop.invariant c.take_line.ensures.stream
+    (rw c.if-is_whole.false at c.in-Ok.ensures.taken)) c.read_more.ensures.follows
     c.in-Ok-false.ensures.left)
     (c.in-Ok-false.ensures.ended c.in-Ok-false.field-0-test) none whole can
 
@@ -78,20 +65,16 @@ returns-then-is_empty-clause-ended c = λ is. c.in-Ok-false.ensures.ended c.in-O
 
 pub returns-in-Ok-false-clause-follows : goal.returns-in-Ok-false-clause-follows
 returns-in-Ok-false-clause-follows c =
-    follows_on c.args.self.now c.take_line.new.self c.read_more.new.self
-    (follows_same c.args.self.now c.loop.self c.take_line.new.self c.loop.invariant.follows
-    c.take_line.ensures.stream) c.read_more.ensures.follows
+    follows_on _ _ _ (follows_same _ _ _ c.loop.invariant.follows c.take_line.ensures.stream)
+    c.read_more.ensures.follows
 
 pub returns-in-Ok-false-clause-next : goal.returns-in-Ok-false-clause-next
 returns-in-Ok-false-clause-next c = λ whole can.
     let some : 0 < length c.take_line.new.line.items = grind (arith, nat_tests) in
     let short : nat_lt 1024 (length c.take_line.new.line.items) ≡ false = grind (arith, nat_tests) in (
       line_last c.args.self.now c.read_more.new.self c.take_line.new.line.items
-          (line_on c.args.self.now c.take_line.new.self c.read_more.new.self
-          c.take_line.new.line.items (line_more c.args.self.now c.loop.self c.take_line.new.self
-          c.loop.line.items c.take_line.new.line.items c.loop.invariant c.take_line.ensures.stream
-          (subst (HasTaken (pending c.loop.self) (pending c.take_line.new.self)
-          c.loop.line.items c.take_line.new.line.items) c.if-is_whole.false c.in-Ok.ensures.taken)) c.read_more.ensures.follows
+          (line_on _ _ _ _ (line_more _ _ _ _ _ c.loop.invariant c.take_line.ensures.stream
+          (rw c.if-is_whole.false at c.in-Ok.ensures.taken)) c.read_more.ensures.follows
           c.in-Ok-false.ensures.left)
           (c.in-Ok-false.ensures.ended c.in-Ok-false.field-0-test) some whole can,
       short,
@@ -102,20 +85,16 @@ returns-in-Ok-false-clause-ended c = λ is. absurd (cc)
 
 pub returns-in-Err-clause-follows : goal.returns-in-Err-clause-follows
 returns-in-Err-clause-follows c =
-    follows_on c.args.self.now c.take_line.new.self c.read_more.new.self
-    (follows_same c.args.self.now c.loop.self c.take_line.new.self c.loop.invariant.follows
-    c.take_line.ensures.stream) c.read_more.ensures.follows
+    follows_on _ _ _ (follows_same _ _ _ c.loop.invariant.follows c.take_line.ensures.stream)
+    c.read_more.ensures.follows
 
 pub returns-in-Err-clause-unread : goal.returns-in-Err-clause-unread
 returns-in-Err-clause-unread c = c.in-Err.ensures.unread
 
 pub loop-preserved : goal.loop-preserved
 loop-preserved c =
-    line_on c.args.self.now c.take_line.new.self c.read_more.new.self
-    c.take_line.new.line.items (line_more c.args.self.now c.loop.self c.take_line.new.self
-    c.loop.line.items c.take_line.new.line.items c.loop.invariant c.take_line.ensures.stream
-    (subst (HasTaken (pending c.loop.self) (pending c.take_line.new.self)
-    c.loop.line.items c.take_line.new.line.items) c.if-is_whole.false c.in-Ok.ensures.taken)) c.read_more.ensures.follows
+    line_on _ _ _ _ (line_more _ _ _ _ _ c.loop.invariant c.take_line.ensures.stream
+    (rw c.if-is_whole.false at c.in-Ok.ensures.taken)) c.read_more.ensures.follows
     c.in-Ok-true.ensures.left
 
 pub returns-clause-follows : goal.returns-clause-follows
