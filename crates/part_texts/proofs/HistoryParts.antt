@@ -355,45 +355,6 @@ part_right p fits few =
           (tokens_add p.history ∙ sym (no_sums_add (all_added (sums_by_token p.history)))) small;
     }
 
-one_part : (first last : Bool) (ends : List (Option Position)) (taps : List ℕ)
-    (history : List Entry)
-    (last_one : Option Token) (p : HistoryPart) → Fits p
-    → (first || nat_eq (length p.spans) (length ends)) ≡ true
-    → are_joined first last ends p.spans (to_ends p.spans)
-    → are_posted_to first taps 0 p.taps (added taps p.taps) (0 + sum_up p.taps)
-    → length (history ++ p.history) < 2 ^ 64
-    → AreBelow (map token_of history) (map token_of p.history)
-    → LastIsBelow last_one (map token_of p.history)
-    → IsNextPart first last (so_far ends taps history last_one) (report_of p)
-    (so_far (to_ends p.spans) (added taps p.taps) (history ++ p.history)
-    (last_of last_one (sums_by_token p.history)))
-one_part first last ends taps history last_one p fits files joined posted few increase below =
-    let all = length-append history p.history in
-    let summed : (sums (history ++ p.history)).taps ≡ length (history ++ p.history) =
-    sums-taps (history ++ p.history) in
-    let before = tokens_few history in
-    let here = tokens_few p.history in
-    let tokens : length (sums_by_token (history ++ p.history))
-    ≡ length (sums_by_token history) + length (sums_by_token p.history) =
-    ap length (by_token_joined history p.history increase)
-    ∙ length-append (sums_by_token history) (sums_by_token p.history) in
-    let sum : 0 + sum_up p.taps ≡ (sums p.history).taps =
-    (let e : 0 + sum_up p.taps ≡ sum_up p.taps = omega arith in e) ∙ fits.posted
-    ∙ sym (sums-taps p.history) in
-    record {
-      right = part_right p fits (omega (arith, all, few));
-      files = files;
-      joined = joined;
-      posted = subst (λ n. are_posted_to first taps 0 p.taps (added taps p.taps) n) sum posted;
-      totals = within (sums history) (sums p.history) (sums (history ++ p.history))
-          (sums-append history p.history) (omega (arith, summed, few));
-      validators = validators_added history p.history (omega (arith, few));
-      number = omega (arith, all, few, before, here);
-      tokens = tokens;
-      increase = tokens_increase last_one p.history below;
-      last_is = refl;
-    }
-
 -- ---- all parts
 below_append : (xs ys zs : List Token) → AreBelow xs zs → AreBelow ys zs → AreBelow (xs ++ ys) zs
 below_append [] ys zs front back = back
@@ -434,7 +395,6 @@ same_number a b same = grind (arith, nat_tests, same)
 record GoesOn (files : ℕ) (taps : List ℕ) (history : List Entry) (last : Option Token)
     (parts : List HistoryPart) : Type 0 where
   number : AllByRecursion (λ p. length p.spans ≡ files) parts
-  uploads : length taps ≡ files
   posted : sum_up taps ≡ length history
   increase : AreIncreasing (histories_of parts)
   above : AreBelow (map token_of history) (map token_of (whole_history parts))
@@ -446,75 +406,99 @@ pub tokens_both : (xs ys : List Entry)
     → map token_of (xs ++ ys) ≡ map token_of xs ++ map token_of ys
 tokens_both xs ys = map-append token_of xs ys
 
--- behind one part more
-goes_further : (files : ℕ) (taps : List ℕ) (history : List Entry) (last : Option Token)
-    (p : HistoryPart) (ps : List HistoryPart) → GoesOn files taps history last (p ∷ ps)
-    → length (added taps p.taps) ≡ files
-    → GoesOn files (added taps p.taps) (history ++ p.history)
-    (last_of last (sums_by_token p.history)) ps
-goes_further files taps history last p ps goes uploads =
-    let rest = whole_history ps in
-    let split = tokens_both p.history rest in
-    let (below_p, below_rest) = below_front last (map token_of p.history) (map token_of rest)
-    (subst (LastIsBelow last) split goes.below) in
-    let (above_p, above_rest) = below_both (map token_of history) (map token_of p.history)
-    (map token_of rest) (subst (AreBelow (map token_of history)) split goes.above) in
-    record {
-      number = goes.number.1;
-      uploads = uploads;
-      posted = added_sum taps p.taps ∙ ap (λ n. n + sum_up p.taps) goes.posted
-          ∙ ap (λ n. length history + n) goes.fit.0.posted ∙ sym (length-append history p.history);
-      increase = goes.increase.1;
-      above = subst (λ (ts : List Token). AreBelow ts (map token_of rest))
-          (sym (tokens_both history p.history))
-          (below_append (map token_of history) (map token_of p.history) (map token_of rest)
-          above_rest
-          goes.increase.0);
-      below = next_last last p.history (map token_of rest) below_rest goes.increase.0;
-      fit = goes.fit.1;
-      few = subst (λ n. n < 2 ^ 64) (sym (ap length (append_assoc history p.history rest)))
-          goes.few;
-    }
+-- the first of the parts that follow
+module _ {files : ℕ} {taps : List ℕ} {history : List Entry} {last : Option Token} {p : HistoryPart}
+    {ps : List HistoryPart} (goes : GoesOn files taps history last (p ∷ ps)) where
+  belows : LastIsBelow last (map token_of p.history)
+      × LastIsBelow last (map token_of (whole_history ps))
+  belows = below_front last (map token_of p.history) (map token_of (whole_history ps))
+      (subst (LastIsBelow last) (tokens_both p.history (whole_history ps)) goes.below)
 
--- what one part needs of what goes on
-record IsNext (taps : List ℕ) (history : List Entry) (last : Option Token) (p : HistoryPart) : Type
-    0
-  where
-    few : length (history ++ p.history) < 2 ^ 64
-    above : AreBelow (map token_of history) (map token_of p.history)
-    below : LastIsBelow last (map token_of p.history)
-    sums : sum_up taps + sum_up p.taps < 2 ^ 64
+  aboves : AreBelow (map token_of history) (map token_of p.history)
+      × AreBelow (map token_of history) (map token_of (whole_history ps))
+  aboves = below_both (map token_of history) (map token_of p.history)
+      (map token_of (whole_history ps)) (subst (AreBelow (map token_of history))
+      (tokens_both p.history (whole_history ps)) goes.above)
 
-is_next : (files : ℕ) (taps : List ℕ) (history : List Entry) (last : Option Token) (p : HistoryPart)
-    (ps : List HistoryPart) → GoesOn files taps history last (p ∷ ps) → IsNext taps history last p
-is_next files taps history last p ps goes =
-    let rest = whole_history ps in
-    let split = tokens_both p.history rest in
-    let one = length-append history p.history in
-    let two = length-append history (p.history ++ rest) in
-    let three = length-append p.history rest in
-    let few = goes.few in
-    let was = goes.posted in
-    let now = goes.fit.0.posted in
-    record {
-      few = omega (arith, one, two, three, few);
-      above = (below_both (map token_of history) (map token_of p.history) (map token_of rest)
-          (subst (AreBelow (map token_of history)) split goes.above)).0;
-      below = (below_front last (map token_of p.history) (map token_of rest)
-          (subst (LastIsBelow last) split goes.below)).0;
-      sums = omega (arith, was, now, two, three, few);
-    }
+  few_here : length (history ++ p.history) < 2 ^ 64
+  few_here =
+      let one = length-append history p.history in
+      let two = length-append history (p.history ++ whole_history ps) in
+      let three = length-append p.history (whole_history ps) in
+      let few = goes.few in
+      omega (arith, one, two, three, few)
+
+  sums_fit : sum_up taps + sum_up p.taps < 2 ^ 64
+  sums_fit =
+      let was = goes.posted in
+      let now = goes.fit.0.posted in
+      let few = few_here in
+      let one = length-append history p.history in
+      omega (arith, was, now, few, one)
+
+  -- behind that part
+  goes_further : GoesOn files (added taps p.taps) (history ++ p.history)
+      (last_of last (sums_by_token p.history)) ps
+  goes_further = record {
+    number = goes.number.1;
+    posted = added_sum taps p.taps ∙ ap (λ n. n + sum_up p.taps) goes.posted
+        ∙ ap (λ n. length history + n) goes.fit.0.posted ∙ sym (length-append history p.history);
+    increase = goes.increase.1;
+    above = subst (λ (ts : List Token). AreBelow ts (map token_of (whole_history ps)))
+        (sym (tokens_both history p.history))
+        (below_append (map token_of history) (map token_of p.history)
+        (map token_of (whole_history ps)) aboves.1 goes.increase.0);
+    below = next_last last p.history (map token_of (whole_history ps)) belows.1 goes.increase.0;
+    fit = goes.fit.1;
+    few = subst (λ n. n < 2 ^ 64)
+        (sym (ap length (append_assoc history p.history (whole_history ps)))) goes.few;
+  }
+
+  one_part : (first final : Bool) (ends : List (Option Position))
+      → (first || nat_eq (length p.spans) (length ends)) ≡ true
+      → are_joined first final ends p.spans (to_ends p.spans)
+      → are_posted_to first taps 0 p.taps (added taps p.taps) (0 + sum_up p.taps)
+      → IsNextPart first final (so_far ends taps history last) (report_of p)
+      (so_far (to_ends p.spans) (added taps p.taps) (history ++ p.history)
+      (last_of last (sums_by_token p.history)))
+  one_part first final ends files joined posted =
+      let all = length-append history p.history in
+      let few = few_here in
+      let summed : (sums (history ++ p.history)).taps ≡ length (history ++ p.history) =
+      sums-taps (history ++ p.history) in
+      let before = tokens_few history in
+      let here = tokens_few p.history in
+      let tokens : length (sums_by_token (history ++ p.history))
+      ≡ length (sums_by_token history) + length (sums_by_token p.history) =
+      ap length (by_token_joined history p.history aboves.0)
+      ∙ length-append (sums_by_token history) (sums_by_token p.history) in
+      let sum : 0 + sum_up p.taps ≡ (sums p.history).taps =
+      (let e : 0 + sum_up p.taps ≡ sum_up p.taps = omega arith in e) ∙ goes.fit.0.posted
+      ∙ sym (sums-taps p.history) in
+      record {
+        right = part_right p goes.fit.0 (omega (arith, all, few));
+        files = files;
+        joined = joined;
+        posted = subst (λ n. are_posted_to first taps 0 p.taps (added taps p.taps) n) sum posted;
+        totals = within (sums history) (sums p.history) (sums (history ++ p.history))
+            (sums-append history p.history) (omega (arith, summed, few));
+        validators = validators_added history p.history (omega (arith, few));
+        number = omega (arith, all, few, before, here);
+        tokens = tokens;
+        increase = tokens_increase last p.history belows.0;
+        last_is = refl;
+      }
 
 pub ends_length : (spans : List FileSpan) → length (to_ends spans) ≡ length spans
 ends_length spans = length-map spans (λ (span : FileSpan). span.to)
 
 follow : (files : ℕ) (ends : List (Option Position)) (taps : List ℕ) (history : List Entry)
-    (last : Option Token) (parts : List HistoryPart) → length ends ≡ files
+    (last : Option Token) (parts : List HistoryPart) → length ends ≡ files → length taps ≡ files
     → DoJoin ends (spans_of parts) → GoesOn files taps history last parts
     → (all_ends : List (Option Position)) × (all_last : Option Token)
     × are_next IsNextPart false (so_far ends taps history last) (map report_of parts)
     (so_far all_ends (added taps (numbers_of parts)) (history ++ whole_history parts) all_last)
-follow files ends taps history last [] number join goes = (
+follow files ends taps history last [] number uploads join goes = (
   ends,
   last,
   ap (λ ts. so_far ends ts history last) (sym (none_more taps))
@@ -524,27 +508,20 @@ follow files ends taps history last [] number join goes = (
     none_more : (ns : List ℕ) → added ns [] ≡ ns
     none_more [] = refl
     none_more (n ∷ ns) = refl
-follow files ends taps history last (p ∷ ps) number join goes =
-    let is = is_next files taps history last p ps goes in
+follow files ends taps history last (p ∷ ps) number uploads join goes =
     let same : length taps ≡ length p.taps =
-    goes.uploads ∙ sym (goes.fit.0.uploads ∙ goes.number.0) in
-    let uploads : length (added taps p.taps) ≡ files =
-    added_length taps p.taps same ∙ goes.fit.0.uploads ∙ goes.number.0 in
-    let small : 0 + sum_up p.taps < 2 ^ 64 = (let s = is.sums in omega (arith, s)) in
-    let ends_valid = may_end_all p.spans (spans_of ps) join.1 in
-    let joined : are_joined false (is_none_after (map report_of ps)) ends p.spans
-    (to_ends p.spans) =
-    rw (← (none_after ps), join.0, ← (append-nil (from_ends p.spans)))
-    (joined_next (is_none_after (spans_of ps)) [] p.spans ends_valid) in
-    let posted : are_posted_to false taps 0 p.taps (added taps p.taps) (0 + sum_up p.taps) =
-    rw append-nil at (posted_next taps [] p.taps 0 same small is.sums) in
-    let part = one_part false (is_none_after (map report_of ps)) ends taps history last p goes.fit.0
-    (same_number (length p.spans) (length ends) (goes.number.0 ∙ sym number)) joined posted is.few
-    is.above is.below in
+    uploads ∙ sym (goes.fit.0.uploads ∙ goes.number.0) in
+    let fit = sums_fit goes in
+    let small : 0 + sum_up p.taps < 2 ^ 64 = omega (arith, fit) in
+    let part = one_part goes false (is_none_after (map report_of ps)) ends
+    (same_number (length p.spans) (length ends) (goes.number.0 ∙ sym number))
+    (rw (← (none_after ps), join.0, ← (append-nil (from_ends p.spans)))
+    (joined_next (is_none_after (spans_of ps)) [] p.spans (may_end_all p.spans (spans_of ps) join.1)))
+    (rw append-nil at (posted_next taps [] p.taps 0 same small fit)) in
     let (all_ends, all_last, more) = follow files (to_ends p.spans) (added taps p.taps)
     (history ++ p.history) (last_of last (sums_by_token p.history)) ps
-    (ends_length p.spans ∙ goes.number.0) join.1
-    (goes_further files taps history last p ps goes uploads)
+    (ends_length p.spans ∙ goes.number.0)
+    (added_length taps p.taps same ∙ goes.fit.0.uploads ∙ goes.number.0) join.1 (goes_further goes)
     in (
       all_ends,
       all_last,
@@ -566,36 +543,24 @@ begins : (files : ℕ) (p : HistoryPart) (ps : List HistoryPart) → AreRight fi
     × are_next IsNextPart true nothing_so_far (map report_of (p ∷ ps))
     (so_far all_ends (numbers_of (p ∷ ps)) (whole_history (p ∷ ps)) all_last)
 begins files p ps right =
-    let rest = whole_history ps in
-    let all = length-append p.history rest in
-    let few = right.few in
-    let now = right.fit.0.posted in
-    let whole = right.whole in
-    let ends_valid = may_end_all p.spans (spans_of ps) whole.1 in
-    let small : 0 + sum_up p.taps < 2 ^ 64 = omega (arith, now, all, few) in
-    let joined : are_joined true (is_none_after (map report_of ps)) [] p.spans (to_ends p.spans) =
-    rw (← (none_after ps)) (joined_first (is_none_after (spans_of ps)) [] p.spans whole.0 ends_valid) in
-    let posted : are_posted_to true [] 0 p.taps (added [] p.taps) (0 + sum_up p.taps) =
-    posted_first [] p.taps 0 small in
-    let part = one_part true (is_none_after (map report_of ps)) [] [] [] None p right.fit.0 refl
-    joined
-    posted (omega (arith, all, few)) (All-nil _) tt in
-    let goes : GoesOn files (added [] p.taps) ([] ++ p.history)
-    (last_of None (sums_by_token p.history)) ps =
-    record {
-      number = right.number.1;
-      uploads = right.fit.0.uploads ∙ right.number.0;
-      posted = now;
-      increase = right.increase.1;
-      above = right.increase.0;
-      below = next_last None p.history (map token_of rest) tt right.increase.0;
-      fit = right.fit.1;
-      few = few;
+    let goes : GoesOn files [] [] None (p ∷ ps) = record {
+      number = right.number;
+      posted = refl;
+      increase = right.increase;
+      above = All-nil (λ t. All (λ u. token_cmp t u ≡ Less) (map token_of (whole_history (p ∷ ps))));
+      below = tt;
+      fit = right.fit;
+      few = right.few;
     } in
+    let fit = sums_fit goes in
+    let small : 0 + sum_up p.taps < 2 ^ 64 = omega (arith, fit) in
+    let part = one_part goes true (is_none_after (map report_of ps)) [] refl
+    (rw (← (none_after ps)) (joined_first (is_none_after (spans_of ps)) [] p.spans right.whole.0
+    (may_end_all p.spans (spans_of ps) right.whole.1))) (posted_first [] p.taps 0 small) in
     let (all_ends, all_last, more) =
     follow files (to_ends p.spans) (added [] p.taps) ([] ++ p.history)
-    (last_of None (sums_by_token p.history)) ps (ends_length p.spans ∙ right.number.0) whole.1
-    goes in (
+    (last_of None (sums_by_token p.history)) ps (ends_length p.spans ∙ right.number.0)
+    (right.fit.0.uploads ∙ right.number.0) right.whole.1 (goes_further goes) in (
       all_ends,
       all_last,
       (
