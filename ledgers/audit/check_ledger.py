@@ -280,12 +280,13 @@ class Account:
         if left <= 0:
             return "capped", 0, self.rides, "ceiling"
         ceilings = fares.ceilings[fares.classes.get(self.token, fares.usual_class)]
-        least = min((max(0, ceilings.get(name, 100_000_000) - self.caps[name][1])
-                     for name, _, modes in fares.caps if mode in modes), default=100_000_000)
+        least, cap = min(((max(0, ceilings.get(name, 100_000_000) - self.caps[name][1]), name)
+                          for name, _, modes in fares.caps if mode in modes),
+                         default=(100_000_000, ""))
         if least == 0:
-            return "capped", 0, self.rides, "cap"
+            return "capped", 0, self.rides, "cap:" + cap
         if least < min(fare, left):
-            return "paid", least, self.rides, "cap-cut"
+            return "paid", least, self.rides, "cap-cut:" + cap
         return "paid", min(fare, left), self.rides, "full" if left >= fare else "ceiling-cut"
 
 class Sums:
