@@ -59,10 +59,17 @@ returns c =
       moment_text = front.moment.now;
       is = c.in_ok-is_exact.ensures.0 yes;
       columns = columns
-          ∙ ap (λ (t : List ℕ). Some ((t, (number, (front.moment.now, front.validator.now))),
-          front.rest.now)) token.1
-          ∙ ap (λ (v : List ℕ). Some ((encode_lower (bytes_of c.in-Some-exact_token.token),
-          (number, (front.moment.now, v))), front.rest.now)) validator.1;
+          ∙ ap (λ (t : List ℕ). Some (
+            (t, (number, (front.moment.now, front.validator.now))),
+            front.rest.now,
+          )) token.1
+          ∙ ap (λ (v : List ℕ). Some (
+            (
+              encode_lower (bytes_of c.in-Some-exact_token.token),
+              (number, (front.moment.now, v)),
+            ),
+            front.rest.now,
+          )) validator.1;
       front = c.requires.line.0;
       ends = c.requires.line.1;
       short = c.requires.short;
