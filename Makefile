@@ -23,8 +23,8 @@
 # make bench    one table of speed and memory, live and settled, beside Rust without proofs, within
 #               ten minutes, and a tap's instructions if valgrind is there. If no proved program is
 #               there, a trial is built and measured, and it says so
-# make agencies the made-up agencies of examples/agencies over the proved programs: their reports,
-#               statements and amounts, and what the checkers say of their ledgers
+# make agencies what the programs print of the agencies in examples/agencies: reports, statements,
+#               amounts, and what the checkers say of the ledgers
 # make audit    the checkers of ledgers over the example, some zones, a generated week and spoilt
 #               ledgers
 # make sql      the example's ledger in SQLite and in PostgreSQL, an auditor's questions, those that
