@@ -1,7 +1,7 @@
 //! The last five fields of a ledger's line: the window, the ride's place, the reason, and the
 //! moment that it points at.
 
-ghost use Rattle.std.specs.Prelude.{◌≡◌, ◌+◌, ◌≤◌, ◌++◌, [], List, ℕ, length, slice_index_or};
+ghost use Rattle.std.specs.Prelude.{◌≡◌, ◌+◌, ◌≤◌, ◌++◌, List, ℕ, length};
 ghost use Rattle.fare_texts.specs.LedgerLines.{IsReasonFields, IsPointing, IsRideFields};
 ghost use Rattle.fare_texts.specs.LedgerLines.{cap_reason, cap_suffix, position_fields};
 ghost use Rattle.fare_texts.specs.LedgerLines.{ride_rest, window_rest};
