@@ -73,33 +73,6 @@ entry_line fares token earlier entry line fits is read = record {
       (is.moment ++ (entry_fields fares entry ++ (is.reason_fields ++ codes "\n"))) fits;
 }
 
--- ---- the lines of one token
-record ReadLines (token : Token) (text : List ℕ) : Type 0 where
-  entries : List EntryLine
-  shown : text ≡ lines_of_entries entries
-  fit : AllByRecursion IsEntryLine entries
-  same : AllByRecursion (λ e. e.token ≡ token) entries
-
-module _ (fares : Fares) (history : List Entry) (readable : AreReadable fares history) where
-  token_lines : (token : Token) (earlier rest : List Entry) (text : List ℕ) → TokenFits token
-      → own token history ≡ earlier ++ rest → AreLedgerLinesAfter fares token earlier rest text
-      → ReadLines token text
-  token_lines token earlier [] text fits whole none =
-      record { entries = []; shown = none; fit = tt; same = tt }
-  token_lines token earlier (entry ∷ rest) text fits whole (line, more, is, others, shown) =
-      let trailing = token_lines token (earlier ++ entry ∷ []) rest more fits
-      (whole ∙ sym (append_assoc earlier (entry ∷ []) rest)) others in
-      record {
-        entries = record { token = token; line = line } ∷ trailing.entries;
-        shown = shown ∙ ap (λ (t : List ℕ). line ++ t) trailing.shown;
-        fit = (
-          entry_line fares token earlier entry line fits is
-              (readable token earlier entry rest line whole is),
-          trailing.fit,
-        );
-        same = (refl, trailing.same);
-      }
-
 -- ---- entries that follow
 itself : (token : Token) → not (is_lt (token_cmp token token)) ≡ true
 itself token = grind (arith, nat_tests)
@@ -109,78 +82,11 @@ not_after : (last token : Token) → token_cmp last token ≡ Less
 not_after last token less =
     ap (λ o. not (is_lt o)) (token_cmp-total.antisymm token last ∙ ap ordering_reverse less)
 
-may : (first : Bool) (last : Option Token) (token : Token) → LastIsBelow last (token ∷ [])
-    → may_follow first last token ≡ true
-may first None token below = refl
-may true (Some last) token below = ap is_lt below.0
-may false (Some last) token below = not_after last token below.0
-
-follow_same : (token : Token) (entries : List EntryLine)
-    → AllByRecursion (λ e. e.token ≡ token) entries → do_follow false (Some token) entries
-follow_same token [] same = tt
-follow_same token (e ∷ entries) same = (
-  ap (λ (t : Token). not (is_lt (token_cmp t token))) same.0 ∙ itself token,
-  subst (λ (t : Token). do_follow false (Some t) entries) (sym same.0)
-      (follow_same token entries same.1),
-)
-
-follow_one : (first : Bool) (last : Option Token) (token : Token) (entries : List EntryLine)
-    → AllByRecursion (λ e. e.token ≡ token) entries → LastIsBelow last (token ∷ [])
-    → do_follow first last entries
-follow_one first last token [] same below = tt
-follow_one first last token (e ∷ entries) same below = (
-  ap (may_follow first last) same.0 ∙ may first last token below,
-  subst (λ (t : Token). do_follow false (Some t) entries) (sym same.0)
-      (follow_same token entries same.1),
-)
-
-abbrev trailing : Bool → List EntryLine → Bool
-trailing first [] = first
-trailing first (e ∷ entries) = false
-
-after_false : (entries : List EntryLine) → trailing false entries ≡ false
-after_false [] = refl
-after_false (e ∷ entries) = refl
-
-follow_both : (first : Bool) (last : Option Token) (a b : List EntryLine) → do_follow first last a
-    → do_follow (trailing first a) (last_entry last a) b → do_follow first last (a ++ b)
-follow_both first last [] b one two = two
-follow_both first last (e ∷ a) b one two = (
-  one.0,
-  follow_both false (Some e.token) a b one.1
-      (subst (λ f. do_follow f (last_entry (Some e.token) a) b) (sym (after_false a)) two),
-)
-
-last_both : (last : Option Token) (a b : List EntryLine)
-    → last_entry last (a ++ b) ≡ last_entry (last_entry last a) b
-last_both last [] b = refl
-last_both last (e ∷ a) b = last_both (Some e.token) a b
-
-last_below : (token : Token) (last : Option Token) (entries : List EntryLine) (later : List Token)
-    → AllByRecursion (λ e. e.token ≡ token) entries → LastIsBelow last later
-    → AllByRecursion (λ z. token_cmp token z ≡ Less) later
-    → LastIsBelow (last_entry last entries) later
-last_below token last [] later same below less = below
-last_below token last (e ∷ entries) later same below less =
-    last_below token (Some e.token) entries later same.1
-    (subst (λ (t : Token). LastIsBelow (Some t) later) (sym same.0) less) less
-
-lines_both : (a b : List EntryLine)
-    → lines_of_entries (a ++ b) ≡ lines_of_entries a ++ lines_of_entries b
-lines_both [] b = refl
-lines_both (e ∷ a) b =
-    ap (λ (t : List ℕ). e.line ++ t) (lines_both a b)
-    ∙ sym (append_assoc e.line (lines_of_entries a) (lines_of_entries b))
-
-fit_both : (a b : List EntryLine) → AllByRecursion IsEntryLine a → AllByRecursion IsEntryLine b
-    → AllByRecursion IsEntryLine (a ++ b)
-fit_both [] b one two = two
-fit_both (e ∷ a) b one two = (one.0, fit_both a b one.1 two)
-
-below_one : (last : Option Token) (token : Token) (others : List Token)
-    → LastIsBelow last (token ∷ others) → LastIsBelow last (token ∷ [])
-below_one None token others below = tt
-below_one (Some last) token others below = (below.0, tt)
+may : (first : Bool) (last : Option Token) (token : Token) (others : List Token)
+    → LastIsBelow last (token ∷ others) → may_follow first last token ≡ true
+may first None token others below = refl
+may true (Some last) token others below = ap is_lt below.0
+may false (Some last) token others below = not_after last token below.0
 
 below_rest : (last : Option Token) (token : Token) (others : List Token)
     → LastIsBelow last (token ∷ others) → LastIsBelow last others
@@ -198,6 +104,37 @@ record ReadAll (first : Bool) (last : Option Token) (later : List Token) (text :
 
 module _ (fares : Fares) (history : List Entry) (readable : AreReadable fares history)
     (later : List Token) where
+  -- the lines of one token, before what is read of the tokens after it
+  token_lines : (token : Token) (keys : List Token) (earlier rest : List Entry) (text more : List ℕ)
+      → TokenFits token → own token history ≡ earlier ++ rest
+      → AreLedgerLinesAfter fares token earlier rest text
+      → LastIsBelow (Some token) keys → LastIsBelow (Some token) later
+      → ((first : Bool) (last : Option Token) → LastIsBelow last keys → LastIsBelow last later
+      → ReadAll first last later more)
+      → (first : Bool) (last : Option Token) → may_follow first last token ≡ true
+      → LastIsBelow last keys → LastIsBelow last later → ReadAll first last later (text ++ more)
+  token_lines token keys earlier [] text more fits whole none above ends next first last follows
+      below end =
+      subst (λ (t : List ℕ). ReadAll first last later (t ++ more)) (sym none)
+      (next first last below end)
+  token_lines token keys earlier (entry ∷ rest) text more fits whole (line, others, is, are, shown)
+      above ends next first last follows below end =
+      let trailing = token_lines token keys (earlier ++ entry ∷ []) rest others more fits
+      (whole ∙ sym (append_assoc earlier (entry ∷ []) rest)) are above ends next false (Some token)
+      (itself token) above ends in
+      record {
+        entries = record { token = token; line = line } ∷ trailing.entries;
+        shown = ap (λ (t : List ℕ). t ++ more) shown ∙ append_assoc line others more
+            ∙ ap (λ (t : List ℕ). line ++ t) trailing.shown;
+        fit = (
+          entry_line fares token earlier entry line fits is
+              (readable token earlier entry rest line whole is),
+          trailing.fit,
+        );
+        follow = (follows, trailing.follow);
+        below = trailing.below;
+      }
+
   each_line : (first : Bool) (last : Option Token) (keys : List Token) (text : List ℕ)
       → AllByRecursion TokenFits keys → IsStrictlySortedBy token_cmp keys → LastIsBelow last keys
       → LastIsBelow last later
@@ -208,24 +145,10 @@ module _ (fares : Fares) (history : List Entry) (readable : AreReadable fares hi
       record { entries = []; shown = none; fit = tt; follow = tt; below = end }
   each_line first last (k ∷ keys) text fits increases below end ends
       (lines, rest, are, each, shown) =
-      let here = token_lines fares history readable k [] (own k history) lines fits.0 refl are in
-      let more = each_line (trailing first here.entries) (last_entry last here.entries) keys rest
-      fits.1
-      increases.1
-      (last_below k last here.entries keys here.same (below_rest last k keys below) increases.0)
-      (last_below k last here.entries later here.same end ends.0) ends.1 each in
-      record {
-        entries = here.entries ++ more.entries;
-        shown = shown ∙ ap (λ (t : List ℕ). t ++ rest) here.shown
-            ∙ ap (λ (t : List ℕ). lines_of_entries here.entries ++ t) more.shown
-            ∙ sym (lines_both here.entries more.entries);
-        fit = fit_both here.entries more.entries here.fit more.fit;
-        follow = follow_both first last here.entries more.entries
-            (follow_one first last k here.entries here.same (below_one last k keys below))
-            more.follow;
-        below = subst (λ l. LastIsBelow l later) (sym (last_both last here.entries more.entries))
-            more.below;
-      }
+      subst (ReadAll first last later) (sym shown)
+      (token_lines k keys [] (own k history) lines rest fits.0 refl are increases.0 ends.0
+      (λ first last below end. each_line first last keys rest fits.1 increases.1 below end ends.1 each)
+      first last (may first last k keys below) (below_rest last k keys below) end)
 
   part_read : (last : Option Token) (text : List ℕ) → TokensFit history
       → LastIsBelow last (map token_of history) → LastIsBelow last later
