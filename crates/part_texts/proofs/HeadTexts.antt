@@ -17,11 +17,8 @@ span_lines-push file [] span =
     append-nil (span_line file span) ∙ ap (λ n. span_line n span) (sym (add-zero file))
 span_lines-push file (first ∷ spans) span =
     let next : (file + 1) + length spans ≡ file + length (first ∷ spans) = omega arith in
-    ap (λ text. span_line file first ++ text)
-    (span_lines-push (file + 1) spans span
-    ∙ ap (λ n. span_lines (file + 1) spans ++ span_line n span) next)
-    ∙ sym (append_assoc (span_line file first) (span_lines (file + 1) spans)
-    (span_line (file + length (first ∷ spans)) span))
+    rw (span_lines-push (file + 1) spans span, next) (sym (append_assoc (span_line file first)
+    (span_lines (file + 1) spans) (span_line (file + length (first ∷ spans)) span)))
 
 -- what was written of the files before one, and the line of that one
 abbrev no_position : Position
@@ -36,11 +33,8 @@ spans_more : (start : List ℕ) (spans : List FileSpan) (d : FileSpan) (i : ℕ)
     ≡ start ++ span_lines 0 (take (i + 1) spans)
 spans_more start spans d i within =
     let count : 0 + length (take i spans) ≡ i = omega (arith, length-take {A = FileSpan}) in
-    append_assoc start (span_lines 0 (take i spans)) (span_line i (get_or spans i d))
-    ∙ ap (λ text. start ++ text)
-    (ap (λ n. span_lines 0 (take i spans) ++ span_line n (get_or spans i d)) (sym count)
-    ∙ sym (span_lines-push 0 (take i spans) (get_or spans i d))
-    ∙ ap (λ taken. span_lines 0 taken) (sym (take_more spans i d within)))
+    rw (take_more spans i d within, span_lines-push 0 (take i spans) (get_or spans i d), count)
+    (append_assoc start (span_lines 0 (take i spans)) (span_line i (get_or spans i d)))
 
 -- the pieces of a line
 pub in_line : (start a b c d done : List ℕ) (file : ℕ) (span : FileSpan)
@@ -61,6 +55,4 @@ pub spans_written : (start now new : List ℕ) (spans : List FileSpan) (one : Fi
     → now ≡ start ++ span_lines 0 (take i spans) → one ≡ get_or spans i no_span
     → new ≡ start ++ span_lines 0 (take (i + 1) spans)
 spans_written start now new spans one i within wrote before is =
-    wrote ∙ ap (λ t. t ++ span_line i one) before
-    ∙ ap (λ s. (start ++ span_lines 0 (take i spans)) ++ span_line i s) is
-    ∙ spans_more start spans no_span i within
+    rw (wrote, before, is) (spans_more start spans no_span i within)

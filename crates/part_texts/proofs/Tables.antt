@@ -1,7 +1,7 @@
 -- The sums by validator of a history, added to those of the history before it.
 use Rattle.std.proofs.Common.{◌≡◌, ◌∙◌, ◌+◌, ◌≤◌, ◌^◌, ◌||◌, ℕ, Bool, true, false, cond, List, []}
 use Rattle.std.proofs.Common.{◌∷◌, ◌++◌, length, map, filter}
-use Rattle.std.proofs.Common.{Some, None, option_map, refl, sym, ap, subst, arith}
+use Rattle.std.proofs.Common.{Some, None, refl, sym, ap, subst, arith}
 use Rattle.std.specs.Prelude.{nat_le, unwrap_or}
 use Rattle.std.specs.BTreeMap.{insert_entry}
 use Rattle.std.specs.BTreeMap.{is_at as is_key}
@@ -26,7 +26,7 @@ use Rattle.histories.specs.SumsByKey.{entries_of_validator, sums_by_validator, v
 use Rattle.histories.specs.SumsByKey.{validators}
 use Rattle.histories.specs.declared.entry.Entry.{Entry}
 use Rattle.histories.proofs.IncreasingLemmas.{below_all, increasing-is, increasing-unique}
-use Rattle.histories.proofs.SumsLemmas.{sums-append, sums-taps}
+use Rattle.histories.proofs.SumsLemmas.{add_none, sums-append, sums-taps}
 use Rattle.part_texts.specs.Fronts.{no_sums, sums_within, with_validator}
 use Rattle.part_texts.specs.inside.Shown.{are_added}
 use Rattle.part_texts.proofs.KeySums.{number_ties}
@@ -95,21 +95,9 @@ found f v (k ∷ keys) none = found_at (nat_cmp v k) refl (found f v keys)
         → unwrap_or
         (cond (is_eq (nat_cmp v k)) (Some (f k)) (lookup (is_key (nat_cmp v)) (table f keys)))
         no_sums ≡ f v
-    found_at Equal tied more =
-        ap (λ o. unwrap_or
-        (cond (is_eq o) (Some (f k)) (lookup (is_key (nat_cmp v)) (table f keys))) no_sums)
-        tied
-        ∙ ap f (sym (number_ties v k tied))
-    found_at Less order more =
-        ap (λ o. unwrap_or
-        (cond (is_eq o) (Some (f k)) (lookup (is_key (nat_cmp v)) (table f keys))) no_sums)
-        order
-        ∙ more (λ out. none (ap (λ o. is_eq o || has keys v) order ∙ out))
-    found_at Greater order more =
-        ap (λ o. unwrap_or
-        (cond (is_eq o) (Some (f k)) (lookup (is_key (nat_cmp v)) (table f keys))) no_sums)
-        order
-        ∙ more (λ out. none (ap (λ o. is_eq o || has keys v) order ∙ out))
+    found_at Equal tied more = rw tied (ap f (sym (number_ties v k tied)))
+    found_at Less order more = rw order (more (λ out. none (rw order out)))
+    found_at Greater order more = rw order (more (λ out. none (rw order out)))
 
 -- ---- one key more
 sorted_more : (ks : List ℕ) (v : ℕ)
@@ -178,9 +166,7 @@ no_entries v (e ∷ entries) none =
         → (has (map validator_of entries) v ≡ false → entries_of_validator v entries ≡ [])
         → filter (is_at v) (e ∷ entries) ≡ []
     none_so true is none more = absurd (false≢true (sym none))
-    none_so false is none more =
-        ap (λ b. cond b (e ∷ filter (is_at v) entries) (filter (is_at v) entries)) (other_at v e is)
-        ∙ more none
+    none_so false is none more = rw (other_at v e is) (more none)
 
 nothing_summed : (entries : List Entry) → entries ≡ [] → sums entries ≡ no_sums
 unfolding sums_of_replies
@@ -224,17 +210,14 @@ module _ (xs ys : List Entry) (few : length (xs ++ ys) ≤ 2 ^ 95) where
   mixed done v = cond (has done v) (at_validator v (xs ++ ys)) (at_validator v xs)
 
   mixed_out : (done : List ℕ) (v : ℕ) → has done v ≡ false → mixed done v ≡ at_validator v xs
-  mixed_out done v out = ap (λ b. cond b (at_validator v (xs ++ ys)) (at_validator v xs)) out
+  mixed_out done v out = rw out
 
   mixed_here : (done : List ℕ) (v : ℕ) → mixed (v ∷ done) v ≡ at_validator v (xs ++ ys)
-  mixed_here done v =
-      let t : is_eq (nat_cmp v v) ≡ true = grind (arith, nat_tests) in
-      ap (λ b. cond (b || has done v) (at_validator v (xs ++ ys)) (at_validator v xs)) t
+  mixed_here done v = let t : is_eq (nat_cmp v v) ≡ true = grind (arith, nat_tests) in rw t
 
   mixed_other : (done : List ℕ) (v k : ℕ) → ¬ (k ≡ v) → mixed done k ≡ mixed (v ∷ done) k
   mixed_other done v k other =
-      let t : is_eq (nat_cmp k v) ≡ false = grind (arith, nat_tests, other) in
-      ap (λ b. cond (b || has done k) (at_validator k (xs ++ ys)) (at_validator k xs)) (sym t)
+      let t : is_eq (nat_cmp k v) ≡ false = grind (arith, nat_tests, other) in rw t
 
   one_more : (done ks : List ℕ) (v : ℕ) → has done v ≡ false
       → ((k : ℕ) → has ks k ≡ false → at_validator k xs ≡ no_sums)
@@ -251,14 +234,11 @@ module _ (xs ys : List Entry) (few : length (xs ++ ys) ≤ 2 ^ 95) where
       let small : (at_validator v (xs ++ ys)).taps ≤ 2 ^ 95 =
       (let n = sums-taps (entries_of_validator v (xs ++ ys)) in
       let f = fewer v (xs ++ ys) in omega (arith, n, f, few)) in
-      ap (λ s. option_map (λ sums. insert_entry nat_cmp (table (mixed done) keys) v sums)
-      (sums_within s (at_validator v ys))) here
-      ∙ ap (option_map (λ sums. insert_entry nat_cmp (table (mixed done) keys) v sums))
-      (within (at_validator v xs) (at_validator v ys) (at_validator v (xs ++ ys)) (both_at v xs ys)
-      small)
-      ∙ ap Some (set_one (mixed done) (mixed (v ∷ done)) v (at_validator v (xs ++ ys)) keys
+      rw (here, within (at_validator v xs) (at_validator v ys) (at_validator v (xs ++ ys))
+      (both_at v xs ys) small)
+      (ap Some (set_one (mixed done) (mixed (v ∷ done)) v (at_validator v (xs ++ ys)) keys
       (mixed_here done v) (mixed_other done v) risen.increases
-      ∙ ap (table (mixed (v ∷ done))) (sorted_more ks v))
+      ∙ ap (table (mixed (v ∷ done))) (sorted_more ks v)))
 
   still_out : (v : ℕ) (done vs : List ℕ) → AllByRecursion (λ u. nat_cmp v u ≡ Less) vs
       → AllByRecursion (λ u. has done u ≡ false) vs
@@ -295,28 +275,12 @@ module _ (xs ys : List Entry) (few : length (xs ++ ys) ≤ 2 ^ 95) where
   ends_as : (k : ℕ) → mixed (done_after [] (validators ys)) k ≡ at_validator k (xs ++ ys)
   ends_as k = by (has (validators ys) k) refl
     where
-      add_nothing : (s : Sums) → add_sums s no_sums ≡ s
-      add_nothing s = λ i. record {
-        taps = (let e : s.taps + 0 ≡ s.taps = omega arith in e) i;
-        paid = (let e : s.paid + 0 ≡ s.paid = omega arith in e) i;
-        transfers = (let e : s.transfers + 0 ≡ s.transfers = omega arith in e) i;
-        capped = (let e : s.capped + 0 ≡ s.capped = omega arith in e) i;
-        stale = (let e : s.stale + 0 ≡ s.stale = omega arith in e) i;
-        unknown = (let e : s.unknown + 0 ≡ s.unknown = omega arith in e) i;
-        cents = (let e : s.cents + 0 ≡ s.cents = omega arith in e) i;
-      }
-
       by : (b : Bool) → has (validators ys) k ≡ b
           → mixed (done_after [] (validators ys)) k ≡ at_validator k (xs ++ ys)
-      by true is =
-          ap (λ b. cond b (at_validator k (xs ++ ys)) (at_validator k xs))
-          (done_has [] (validators ys) k ∙ is)
-      by false is =
-          ap (λ b. cond b (at_validator k (xs ++ ys)) (at_validator k xs))
-          (done_has [] (validators ys) k ∙ is)
-          ∙ sym (add_nothing (at_validator k xs))
-          ∙ ap (add_sums (at_validator k xs)) (sym (none_at k ys is))
-          ∙ sym (both_at k xs ys)
+      by true is = rw (done_has [] (validators ys) k, is)
+      by false is = rw (done_has [] (validators ys) k, is) (sym (add_none (at_validator k xs))
+          ∙ ap (add_sums (at_validator k xs)) (nothing_summed [] refl ∙ sym (none_at k ys is))
+          ∙ sym (both_at k xs ys))
 
   all_same : (f g : ℕ → Sums) (keys : List ℕ) → ((k : ℕ) → f k ≡ g k)
       → AllByRecursion (λ k. f k ≡ g k) keys

@@ -32,12 +32,9 @@ uploads_more start taps d i within =
     let one = get_or taps i d in
     let count : 0 + length (map Posted (take i taps)) ≡ i =
     (let l = map_length Posted (take i taps) in omega (arith, l, length-take {A = ℕ})) in
-    append_assoc start (upload_lines 0 (map Posted (take i taps))) (upload_line i (Posted one))
-    ∙ ap (λ text. start ++ text)
-    (ap (λ n. upload_lines 0 (map Posted (take i taps)) ++ upload_line n (Posted one)) (sym count)
-    ∙ sym (upload_lines-push 0 (map Posted (take i taps)) (Posted one))
-    ∙ ap (λ ends. upload_lines 0 ends) (sym (map-append Posted (take i taps) (one ∷ [])))
-    ∙ ap (λ taken. upload_lines 0 (map Posted taken)) (sym (take_more taps i d within)))
+    rw (take_more taps i d within, map-append Posted (take i taps) (one ∷ []),
+    upload_lines-push 0 (map Posted (take i taps)) (Posted one), count)
+    (append_assoc start (upload_lines 0 (map Posted (take i taps))) (upload_line i (Posted one)))
 
 -- one more
 shown_more : (items : List (Bor ℕ × Bor Totals)) (validator : Bor ℕ) (totals : Bor Totals)
@@ -92,6 +89,4 @@ pub uploads_written : (start now new taps : List ℕ) (one i : ℕ) → i < leng
     → now ≡ start ++ upload_lines 0 (map Posted (take i taps)) → one ≡ get_or taps i 0
     → new ≡ start ++ upload_lines 0 (map Posted (take (i + 1) taps))
 uploads_written start now new taps one i within wrote before is =
-    wrote ∙ ap (λ t. t ++ upload_line i (Posted one)) before
-    ∙ ap (λ n. (start ++ upload_lines 0 (map Posted (take i taps))) ++ upload_line i (Posted n)) is
-    ∙ uploads_more start taps 0 i within
+    rw (wrote, before, is) (uploads_more start taps 0 i within)
