@@ -156,16 +156,13 @@ none_above : (t : List ℕ) (changes : List Pair) → AllByRecursion (Above t) c
     → of_token t changes ≡ []
 none_above t [] all = refl
 none_above t (change ∷ changes) all =
-    ap (λ (b : Bool). cond b (change ∷ of_token t changes) (of_token t changes))
-    (less_same t change.key.token all.0) ∙ none_above t changes all.1
+    rw (less_same t change.key.token all.0) (none_above t changes all.1)
 
 all_of : (t : List ℕ) (run : List Pair) → AllByRecursion (λ change. t ≡ change.key.token) run
     → of_token t run ≡ run
 all_of t [] all = refl
 all_of t (change ∷ run) all =
-    ap (λ (b : Bool). cond b (change ∷ of_token t run) (of_token t run))
-    (same_is t change.key.token all.0)
-    ∙ ap (λ (rest : List Pair). change ∷ rest) (all_of t run all.1)
+    rw (same_is t change.key.token all.0, all_of t run all.1)
 
 none_of_run : (s t : List ℕ) (run : List Pair) → text_cmp t s ≡ Less
     → AllByRecursion (λ change. t ≡ change.key.token) run → of_token s run ≡ []
@@ -180,16 +177,14 @@ past_run : (s t : List ℕ) (run rest : List Pair) → text_cmp t s ≡ Less
     → AllByRecursion (λ change. t ≡ change.key.token) run
     → of_token s rest ≡ of_token s (run ++ rest)
 past_run s t run rest less all =
-    sym (filter-append (is_of_token s) run rest
-    ∙ ap (λ (some : List Pair). some ++ of_token s rest) (none_of_run s t run less all))
+    rw (filter-append (is_of_token s) run rest, none_of_run s t run less all)
 
 run_only : (t : List ℕ) (run rest : List Pair)
     → AllByRecursion (λ change. t ≡ change.key.token) run → AllByRecursion (Above t) rest
     → of_token t (run ++ rest) ≡ run
 run_only t run rest all above =
-    filter-append (is_of_token t) run rest
-    ∙ ap (λ (some : List Pair). some ++ of_token t rest) (all_of t run all)
-    ∙ ap (λ (some : List Pair). run ++ some) (none_above t rest above) ∙ append-nil run
+    rw (filter-append (is_of_token t) run rest, all_of t run all, none_above t rest above)
+    (append-nil run)
 
 -- ---- lists of tokens
 here : (t : List ℕ) (tokens : List (List ℕ)) → Contains (t ∷ tokens) t
@@ -228,10 +223,7 @@ lines_past : (t : List ℕ) (run rest : List Pair)
     → tokens_lines rest tokens ≡ tokens_lines (run ++ rest) tokens
 lines_past t run rest all [] above = refl
 lines_past t run rest all (s ∷ tokens) above =
-    ap (λ (some : List Pair). token_line s (sums_of some) ++ tokens_lines rest tokens)
-    (past_run s t run rest above.0 all)
-    ∙ ap (λ (lines : List ℕ). token_line s (sums_of (of_token s (run ++ rest))) ++ lines)
-    (lines_past t run rest all tokens above.1)
+    rw (← (past_run s t run rest above.0 all), lines_past t run rest all tokens above.1)
 
 has_past : (t : List ℕ) (run rest : List Pair)
     → AllByRecursion (λ change. t ≡ change.key.token) run → (tokens : List (List ℕ))

@@ -7,7 +7,7 @@ use Rattle.ledger_changes.specs.Changes.{is_changed}
 use Rattle.ledger_fields.specs.Rows.{Charge}
 use Rattle.ledger_changes.proofs.Keys.{same_charge}
 
-same : (before after : Option Charge) → agree before after ≡ true → before ≡ after
+pub same : (before after : Option Charge) → agree before after ≡ true → before ≡ after
 same None None e = refl
 same None (Some after) e = absurd (let h : false ≡ true = e in cc)
 same (Some before) None e = absurd (let h : false ≡ true = e in cc)

@@ -6,7 +6,7 @@ use Rattle.std.proofs.lemmas.List.Sums.{sum_by-cons, sum_by-append}
 use Rattle.ledger_changes.specs.Changes.{AddUp, AreCorrections, Pair, afters, agree, befores}
 use Rattle.ledger_changes.specs.Changes.{is_changed, row_of, weight_of}
 use Rattle.ledger_fields.specs.Rows.{Charge, Key, Row}
-use Rattle.ledger_changes.proofs.Keys.{same_charge}
+use Rattle.ledger_changes.proofs.Listed.{same}
 
 module _ (weight : Key → Charge → ℕ) where
   pub of_row : Row → ℕ
@@ -27,10 +27,7 @@ module _ (weight : Key → Charge → ℕ) where
   -- a pair that agrees weighs the same in both bills
   alike : (key : Key) (before after : Option Charge) → agree before after ≡ true
       → weight_of weight key before ≡ weight_of weight key after
-  alike key None None e = refl
-  alike key None (Some after) e = absurd (let h : false ≡ true = e in cc)
-  alike key (Some before) None e = absurd (let h : false ≡ true = e in cc)
-  alike key (Some before) (Some after) e = ap (weight key) (same_charge before after e)
+  alike key before after e = ap (weight_of weight key) (same before after e)
 
   pub side_sums : (pairs : List Pair)
       → sum_by of_row (befores pairs) + sum_by after_of (filter is_changed pairs)

@@ -269,11 +269,7 @@ module _ {parts : List Open} {start from : List Lines} {i : ℕ} {last : Option 
         let t = text_here from next i inside texts can in
         let (s, section, last_is, lines) = said t.text t.can in
         at.same texts (can_before from (set from i next) texts on can)
-        ∙ ap (sections_of i last) (split texts t.text t.here)
-        ∙ ap (λ r. and_then r (λ (s : SectionView). sections_of (i + 1) s.last (later texts)))
-        section
-        ∙ ap (λ l. sections_of (i + 1) l (later texts)) last_is
-        ∙ ap (sections_of (i + 1) end) (passed texts);
+        ∙ rw (split texts t.text t.here, section, last_is, passed texts);
     lines = λ texts can.
         let t = text_here from next i inside texts can in
         let (s, section, last_is, lines) = said t.text t.can in

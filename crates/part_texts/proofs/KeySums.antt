@@ -78,24 +78,18 @@ module _ {K : Type 0} (at : K → Entry → Bool) (law : SumsAdd) where
       → keyed at keys (entry ∷ entries) ≡ keyed at keys entries
   no_key [] entry entries none = refl
   no_key (k ∷ keys) entry entries none =
-      ap (λ list. add_sums (sums list) (keyed at keys (entry ∷ entries)))
-      (its false k entry entries none.0)
-      ∙ ap (add_sums (sums (filter (at k) entries))) (no_key keys entry entries none.1)
+      rw (its false k entry entries none.0, no_key keys entry entries none.1)
 
   one_key : (keys : List K) (entry : Entry) (entries : List Entry) → HasOneKey at keys entry
       → keyed at keys (entry ∷ entries) ≡ add_sums (sums (entry ∷ [])) (keyed at keys entries)
   one_key [] entry entries one = absurd one
   one_key (k ∷ keys) entry entries (inl here) =
-      ap (λ list. add_sums (sums list) (keyed at keys (entry ∷ entries)))
-      (its true k entry entries here.0)
-      ∙ ap (add_sums (sums (entry ∷ filter (at k) entries))) (no_key keys entry entries here.1)
-      ∙ ap (λ s. add_sums s (keyed at keys entries)) (law (entry ∷ []) (filter (at k) entries))
-      ∙ (add_assoc (sums (entry ∷ [])) (sums (filter (at k) entries)) (keyed at keys entries))
+      rw (its true k entry entries here.0, no_key keys entry entries here.1,
+      law (entry ∷ []) (filter (at k) entries))
+      (add_assoc (sums (entry ∷ [])) (sums (filter (at k) entries)) (keyed at keys entries))
   one_key (k ∷ keys) entry entries (inr there) =
-      ap (λ list. add_sums (sums list) (keyed at keys (entry ∷ entries)))
-      (its false k entry entries there.0)
-      ∙ ap (add_sums (sums (filter (at k) entries))) (one_key keys entry entries there.1)
-      ∙ add_swap (sums (filter (at k) entries)) (sums (entry ∷ [])) (keyed at keys entries)
+      rw (its false k entry entries there.0, one_key keys entry entries there.1)
+      (add_swap (sums (filter (at k) entries)) (sums (entry ∷ [])) (keyed at keys entries))
 
   no_entries : (keys : List K) → keyed at keys [] ≡ sums []
   no_entries [] = refl
