@@ -84,8 +84,11 @@ module _ {K : Type 0} (at : K → Entry → Bool) (law : SumsAdd) where
       → keyed at keys (entry ∷ entries) ≡ add_sums (sums (entry ∷ [])) (keyed at keys entries)
   one_key [] entry entries one = absurd one
   one_key (k ∷ keys) entry entries (inl here) =
-      rw (its true k entry entries here.0, no_key keys entry entries here.1,
-      law (entry ∷ []) (filter (at k) entries))
+      rw (
+        its true k entry entries here.0,
+        no_key keys entry entries here.1,
+        law (entry ∷ []) (filter (at k) entries),
+      )
       (add_assoc (sums (entry ∷ [])) (sums (filter (at k) entries)) (keyed at keys entries))
   one_key (k ∷ keys) entry entries (inr there) =
       rw (its false k entry entries there.0, one_key keys entry entries there.1)

@@ -234,8 +234,11 @@ module _ (xs ys : List Entry) (few : length (xs ++ ys) ≤ 2 ^ 95) where
       let small : (at_validator v (xs ++ ys)).taps ≤ 2 ^ 95 =
       (let n = sums-taps (entries_of_validator v (xs ++ ys)) in
       let f = fewer v (xs ++ ys) in omega (arith, n, f, few)) in
-      rw (here, within (at_validator v xs) (at_validator v ys) (at_validator v (xs ++ ys))
-      (both_at v xs ys) small)
+      rw (
+        here,
+        within (at_validator v xs) (at_validator v ys) (at_validator v (xs ++ ys))
+            (both_at v xs ys) small,
+      )
       (ap Some (set_one (mixed done) (mixed (v ∷ done)) v (at_validator v (xs ++ ys)) keys
       (mixed_here done v) (mixed_other done v) risen.increases
       ∙ ap (table (mixed (v ∷ done))) (sorted_more ks v)))

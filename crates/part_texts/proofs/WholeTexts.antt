@@ -32,8 +32,12 @@ uploads_more start taps d i within =
     let one = get_or taps i d in
     let count : 0 + length (map Posted (take i taps)) ≡ i =
     (let l = map_length Posted (take i taps) in omega (arith, l, length-take {A = ℕ})) in
-    rw (take_more taps i d within, map-append Posted (take i taps) (one ∷ []),
-    upload_lines-push 0 (map Posted (take i taps)) (Posted one), count)
+    rw (
+      take_more taps i d within,
+      map-append Posted (take i taps) (one ∷ []),
+      upload_lines-push 0 (map Posted (take i taps)) (Posted one),
+      count,
+    )
     (append_assoc start (upload_lines 0 (map Posted (take i taps))) (upload_line i (Posted one)))
 
 -- one more

@@ -1,10 +1,7 @@
-use Rattle.std.proofs.Common.{◌∙◌, List, ap, arith, refl, subst, ℕ}
+use Rattle.std.proofs.Common.{arith, refl}
 use Rattle.std.proofs.lemmas.Bool.Decides.{nat_tests}
 use Rattle.std.proofs.lemmas.List.{nil_from_length}
-use Rattle.world.specs.Run.{with_written}
-use Rattle.world.specs.Writes.{IsCut}
 use Rattle.part_texts.specs.inside.Fronts.{fronts_view}
-use Rattle.part_texts.specs.inside.Opened.{CopiesAll}
 use Rattle.part_texts.specs.declared.fault.MergeFault.TheVariants.{NoMemory}
 use Rattle.part_texts.proofs.AllParts.{front_cut, lines_merged, no_fronts_read, no_parts}
 use Rattle.part_texts.proofs.Parts.{follow_on, follow_self}
@@ -41,8 +38,7 @@ returns-in-Err-write-clause-merges g c =
     (g.W.Inputs.run c.write.new.self)
     (grind (arith, nat_tests, c.is_empty.ensures, c.if-is_empty.false)) c.new-fronts.ensures
     c.in-Ok.ensures.read c.in-Err-write.why
-    (subst (λ (l : List ℕ). IsCut run (g.W.Inputs.run c.write.new.self) l c.in-Err-write.why)
-    (c.deref.ensures.value ∙ c.in-Ok-whole_front.ensures) c.in-Err-write.ensures.cut)
+    (rw (c.deref.ensures.value, c.in-Ok-whole_front.ensures) at c.in-Err-write.ensures.cut)
 
 pub returns-clause-follow : goal.returns-clause-follow
 returns-clause-follow g c =
@@ -58,8 +54,5 @@ returns-clause-merges g c =
     (grind (arith, nat_tests, c.is_empty.ensures, c.if-is_empty.false)) c.new-fronts.ensures
     c.in-Ok.ensures.read (g.W.Inputs.run c.copy_sections.new.world) c.copy_sections.result
     c.copy_sections.ensures.follow
-    (c.in-Ok-write.ensures.whole ∙ ap (λ (l : List ℕ). with_written run l)
-    (c.deref.ensures.value ∙ c.in-Ok-whole_front.ensures))
-    (subst (λ os. CopiesAll os c.read_fronts.new.parts c.copy_sections.new.parts
-    (g.W.Inputs.run c.write.new.self) (g.W.Inputs.run c.copy_sections.new.world)
-    c.copy_sections.result) c.deref-2.ensures.value c.copy_sections.ensures.copied)
+    (rw (c.deref.ensures.value, c.in-Ok-whole_front.ensures) at c.in-Ok-write.ensures.whole)
+    (rw c.deref-2.ensures.value at c.copy_sections.ensures.copied)
