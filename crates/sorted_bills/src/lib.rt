@@ -11,7 +11,6 @@ mod file_checks;
 pub mod laws;
 mod ledger;
 mod lines_below;
-mod open_bill;
 mod own_by_threads;
 mod own_taps;
 mod part;
