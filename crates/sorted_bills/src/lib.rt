@@ -7,7 +7,6 @@ mod bill;
 mod by_threads;
 mod charges;
 mod fault;
-mod file_checks;
 pub mod laws;
 mod ledger;
 mod lines_below;
