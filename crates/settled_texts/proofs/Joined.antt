@@ -5,7 +5,6 @@ use Rattle.std.proofs.Common.{append-nil, add-one, drop-cons, Vec, Global, Bor}
 use Rattle.std.specs.Prelude.{IfSome, slice_get}
 use Rattle.std.specs.Slice.{IsItemAt}
 use Rattle.std.proofs.lemmas.Option.{slice_get-get_or}
-use Rattle.std.specs.Io.KnownBytes.{Appends, Keeps, append_known}
 use Rattle.std.proofs.lemmas.List.{take-append-drop, take_more}
 use Rattle.std.proofs.lemmas.List.Concat.{flat_map-append}
 use Rattle.tap_views.specs.declared.token.Token.{Token}
@@ -13,7 +12,7 @@ use Rattle.tap_views.specs.Layout.{moment_limit}
 use Rattle.tap_views.specs.declared.encoder.TapFields.{TapFields}
 use Rattle.tap_views.proofs.Lists.{All-split}
 use Rattle.settled_texts.specs.inside.WorkerSlots.{IsSoundList}
-use Rattle.settled_texts.specs.ExplainedTaps.{TapsNondecreasingFrom, last_token}
+use Rattle.settlement.specs.Nondecreasing.{TapsNondecreasingFrom, last_token}
 use Rattle.settled_texts.proofs.TapsExplained.{nondecreasing_within}
 
 -- the taps of lists, one list behind the other

@@ -1,8 +1,6 @@
 -- The lines of taps, and of more taps behind them.
-use Rattle.std.proofs.Common.{◌≡◌, ℕ, ◌+◌, ◌<◌, List, [], ◌∷◌, ◌++◌, length, take, drop, get_or}
+use Rattle.std.proofs.Common.{◌≡◌, ℕ, List, [], ◌∷◌, ◌++◌, take, drop}
 use Rattle.std.proofs.Common.{Option, Some, refl, sym, ap, subst, ◌∙◌, append-nil, append_assoc}
-use Rattle.std.proofs.Common.{add-one}
-use Rattle.std.proofs.Common.{drop-cons}
 use Rattle.std.specs.Prelude.{slice_get}
 use Rattle.std.proofs.lemmas.List.{take-append-drop}
 use Rattle.tariffs.specs.Fares.{Fares}
@@ -23,22 +21,9 @@ use Rattle.fare_texts.proofs.PieceWriting.{along_append, consumed_next}
 use Rattle.fare_texts.proofs.TextsExist.{along_exist}
 use Rattle.settlement.specs.Posted.{posted_after, token_of_tap, unposted}
 use Rattle.settlement.proofs.Concats.{posted_append}
-use Rattle.settled_texts.specs.ExplainedTaps.{AreExplained, TapsNondecreasingFrom, last_token}
-
--- ---- the tokens
-
-pub nondecreasing_append : (token : Token) (xs ys : List TapFields)
-    → TapsNondecreasingFrom token (xs ++ ys)
-    → TapsNondecreasingFrom token xs × TapsNondecreasingFrom (last_token token xs) ys
-nondecreasing_append token [] ys nondecreasing = (tt, nondecreasing)
-nondecreasing_append token (x ∷ xs) ys (up, nondecreasing) =
-    let both = nondecreasing_append (token_of_tap x) xs ys nondecreasing in ((up, both.0), both.1)
-
--- the last token of two lists of taps
-pub last_append : (token : Token) (xs ys : List TapFields)
-    → last_token token (xs ++ ys) ≡ last_token (last_token token xs) ys
-last_append token [] ys = refl
-last_append token (x ∷ xs) ys = last_append (token_of_tap x) xs ys
+use Rattle.settlement.proofs.Nondecreasing.{nondecreasing_append}
+use Rattle.settled_texts.specs.ExplainedTaps.{AreExplained}
+use Rattle.settlement.specs.Nondecreasing.{TapsNondecreasingFrom, last_token}
 
 -- ---- the lines
 
@@ -199,21 +184,6 @@ one_reported fares earlier tap explainer next line its same consumed is explaine
           (subst (λ (e : Entry). HasExplained fares next (own explainer.token earlier ++ e ∷ [])) of
           explained);
     }
-
--- a tap is not below the token of the taps before it
-pub nondecreasing_here : (from token : Token) (taps : List TapFields) (position : ℕ)
-    (other : TapFields)
-    → position < length taps → TapsNondecreasingFrom from taps
-    → token ≡ last_token from (take position taps)
-    → IsUpTo token (token_of_tap (get_or taps position other))
-nondecreasing_here from token taps position other within nondecreasing is =
-    let parts : take position taps ++ get_or taps position other ∷ drop (position + 1) taps ≡ taps =
-    ap (λ (ts : List TapFields). take position taps ++ ts)
-    (sym (rw (add-one) (drop-cons taps position other within))) ∙ take-append-drop position taps in
-    subst (λ (t : Token). IsUpTo t (token_of_tap (get_or taps position other))) (sym is)
-    (nondecreasing_append from (take position taps)
-    (get_or taps position other ∷ drop (position + 1) taps)
-    (subst (λ (ts : List TapFields). TapsNondecreasingFrom from ts) (sym parts) nondecreasing)).1.0
 
 -- taps in the middle do not fall from the token before them
 pub nondecreasing_within : (from token : Token) (done some trailing taps : List TapFields)

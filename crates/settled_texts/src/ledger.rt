@@ -16,11 +16,12 @@ use crate::lines::STRIDE_ROOM_BYTES;
 use crate::rounds::write_lists;
 use crate::slot::WorkerSlot;
 use fare_texts::{Explainer, PrintFault, head_with_room, pass_on};
+use settlement::least_token;
 use std::alloc::Global;
 use std::io::Write;
 use std::marker::Sync;
 use std::thread::Threads;
-use tap_views::{NoMemory, TapFields, Token};
+use tap_views::{NoMemory, TapFields};
 use tariffs::FareTable;
 
 fn count(lists: &[Vec<TapFields>]) -> Result<u64, NoMemory>
@@ -32,15 +33,6 @@ fn count(lists: &[Vec<TapFields>]) -> Result<u64, NoMemory>
         count = count.checked_add(list.len() as u64).ok_or(NoMemory)?;
     }
     Ok(count)
-}
-
-/// The least token: that of 16 zero bytes.
-pub fn least_token() -> Token
-    ensures { result ≡ record { high = 0; low = 0 } }
-{
-    // proof: the token of 16 zero bytes is that of two zero numbers
-    tap_views::laws::same_bytes_same_token();
-    Token::of(&[0; 16])
 }
 
 /// A slot for each worker, if there are two or more.

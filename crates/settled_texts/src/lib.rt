@@ -14,7 +14,7 @@ mod trace;
 mod traced_ledger;
 
 pub use class_names::{ClassFault, ClassNames, WrongNames};
-pub use ledger::{least_token, write_settled_ledger};
+pub use ledger::write_settled_ledger;
 pub use lines::{STRIDE_ROOM_BYTES, token_of, write_taps};
 pub use one_token::{write_token_explained, write_token_ledger, write_token_statement};
 pub use trace::{Trace, TracedTap, trace_of};

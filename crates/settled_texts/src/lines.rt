@@ -9,7 +9,8 @@ ghost use Rattle.fare_texts.specs.Lines.{AreLinesAlong, HasConsumed};
 ghost use Rattle.tap_views.specs.TokenOrder.{IsUpTo};
 ghost use Rattle.fare_texts.specs.WrittenOut.{Begins, GoesOut};
 ghost use Rattle.settlement.specs.Posted.{posted_after, token_of_tap};
-ghost use Rattle.settled_texts.specs.ExplainedTaps.{AreExplained, TapsNondecreasingFrom, last_token};
+ghost use Rattle.settled_texts.specs.ExplainedTaps.{AreExplained};
+ghost use Rattle.settlement.specs.Nondecreasing.{TapsNondecreasingFrom, last_token};
 
 use fare_texts::{Explainer, LINE_ROOM_BYTES, PrintFault, go_on_to, pass_piece};
 use std::alloc::AllocError;

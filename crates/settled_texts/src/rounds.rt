@@ -12,7 +12,8 @@ ghost use Rattle.fare_texts.specs.WrittenOut.{Begins, GoesOut};
 ghost use Rattle.settlement.specs.Posted.{posted_after};
 ghost use Rattle.settled_texts.specs.declared.slot.WorkerSlot.{WorkerSlot};
 ghost use Rattle.settled_texts.specs.inside.WorkerSlots.{HasSat, IsSoundList};
-ghost use Rattle.settled_texts.specs.ExplainedTaps.{AreExplained, TapsNondecreasingFrom, last_token};
+ghost use Rattle.settled_texts.specs.ExplainedTaps.{AreExplained};
+ghost use Rattle.settlement.specs.Nondecreasing.{TapsNondecreasingFrom, last_token};
 
 use crate::lines::write_taps;
 use crate::slot::WorkerSlot;

@@ -15,7 +15,8 @@ ghost use Rattle.fare_texts.specs.declared.print_fault.PrintFault.TheVariants.{W
 ghost use Rattle.fare_texts.specs.Ledger.{IsLedgerOver};
 ghost use Rattle.fare_texts.specs.Lines.{AreLinesAlong, HasConsumed};
 ghost use Rattle.settlement.specs.Posted.{HasName, posted};
-ghost use Rattle.settled_texts.specs.ExplainedTaps.{AreExplained, TapsNondecreasingFrom, last_token};
+ghost use Rattle.settled_texts.specs.ExplainedTaps.{AreExplained};
+ghost use Rattle.settlement.specs.Nondecreasing.{TapsNondecreasingFrom, last_token};
 ghost use Rattle.settled_texts.specs.Columns.{columns_by, head_columns, with_columns};
 ghost use Rattle.settled_texts.specs.inside.Feeds.{feeds};
 ghost use Rattle.settled_texts.specs.Ledgers.{IsTracedLedger};
@@ -24,10 +25,11 @@ ghost use Rattle.settled_texts.specs.Traces.{taps_of_trace};
 
 use crate::columns::put_lines;
 use crate::trace::{TracedTap, trace_of};
-use crate::{STRIDE_ROOM_BYTES, least_token, write_taps};
+use crate::{STRIDE_ROOM_BYTES, write_taps};
 use class_names::ClassNames;
 use fare_texts::{Explainer, PrintFault, pass_on, write_out};
 use histories::laws::plain_history;
+use settlement::least_token;
 use std::alloc::{AllocError, Global};
 use std::io::Write;
 use tap_views::laws::unique_parse_each;

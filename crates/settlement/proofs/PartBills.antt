@@ -1,13 +1,15 @@
 -- Bills of parts, and of chunks of parts, one behind the other.
 use Rattle.std.proofs.Common.{◌≡◌, ℕ, suc, ◌+◌, ◌*◌, ◌/◌, ◌%◌, min, ◌<◌, ◌≤◌, ◌^◌, List, ◌∷◌, ◌++◌}
 use Rattle.std.proofs.Common.{length, map, flat_map, take, drop, refl, sym, ap, subst, ◌∙◌, arith}
-use Rattle.std.proofs.Common.{All, append-nil, append_assoc, length-append, drop-drop, []}
+use Rattle.std.proofs.Common.{All, append-nil, append_assoc, get_or, length-append, drop-drop, []}
 use Rattle.std.specs.Prelude.{Result, Ok, IfOk, slice_index_or}
 use Rattle.std.specs.declared.cmp.Ordering.TheVariants.{Less}
 use Rattle.std.proofs.lemmas.Grind.{div_ceil_times}
 use Rattle.std.proofs.lemmas.List.{drop_all, map-append, take-append-drop}
 use Rattle.std.proofs.lemmas.List.Concat.{flat_map-append}
 use Rattle.std.proofs.lemmas.List.Elements.{All-append, All-cons, All-head, All-nil, All-tail}
+use Rattle.std.proofs.lemmas.List.Elements.{All-weaker}
+use Rattle.std.specs.List.{AllZip}
 use Rattle.tariffs.specs.Fares.{Fares}
 use Rattle.tap_views.specs.Token.{token_cmp}
 use Rattle.tap_views.specs.declared.memory.NoMemory.{NoMemory}
@@ -21,9 +23,19 @@ use Rattle.tap_views.specs.TokenOrder.{AreBelow}
 use Rattle.settlement.specs.Bills.{IsBillOf}
 use Rattle.settlement.specs.Posted.{posted, token_of_tap}
 use Rattle.settlement.specs.declared.bill.Bill.{Bill}
-use Rattle.settlement.specs.inside.Billing.{ArePartsInOrder, HasBillRoom, HaveBillRoom}
-use Rattle.settlement.specs.inside.Billing.{IsBillOfParts, IsPartBilled}
-use Rattle.settlement.proofs.Ranges.{AreTokensBelow, below_all, lists_in_order}
+use Rattle.settlement.specs.Bills.{HaveBillRoom}
+use Rattle.settlement.specs.inside.Billing.{ArePartsInOrder, IsBillOfParts, IsOpenOfParts}
+use Rattle.settlement.specs.inside.Billing.{IsPartAdded}
+use Rattle.settlement.specs.Nondecreasing.{last_token}
+use Rattle.settlement.specs.OpenBills.{IsOpenBill}
+use Rattle.settlement.specs.declared.open_bill.OpenBill.{OpenBill}
+use Rattle.settlement.proofs.Nondecreasing.{last_append, least_up}
+use Rattle.std.specs.Ordering.{is_lt, ordering_reverse}
+use Rattle.std.proofs.lemmas.List.Sorted.{All-permutation}
+use Rattle.tap_views.specs.TokenOrder.{IsUpTo}
+use Rattle.tap_views.proofs.TokenLemmas.{token_cmp-total}
+use Rattle.settlement.proofs.Ranges.{AreTapsBelow, AreTokensBelow, below_all, lists_in_order}
+use Rattle.settlement.proofs.Ranges.{posted_each, to_taps}
 use Rattle.settlement.proofs.TokenRuns.{posted_length, tokens_posted}
 
 -- ---- parts in order, divided
@@ -96,46 +108,116 @@ histories_below fares front back below =
 pub no_parts : (fares : Fares) (bill : Bill) → IsBillOf [] bill → IsBillOfParts fares [] bill
 no_parts fares bill is = record { lists = []; canonical = tt; of_lists = is; few = omega arith }
 
--- the bill of one part more
-pub part_added : (fares : Fares) (front : List (List TapFields)) (part : List TapFields)
-    (bill new : Bill) → ArePartsInOrder (front ++ part ∷ []) → IsBillOfParts fares front bill
-    → IsPartBilled fares part bill new → IsBillOfParts fares (front ++ part ∷ []) new
-part_added fares front part bill new order one is =
-    let before = flat_map (posted fares) one.lists in
-    let zip = AllZip-append IsCanonical front one.lists (part ∷ []) (is.list ∷ []) one.canonical
-    (is.canonical, tt) in
-    let lists = lists_in_order (front ++ part ∷ []) (one.lists ++ is.list ∷ []) zip order in
-    let apart = (split_order one.lists (is.list ∷ []) lists).2 in
-    let below : AreBelow (map token_of before) (map token_of_tap is.list) =
-    subst (λ (ts : List Token). AreBelow ts (map token_of_tap is.list))
-    (sym (each_tokens fares one.lists))
-    (subst (λ (ts : List TapFields). AreTokensBelow (flat_map (λ l. l) one.lists) ts)
-    (append-nil is.list) (cross one.lists (is.list ∷ []) apart)) in
-    let whole : flat_map (posted fares) (one.lists ++ is.list ∷ [])
-    ≡ before ++ posted fares is.list =
-    flat_map-append (posted fares) one.lists (is.list ∷ [])
-    ∙ ap (λ (es : List Entry). before ++ es) (append-nil (posted fares is.list)) in
-    let few = one.few in
-    let short = is.few in
-    let long = ap length whole ∙ length-append before (posted fares is.list) in
-    let as_many = posted_length fares [] is.list in
+-- ---- parts that are added to an open bill
+
+-- taps of lists whose parts are below another part are below it
+fronts_below : (part : List TapFields) (front lists : List (List TapFields))
+    → AllZip IsCanonical front lists → All (λ p. AreTapsBelow p part) front
+    → AreTapsBelow (flat_map (λ l. l) lists) part
+fronts_below part [] [] zip below = All-nil (λ (tap : TapFields). All (λ (other : TapFields).
+    token_cmp (token_of_tap tap) (token_of_tap other) ≡ Less) part)
+fronts_below part [] (l ∷ lists) zip below = absurd zip
+fronts_below part (p ∷ front) [] zip below = absurd zip
+fronts_below part (p ∷ front) (l ∷ lists) zip below =
+    let P : TapFields → Type 0 = λ (tap : TapFields). All (λ (other : TapFields).
+    token_cmp (token_of_tap tap) (token_of_tap other) ≡ Less) part in
+    All-append P l (flat_map (λ l. l) lists)
+    (All-permutation P p l zip.0.moved (All-head (λ p. AreTapsBelow p part) p front below))
+    (fronts_below part front lists zip.1 (All-tail (λ p. AreTapsBelow p part) p front below))
+
+-- the last token of taps is not above those of taps above them
+last_up : (token : Token) (taps part : List TapFields) → AreTapsBelow taps part
+    → All (λ tap. IsUpTo token (token_of_tap tap)) part
+    → All (λ tap. IsUpTo (last_token token taps) (token_of_tap tap)) part
+last_up token [] part below up = up
+last_up token (tap ∷ taps) part below up =
+    let P : TapFields → Type 0 = λ (tap : TapFields). All (λ (other : TapFields).
+    token_cmp (token_of_tap tap) (token_of_tap other) ≡ Less) part in
+    last_up (token_of_tap tap) taps part (All-tail P tap taps below)
+    (All-weaker (λ (other : TapFields). token_cmp (token_of_tap tap) (token_of_tap other) ≡ Less)
+    (λ (other : TapFields). IsUpTo (token_of_tap tap) (token_of_tap other))
+    (λ other less. ap is_lt (token_cmp-total.antisymm (token_of_tap other) (token_of_tap tap)
+    ∙ ap ordering_reverse less)) part (All-head P tap taps below))
+
+pub none_open : (fares : Fares) (bill : OpenBill) → IsOpenBill fares [] bill
+    → bill.replay.token ≡ record { high = 0; low = 0 } → IsOpenOfParts fares [] bill
+none_open fares bill is token = record {
+  lists = [];
+  canonical = tt;
+  is_open = is;
+  few = omega arith;
+  token = token;
+}
+
+-- the tokens of the next part are not below the bill's
+pub next_up : (fares : Fares) (front : List (List TapFields)) (part : List TapFields)
+    (bill : OpenBill) → ArePartsInOrder (front ++ part ∷ []) → IsOpenOfParts fares front bill
+    → All (λ tap. IsUpTo bill.replay.token (token_of_tap tap)) part
+next_up fares front part bill order is =
+    let least : Token = record { high = 0; low = 0 } in
+    let apart = (split_order front (part ∷ []) order).2 in
+    subst (λ (t : Token). All (λ tap. IsUpTo t (token_of_tap tap)) part) (sym is.token)
+    (last_up least (flat_map (λ l. l) is.lists) part
+    (fronts_below part front is.lists is.canonical
+    (All-weaker (λ p. All (λ later. AreTokensBelow p later) (part ∷ []))
+    (λ p. AreTapsBelow p part)
+    (λ p all. to_taps p part (All-head (λ later. AreTokensBelow p later) part [] all)) front apart))
+    (λ i d inside. least_up least (token_of_tap (get_or part i d)) refl))
+
+-- there is room for the next part
+pub next_room : (fares : Fares) (front : List (List TapFields)) (bill : OpenBill)
+    → length front ≤ 65535 → IsOpenOfParts fares front bill
+    → (before : List TapFields) × IsOpenBill fares before bill
+    × (length before + 2 ^ 58 ≤ 2 ^ 94)
+next_room fares front bill small is =
+    let few = is.few in
+    (flat_map (λ l. l) is.lists, is.is_open, omega (arith, few, small))
+
+-- one part more
+pub part_more : (fares : Fares) (front : List (List TapFields)) (part : List TapFields)
+    (old new : OpenBill) → IsOpenOfParts fares front old → IsPartAdded fares part old new
+    → IsOpenOfParts fares (front ++ part ∷ []) new
+part_more fares front part old new is more =
+    let done = flat_map (λ l. l) is.lists in
+    let least : Token = record { high = 0; low = 0 } in
+    let whole : flat_map (λ l. l) (is.lists ++ more.list ∷ []) ≡ done ++ more.list =
+    flat_map-append (λ (l : List TapFields). l) is.lists (more.list ∷ [])
+    ∙ ap (λ (ts : List TapFields). done ++ ts) (append-nil more.list) in
+    let few = is.few in
+    let short = more.few in
+    let long = ap length whole ∙ length-append done more.list in
     let parts = length-append front (part ∷ []) in
     record {
-      lists = one.lists ++ is.list ∷ [];
-      canonical = zip;
-      of_lists = subst (λ (es : List Entry). IsBillOf es new) (sym whole) (record {
-        tokens = is.tokens before one.of_lists.tokens below;
-        counts = is.counted before one.of_lists.counts;
-      });
-      few = omega (arith, few, short, long, as_many, parts);
+      lists = is.lists ++ more.list ∷ [];
+      canonical = AllZip-append IsCanonical front is.lists (part ∷ []) (more.list ∷ [])
+          is.canonical (more.canonical, tt);
+      is_open = subst (λ (ts : List TapFields). IsOpenBill fares ts new) (sym whole)
+          (more.added done is.is_open);
+      few = omega (arith, few, short, long, parts);
+      token = more.token
+          ∙ ap (λ (t : Token). last_token t more.list) is.token
+          ∙ sym (last_append least done more.list)
+          ∙ ap (last_token least) (sym whole);
     }
 
--- there is room for one part more
-pub part_room : (fares : Fares) (front : List (List TapFields)) (bill : Bill) → length front ≤ 65535
-    → IsBillOfParts fares front bill → HasBillRoom bill (2 ^ 58)
-part_room fares front bill small one =
-    let few = one.few in
-    (flat_map (posted fares) one.lists, one.of_lists.counts, omega (arith, few, small))
+-- the bill of all parts
+pub parts_done : (fares : Fares) (parts : List (List TapFields)) (old : OpenBill) (bill : Bill)
+    → ArePartsInOrder parts → (is : IsOpenOfParts fares parts old)
+    → ((fares : Fares) (taps : List TapFields) → IsOpenBill fares taps old
+    → IsBillOf (posted fares taps) bill)
+    → IsBillOfParts fares parts bill
+parts_done fares parts old bill order is billed =
+    let done = flat_map (λ l. l) is.lists in
+    let each = posted_each fares is.lists (lists_in_order parts is.lists is.canonical order) in
+    let long = ap length (sym each) ∙ posted_length fares [] done in
+    let few = is.few in
+    record {
+      lists = is.lists;
+      canonical = is.canonical;
+      of_lists = subst (λ (es : List Entry). IsBillOf es bill) each
+          (billed fares done is.is_open);
+      few = omega (arith, long, few);
+    }
 
 -- there is room for both bills
 pub both_room : (fares : Fares) (front back : List (List TapFields)) (bill more : Bill)

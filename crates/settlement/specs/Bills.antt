@@ -1,5 +1,5 @@
 -- What settled taps come to.
-use Rattle.std.specs.Prelude.{◌≡◌, ◌==◌, List}
+use Rattle.std.specs.Prelude.{◌≡◌, ◌==◌, ◌+◌, ◌^◌, ◌≤◌, List, length}
 use Rattle.histories.specs.Sums.{sums}
 use Rattle.histories.specs.SumsByKey.{sums_by_token, validator_of}
 use Rattle.histories.specs.TalliesByKey.{AreByKey}
@@ -16,3 +16,9 @@ pub record IsCountOf (entries : List Entry) (bill : Bill) : Type 0 where
 pub record IsBillOf (entries : List Entry) (bill : Bill) : Type 0 where
   pub tokens : bill.tokens ≡ sums_by_token entries
   pub counts : IsCountOf entries bill
+
+-- both bills count some entries, and there is room for the entries of both together
+abbrev pub HaveBillRoom : Bill → Bill → Type 0
+HaveBillRoom bill more =
+    (entries : List Entry) × (others : List Entry) × IsCountOf entries bill
+    × IsCountOf others more × (length entries + length others ≤ 2 ^ 95)

@@ -1,14 +1,20 @@
 //! The bill of all parts, made by several threads.
 
-ghost use Rattle.std.specs.Prelude.{◌≡◌, ◌+◌, ◌^◌, ◌≤◌, All, length, IfOk, OnOk};
-ghost use Rattle.settlement.specs.inside.Billing.{ArePartsInOrder, HasBillRoom, IsBillOfParts};
-ghost use Rattle.settlement.specs.inside.Billing.{IsPartBilled, IsSoundPart};
+ghost use Rattle.std.specs.Prelude.{◌≡◌, ◌+◌, ◌^◌, ◌≤◌, All, List, length, IfOk, OnOk};
+ghost use Rattle.tap_parts.specs.Canonical.{IsCanonical};
+ghost use Rattle.tap_views.specs.TokenOrder.{IsUpTo};
+ghost use Rattle.settlement.specs.OpenBills.{IsOpenBill};
+ghost use Rattle.tap_views.specs.declared.encoder.TapFields.{TapFields};
+ghost use Rattle.settlement.specs.Posted.{token_of_tap};
+ghost use Rattle.settlement.specs.inside.Billing.{ArePartsInOrder, IsBillOfParts, IsPartAdded};
+ghost use Rattle.settlement.specs.inside.Billing.{IsSoundPart};
 
 use crate::bill::Bill;
+use crate::open_bill::{OpenBill, least_token};
 use crate::pieces::Pieces;
 use crate::uploads::Uploads;
 use histories::HashSeed;
-use std::alloc::Global;
+use std::alloc::{AllocError, Global};
 use std::marker::Sync;
 use std::thread;
 use std::thread::Threads;
@@ -16,33 +22,43 @@ use tap_parts::{are_in_order, arrange_into, number_of};
 use tap_views::{NoMemory, TapFields};
 use tariffs::{Clock, FareTable};
 
-/// Taps that are in order are added as they lie. `list` is room to work in.
+/// The taps in canonical order: where they lie, or in `list`, which is room to work in.
+fn ordered<'a>(
+    alloc: Global,
+    list: &'a mut Vec<TapFields>,
+    pieces: &'a Pieces,
+) -> Result<&'a [TapFields], AllocError>
+    ensures { IfOk result (λ taps. IsCanonical pieces.now taps.now) }
+{
+    let pieces = pieces.as_slice();
+    if let [piece] = pieces {
+        if are_in_order(piece) {
+            return Ok(piece);
+        }
+    }
+    arrange_into(alloc, pieces, list)?;
+    Ok(list)
+}
+
 fn add_part(
     alloc: Global,
     table: &FareTable,
     clock: &Clock,
     list: &mut Vec<TapFields>,
     pieces: &Pieces,
-    bill: &mut Bill,
+    bill: &mut OpenBill,
 ) -> Result<(), NoMemory>
     requires clock { clock.now ≡ table.now.zone }
     requires sound { IsSoundPart pieces.now }
-    requires room { HasBillRoom bill.old (2 ^ 58) }
-    ensures { OnOk result (IsPartBilled table.now pieces.now bill.old bill.new) }
+    requires up { All (λ tap. IsUpTo bill.old.replay.token (token_of_tap tap)) pieces.now }
+    requires room { (before : List TapFields) × IsOpenBill table.now before bill.old
+        × (length before + 2 ^ 58 ≤ 2 ^ 94) }
+    ensures { OnOk result (IsPartAdded table.now pieces.now bill.old bill.new) }
 {
-    let pieces = pieces.as_slice();
-    if let [piece] = pieces {
-        if are_in_order(piece) {
-            // proof: a list has fewer than 2^58 taps
-            let _ = number_of(piece);
-            bill.add(alloc, table, clock, piece)?;
-            return Ok(());
-        }
-    }
-    arrange_into(alloc, pieces, list)?;
+    let taps = ordered(alloc, list, pieces)?;
     // proof: a list has fewer than 2^58 taps
-    let _ = number_of(list);
-    bill.add(alloc, table, clock, list)?;
+    let _ = number_of(taps);
+    bill.add(alloc, table, clock, taps)?;
     Ok(())
 }
 
@@ -69,11 +85,12 @@ fn bill_of<U: Uploads>(
 {
     let clock = table.clock(alloc)?;
     let mut list = Vec::new(alloc);
-    let mut bill = Bill::new(alloc, seed);
+    let mut bill = OpenBill::new(alloc, seed, least_token());
     for pieces in parts {
         add_part(alloc, table, &clock, &mut list, pieces, &mut bill)?;
         uploads.note_charged(pieces.count());
     }
+    let bill = bill.into_bill(alloc)?;
     Ok(bill)
 }
 

@@ -22,8 +22,9 @@ use Rattle.fare_texts.proofs.Increasing.{none_below, up_weaker}
 use Rattle.tap_views.proofs.TokensUp.{up_chain, up_itself}
 use Rattle.settlement.specs.Posted.{HasName, posted_after, token_of_tap}
 use Rattle.settlement.proofs.Concats.{posted_append}
-use Rattle.settled_texts.specs.ExplainedTaps.{TapsNondecreasingFrom, last_token}
-use Rattle.settled_texts.proofs.TapsExplained.{last_append, none_reported, reported_append}
+use Rattle.settlement.specs.Nondecreasing.{TapsNondecreasingFrom, last_token}
+use Rattle.settled_texts.proofs.TapsExplained.{none_reported, reported_append}
+use Rattle.settlement.proofs.Nondecreasing.{last_append}
 use Rattle.sorted_taps.specs.Spans.{HaveConsumed}
 use Rattle.sorted_taps.specs.declared.merge.Merge.{Merge}
 use Rattle.sorted_taps.specs.declared.reader.TapReader.{TapReader}

@@ -33,7 +33,8 @@ use Rattle.settlement.specs.Settled.{IsSettledHistory}
 use Rattle.settlement.specs.SettledTaps.{AreSettledTaps}
 use Rattle.settlement.proofs.Concats.{posted_append}
 use Rattle.settlement.proofs.Ranges.{has_name}
-use Rattle.settled_texts.proofs.Rows.{canonical_nondecreasing, posted_nondecreasing}
+use Rattle.settled_texts.proofs.Rows.{posted_nondecreasing}
+use Rattle.settlement.proofs.Nondecreasing.{canonical_nondecreasing}
 use Rattle.sorted_taps.specs.Checked.{AreCountedFiles}
 use Rattle.sorted_taps.specs.Merges.{AreStarted, AreSortedFiles}
 use Rattle.sorted_taps.specs.declared.reader.TapReader.{TapReader}

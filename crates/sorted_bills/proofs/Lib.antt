@@ -1,7 +1,6 @@
 pub mod Counted
 mod JoinedParts
 pub mod LedgerStarted
-pub mod OpenBills
 pub mod OwnTaps
 mod Parts
 mod Rest

@@ -1,7 +1,7 @@
 -- The taps of one token, collected from sorted files.
 use Rattle.std.proofs.Common.{◌≡◌, ℕ, ◌+◌, Bool, true, false, List, [], ◌∷◌, ◌++◌, All, length, map}
 use Rattle.std.proofs.Common.{◌<◌, get_or, flat_map, cond, refl, sym, ap, subst, ◌∙◌, append-nil}
-use Rattle.std.proofs.Common.{option_map, Option, Some, append_assoc, arith}
+use Rattle.std.proofs.Common.{option_map, Option, None, Some, append_assoc, arith}
 use Rattle.std.specs.Prelude.{slice_get}
 use Rattle.std.proofs.lemmas.List.Concat.{flat_map-append}
 use Rattle.std.proofs.lemmas.List.Elements.{All-append, All-cons, All-nil, filter-append}
@@ -19,69 +19,82 @@ use Rattle.settlement.specs.Posted.{HasName, only, token_of_tap}
 use Rattle.settlement.specs.SettledTaps.{AreSettledTapsOf}
 use Rattle.settlement.proofs.Ranges.{has_token_bytes}
 use Rattle.settlement.proofs.SettledOrders.{own_settled}
+use Rattle.sorted_taps.specs.Checked.{AreCountedFiles}
 use Rattle.sorted_taps.specs.Readers.{ahead, IsAdvanced, IsPositionedIn}
 use Rattle.sorted_taps.specs.declared.reader.TapReader.{TapReader}
 use Rattle.sorted_taps.proofs.Checking.{AreCounted, counted_more, counted_none}
 use Rattle.sorted_taps.proofs.Files.{known_number}
 use Rattle.sorted_taps.proofs.Standing.{sorted_at_end, holds_on}
 use Rattle.sorted_bills.specs.inside.OwnTaps.{AreOwnAdded, AreOwnOf, AreSound, IsOwnPushed}
+use Rattle.sorted_bills.specs.inside.OwnTaps.{own_of}
 use Rattle.sorted_bills.proofs.Counted.{counted_ends}
 use Rattle.sorted_bills.proofs.Settled.{file_taps}
 use Rattle.sorted_bills.proofs.Takings.{Early}
 
-only_both : (token : Token) (xs ys : List TapFields)
-    → only token (xs ++ ys) ≡ only token xs ++ only token ys
-only_both token xs ys = filter-append (λ (tap : TapFields). token_eq (token_of_tap tap) token) xs ys
+only_both : (token : Option Token) (xs ys : List TapFields)
+    → own_of token (xs ++ ys) ≡ own_of token xs ++ own_of token ys
+only_both None xs ys = refl
+only_both (Some token) xs ys =
+    filter-append (λ (tap : TapFields). token_eq (token_of_tap tap) token) xs ys
+
+own_of_none : (token : Option Token) → own_of token [] ≡ []
+own_of_none None = refl
+own_of_none (Some token) = refl
 
 only_one : (token : Token) (tap : TapFields) (b : Bool) → token_eq (token_of_tap tap) token ≡ b
     → only token (tap ∷ []) ≡ cond b (tap ∷ []) []
 only_one token tap b is = ap (λ (x : Bool). cond x (tap ∷ []) []) is
 
-pub not_own : (token : Token) (tap : TapFields) (taps : List TapFields)
-    → token_eq (token_of_tap tap) token ≡ false → HasName tap → IsOwnPushed token tap taps taps
-not_own token tap taps apart named = record {
+pub not_own : (own : Option Token) (token : Token) (tap : TapFields) (taps : List TapFields)
+    → own ≡ Some token → token_eq (token_of_tap tap) token ≡ false → HasName tap
+    → IsOwnPushed own tap taps taps
+not_own own token tap taps some apart named = record {
   named = named;
   pushed = sym (append-nil taps) ∙ ap (λ (ts : List TapFields). taps ++ ts)
-      (sym (only_one token tap false apart));
+      (sym (ap (λ (t : Option Token). own_of t (tap ∷ [])) some
+      ∙ only_one token tap false apart));
   sound = λ sound. sound;
 }
 
-pub is_own : (token : Token) (tap : TapFields) (old new : List TapFields)
-    → token_eq (token_of_tap tap) token ≡ true → HasName tap → Early tap → new ≡ old ++ tap ∷ []
-    → IsOwnPushed token tap old new
-is_own token tap old new same named early more =
-    let its : TapFields → Type 0 = λ (t : TapFields). token_of_tap t ≡ token in
-    record {
-      named = named;
-      pushed = more ∙ ap (λ (ts : List TapFields). old ++ ts) (sym (only_one token tap true same));
-      sound = λ sound. record {
-        early = subst (λ (ts : List TapFields). All Early ts) (sym more)
-            (All-append Early old (tap ∷ []) sound.early
-            (All-cons Early tap [] early (All-nil Early)));
-        its = subst (λ (ts : List TapFields). All its ts) (sym more)
-            (All-append its old (tap ∷ []) sound.its
-            (All-cons its tap [] (same_token (token_of_tap tap) token same) (All-nil its)));
-      };
-    }
+pub is_own : (own : Option Token) (token : Token) (tap : TapFields) (old new : List TapFields)
+    → own ≡ Some token → token_eq (token_of_tap tap) token ≡ true → HasName tap → Early tap
+    → new ≡ old ++ tap ∷ [] → IsOwnPushed own tap old new
+is_own own token tap old new some same named early more = record {
+  named = named;
+  pushed = more ∙ ap (λ (ts : List TapFields). old ++ ts)
+      (sym (ap (λ (t : Option Token). own_of t (tap ∷ [])) some
+      ∙ only_one token tap true same));
+  sound = λ sound. record {
+    early = subst (λ (ts : List TapFields). All Early ts) (sym more)
+        (All-append Early old (tap ∷ []) sound.early
+        (All-cons Early tap [] early (All-nil Early)));
+    its = λ t is.
+        let its : TapFields → Type 0 = λ (x : TapFields). token_of_tap x ≡ t in
+        subst (λ (ts : List TapFields). All its ts) (sym more)
+        (All-append its old (tap ∷ []) (sound.its t is)
+        (All-cons its tap [] (same_token (token_of_tap tap) token same
+        ∙ same_Some token t (sym some ∙ is)) (All-nil its)));
+  };
+}
 
 -- the token's taps among those that the reader has passed were added
-pub record IsOwnRead (token : Token) (all : List ℕ) (old now : List TapFields) (reader : TapReader)
+pub record IsOwnRead (token : Option Token) (all : List ℕ) (old now : List TapFields) (reader : TapReader)
     : Type 0 where
   pub passed : List TapFields
   pub holds : IsPositionedIn all 0 passed reader
   pub named : All HasName passed
-  pub added : now ≡ old ++ only token passed
+  pub added : now ≡ old ++ own_of token passed
 
-pub none_read : (token : Token) (all : List ℕ) (taps : List TapFields) (reader : TapReader)
+pub none_read : (token : Option Token) (all : List ℕ) (taps : List TapFields) (reader : TapReader)
     → IsPositionedIn all 0 [] reader → IsOwnRead token all taps taps reader
 none_read token all taps reader holds = record {
   passed = [];
   holds = holds;
   named = All-nil HasName;
-  added = sym (append-nil taps);
+  added = sym (append-nil taps) ∙ ap (λ (ts : List TapFields). taps ++ ts) (sym (own_of_none token));
 }
 
-pub one_read : (token : Token) (all : List ℕ) (old now more : List TapFields) (was is : TapReader)
+pub one_read : (token : Option Token) (all : List ℕ) (old now more : List TapFields) (was is : TapReader)
     → IsOwnRead token all old now was
     → ((tap : TapFields) (rest : List TapFields) → ahead was ≡ tap ∷ rest
     → IsOwnPushed token tap now more)
@@ -93,13 +106,13 @@ one_read token all old now more was is read pushed step =
       named = All-append HasName read.passed (step.tap ∷ []) read.named
           (All-cons HasName step.tap [] one.named (All-nil HasName));
       added = one.pushed
-          ∙ ap (λ (ts : List TapFields). ts ++ only token (step.tap ∷ [])) read.added
-          ∙ append_assoc old (only token read.passed) (only token (step.tap ∷ []))
+          ∙ ap (λ (ts : List TapFields). ts ++ own_of token (step.tap ∷ [])) read.added
+          ∙ append_assoc old (own_of token read.passed) (own_of token (step.tap ∷ []))
           ∙ ap (λ (ts : List TapFields). old ++ ts)
           (sym (only_both token read.passed (step.tap ∷ [])));
     }
 
-pub whole_read : (token : Token) (all : List ℕ) (old now : List TapFields) (reader : TapReader)
+pub whole_read : (token : Option Token) (all : List ℕ) (old now : List TapFields) (reader : TapReader)
     (numbers more : List ℕ) → IsOwnRead token all old now reader → ahead reader ≡ []
     → more ≡ numbers ++ reader.passed ∷ [] → AreOwnAdded token all old now numbers more
 whole_read token all old now reader numbers more read none counted = record {
@@ -111,24 +124,24 @@ whole_read token all old now reader numbers more read none counted = record {
 }
 
 -- the token's taps of the first files
-pub record AreOwnSoFar (token : Token) (files : List (List ℕ)) (count : ℕ) (own : List TapFields)
+pub record AreOwnSoFar (token : Option Token) (files : List (List ℕ)) (count : ℕ) (own : List TapFields)
     (numbers : List ℕ) : Type 0 where
   pub counted : AreCounted files count numbers
   pub named : All HasName (flat_map (λ list. list) counted.lists)
-  pub are : own ≡ only token (flat_map (λ list. list) counted.lists)
+  pub are : own ≡ own_of token (flat_map (λ list. list) counted.lists)
 
-pub none_so_far : (token : Token) (files : List (List ℕ)) → AreOwnSoFar token files 0 [] []
+pub none_so_far : (token : Option Token) (files : List (List ℕ)) → AreOwnSoFar token files 0 [] []
 unfolding counted_none
 none_so_far token files =
-    record { counted = counted_none files; named = All-nil HasName; are = refl }
+    record { counted = counted_none files; named = All-nil HasName; are = sym (own_of_none token) }
 
-pub none_sound : (token : Token) → AreSound token []
+pub none_sound : (token : Option Token) → AreSound token []
 none_sound token = record {
   early = All-nil Early;
-  its = All-nil (λ (t : TapFields). token_of_tap t ≡ token);
+  its = λ t is. All-nil (λ (x : TapFields). token_of_tap x ≡ t);
 }
 
-pub one_file_more : (token : Token) (files : List (List ℕ)) (count : ℕ) (own next : List TapFields)
+pub one_file_more : (token : Option Token) (files : List (List ℕ)) (count : ℕ) (own next : List TapFields)
     (numbers more : List ℕ) → AreOwnSoFar token files count own numbers
     → AreOwnAdded token (get_or files count []) own next numbers more
     → AreOwnSoFar token files (count + 1) next more
@@ -145,12 +158,12 @@ one_file_more token files count own next numbers more so_far added =
       named = subst (λ (ts : List TapFields). All HasName ts) (sym joined)
           (All-append HasName (flat_map (λ list. list) lists) added.list so_far.named added.named);
       are = added.added
-          ∙ ap (λ (ts : List TapFields). ts ++ only token added.list) so_far.are
-          ∙ sym (ap (only token) joined
+          ∙ ap (λ (ts : List TapFields). ts ++ own_of token added.list) so_far.are
+          ∙ sym (ap (own_of token) joined
           ∙ only_both token (flat_map (λ list. list) lists) added.list);
     }
 
-pub own_of_all : (token : Token) (files : List (List ℕ)) (count : ℕ) (own : List TapFields)
+pub own_of_all : (token : Option Token) (files : List (List ℕ)) (count : ℕ) (own : List TapFields)
     (numbers : List ℕ) → AreOwnSoFar token files count own numbers → count ≡ length files
     → AreOwnOf token files own numbers
 own_of_all token files count own numbers so_far whole =
@@ -166,15 +179,19 @@ own_of_all token files count own numbers so_far whole =
       counted = so_far.counted.counted;
     }
 
-pub own_ends : (token : Token) (files : List (List ℕ)) (own : List TapFields) (numbers : List ℕ)
+pub own_counted : (token : Option Token) (files : List (List ℕ)) (own : List TapFields)
+    (numbers : List ℕ) → AreOwnOf token files own numbers → AreCountedFiles files numbers
+own_counted token files own numbers are =
+    record { lists = are.lists; sorted = are.sorted; counted = are.counted }
+
+pub own_ends : (token : Option Token) (files : List (List ℕ)) (own : List TapFields) (numbers : List ℕ)
     → AreOwnOf token files own numbers → ArePlainEnds files (map Posted numbers)
 own_ends token files own numbers are =
-    counted_ends files numbers
-    (record { lists = are.lists; sorted = are.sorted; counted = are.counted })
+    counted_ends files numbers (own_counted token files own numbers are)
 
 -- in canonical order they are the token's settled taps
 pub own_in_order : (token : Token) (files : List (List ℕ)) (own list : List TapFields)
-    (numbers : List ℕ) → AreOwnOf token files own numbers → IsCanonical own list
+    (numbers : List ℕ) → AreOwnOf (Some token) files own numbers → IsCanonical own list
     → AreSettledTapsOf files token list
 own_in_order token files own list numbers are canonical =
     let of = file_taps files are.lists are.sorted in
@@ -183,19 +200,19 @@ own_in_order token files own list numbers are canonical =
       taps = of.taps;
       of_uploads = of.each;
       are = are.are ∙ ap (only token) (sym of.fields);
-      ended = own_ends token files own numbers are;
+      ended = own_ends (Some token) files own numbers are;
     })
     (subst (λ (ts : List TapFields). All HasTokenBytes ts) (sym of.fields)
     (All-weaker HasName HasTokenBytes (λ tap name. has_token_bytes tap name.named)
     (flat_map (λ list. list) are.lists) are.named)) canonical
 
 -- they stay the token's, with moments before 2100
-pub sound_list : (token : Token) (taps list : List TapFields) → AreSound token taps
+pub sound_list : (token : Option Token) (taps list : List TapFields) → AreSound token taps
     → IsCanonical taps list → AreSound token list
 sound_list token taps list sound canonical = record {
   early = All-permutation Early taps list canonical.moved sound.early;
-  its = All-permutation (λ (t : TapFields). token_of_tap t ≡ token) taps list canonical.moved
-      sound.its;
+  its = λ t is. All-permutation (λ (x : TapFields). token_of_tap x ≡ t) taps list canonical.moved
+      (sound.its t is);
 }
 
 -- the bytes of one of the files, as a slice gives them
@@ -217,7 +234,7 @@ known_there known files k file bytes within is there =
     ∙ ap (option_map known) (slice_get-get_or files k file within ∙ ap Some (sym is))) ∙ there)
 
 -- the token's taps of one file, behind those of others
-pub own_after : (token : Token) (all : List ℕ) (taps own : List TapFields)
+pub own_after : (token : Option Token) (all : List ℕ) (taps own : List TapFields)
     (numbers counts : List ℕ)
     → AreOwnAdded token all [] own [] counts
     → AreOwnAdded token all taps (taps ++ own) numbers (numbers ++ counts)
@@ -229,9 +246,10 @@ own_after token all taps own numbers counts added = record {
   counted = ap (λ (ns : List ℕ). numbers ++ ns) added.counted;
 }
 
-pub sound_both : (token : Token) (taps own : List TapFields) → AreSound token taps
+pub sound_both : (token : Option Token) (taps own : List TapFields) → AreSound token taps
     → AreSound token own → AreSound token (taps ++ own)
 sound_both token taps own first rest = record {
   early = All-append Early taps own first.early rest.early;
-  its = All-append (λ (t : TapFields). token_of_tap t ≡ token) taps own first.its rest.its;
+  its = λ t is. All-append (λ (x : TapFields). token_of_tap x ≡ t) taps own (first.its t is)
+      (rest.its t is);
 }

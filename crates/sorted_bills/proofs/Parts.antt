@@ -17,10 +17,10 @@ use Rattle.settlement.specs.Bills.{IsBillOf}
 use Rattle.settlement.specs.Posted.{posted, token_of_tap}
 use Rattle.settlement.specs.declared.bill.Bill.{Bill}
 use Rattle.tap_views.specs.TokenOrder.{AreBelow}
-use Rattle.settlement.specs.inside.Billing.{HaveBillRoom}
+use Rattle.settlement.specs.Bills.{HaveBillRoom}
 use Rattle.settlement.proofs.Ranges.{posted_below}
 use Rattle.settlement.proofs.TokenRuns.{less_up, posted_length, tokens_posted, up_less}
-use Rattle.settled_texts.specs.ExplainedTaps.{TapsNondecreasingFrom, last_token}
+use Rattle.settlement.specs.Nondecreasing.{TapsNondecreasingFrom, last_token}
 use Rattle.sorted_bills.specs.inside.Charged.{IsPart}
 use Rattle.sorted_bills.specs.declared.part.Part.{Part}
 

@@ -2,8 +2,6 @@
 pub mod Billed
 pub mod Charged
 pub mod Following
-pub mod Numbered
-pub mod OpenBills
 pub mod OwnTaps
 pub mod Printed
 pub mod Ranges

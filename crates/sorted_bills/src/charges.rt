@@ -4,13 +4,13 @@ ghost use Rattle.std.specs.Prelude.{◌≡◌, ◌≢◌, [], None, ℕ, List, I
 ghost use Rattle.sorted_taps.specs.Merges.{AreAtEnd};
 ghost use Rattle.sorted_bills.specs.Faults.{IsBillFault};
 ghost use Rattle.sorted_bills.specs.inside.Charged.{IsCharged};
-ghost use Rattle.sorted_bills.specs.inside.OpenBills.{IsOpenBill};
+ghost use Rattle.settlement.specs.OpenBills.{IsOpenBill};
 ghost use Rattle.sorted_bills.specs.inside.Taken.{IsReady};
 
 use crate::fault::BillFault;
-use crate::open_bill::OpenBill;
 use crate::taker::Taker;
 use placed_files::Placed;
+use settlement::OpenBill;
 use std::alloc::Global;
 use tap_views::Token;
 use tariffs::FareTable;

@@ -10,13 +10,14 @@ ghost use Rattle.sorted_bills.specs.declared.fault.BillFault.TheVariants.{Write 
 ghost use Rattle.fare_texts.specs.WrittenOut.{Begins};
 
 use crate::fault::BillFault;
-use crate::file_checks::check_all;
+use crate::own_taps::check_all;
 use crate::rounds::{Rounds, write_ranges};
 use crate::taker::Taker;
 use crate::tap_numbers::{count, ends_of};
 use fare_texts::{Explainer, head_with_room, pass_on};
 use placed_files::Placed;
-use settled_texts::{STRIDE_ROOM_BYTES, least_token};
+use settled_texts::STRIDE_ROOM_BYTES;
+use settlement::least_token;
 use sorted_taps::{WINDOW_BYTES, have_stamps, stamps_of};
 use std::alloc::Global;
 use std::io::Write;
@@ -66,8 +67,8 @@ pub fn write_sorted_ledger<R: Threads + Sync, F: Placed + Sync, W: Write>(
     // proof: where a write fails, the taps that were not taken yet go on to a merged list
     sorted_taps::laws::merged_is_canonical();
     let stamps = stamps_of(alloc, files)?;
-    let mut window = vec![in alloc; 0u8; WINDOW_BYTES]?;
-    let numbers = check_all(rt, alloc, files, &mut window, workers)?;
+    let numbers = check_all(rt, alloc, files, workers)?;
+    let window = vec![in alloc; 0u8; WINDOW_BYTES]?;
     let counted = count(&numbers)?;
     let ends = ends_of(alloc, &numbers)?;
     let clock = table.clock(alloc)?;

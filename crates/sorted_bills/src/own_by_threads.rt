@@ -23,7 +23,12 @@ pub(crate) struct OwnTaps {
 }
 
 /// None if there is no such file, if it is not sorted, or if an allocation fails.
-fn own_at<F: Placed>(alloc: Global, token: Token, files: &[F], position: usize) -> Option<OwnTaps>
+fn own_at<F: Placed>(
+    alloc: Global,
+    token: Option<Token>,
+    files: &[F],
+    position: usize,
+) -> Option<OwnTaps>
     ensures { IfSome result (IsOwnAt token (map F.bytes files.now) position) }
 {
     if position >= files.len() {
@@ -44,7 +49,7 @@ fn own_at<F: Placed>(alloc: Global, token: Token, files: &[F], position: usize) 
 fn collect_each<R: Threads + Sync, F: Placed + Sync>(
     rt: &R,
     alloc: Global,
-    token: Token,
+    token: Option<Token>,
     files: &[F],
     owns: &mut [Option<OwnTaps>],
     workers: u32,
@@ -67,7 +72,7 @@ fn collect_each<R: Threads + Sync, F: Placed + Sync>(
 /// None if those of one are missing.
 fn join_all<F: Placed>(
     alloc: Global,
-    token: Token,
+    token: Option<Token>,
     files: &[F],
     owns: &[Option<OwnTaps>],
 ) -> Result<Option<OwnTaps>, AllocError>
@@ -107,7 +112,7 @@ fn positions(alloc: Global, number: usize) -> Result<Vec<Option<OwnTaps>>, Alloc
 pub(crate) fn own_by_threads<R: Threads + Sync, F: Placed + Sync>(
     rt: &R,
     alloc: Global,
-    token: Token,
+    token: Option<Token>,
     files: &[F],
     workers: u32,
 ) -> Result<Option<OwnTaps>, AllocError>

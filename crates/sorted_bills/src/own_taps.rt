@@ -9,7 +9,7 @@ ghost use Rattle.tap_parts.specs.Canonical.{IsCanonical};
 ghost use Rattle.tap_views.specs.UploadEnds.{ArePlainEnds, are_posted};
 ghost use Rattle.settlement.specs.Posted.{token_of_tap};
 ghost use Rattle.settlement.specs.SettledTaps.{AreSettledTapsOf};
-ghost use Rattle.sorted_taps.specs.Checked.{IsFirstFault};
+ghost use Rattle.sorted_taps.specs.Checked.{AreCountedFiles, IsFirstFault};
 ghost use Rattle.sorted_taps.specs.Readers.{ahead};
 ghost use Rattle.sorted_taps.specs.Reading.{window_bytes};
 ghost use Rattle.sorted_taps.specs.Sorted.{IsSortedFault};
@@ -29,11 +29,19 @@ use std::thread::Threads;
 use tap_parts::sort;
 use tap_views::{TapFields, Token};
 
-fn push_own(token: Token, tap: &TapFields, taps: &mut Vec<TapFields>) -> Result<(), SortedFault>
+fn push_own(
+    token: Option<Token>,
+    tap: &TapFields,
+    taps: &mut Vec<TapFields>,
+) -> Result<(), SortedFault>
     ensures pushed { OnOk result (IsOwnPushed token tap.now taps.old.items taps.new.items) }
     ensures fault { IfErr result (λ fault. (all : List ℕ) → IsSortedFault all fault) }
 {
-    if name_of(tap) != token {
+    let name = name_of(tap);
+    let Some(own) = token else {
+        return Ok(());
+    };
+    if name != own {
         return Ok(());
     }
     // proof: no batch has a later moment
@@ -44,7 +52,11 @@ fn push_own(token: Token, tap: &TapFields, taps: &mut Vec<TapFields>) -> Result<
     Ok(())
 }
 
-fn push_head(token: Token, reader: &TapReader, taps: &mut Vec<TapFields>) -> Result<(), SortedFault>
+fn push_head(
+    token: Option<Token>,
+    reader: &TapReader,
+    taps: &mut Vec<TapFields>,
+) -> Result<(), SortedFault>
     ensures sound { OnOk result (AreSound token taps.old.items → AreSound token taps.new.items) }
     ensures pushed { OnOk result ((tap : TapFields) (rest : List TapFields)
         → ahead reader.now ≡ tap ∷ rest
@@ -62,7 +74,7 @@ fn push_head(token: Token, reader: &TapReader, taps: &mut Vec<TapFields>) -> Res
 
 pub(crate) fn add_file<F: Placed>(
     alloc: Global,
-    token: Token,
+    token: Option<Token>,
     file: &F,
     window: &mut [u8],
     taps: &mut Vec<TapFields>,
@@ -91,7 +103,7 @@ pub(crate) fn add_file<F: Placed>(
 /// The fault is the first one of the first file that is not sorted.
 fn own_taps<F: Placed>(
     alloc: Global,
-    token: Token,
+    token: Option<Token>,
     files: &[F],
     window: &mut [u8],
     numbers: &mut Vec<u64>,
@@ -129,7 +141,7 @@ fn in_order(taps: Vec<TapFields>) -> Vec<TapFields>
 fn own_of_files<R: Threads + Sync, F: Placed + Sync>(
     rt: &R,
     alloc: Global,
-    token: Token,
+    token: Option<Token>,
     files: &[F],
     workers: u32,
 ) -> Result<OwnTaps, BillFault>
@@ -150,6 +162,24 @@ fn own_of_files<R: Threads + Sync, F: Placed + Sync>(
     let mut numbers = Vec::new(alloc);
     let taps = own_taps(alloc, token, files, &mut window, &mut numbers)?;
     Ok(OwnTaps { taps, numbers })
+}
+
+/// The numbers of the taps of files, each checked whole. If a file is not sorted, the fault is the
+/// first one.
+pub(crate) fn check_all<R: Threads + Sync, F: Placed + Sync>(
+    rt: &R,
+    alloc: Global,
+    files: &[F],
+    workers: u32,
+) -> Result<Vec<u64>, BillFault>
+    ensures sorted { IfOk result (λ numbers. (all : List (List ℕ))
+        → map F.bytes files.now ≡ map Some all → AreCountedFiles all numbers.items) }
+    ensures fault { IfErr result (λ fault. (all : List (List ℕ))
+        → map F.bytes files.now ≡ map Some all → IsBillFault all fault) }
+    ensures unwritten { IfErr result (λ fault. fault ≢ BillFault.Write) }
+{
+    let own = own_of_files(rt, alloc, None, files, workers)?;
+    Ok(own.numbers)
 }
 
 /// The taps of one token of sorted files, in canonical order: no other tap is stored. One pass
@@ -176,7 +206,7 @@ pub fn sorted_taps_of<R: Threads + Sync, F: Placed + Sync>(
     ensures unwritten { IfErr result (λ fault. fault ≢ BillFault.Write) }
 {
     let stamps = stamps_of(alloc, files)?;
-    let own = own_of_files(rt, alloc, token, files, workers)?;
+    let own = own_of_files(rt, alloc, Some(token), files, workers)?;
     if !have_stamps(files, &stamps) {
         return Err(BillFault::Changed);
     }

@@ -1,28 +1,21 @@
 //! The bill of a range of the taps.
 
-ghost use Rattle.std.specs.Prelude.{◌≡◌, ◌≤◌, ◌^◌, ◌+◌, ◌++◌, ℕ, List, Option, IfOk, IsTrue, OnOk};
-ghost use Rattle.std.specs.Prelude.{length, map};
+ghost use Rattle.std.specs.Prelude.{◌≡◌, ◌^◌, ◌+◌, ℕ, List, Option, IfOk, IsTrue, OnOk, map};
 ghost use Rattle.std.specs.declared.cmp.Ordering.TheVariants.{Less};
 ghost use Rattle.tariffs.specs.Fares.{Fares};
 ghost use Rattle.tap_views.specs.Token.{token_cmp};
-ghost use Rattle.histories.specs.SumsByKey.{token_of};
-ghost use Rattle.histories.specs.declared.entry.Entry.{Entry};
-ghost use Rattle.settlement.specs.Bills.{IsBillOf};
-ghost use Rattle.tap_views.specs.TokenOrder.{AreBelow};
-ghost use Rattle.settlement.specs.inside.Billing.{HaveBillRoom};
+ghost use Rattle.settlement.specs.Bills.{HaveBillRoom};
 ghost use Rattle.sorted_bills.specs.inside.Charged.{IsPart};
 
 use crate::charges::charge;
 use crate::fault::BillFault;
-use crate::open_bill::OpenBill;
 use crate::taker::Taker;
 use histories::HashSeed;
 use placed_files::Placed;
-use settled_texts::least_token;
-use settlement::Bill;
+use settlement::{Bill, OpenBill, least_token};
 use sorted_taps::{Span, WINDOW_BYTES, copies_of, joined};
 use std::alloc::Global;
-use tap_views::{NoMemory, Token};
+use tap_views::Token;
 use tariffs::FareTable;
 
 #[derive(Drop)]
@@ -64,24 +57,6 @@ pub(crate) fn part_of<F: Placed>(
     })
 }
 
-/// After an allocation failure the bill is of no use.
-fn add_bill(alloc: Global, bill: &mut Bill, more: Bill) -> Result<(), NoMemory>
-    requires { HaveBillRoom bill.old more }
-    ensures { OnOk result ((entries others : List Entry) → IsBillOf entries bill.old
-        → IsBillOf others more → AreBelow (map token_of entries) (map token_of others)
-        → IsBillOf (entries ++ others) bill.new) }
-{
-    let Bill {
-        tokens,
-        validators,
-        totals,
-    } = more;
-    bill.tokens.append(alloc, tokens)?;
-    bill.validators.add_all(&validators)?;
-    bill.totals.add_all(&totals);
-    Ok(())
-}
-
 pub(crate) fn is_below(token: Token, other: Token) -> bool
     ensures { IsTrue result → token_cmp token other ≡ Less }
 {
@@ -110,7 +85,7 @@ impl Part {
         };
         self.span.end = end;
         self.last = last;
-        add_bill(alloc, &mut self.bill, bill)?;
+        self.bill.append(alloc, bill)?;
         Ok(())
     }
 }

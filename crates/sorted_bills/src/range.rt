@@ -11,7 +11,7 @@ use crate::lines_below::explain_below;
 use crate::taker::Taker;
 use fare_texts::{Explainer, pass_on};
 use placed_files::Placed;
-use settled_texts::least_token;
+use settlement::least_token;
 use sorted_taps::{Span, WINDOW_BYTES, copies_of};
 use std::alloc::Global;
 use std::marker::Sync;

@@ -16,13 +16,11 @@ ghost use Rattle.sorted_bills.specs.inside.Taken.{AreTapsTaken, IsReady};
 use crate::bill::first_fault;
 use crate::charges::charge;
 use crate::fault::BillFault;
-use crate::open_bill::OpenBill;
 use crate::taker::Taker;
 use crate::tap_numbers::ends_of;
 use histories::HashSeed;
 use placed_files::Placed;
-use settled_texts::least_token;
-use settlement::Billed;
+use settlement::{Billed, OpenBill, least_token};
 use sorted_taps::{
     FileSpan, PlacedReaders, Position, SortedFault, TapReader, WINDOW_BYTES, have_stamps,
     readers_from, spans_to, stamps_of,

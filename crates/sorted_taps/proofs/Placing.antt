@@ -19,7 +19,7 @@ use Rattle.sorted_taps.specs.Merged.{BeginsNotBefore}
 use Rattle.sorted_taps.specs.Merges.{AreTaken}
 use Rattle.sorted_taps.specs.Positions.{ArePlaced, AreSpanned, DoSpan, IsAt, IsLeftAfter}
 use Rattle.sorted_taps.specs.Positions.{IsPlaced, IsPlacedAnew, IsSpanned, first_position}
-use Rattle.sorted_taps.specs.Readers.{ahead, IsPositionedIn}
+use Rattle.sorted_taps.specs.Readers.{ahead}
 use Rattle.sorted_taps.specs.Reading.{AreTapsBetween}
 use Rattle.sorted_taps.specs.Represents.{AreAlignedWith, IsAlignedWith}
 use Rattle.sorted_taps.specs.declared.positions.FileSpan.{FileSpan}
@@ -30,7 +30,7 @@ use Rattle.sorted_taps.proofs.After.{after_read, none_of_nothing}
 use Rattle.sorted_taps.proofs.Between.{between_more}
 use Rattle.sorted_taps.proofs.Files.{each_more}
 use Rattle.sorted_taps.proofs.Merging.{merged_canonical, none_before, sorted_cons, tail}
-use Rattle.sorted_taps.proofs.Taking.{HasPassed, lies_of, passed_lengths, some_of, taken_passed}
+use Rattle.sorted_taps.proofs.Taking.{HasPassed, passed_lengths, some_of, taken_passed}
 
 -- ---- parts of sorted lists
 pub sorted_back : (xs ys : List TapFields) → IsSorted tap_cmp (xs ++ ys) → IsSorted tap_cmp ys
@@ -306,12 +306,6 @@ placed_more files positions readers position reader number placed at = record {
       (sym (ap (λ n. get_or (positions ++ position ∷ []) n p) (sym number)
       ∙ get_or-append_seam positions position [] p)) at) k d inside p;
 }
-
--- at the begin of a file
-pub placed_first : (all : List ℕ) (reader : TapReader) → IsPositionedIn all 0 [] reader
-    → IsPlacedAnew all first_position reader
-placed_first all reader holds =
-    (record { passed = []; skip = refl; holds = lies_of all 0 [] reader holds }, holds.number)
 
 pub span_more : (files : List (List ℕ)) (positions : List Position) (readers : List TapReader)
     (spans : List FileSpan) (span : FileSpan) → DoSpan files positions readers spans

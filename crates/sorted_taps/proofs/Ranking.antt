@@ -6,7 +6,6 @@ use Rattle.std.specs.Prelude.{Option}
 use Rattle.std.specs.Ordering.{is_lt}
 use Rattle.std.proofs.lemmas.Bool.{cases_eq, cases_lt}
 use Rattle.std.proofs.lemmas.List.{get_or_default, get_or-set_other, get_or-set_same, length-set}
-use Rattle.std.proofs.lemmas.List.{same_lists}
 use Rattle.std.proofs.lemmas.Cmp.{tied_itself}
 use Rattle.tap_views.proofs.TapOrders.{tap_cmp_total}
 use Rattle.tap_views.specs.declared.encoder.TapFields.{TapFields}
@@ -304,28 +303,6 @@ module _ (readers : List TapReader) (tree : List Head) (at : ℕ) (was reader : 
           head d (λ e. other (omega (arith, e))))
           ∙ subst (λ n. (get_or tree (n + k) d).at ≡ k) long
           (is.leaves.at k d (let l = long in omega (arith, l, within)))
-
--- a reader that is set and then set back
-pub set_back : (readers : List TapReader) (at : ℕ) (is was : TapReader)
-    → was ≡ get_or readers at was → set (set readers at is) at was ≡ readers
-set_back readers at is was there =
-    same_lists (set (set readers at is) at was) readers long
-    (λ k d within. at_position k d (let l = long in omega (arith, l, within)) (cases_eq k at))
-  where
-    long : length (set (set readers at is) at was) ≡ length readers
-    long = length-set (set readers at is) at was ∙ length-set readers at is
-
-    at_position : (k : ℕ) (d : TapReader) → k < length readers → (k ≡ at) ⊎ (k ≢ at)
-        → get_or (set (set readers at is) at was) k d ≡ get_or readers k d
-    at_position k d within (inl same) =
-        let low : at < length readers = omega (arith, same, within) in
-        let more = length-set readers at is in
-        subst (λ j. get_or (set (set readers at is) at was) j d ≡ get_or readers j d) (sym same)
-        (get_or-set_same (set readers at is) at was d (omega (arith, low, more)) ∙ there
-        ∙ sym (get_or_default readers at d was low))
-    at_position k d within (inr other) =
-        get_or-set_other (set readers at is) at k was d other
-        ∙ get_or-set_other readers at k is d other
 
 -- a head that is read if there is none
 abbrev pub no_head : Head

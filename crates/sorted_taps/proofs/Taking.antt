@@ -307,12 +307,3 @@ pub taken_canonical : (files : List (List ℕ)) (started end : List TapReader) (
 taken_canonical files started end taps is taken at_end =
     let merged = taken_merged files started end taps is taken at_end in
     (merged.lists, merged.sorted, merged.canonical)
-
--- one more tap is taken
-pub taken_more : (files : List (List ℕ)) (taps : List TapFields) (old mid new : List TapReader)
-    (tap : TapFields) → AreTaken files old taps mid → IsTapTaken files mid tap new
-    → AreTaken files old (taps ++ tap ∷ []) new
-taken_more files [] old mid new tap taken last =
-    (new, subst (λ readers. IsTapTaken files readers tap new) (sym taken) last, refl)
-taken_more files (first ∷ taps) old mid new tap (next, step, taken) last =
-    (next, step, taken_more files taps next mid new tap taken last)

@@ -128,15 +128,6 @@ fn put(tree: &mut [Head], readers: &[TapReader], head: Head)
     }
 }
 
-pub(crate) fn put_head(tree: &mut [Head], readers: &[TapReader], at: usize)
-    requires within { at < length readers.now }
-    requires ranked { (was : TapReader) × IsRanked (set readers.now at was) tree.old }
-    ensures { IsRanked readers.now tree.new }
-{
-    let reader = &readers[at];
-    put(tree, readers, Head::of(reader, at));
-}
-
 pub(crate) fn put_end(tree: &mut [Head], readers: &[TapReader], at: usize)
     requires within { at < length readers.now }
     requires ranked { (was : TapReader) × IsRanked (set readers.now at was) tree.old }

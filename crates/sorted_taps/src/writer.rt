@@ -32,7 +32,7 @@ fn write_batch<W: Write>(alloc: Global, taps: &[TapFields], out: &mut W) -> Resu
     }
 }
 
-pub(crate) fn put<W: Write>(
+fn put<W: Write>(
     alloc: Global,
     tap: &TapFields,
     waiting: &mut Vec<TapFields>,
@@ -74,7 +74,7 @@ pub(crate) fn put_rest<W: Write>(
     write_batch(alloc, waiting, out)
 }
 
-fn put_all<W: Write>(
+pub(crate) fn put_all<W: Write>(
     alloc: Global,
     taps: &[TapFields],
     waiting: &mut Vec<TapFields>,

@@ -9,7 +9,8 @@ use Rattle.histories.specs.declared.entry.Entry.{Entry}
 use Rattle.fare_texts.specs.Lines.{AreUpTo}
 use Rattle.tap_views.specs.TokenOrder.{IsUpTo}
 use Rattle.settled_texts.specs.declared.slot.WorkerSlot.{WorkerSlot}
-use Rattle.settled_texts.specs.ExplainedTaps.{AreExplained, TapsNondecreasingFrom, last_token}
+use Rattle.settled_texts.specs.ExplainedTaps.{AreExplained}
+use Rattle.settlement.specs.Nondecreasing.{TapsNondecreasingFrom, last_token}
 
 -- the taps' moments are before 2100, and their tokens never fall
 pub record IsSoundList (taps : List TapFields) : Type 0 where

@@ -1,37 +1,17 @@
 -- What is known of a bill while more taps are posted.
-use Rattle.std.specs.Prelude.{◌≡◌, ◌≢◌, ◌+◌, ◌*◌, ◌^◌, ◌<◌, ◌≤◌, ℕ, List, ◌∷◌, ◌++◌, All, flat_map}
-use Rattle.std.specs.Prelude.{length, map, slice_index_or, []}
+use Rattle.std.specs.Prelude.{◌≡◌, ◌*◌, ◌^◌, ◌≤◌, ◌++◌, ◌∷◌, List, All, flat_map, length, map, []}
 use Rattle.std.specs.List.{AllZip}
 use Rattle.tariffs.specs.Fares.{Fares}
 use Rattle.tap_views.specs.declared.encoder.TapFields.{TapFields}
 use Rattle.tap_views.specs.Encoding.{AreEarly}
 use Rattle.tap_parts.specs.Canonical.{HasTokenBytes, IsCanonical}
 use Rattle.tap_views.specs.TokenOrder.{AreBelow}
+use Rattle.settlement.specs.Bills.{IsBillOf}
+use Rattle.settlement.specs.Nondecreasing.{last_token}
+use Rattle.settlement.specs.OpenBills.{IsOpenBill}
 use Rattle.settlement.specs.Posted.{posted, token_of_tap}
-use Rattle.histories.specs.SumsByKey.{sums_by_token, token_of}
-use Rattle.histories.specs.declared.entry.Entry.{Entry}
-use Rattle.settlement.specs.Bills.{IsBillOf, IsCountOf}
 use Rattle.settlement.specs.declared.bill.Bill.{Bill}
-
--- the bill counts some entries, and there is room for `more` entries more
-abbrev pub HasBillRoom : Bill → ℕ → Type 0
-HasBillRoom bill more =
-    (entries : List Entry) × IsCountOf entries bill × (length entries + more ≤ 2 ^ 95)
-
--- both bills count some entries, and there is room for the entries of both together
-abbrev pub HaveBillRoom : Bill → Bill → Type 0
-HaveBillRoom bill more =
-    (entries : List Entry) × (others : List Entry) × IsCountOf entries bill
-    × IsCountOf others more × (length entries + length others ≤ 2 ^ 95)
-
--- the first `count` taps, one at least, are all that have the token of the first one
-pub record IsFirstToken (taps : List TapFields) (count : ℕ) : Type 0 where
-  pub some : 0 < count
-  pub most : count ≤ length taps
-  pub same : (i : ℕ) (tap : TapFields) → i < count
-      → token_of_tap (slice_index_or taps i tap) ≡ token_of_tap (slice_index_or taps 0 tap)
-  pub next : (tap : TapFields) → count < length taps
-      → token_of_tap (slice_index_or taps count tap) ≢ token_of_tap (slice_index_or taps 0 tap)
+use Rattle.settlement.specs.declared.open_bill.OpenBill.{OpenBill}
 
 -- the taps of a part have moments before 2100, and tokens of 16 bytes
 pub record IsSoundPart (part : List TapFields) : Type 0 where
@@ -45,16 +25,24 @@ ArePartsInOrder (part ∷ parts) =
     All (λ later. AreBelow (map token_of_tap part) (map token_of_tap later)) parts
     × ArePartsInOrder parts
 
--- the taps of a part were posted in canonical order and added to a bill
-pub record IsPartBilled (fares : Fares) (part : List TapFields) (old new : Bill) : Type 0 where
+-- the taps of a part were added to a bill in canonical order
+pub record IsPartAdded (fares : Fares) (part : List TapFields) (old new : OpenBill) : Type 0 where
   pub list : List TapFields
   pub canonical : IsCanonical part list
   pub few : length list ≤ 2 ^ 58
-  pub counted : (before : List Entry) → IsCountOf before old
-      → IsCountOf (before ++ posted fares list) new
-  pub tokens : (before : List Entry) → old.tokens ≡ sums_by_token before
-      → AreBelow (map token_of before) (map token_of_tap list)
-      → new.tokens ≡ sums_by_token (before ++ posted fares list)
+  pub added : (before : List TapFields) → IsOpenBill fares before old
+      → IsOpenBill fares (before ++ list) new
+  pub token : new.replay.token ≡ last_token old.replay.token list
+
+-- the taps of the parts were added to a bill, each part in canonical order, from the least token on
+pub record IsOpenOfParts (fares : Fares) (parts : List (List TapFields)) (bill : OpenBill)
+    : Type 0 where
+  pub lists : List (List TapFields)
+  pub canonical : AllZip IsCanonical parts lists
+  pub is_open : IsOpenBill fares (flat_map (λ list. list) lists) bill
+  pub few : length (flat_map (λ list. list) lists) ≤ length parts * 2 ^ 58
+  pub token : bill.replay.token
+      ≡ last_token (record { high = 0; low = 0 }) (flat_map (λ list. list) lists)
 
 -- the bill is that of the parts' taps, each part posted in canonical order, one after the other
 pub record IsBillOfParts (fares : Fares) (parts : List (List TapFields)) (bill : Bill)

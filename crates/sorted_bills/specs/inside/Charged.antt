@@ -6,12 +6,12 @@ use Rattle.tap_views.specs.declared.token.Token.{Token}
 use Rattle.tap_views.specs.TokenOrder.{IsUpTo}
 use Rattle.settlement.specs.Bills.{IsBillOf}
 use Rattle.settlement.specs.Posted.{HasName, posted, token_of_tap}
-use Rattle.settled_texts.specs.ExplainedTaps.{TapsNondecreasingFrom, last_token}
+use Rattle.settlement.specs.Nondecreasing.{TapsNondecreasingFrom, last_token}
 use Rattle.sorted_taps.specs.Spans.{IsSpanOf}
 use Rattle.sorted_taps.specs.declared.reader.TapReader.{TapReader}
-use Rattle.sorted_bills.specs.inside.OpenBills.{IsOpenBill}
+use Rattle.settlement.specs.OpenBills.{IsOpenBill}
 use Rattle.sorted_bills.specs.inside.Taken.{AreTapsTaken}
-use Rattle.sorted_bills.specs.declared.open_bill.OpenBill.{OpenBill}
+use Rattle.settlement.specs.declared.open_bill.OpenBill.{OpenBill}
 use Rattle.sorted_bills.specs.declared.part.Part.{Part}
 
 -- taps whose tokens do not fall from this one on were taken, and the bill is theirs

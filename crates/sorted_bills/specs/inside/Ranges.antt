@@ -7,7 +7,8 @@ use Rattle.fare_texts.specs.Lines.{AreUpTo}
 use Rattle.tap_views.specs.TokenOrder.{IsUpTo}
 use Rattle.fare_texts.specs.declared.explainer.Explainer.{Explainer}
 use Rattle.settlement.specs.Posted.{HasName}
-use Rattle.settled_texts.specs.ExplainedTaps.{AreExplained, TapsNondecreasingFrom, last_token}
+use Rattle.settled_texts.specs.ExplainedTaps.{AreExplained}
+use Rattle.settlement.specs.Nondecreasing.{TapsNondecreasingFrom, last_token}
 use Rattle.histories.specs.Entry.{own}
 use Rattle.histories.specs.declared.entry.Entry.{Entry}
 use Rattle.sorted_taps.specs.Spans.{HaveConsumed, IsSpanOf}

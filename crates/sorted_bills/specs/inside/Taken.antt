@@ -4,7 +4,7 @@ use Rattle.tap_views.specs.Encoding.{AreEarly}
 use Rattle.tap_views.specs.declared.encoder.TapFields.{TapFields}
 use Rattle.tap_views.specs.declared.token.Token.{Token}
 use Rattle.settlement.specs.Posted.{HasName}
-use Rattle.settled_texts.specs.ExplainedTaps.{TapsNondecreasingFrom, last_token}
+use Rattle.settlement.specs.Nondecreasing.{TapsNondecreasingFrom, last_token}
 use Rattle.sorted_taps.specs.Heads.{IsRanked}
 use Rattle.sorted_taps.specs.Merges.{AreTaken}
 use Rattle.sorted_taps.specs.Reading.{window_bytes}

@@ -9,7 +9,8 @@ use Rattle.fare_texts.proofs.Beginnings.{goes_last, goes_then}
 use Rattle.fare_texts.proofs.PieceWriting.{consumed_first}
 use Rattle.settlement.specs.Posted.{posted}
 use Rattle.settled_texts.proofs.Joined.{joined}
-use Rattle.settled_texts.proofs.Rows.{canonical_nondecreasing, posted_nondecreasing}
+use Rattle.settled_texts.proofs.Rows.{posted_nondecreasing}
+use Rattle.settlement.proofs.Nondecreasing.{canonical_nondecreasing}
 use Rattle.settled_texts.proofs.ledger.write_settled_ledger.Goals as goal
 
 pub write_lists-requires-clause-nondecreasing : goal.write_lists-requires-clause-nondecreasing

@@ -4,8 +4,10 @@ use Rattle.std.proofs.Common.{refl, sym, ap, subst, ◌∙◌, append_assoc, app
 use Rattle.std.proofs.lemmas.List.{take_more}
 use Rattle.tap_views.specs.declared.encoder.TapFields.{TapFields}
 use Rattle.settlement.specs.Posted.{posted_after}
-use Rattle.settled_texts.specs.ExplainedTaps.{AreExplained, last_token}
-use Rattle.settled_texts.proofs.TapsExplained.{nondecreasing_here, last_append, none_reported}
+use Rattle.settled_texts.specs.ExplainedTaps.{AreExplained}
+use Rattle.settlement.specs.Nondecreasing.{last_token}
+use Rattle.settled_texts.proofs.TapsExplained.{none_reported}
+use Rattle.settlement.proofs.Nondecreasing.{nondecreasing_here, last_append}
 use Rattle.settled_texts.proofs.TapsExplained.{reported_append}
 use Rattle.settled_texts.proofs.lines.explain_taps.Goals as goal
 

@@ -1,10 +1,9 @@
 -- Each round explains a stride more.
-use Rattle.std.proofs.Common.{◌≡◌, ◌<◌, ◌++◌, ◌==◌, false, true, List, [], length}
-use Rattle.std.proofs.Common.{string_bytes, refl, sym, ap, subst, ◌∙◌, append_assoc, append-nil}
+use Rattle.std.proofs.Common.{◌≡◌, ◌<◌, ◌++◌, ◌==◌, false, List, [], length}
+use Rattle.std.proofs.Common.{string_bytes, refl, sym, ap, subst, ◌∙◌, append_assoc}
 use Rattle.std.proofs.Common.{arith, length-append}
 use Rattle.std.proofs.lemmas.Result.{err_from_is_err_and}
 use Rattle.fare_texts.proofs.Beginnings.{begins_nothing, goes_grown, goes_nothing, goes_passed}
-use Rattle.std.proofs.lemmas.Bool.{eqb-true}
 use Rattle.std.proofs.lemmas.Bool.Decides.{nat_tests}
 use Rattle.std.proofs.lemmas.List.Elements.{All-drop, All-same, All-take}
 use Rattle.tap_views.specs.declared.token.Token.{Token}
@@ -12,8 +11,10 @@ use Rattle.tap_views.specs.Layout.{moment_limit}
 use Rattle.tap_views.specs.declared.encoder.TapFields.{TapFields}
 use Rattle.tap_views.proofs.Lists.{all_done}
 use Rattle.settlement.specs.Posted.{posted_after}
-use Rattle.settled_texts.specs.ExplainedTaps.{AreExplained, last_token}
-use Rattle.settled_texts.proofs.TapsExplained.{nondecreasing_within, halves_of, last_append}
+use Rattle.settled_texts.specs.ExplainedTaps.{AreExplained}
+use Rattle.settlement.specs.Nondecreasing.{last_token}
+use Rattle.settled_texts.proofs.TapsExplained.{nondecreasing_within, halves_of}
+use Rattle.settlement.proofs.Nondecreasing.{last_append}
 use Rattle.settled_texts.proofs.TapsExplained.{none_reported}
 use Rattle.settled_texts.proofs.TapsExplained.{reported_append, explained_started}
 use Rattle.settled_texts.proofs.lines.write_taps.Goals as goal

@@ -4,7 +4,8 @@ use Rattle.tap_views.specs.declared.encoder.TapFields.{TapFields}
 use Rattle.histories.specs.declared.entry.Entry.{Entry}
 use Rattle.fare_texts.specs.Lines.{HasConsumed}
 use Rattle.fare_texts.specs.WrittenOut.{GoesOut}
-use Rattle.settled_texts.specs.ExplainedTaps.{AreExplained, last_token}
+use Rattle.settled_texts.specs.ExplainedTaps.{AreExplained}
+use Rattle.settlement.specs.Nondecreasing.{last_token}
 use Rattle.settled_texts.proofs.lines.write_taps.Given as goal
 
 -- the taps before the rest were explained, after whatever entries the explainer had come past

@@ -10,10 +10,12 @@ use Rattle.tap_views.specs.declared.token.Token.{Token}
 use Rattle.tap_views.specs.declared.encoder.TapFields.{TapFields}
 use Rattle.settlement.specs.Posted.{posted_after}
 use Rattle.settled_texts.specs.inside.WorkerSlots.{HasSat}
-use Rattle.settled_texts.specs.ExplainedTaps.{AreExplained, TapsNondecreasingFrom, last_token}
+use Rattle.settled_texts.specs.ExplainedTaps.{AreExplained}
+use Rattle.settlement.specs.Nondecreasing.{TapsNondecreasingFrom, last_token}
 use Rattle.settled_texts.proofs.Joined.{Early, at_provided, joined, joined_at, joined_more}
 use Rattle.settled_texts.proofs.Joined.{sound_at}
-use Rattle.settled_texts.proofs.TapsExplained.{nondecreasing_within, last_append, none_reported}
+use Rattle.settled_texts.proofs.TapsExplained.{nondecreasing_within, none_reported}
+use Rattle.settlement.proofs.Nondecreasing.{last_append}
 use Rattle.settled_texts.proofs.TapsExplained.{reported_append}
 use Rattle.settled_texts.proofs.TapsExplained.{explained_started_on}
 use Rattle.std.proofs.lemmas.Result.{err_from_is_err_and}

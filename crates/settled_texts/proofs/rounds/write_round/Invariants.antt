@@ -2,7 +2,8 @@ use Rattle.std.proofs.Common.{◌≡◌, ℕ, ◌+◌, ◌≤◌, List, length, 
 use Rattle.histories.specs.declared.entry.Entry.{Entry}
 use Rattle.fare_texts.specs.Lines.{HasConsumed}
 use Rattle.fare_texts.specs.WrittenOut.{GoesOut}
-use Rattle.settled_texts.specs.ExplainedTaps.{AreExplained, last_token}
+use Rattle.settled_texts.specs.ExplainedTaps.{AreExplained}
+use Rattle.settlement.specs.Nondecreasing.{last_token}
 use Rattle.settled_texts.proofs.Joined.{joined}
 use Rattle.settled_texts.proofs.rounds.write_round.Given as goal
 

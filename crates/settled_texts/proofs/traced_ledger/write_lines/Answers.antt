@@ -10,8 +10,10 @@ use Rattle.std.proofs.lemmas.List.{nil_from_length}
 use Rattle.tap_views.specs.declared.encoder.TapFields.{TapFields}
 use Rattle.tap_views.specs.declared.token.Token.{Token}
 use Rattle.settlement.specs.Posted.{posted_after}
-use Rattle.settled_texts.specs.ExplainedTaps.{AreExplained, last_token}
-use Rattle.settled_texts.proofs.TapsExplained.{nondecreasing_within, halves_of, last_append}
+use Rattle.settled_texts.specs.ExplainedTaps.{AreExplained}
+use Rattle.settlement.specs.Nondecreasing.{last_token}
+use Rattle.settled_texts.proofs.TapsExplained.{nondecreasing_within, halves_of}
+use Rattle.settlement.proofs.Nondecreasing.{last_append}
 use Rattle.settled_texts.proofs.TapsExplained.{none_reported}
 use Rattle.settled_texts.proofs.TapsExplained.{reported_all}
 use Rattle.settled_texts.proofs.TapsExplained.{reported_append, reported_then}

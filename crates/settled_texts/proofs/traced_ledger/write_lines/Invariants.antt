@@ -1,7 +1,8 @@
 use Rattle.std.proofs.Common.{◌≡◌, ℕ, ◌≤◌, List, [], ◌++◌, drop, length, string_bytes}
 use Rattle.std.specs.Io.KnownBytes.{Appends}
 use Rattle.tap_views.specs.Encoding.{AreEarly}
-use Rattle.settled_texts.specs.ExplainedTaps.{AreExplained, last_token}
+use Rattle.settled_texts.specs.ExplainedTaps.{AreExplained}
+use Rattle.settlement.specs.Nondecreasing.{last_token}
 use Rattle.settled_texts.specs.Columns.{columns_by, with_columns}
 use Rattle.settled_texts.specs.inside.Feeds.{feeds}
 use Rattle.class_names.specs.Names.{class_by}

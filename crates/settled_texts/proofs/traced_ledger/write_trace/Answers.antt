@@ -11,7 +11,8 @@ use Rattle.fare_texts.specs.LedgerLines.{head_text}
 use Rattle.fare_texts.proofs.Along.{ledger_along}
 use Rattle.fare_texts.proofs.PieceWriting.{consumed_first}
 use Rattle.settlement.specs.Posted.{posted}
-use Rattle.settled_texts.proofs.Rows.{canonical_nondecreasing, posted_nondecreasing}
+use Rattle.settled_texts.proofs.Rows.{posted_nondecreasing}
+use Rattle.settlement.proofs.Nondecreasing.{canonical_nondecreasing}
 use Rattle.settled_texts.specs.Columns.{columns_by, head_columns, with_columns}
 use Rattle.class_names.specs.Names.{class_by}
 use Rattle.settled_texts.specs.Traces.{taps_of_trace}

@@ -4,9 +4,9 @@ use Rattle.std.proofs.Common.{length-append}
 use Rattle.std.proofs.lemmas.Result.{err_from_is_err_and}
 use Rattle.tap_views.specs.declared.encoder.TapFields.{TapFields}
 use Rattle.tap_views.specs.declared.token.Token.{Token}
-use Rattle.settled_texts.specs.ExplainedTaps.{TapsNondecreasingFrom, last_token}
-use Rattle.settled_texts.proofs.TapsExplained.{last_append}
-use Rattle.sorted_bills.specs.inside.OpenBills.{IsOpenBill}
+use Rattle.settlement.specs.Nondecreasing.{TapsNondecreasingFrom, last_token}
+use Rattle.settlement.proofs.Nondecreasing.{last_append}
+use Rattle.settlement.specs.OpenBills.{IsOpenBill}
 use Rattle.sorted_bills.proofs.Counted.{late_no_write, late_says_nothing}
 use Rattle.sorted_bills.proofs.Takings.{Early, both_taken, nondecreasing_both, last_taken}
 use Rattle.sorted_bills.proofs.Takings.{none_taken}

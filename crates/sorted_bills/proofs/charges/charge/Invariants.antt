@@ -1,7 +1,7 @@
 use Rattle.std.proofs.Common.{◌≡◌, ◌*◌, ◌≤◌, List, length, map}
 use Rattle.tap_views.specs.declared.encoder.TapFields.{TapFields}
-use Rattle.settled_texts.specs.ExplainedTaps.{TapsNondecreasingFrom, last_token}
-use Rattle.sorted_bills.specs.inside.OpenBills.{IsOpenBill}
+use Rattle.settlement.specs.Nondecreasing.{TapsNondecreasingFrom, last_token}
+use Rattle.settlement.specs.OpenBills.{IsOpenBill}
 use Rattle.sorted_bills.specs.inside.Taken.{AreTapsTaken, IsReady}
 use Rattle.sorted_bills.proofs.charges.charge.Given as goal
 

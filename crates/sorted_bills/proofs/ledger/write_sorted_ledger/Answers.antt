@@ -1,6 +1,6 @@
 -- All taps of the files are their settled taps, and their lines are the ledger.
 use Rattle.std.proofs.Common.{ℕ, All, List, [], ◌++◌, map, string_bytes, sym, ap, subst, ◌∙◌, arith}
-use Rattle.std.proofs.Common.{◌^◌, ◌<◌}
+use Rattle.std.proofs.Common.{◌≡◌, ◌^◌, ◌<◌}
 use Rattle.std.specs.Prelude.{sum}
 use Rattle.std.proofs.lemmas.Result.{err_from_is_err_and}
 use Rattle.std.specs.Io.KnownBytes.{Appends}
@@ -14,6 +14,7 @@ use Rattle.fare_texts.proofs.PieceWriting.{consumed_first}
 use Rattle.settlement.specs.Posted.{posted}
 use Rattle.settled_texts.proofs.Rows.{posted_nondecreasing}
 use Rattle.sorted_taps.proofs.Spans.{at_end_too}
+use Rattle.sorted_bills.specs.declared.fault.BillFault.TheVariants.{NoMemory, Write}
 use Rattle.sorted_bills.specs.declared.range.Range.{Range}
 use Rattle.sorted_bills.specs.inside.Ranges.{IsRange}
 use Rattle.sorted_bills.proofs.Counted.{counted_ends, late_no_write, late_says_nothing, too_many}
@@ -49,7 +50,7 @@ pub write_ranges-requires-clause-ranges : goal.write_ranges-requires-clause-rang
 write_ranges-requires-clause-ranges g c κs within =
     let known = map g.F.Placed.bytes c.args.files.now in
     subst (λ (rs : List Range). All (IsRange c.args.table.now known) rs)
-    (sym c.deref_mut-2.ensures.value)
+    (sym c.deref_mut.ensures.value)
     (c.of-rounds.ensures c.args.table.now known)
 
 pub returns-clause-ok : goal.returns-clause-ok
@@ -189,7 +190,13 @@ pub returns-in_err-numbers-clause-sorted : goal.returns-in_err-numbers-clause-so
 returns-in_err-numbers-clause-sorted g c =
     let p = err_from_is_err_and c.from_residual-in_err-numbers.result
     c.from_residual-in_err-numbers.ensures.1 in
-    rw (p.1, p.2) (λ is_write all are. absurd (cc))
+    rw (p.1, p.2) (λ is_write all are. absurd (c.in_err-numbers.ensures.unwritten is_write))
+
+pub returns-in_err-ends-clause-sorted : goal.returns-in_err-ends-clause-sorted
+returns-in_err-ends-clause-sorted g c =
+    let p = err_from_is_err_and c.from_residual-in_err-ends.result
+    c.from_residual-in_err-ends.ensures.1 in
+    rw (p.1, p.2) (λ is_write all are. absurd (let wrong : NoMemory ≡ Write = is_write in cc))
 
 pub returns-in_err-counted-clause-sorted : goal.returns-in_err-counted-clause-sorted
 returns-in_err-counted-clause-sorted g c =

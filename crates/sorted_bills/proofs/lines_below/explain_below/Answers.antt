@@ -9,7 +9,8 @@ use Rattle.fare_texts.specs.Lines.{AreLinesAlong}
 use Rattle.tap_views.specs.TokenOrder.{IsUpTo}
 use Rattle.tap_views.proofs.TokensUp.{up_itself}
 use Rattle.settlement.specs.Posted.{posted_after}
-use Rattle.settled_texts.specs.ExplainedTaps.{AreExplained, TapsNondecreasingFrom, last_token}
+use Rattle.settled_texts.specs.ExplainedTaps.{AreExplained}
+use Rattle.settlement.specs.Nondecreasing.{TapsNondecreasingFrom, last_token}
 use Rattle.sorted_taps.proofs.Spans.{consumed_further}
 use Rattle.sorted_bills.proofs.Counted.{late_is_late, late_says_nothing}
 use Rattle.sorted_bills.proofs.Takings.{Early}

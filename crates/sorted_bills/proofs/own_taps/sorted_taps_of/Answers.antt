@@ -1,4 +1,4 @@
-use Rattle.std.proofs.Common.{◌∙◌, List, map, sym, ap, subst}
+use Rattle.std.proofs.Common.{◌∙◌, List, Some, map, refl, sym, ap, subst}
 use Rattle.std.proofs.lemmas.Result.{err_from_is_err_and}
 use Rattle.tap_views.specs.UploadEnds.{ArePlainEnds}
 use Rattle.tap_views.specs.declared.upload_end.UploadEnd.{UploadEnd}
@@ -11,7 +11,7 @@ pub returns-clause-ended : goal.returns-clause-ended
 returns-clause-ended g c = λ all are.
     subst (λ (ends : List UploadEnd). ArePlainEnds all ends)
     (sym (c.in_ok-ends.ensures.ends ∙ ap (map Posted) c.deref-2.ensures.value))
-    (own_ends c.args.token all c.in_ok-own.own.taps.items c.in_ok-own.own.numbers.items
+    (own_ends (Some c.args.token) all c.in_ok-own.own.taps.items c.in_ok-own.own.numbers.items
     (c.in_ok-own.ensures.own all are))
 
 pub returns-clause-order : goal.returns-clause-order
@@ -21,13 +21,13 @@ returns-clause-order g c = λ all are.
 
 pub returns-clause-early : goal.returns-clause-early
 returns-clause-early g c =
-    (sound_list c.args.token c.in_ok-own.own.taps.items c.in_order-list.result.items
+    (sound_list (Some c.args.token) c.in_ok-own.own.taps.items c.in_order-list.result.items
     c.in_ok-own.ensures.sound c.in_order-list.ensures).early
 
 pub returns-clause-its : goal.returns-clause-its
 returns-clause-its g c =
-    (sound_list c.args.token c.in_ok-own.own.taps.items c.in_order-list.result.items
-    c.in_ok-own.ensures.sound c.in_order-list.ensures).its
+    (sound_list (Some c.args.token) c.in_ok-own.own.taps.items c.in_order-list.result.items
+    c.in_ok-own.ensures.sound c.in_order-list.ensures).its c.args.token refl
 
 pub returns-in_err-stamps-clause-fault : goal.returns-in_err-stamps-clause-fault
 returns-in_err-stamps-clause-fault g c =

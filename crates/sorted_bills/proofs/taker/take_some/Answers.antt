@@ -5,8 +5,8 @@ use Rattle.std.proofs.lemmas.List.{length-drop, take_all}
 use Rattle.std.proofs.Math.Seq.{drop-append_seam}
 use Rattle.tap_views.specs.declared.encoder.TapFields.{TapFields}
 use Rattle.tap_views.specs.declared.token.Token.{Token}
-use Rattle.settled_texts.specs.ExplainedTaps.{TapsNondecreasingFrom, last_token}
-use Rattle.settled_texts.proofs.TapsExplained.{last_append}
+use Rattle.settlement.specs.Nondecreasing.{TapsNondecreasingFrom, last_token}
+use Rattle.settlement.proofs.Nondecreasing.{last_append}
 use Rattle.sorted_bills.specs.inside.Taken.{AreFollowing, AreTapsTaken}
 use Rattle.sorted_bills.proofs.Takings.{both_taken, nondecreasing_both, run_taken}
 use Rattle.sorted_bills.proofs.taker.take_some.Goals as goal

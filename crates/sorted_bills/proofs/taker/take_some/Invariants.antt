@@ -1,5 +1,5 @@
 use Rattle.std.proofs.Common.{◌≡◌, ◌≤◌, length, map}
-use Rattle.settled_texts.specs.ExplainedTaps.{TapsNondecreasingFrom, last_token}
+use Rattle.settlement.specs.Nondecreasing.{TapsNondecreasingFrom, last_token}
 use Rattle.sorted_taps.specs.Heads.{IsRanked}
 use Rattle.sorted_taps.specs.Reading.{window_bytes}
 use Rattle.sorted_bills.specs.inside.Taken.{AreTapsTaken}

@@ -5,7 +5,8 @@ use Rattle.tap_views.specs.declared.token.Token.{Token}
 use Rattle.fare_texts.specs.Lines.{AreUpTo}
 use Rattle.tap_views.specs.TokenOrder.{IsUpTo}
 use Rattle.fare_texts.proofs.PieceWriting.{consumed_first}
-use Rattle.settled_texts.specs.ExplainedTaps.{AreExplained, TapsNondecreasingFrom}
+use Rattle.settled_texts.specs.ExplainedTaps.{AreExplained}
+use Rattle.settlement.specs.Nondecreasing.{TapsNondecreasingFrom}
 use Rattle.settled_texts.proofs.TapsExplained.{consumed_fresh, nondecreasing_first, last_first}
 use Rattle.settled_texts.proofs.slot.WorkerSlot.explain.Goals as goal
 

@@ -6,7 +6,7 @@ use Rattle.histories.specs.TalliesByKey.{HaveRoom}
 use Rattle.histories.specs.Tally.{sums_of_tally}
 use Rattle.histories.proofs.SumsLemmas.{sums-append, sums-taps}
 use Rattle.histories.proofs.SumsByToken.{by_token_joined}
-use Rattle.settlement.specs.inside.Billing.{HaveBillRoom}
+use Rattle.settlement.specs.Bills.{HaveBillRoom}
 use Rattle.settlement.proofs.bill.Bill.append.Goals as goal
 
 pub add_all-requires : goal.add_all-requires

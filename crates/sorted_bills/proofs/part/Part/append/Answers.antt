@@ -32,7 +32,7 @@ returns c = λ fares known few others part next.
           };
       named = All-append HasName part.taps next.taps part.named next.named;
       bill_is = billed_both fares part.taps next.taps c.args.self.now.bill c.args.more.bill
-          c.add_bill.new.bill below part.bill_is next.bill_is c.in_ok-add_bill.ensures;
+          c.append.new.self below part.bill_is next.bill_is c.in_ok-append.ensures;
       range = up_chain first high end
           (up_chain first last high part.range (less_is_up last high above))
           next.range;
