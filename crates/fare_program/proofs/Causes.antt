@@ -1,17 +1,30 @@
--- The fault that is reported is the right one.
-use Rattle.std.proofs.Common.{◌≡◌, ◌∷◌, ℕ, List, [], true, Bor, arith}
-use Rattle.std.proofs.Common.{nat_eq, inr, length, map, refl, sym, subst}
+-- The fault that is reported is the right one, and what it left.
+use Rattle.std.proofs.Common.{◌≡◌, ◌∷◌, ℕ, List, [], true, Bor, arith, Bool, Option, Some}
+use Rattle.std.proofs.Common.{nat_eq, inl, inr, length, map, refl, sym, subst}
+use Rattle.std.specs.Prelude.{◌<◌}
 use Rattle.std.proofs.lemmas.Bool.Decides.{nat_tests}
-use Rattle.fare_program.specs.Causes.{IsNameReported, names_reported}
-use Rattle.fare_program.specs.Options.{Request}
+use Rattle.std.proofs.KnownBytes.{Keeps-refl}
+use Rattle.program_manners.specs.Loads.{Loaded}
 use Rattle.program_manners.specs.Refusals.{IsOneOf}
+use Rattle.program_manners.specs.TableLoads.{LoadsTables}
+use Rattle.program_manners.specs.TableWords.{TableNames}
+use Rattle.tariffs.specs.Fares.{Fares}
+use Rattle.world.specs.declared.faults.LoadFault.{LoadFault}
+use Rattle.fare_program.specs.Causes.{IsFaultOfTables, IsFileFault, IsRightFault, IsRightOfSorted}
+use Rattle.fare_program.specs.Causes.{names_reported}
+use Rattle.fare_program.specs.Options.{Request}
+use Rattle.fare_program.specs.declared.fault.Fault.{Fault}
+use Rattle.fare_program.specs.declared.fault.Fault.TheVariants.{ClassName, File, Gather, Late}
+use Rattle.fare_program.specs.declared.fault.Fault.TheVariants.{NamedClass, NoMemory, TooManyTaps}
+use Rattle.fare_program.specs.declared.fault.Fault.TheVariants.{Unopened, Unsorted, Uploads, Write}
+use Rattle.fare_program.specs.inside.Causes.{IsClassFault, IsOfOutput, IsRightOfUploads, IsRunFailure}
+use Rattle.fare_program.specs.inside.Ends.{IsLate, IsUnopened, Stops}
 
--- a file of the words, or standard input
-pub named_one : (request : Request) (names : List (List ℕ)) (name : List ℕ) → request.files ≡ names
-    → IsOneOf name names → IsNameReported request name
-named_one request [] name are one = absurd one
-named_one request (n ∷ names) name are one =
-    inr (subst (λ (ns : List (List ℕ)). IsOneOf name (names_reported ns)) (sym are) one)
+-- a file of the words is one of those that are reported
+pub named_one : (names : List (List ℕ)) (name : List ℕ) → IsOneOf name names
+    → IsOneOf name (names_reported names)
+named_one [] name one = absurd one
+named_one (n ∷ names) name one = one
 
 -- without names no file is asked for
 pub none_named : (names : List (Bor (List ℕ))) → nat_eq (length names) 0 ≡ true
@@ -20,3 +33,108 @@ none_named [] is = refl
 none_named (n ∷ names) is =
     let zero : length (n ∷ names) ≡ 0 = grind (arith, nat_tests) in
     absurd (omega (arith, zero))
+
+-- a fault of a file is one of several files
+pub among : (names : List (List ℕ)) (name : List ℕ) (refused : Option (Option (List ℕ) × LoadFault))
+    (fault : Fault) → IsOneOf name names → IsFileFault (name ∷ []) refused fault
+    → IsFileFault names refused fault
+among names name refused (File file) one (inl same, why) =
+    (subst (λ (n : List ℕ). IsOneOf n names) (sym same) one, why)
+among names name refused (File file) one (inr none, why) = absurd none
+among names name refused NoMemory one is = tt
+among names name refused _ one is = absurd is
+
+-- ---- nothing is written before these faults
+module _ (Right : List ℕ → Type 0) (out : Option (List ℕ)) where
+  pub before_files : (names : List (List ℕ)) (refused : Option (Option (List ℕ) × LoadFault))
+      (fault : Fault) → IsFileFault names refused fault → Stops Right out out fault
+  before_files names refused (File file) is = Keeps-refl out
+  before_files names refused NoMemory is = Keeps-refl out
+  before_files names refused _ is = absurd is
+
+  pub before_run : (uploads : ℕ) (fault : Fault) → IsRunFailure uploads fault
+      → Stops Right out out fault
+  before_run uploads Uploads is = Keeps-refl out
+  before_run uploads NoMemory is = Keeps-refl out
+  before_run uploads (Gather why) is = Keeps-refl out
+  before_run uploads _ is = absurd is
+
+  pub before_classes : (tables : TableNames) (texts : List (List ℕ)) (fault : Fault)
+      → IsClassFault tables texts fault → Stops Right out out fault
+  before_classes tables texts ClassName is = Keeps-refl out
+  before_classes tables texts (NamedClass line) is = Keeps-refl out
+  before_classes tables texts NoMemory is = Keeps-refl out
+  before_classes tables texts _ is = absurd is
+
+  pub before_sorted : (names : List (List ℕ)) (fault : Fault) → IsUnopened names fault
+      → Stops Right out out fault
+  before_sorted names (Unopened file) is = Keeps-refl out
+  before_sorted names NoMemory is = Keeps-refl out
+  before_sorted names _ is = absurd is
+
+-- ---- and each is the right one
+pub right_unopened : (names : List (List ℕ)) (known : List (Option (List ℕ))) (fault : Fault)
+    → IsUnopened names fault → IsRightOfSorted names known fault
+right_unopened names known (Unopened file) is = is
+right_unopened names known NoMemory is = tt
+right_unopened names known _ is = absurd is
+
+pub early : (settle : Bool) (uploads : ℕ) (fault : Fault) → IsRightOfUploads settle uploads fault
+    → IsLate fault → ⊥
+early settle uploads (Late why) right late = right
+early settle uploads _ right late = late
+
+pub early_output : (fault : Fault) → IsOfOutput fault → IsLate fault → ⊥
+early_output (Late why) right late = right
+early_output _ right late = late
+
+module _ (request : Request) (under : List ℕ → Option (List ℕ))
+    (loaded loaded' : Option (List Loaded)) (refused : Option (Option (List ℕ) × LoadFault)) where
+  abbrev IsRight : Fault → Type 0
+  IsRight fault = IsRightFault request under loaded loaded' refused fault
+
+  pub right_file : (fault : Fault) → IsFileFault (names_reported request.files) refused fault
+      → IsRight fault
+  right_file (File file) is = is
+  right_file NoMemory is = tt
+  right_file _ is = absurd is
+
+  pub right_output : (fault : Fault) → IsOfOutput fault → IsRight fault
+  right_output Write is = tt
+  right_output NoMemory is = tt
+  right_output _ is = absurd is
+
+  pub right_uploads : (fault : Fault) (uploads : ℕ) → uploads ≡ length request.files
+      → IsRightOfUploads request.settle uploads fault → IsRight fault
+  right_uploads Uploads uploads same is =
+      (is.0, subst (λ (n : ℕ). 65535 < n) same is.1)
+  right_uploads (Gather why) uploads same is = is
+  right_uploads Write uploads same is = tt
+  right_uploads NoMemory uploads same is = tt
+  right_uploads _ uploads same is = absurd is
+
+  pub right_class : request.traced ≡ true → (tables : TableNames) → request.table ≡ Some tables
+      → (texts : List (List ℕ)) (fares : Fares) → LoadsTables tables loaded loaded' texts fares
+      → (fault : Fault) → IsClassFault tables texts fault → IsRight fault
+  right_class traced tables named texts fares loads ClassName is = (
+    traced,
+    subst (λ t. IsFaultOfTables t loaded loaded' refused ClassName) (sym named)
+        (record { texts = texts; fares = fares; loads = loads; names = is }),
+  )
+  right_class traced tables named texts fares loads (NamedClass line) is = (
+    traced,
+    subst (λ t. IsFaultOfTables t loaded loaded' refused (NamedClass line)) (sym named)
+        (record { texts = texts; fares = fares; loads = loads; names = is.0 }, is.1),
+  )
+  right_class traced tables named texts fares loads NoMemory is = tt
+  right_class traced tables named texts fares loads _ is = absurd is
+
+  pub right_sorted : request.sorted ≡ true → (fault : Fault)
+      → IsRightOfSorted request.files (map under request.files) fault → IsRight fault
+  right_sorted sorted (Unopened file) is = (sorted, is)
+  right_sorted sorted (Unsorted file) is = (sorted, is)
+  right_sorted sorted TooManyTaps is = (sorted, is)
+  right_sorted sorted (Late why) is = (sorted, is)
+  right_sorted sorted Write is = tt
+  right_sorted sorted NoMemory is = tt
+  right_sorted sorted _ is = absurd is

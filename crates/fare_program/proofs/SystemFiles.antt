@@ -1,11 +1,9 @@
 -- What is loaded in a run over files of the system.
 use Rattle.std.proofs.Common.{◌≡◌, ◌≢◌, ◌∙◌, ◌+◌, ◌<◌, ◌≤◌, ◌==◌, ◌++◌, ◌∷◌, [], ℕ, zero, suc, List}
-use Rattle.std.proofs.Common.{Bool, true, false, cond, Option, None, Some, All, length, map}
+use Rattle.std.proofs.Common.{Bool, true, false, Option, None, Some, All, length, map}
 use Rattle.std.proofs.Common.{flat_map}
 use Rattle.std.proofs.Common.{arith, ap, ap₂, refl, sym, subst, inl, inr, append-nil, append_assoc}
-use Rattle.std.proofs.Common.{length-append}
 use Rattle.std.specs.Prelude.{◌⊎◌, MatchBool, slice_get}
-use Rattle.std.specs.List.{AllZip}
 use Rattle.std.specs.List.Sorted.{IsPermutation}
 use Rattle.std.proofs.lemmas.Bool.Decides.{eqb_tells}
 use Rattle.std.proofs.lemmas.List.Elements.{All-head, All-tail, All-weaker}
@@ -17,23 +15,21 @@ use Rattle.tap_views.specs.declared.token.Token.{Token}
 use Rattle.tap_views.specs.declared.upload_end.UploadEnd.{UploadEnd}
 use Rattle.tap_views.specs.declared.upload_end.UploadEnd.TheVariants.{Cut, Posted, Refused, Undrawn}
 use Rattle.shared_books.specs.Drawing.{times}
-use Rattle.fare_service.specs.Headline.{drawn_by}
 use Rattle.fare_service.specs.Shares.{IsWorkOf, Worked, all_works}
 use Rattle.fare_service.proofs.DrawnUploads.{each_drawn_once}
 use Rattle.fare_service.proofs.GatherLemmas.{each_work}
 use Rattle.fare_service.proofs.PlainLists.{count_other}
-use Rattle.world.specs.Origins.{IsFrom, Origin, file, loads_from}
-use Rattle.fare_program.specs.Causes.{table_files}
-use Rattle.fare_program.specs.FilesLoaded.{AreLoaded, ArePrefetched, AreReadAsDrawn, AreReadInOrder}
-use Rattle.fare_program.specs.FilesLoaded.{LoadsFiles, load_at, loads_of, names_to_load, text_at}
+use Rattle.world.specs.Origins.{Origin, file, loads_from}
+use Rattle.fare_program.specs.FilesLoaded.{AreLoaded, AreReadAsDrawn, AreReadInOrder}
+use Rattle.fare_program.specs.FilesLoaded.{load_at, loads_of, names_to_load, text_at}
 use Rattle.fare_program.specs.Options.{Request}
-use Rattle.fare_program.specs.Program.{LoadsTable, RunsService, ShowsRequest, ShowsLiveRun}
+use Rattle.fare_program.specs.Program.{LoadsTable, ShowsRequest, ShowsLiveRun}
 use Rattle.fare_program.specs.Settling.{ShowsSettled}
-use Rattle.fare_program.specs.SystemFiles.{ChargesFiles, RunsChargeFiles, loads_under}
+use Rattle.fare_program.specs.SystemFiles.{RunsChargeFiles, loads_under}
 use Rattle.fare_program.proofs.Counts.{in_some_order, positions}
-use Rattle.program_manners.specs.Loads.{Loaded, LoadsAll, LoadsOne}
+use Rattle.program_manners.specs.Loads.{Loaded, LoadsAll}
 use Rattle.program_manners.specs.TableLoads.{LoadsLater, LoadsTables}
-use Rattle.program_manners.specs.TableWords.{TableNames, file_named}
+use Rattle.program_manners.specs.TableWords.{TableNames, file_named, table_files}
 
 -- what a source that tells its loads has loaded after these
 record Grew (before : List Loaded) (after : Option (List Loaded)) (more : List Loaded) : Type
@@ -71,7 +67,7 @@ later_loaded fares (word ∷ words) before after texts all
 
 tables_loaded : (tables : TableNames) (before : List Loaded) (after : Option (List Loaded))
     (texts : List (List ℕ)) (fares : Fares) → LoadsTables tables (Some before) after texts fares
-    → Grew before after (loads_under (table_files (Some tables)) texts)
+    → Grew before after (loads_under (table_files tables) texts)
 tables_loaded tables before after texts fares loads =
     let first = grew before loads.between _ loads.loads_first in
     let more = later_loaded loads.alone tables.later first.now after loads.rest fares
@@ -83,7 +79,7 @@ tables_loaded tables before after texts fares loads =
       grown = more.grown
           ∙ ap (λ (ls : List Loaded). ls ++ loads_under (map file_named tables.later) loads.rest)
           first.grown ∙ append_assoc before _ _
-          ∙ ap (λ (ts : List (List ℕ)). before ++ loads_under (table_files (Some tables)) ts)
+          ∙ ap (λ (ts : List (List ℕ)). before ++ loads_under (table_files tables) ts)
           (sym loads.are_texts);
     }
 
@@ -308,12 +304,12 @@ has_tables (Some tables) before between fares (texts, all, loads, same) =
     )
 
 pub charges_files : RunsChargeFiles
-charges_files request origin before after out out' of_system some run =
+charges_files request origin before after text of_system some run =
     let (tables, named, texts, mean) = has_tables request.table before run.between run.fares
     run.loads_table in
     let first = tables_loaded tables before run.between texts run.fares mean in
     let more = files_loaded request origin of_system first.now (Some after) run.fares run.files
-    run.drawn run.token run.text some
+    run.drawn run.token text some
     (subst (λ (t : Option (List Loaded)). AreLoaded request origin t (Some after) run.files
     run.drawn)
     first.is run.loads_files) run.shows in
@@ -326,8 +322,7 @@ charges_files request origin before after out out' of_system some run =
       mean = subst
           (λ (t : Option (List Loaded)). LoadsTables tables (Some before) t texts run.fares)
           first.is mean;
-      tables_loaded = first.grown ∙ ap (λ (t : Option TableNames). before
-          ++ loads_under (table_files t) texts) (sym named);
+      tables_loaded = first.grown;
       files = run.files;
       number = more.number;
       loads = more.loads;
@@ -336,7 +331,5 @@ charges_files request origin before after out out' of_system some run =
       token = run.token;
       is_token = run.is_token;
       drawn = run.drawn;
-      text = run.text;
       shows = run.shows;
-      written = run.written;
     }

@@ -1,9 +1,8 @@
 -- The command line, and what its words ask for.
-use Rattle.std.specs.Prelude.{◌≡◌, ◌⊎◌, ℕ, Bool, false, ◌||◌, not, List, [], ◌∷◌, ◌++◌, Option}
+use Rattle.std.specs.Prelude.{◌≡◌, ◌⊎◌, ℕ, Bool, false, ◌||◌, not, List, [], Option}
 use Rattle.std.specs.Prelude.{None, Some, codes, is_some, pos, true, unwrap_or}
 use Rattle.std.specs.Option.{option_map_or}
 use Rattle.std.specs.Str.{bytes_eq}
-use Rattle.std.specs.Str.Parse.{digits_value, without_leading_plus}
 use Rattle.clap.specs.Words.{App, IsAmong, Row, Rule, Text, all_of, fault_of, first_of, matches_of}
 use Rattle.clap.specs.Words.{one_of, with_rule}
 use Rattle.fare_texts.specs.declared.form.Form.{Form}
@@ -120,14 +119,6 @@ files_named words = unwrap_or (all_of (codes "FILE") (matches_of program words))
 abbrev pub is_given : Text → List Row → Bool
 is_given name rows = option_map_or (λ text. bytes_eq text (codes "true")) (one_of name rows) false
 
--- the number that the decimal digits write, after a plus if there is one
-abbrev pub number_in_text : Text → ℕ
-number_in_text text = digits_value 10 (without_leading_plus text)
-
--- the number of the option of this name
-abbrev pub number_of : Text → List Row → ℕ
-number_of name rows = option_map_or number_in_text (one_of name rows) 0
-
 -- what a command line asks for
 pub record Request : Type 0 where
   pub table : Option TableNames
@@ -145,13 +136,13 @@ pub record Request : Type 0 where
   pub tokens : Option Text
   pub files : List Text
 
--- what these words ask for
-abbrev pub request_by : List Text → Request
-request_by words = record {
+-- what these words ask for, and with how many workers and shards it is done
+abbrev pub request_by : ℕ → ℕ → List Text → Request
+request_by workers shards words = record {
   table = tables_named words;
   list = is_given (codes "list") (matches_of program words);
-  workers = number_of (codes "workers") (matches_of program words);
-  shards = number_of (codes "shards") (matches_of program words);
+  workers = workers;
+  shards = shards;
   token = token_named words;
   settle = is_given (codes "settle") (matches_of program words);
   live = is_given (codes "live") (matches_of program words);

@@ -1,16 +1,14 @@
--- A run over files of the system: what was loaded, and what was written of it.
+-- A run over files of the system: what was loaded, and the text of it.
 use Rattle.std.specs.Prelude.{◌≡◌, ◌<◌, ◌++◌, ℕ, true, List, [], ◌∷◌, Option, Some, MatchBool, length}
 use Rattle.std.specs.List.Sorted.{IsPermutation}
-use Rattle.std.specs.Io.KnownBytes.{Appends}
 use Rattle.tariffs.specs.Fares.{Fares}
 use Rattle.tap_views.specs.declared.token.Token.{Token}
 use Rattle.world.specs.Origins.{Origin, file}
-use Rattle.fare_program.specs.Causes.{table_files}
 use Rattle.fare_program.specs.Options.{Request}
 use Rattle.fare_program.specs.Program.{IsTokenIn, RunsService, ShowsRequest}
 use Rattle.program_manners.specs.Loads.{Loaded}
 use Rattle.program_manners.specs.TableLoads.{LoadsTables}
-use Rattle.program_manners.specs.TableWords.{TableNames}
+use Rattle.program_manners.specs.TableWords.{TableNames, table_files}
 
 -- a load of each of these files under its name, in their order
 abbrev pub loads_under : List (List ℕ) → List (List ℕ) → List Loaded
@@ -21,9 +19,8 @@ loads_under (name ∷ names) (bytes ∷ files) =
 
 -- The tables that the words name were loaded, in their order, and then the files that the words
 -- name: in their order if they are settled, and else in some order. Each was loaded once, under its
--- name, and nothing else was. What was appended to the output is what is asked for of exactly these
--- bytes, and all is well.
-pub record ChargesFiles (request : Request) (before after : List Loaded) (out out' : Option (List ℕ))
+-- name, and nothing else was. The text is what is asked for of exactly these bytes, and all is well.
+pub record ChargesFiles (request : Request) (before after : List Loaded) (text : List ℕ)
     : Type 0 where
   pub tables : TableNames
   pub named : request.table ≡ Some tables
@@ -31,7 +28,7 @@ pub record ChargesFiles (request : Request) (before after : List Loaded) (out ou
   pub fares : Fares
   pub between : List Loaded
   pub mean : LoadsTables tables (Some before) (Some between) texts fares
-  pub tables_loaded : between ≡ before ++ loads_under (table_files request.table) texts
+  pub tables_loaded : between ≡ before ++ loads_under (table_files tables) texts
   pub files : List (List ℕ)
   pub number : length files ≡ length request.files
   pub loads : List Loaded
@@ -41,14 +38,12 @@ pub record ChargesFiles (request : Request) (before after : List Loaded) (out ou
   pub token : Option Token
   pub is_token : IsTokenIn request.token token
   pub drawn : List ℕ
-  pub text : List ℕ
   pub shows : ShowsRequest request fares files drawn token text true
-  pub written : Appends out out' text
 
 -- If each name is that of a file of the system, and the source tells what it loaded, this follows
 -- of each run of the service over named files that is well.
 abbrev pub RunsChargeFiles : Type 0
 RunsChargeFiles = (request : Request) (origin : List ℕ → Origin) (before after : List Loaded)
-    (out out' : Option (List ℕ)) → ((name : List ℕ) → origin name ≡ file name)
-    → 0 < length request.files → RunsService request origin (Some before) (Some after) out out' true
-    → ChargesFiles request before after out out'
+    (text : List ℕ) → ((name : List ℕ) → origin name ≡ file name)
+    → 0 < length request.files → RunsService request origin (Some before) (Some after) text true
+    → ChargesFiles request before after text

@@ -1,5 +1,5 @@
 //! What is printed of one token of settled files, from its taps alone.
-ghost use Rattle.std.specs.Prelude.{Bool, ◌≡◌, ◌≢◌, ℕ, List, All, Some, IfErr, IfOk};
+ghost use Rattle.std.specs.Prelude.{◌≡◌, ◌≢◌, ℕ, List, All, Some, IfErr};
 ghost use Rattle.std.specs.Prelude.{OnOk};
 ghost use Rattle.std.specs.Io.KnownBytes.{Appends, Keeps};
 ghost use Rattle.fare_texts.specs.WrittenOut.{Begins};
@@ -7,10 +7,10 @@ ghost use Rattle.tap_views.specs.Encoding.{AreEarly};
 ghost use Rattle.histories.specs.Entry.{own};
 ghost use Rattle.histories.specs.declared.entry.Entry.{Entry};
 ghost use Rattle.settlement.specs.Posted.{posted, token_of_tap};
-ghost use Rattle.settlement.specs.Reading.{AreRead};
-ghost use Rattle.fare_program.specs.Fault.{status_of};
 ghost use Rattle.fare_program.specs.inside.Causes.{IsOfOutput};
-ghost use Rattle.fare_program.specs.Settling.{IsStatementIn, ShowsOver, ShowsSettled};
+ghost use Rattle.fare_program.specs.inside.Ends.{Gives};
+ghost use Rattle.fare_program.specs.inside.Settling.{Settles};
+ghost use Rattle.fare_program.specs.Settling.{IsStatementIn, ShowsOver};
 ghost use Rattle.fare_program.specs.inside.Options.{request_of};
 
 use crate::fault::Fault;
@@ -30,7 +30,7 @@ use tap_views::{TapFields, Token};
 use world::Trace;
 
 /// Writes the statement of a token that has these taps, explained if that is asked for.
-#[tactic(auto, using(crate::proofs::WritesFailed::of_write))]
+#[tactic(auto, using(crate::proofs::Ends::of_write))]
 fn write_statement<'a, W: Write>(
     alloc: Global,
     form: Option<Form>,
@@ -51,7 +51,6 @@ fn write_statement<'a, W: Write>(
         → IsStatementIn form table.now history token text)
         × Begins (W.contents out.old) (W.contents out.new) text) }
     ensures output { IfErr result IsOfOutput }
-    ensures status { IfErr result (λ fault. status_of fault ≡ 1) }
     ensures fault { IfErr result (λ fault. fault ≢ Fault.Write
         → Keeps (W.contents out.old) (W.contents out.new)) }
 {
@@ -64,7 +63,7 @@ fn write_statement<'a, W: Write>(
 
 /// Writes the ledger of a token that has these taps, or its statement, explained if that is asked
 /// for.
-#[tactic(auto, using(crate::proofs::WritesFailed::of_write))]
+#[tactic(auto, using(crate::proofs::Ends::of_write))]
 pub(crate) fn write_text<'a, W: Write>(
     alloc: Global,
     options: &Options<'a>,
@@ -87,7 +86,6 @@ pub(crate) fn write_text<'a, W: Write>(
         → ShowsOver (request_of options.now) (Some token) table.now files history text)
         × Begins (W.contents out.old) (W.contents out.new) text) }
     ensures output { IfErr result IsOfOutput }
-    ensures status { IfErr result (λ fault. status_of fault ≡ 1) }
     ensures fault { IfErr result (λ fault. fault ≢ Fault.Write
         → Keeps (W.contents out.old) (W.contents out.new)) }
 {
@@ -112,26 +110,21 @@ pub(crate) fn write_token<'a, R: Threads + Sync, D: Disk, U: Uploads + Sync, W: 
     calls: &mut Trace,
     out: &mut W,
 ) -> Result<bool, Fault<'a>>
-    ensures ok { IfOk result (λ success. (files : List (List ℕ)) × (text : List ℕ)
-        × AreRead (U.origin uploads.now) 0 (U.number uploads.now) files calls.old.run
-        calls.new.run
-        × ShowsSettled (request_of options.now) table.now files (Some token) text success
-        × Appends (W.contents out.old) (W.contents out.new) text) }
-    ensures started { IfErr result (λ fault. fault ≡ Fault.Write
-        → (success : Bool) × (files : List (List ℕ)) × (text : List ℕ)
-        × AreRead (U.origin uploads.now) 0 (U.number uploads.now) files calls.old.run
-        calls.new.run
-        × ShowsSettled (request_of options.now) table.now files (Some token) text success
-        × Begins (W.contents out.old) (W.contents out.new) text) }
+    ensures ends { Gives (Settles (request_of options.now) table.now (Some token)
+        (U.origin uploads.now) (U.number uploads.now) calls.old.run calls.new.run)
+        (W.contents out.old) (W.contents out.new) result }
     ensures output { IfErr result IsOfOutput }
-    ensures status { IfErr result (λ fault. status_of fault ≡ 1) }
-    ensures fault { IfErr result (λ fault. fault ≢ Fault.Write
-        → Keeps (W.contents out.old) (W.contents out.new)) }
 {
-    let TokenTaps { ends, taps } = settled_taps_of(rt, alloc, uploads, token, calls)?;
+    let made = match settled_taps_of(rt, alloc, uploads, token, calls) {
+        Ok(made) => made,
+        Err(_) => return Err(Fault::NoMemory),
+    };
+    let TokenTaps { ends, taps } = made;
     // proof: the taps, posted alone, are the token's entries in the settled history
     laws::posted_taps();
     note_taps(disk, &taps);
-    write_text(alloc, options, table, token, &taps, out)?;
-    Ok(are_posted(&ends))
+    match write_text(alloc, options, table, token, &taps, out) {
+        Ok(()) => Ok(are_posted(&ends)),
+        Err(fault) => Err(fault),
+    }
 }

@@ -3,6 +3,7 @@ ghost use Rattle.std.specs.Prelude.{◌≡◌, Some};
 ghost use Rattle.fare_program.specs.SortedFaults.{late_text, sorted_text, unopened_text};
 
 use placed_files::Unopened;
+use sorted_bills::BillFault;
 use sorted_taps::SortedFault;
 use std::fmt;
 
@@ -65,6 +66,8 @@ pub(crate) enum LateFault {
     Changed,
     /// A file that was checked cannot be read again.
     Unread,
+    /// A write of the ledger of a part failed.
+    Write,
     /// An allocation failed.
     NoMemory,
 }
@@ -77,6 +80,17 @@ impl LateFault {
             SortedFault::NoMemory => LateFault::NoMemory,
         }
     }
+
+    /// Why the rest of a part was not written.
+    pub(crate) fn of_bill(fault: BillFault) -> LateFault {
+        match fault {
+            BillFault::File(refused) => LateFault::of(refused.fault),
+            BillFault::TooManyTaps | BillFault::Changed => LateFault::Changed,
+            BillFault::Late(fault) => LateFault::of(fault),
+            BillFault::Write => LateFault::Write,
+            BillFault::NoMemory => LateFault::NoMemory,
+        }
+    }
 }
 
 impl fmt::Display for LateFault {
@@ -86,6 +100,7 @@ impl fmt::Display for LateFault {
         f.write_str(match self {
             LateFault::Changed => "fault: a file changed while it was read",
             LateFault::Unread => "fault: a file cannot be read again",
+            LateFault::Write => "fault: cannot write",
             LateFault::NoMemory => "fault: out of memory",
         })
     }

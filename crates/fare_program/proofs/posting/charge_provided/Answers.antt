@@ -1,64 +1,67 @@
-use Rattle.std.proofs.Common.{◌≡◌, ◌∙◌, ap, length, refl, subst, sym}
-use Rattle.std.proofs.lemmas.Result.{err_from_is_err_and}
+use Rattle.std.proofs.Common.{◌∙◌, ap, refl}
 use Rattle.fare_service.specs.Headline.{drawn_by}
-use Rattle.fare_program.specs.inside.Fault.{IsRunFailure}
 use Rattle.fare_program.specs.inside.Options.{request_of}
 use Rattle.tap_views.specs.UploadEnds.{are_posted}
 use Rattle.world.specs.Run.{Calls, Run, with_all}
+use Rattle.fare_program.proofs.Causes.{before_run}
+use Rattle.fare_program.proofs.Ends.{stopped}
 use Rattle.fare_program.proofs.PostedTexts.{live_request}
 use Rattle.fare_program.proofs.posting.charge_provided.Goals as goal
 
-pub returns-in-Ok-clause-ok : goal.returns-in-Ok-clause-ok
-returns-in-Ok-clause-ok g c =
-    let request = request_of c.args.options.now in
-    let uploads = g.U.UploadSource.origins c.args.uploads in
-    let outcome = c.in_ok-outcome.outcome in
-    let (files, live) = c.in_ok-outcome.ensures.live in
-    let written = c.in-Ok.ensures.ok in
+pub returns-in-Ok-print_requested-clause-ends : goal.returns-in-Ok-print_requested-clause-ends
+returns-in-Ok-print_requested-clause-ends g c =
+    let outcome = c.in-Ok.outcome in
+    let (files, live) = c.in-Ok.ensures.live in
+    let (text, shows, written) = c.in-Ok-print_requested.ensures.ok in
     let success = c.are_posted-success.ensures ∙ ap are_posted c.ends.ensures in (
-      files,
-      drawn_by live.run.0,
-      written.0,
-      record {
-        provided = live.provided;
-        run = outcome.run;
-        loaded = live.loaded;
-        appended = ap (λ (k : Calls). k.run) c.join.ensures
-            ∙ ap (λ (r : Run). with_all c.args.calls.now.run r) c.into_calls.ensures;
-      },
-      live_request request c.args.table files (drawn_by live.run.0) c.args.token written.0 _ uploads
-          outcome c.requires written.1 success live refl,
-      written.2,
+      text,
+      (
+        files,
+        drawn_by live.run.0,
+        record {
+          provided = live.provided;
+          run = outcome.run;
+          loaded = live.loaded;
+          appended = ap (λ (k : Calls). k.run) c.join.ensures
+              ∙ ap (λ (r : Run). with_all c.args.calls.now.run r) c.into_calls.ensures;
+        },
+        live_request (request_of c.args.options.now) c.args.table files (drawn_by live.run.0)
+            c.args.token text _ (g.U.UploadSource.origins c.args.uploads) outcome c.requires shows
+            success live refl,
+      ),
+      written,
     )
 
--- ---- what a write that failed left
-pub returns-in-Err-clause-started : goal.returns-in-Err-clause-started
-returns-in-Err-clause-started g c = λ write.
-    let request = request_of c.args.options.now in
-    let uploads = g.U.UploadSource.origins c.args.uploads in
-    let outcome = c.in_ok-outcome.outcome in
-    let (files, live) = c.in_ok-outcome.ensures.live in
-    let written = c.in-Err.ensures.started write in (
-      are_posted outcome.ends,
-      files,
-      drawn_by live.run.0,
-      written.0,
-      record {
-        provided = live.provided;
-        run = outcome.run;
-        loaded = live.loaded;
-        appended = ap (λ (k : Calls). k.run) c.join-in-Err.ensures
-            ∙ ap (λ (r : Run). with_all c.args.calls.now.run r) c.into_calls-in-Err.ensures;
-      },
-      live_request request c.args.table files (drawn_by live.run.0) c.args.token written.0
-          (are_posted outcome.ends) uploads outcome c.requires written.1 refl live refl,
-      written.2,
-    )
+pub returns-in-Err-print_requested-clause-ends : goal.returns-in-Err-print_requested-clause-ends
+returns-in-Err-print_requested-clause-ends g c =
+    let outcome = c.in-Ok.outcome in
+    let (files, live) = c.in-Ok.ensures.live in
+    stopped _ _ _ c.in-Err-print_requested.fault
+    (λ other late. c.in-Err-print_requested.ensures.fault other)
+    (λ write.
+    let (text, shows, started) = c.in-Err-print_requested.ensures.started write in (
+      text,
+      (
+        are_posted outcome.ends,
+        (
+          files,
+          drawn_by live.run.0,
+          record {
+            provided = live.provided;
+            run = outcome.run;
+            loaded = live.loaded;
+            appended = ap (λ (k : Calls). k.run) c.join-in-Err-print_requested.ensures
+                ∙ ap (λ (r : Run). with_all c.args.calls.now.run r)
+                c.into_calls-in-Err-print_requested.ensures;
+          },
+          live_request (request_of c.args.options.now) c.args.table files (drawn_by live.run.0)
+              c.args.token text (are_posted outcome.ends) (g.U.UploadSource.origins c.args.uploads)
+              outcome c.requires shows refl live refl,
+        ),
+      ),
+      started,
+    ))
 
 -- what is posted does not write
-pub returns-in_err-outcome-clause-started : goal.returns-in_err-outcome-clause-started
-returns-in_err-outcome-clause-started g c =
-    let p = err_from_is_err_and c.from_residual.result c.from_residual.ensures.1 in
-    rw p.1 (λ write.
-    absurd (subst (IsRunFailure (length (g.U.UploadSource.origins c.args.uploads)))
-    (sym p.2 ∙ write) c.in_err-outcome.ensures.fault))
+pub returns-in-Err-clause-ends : goal.returns-in-Err-clause-ends
+returns-in-Err-clause-ends g c = before_run _ _ _ c.in-Err.fault c.in-Err.ensures.fault
