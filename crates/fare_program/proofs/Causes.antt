@@ -6,18 +6,16 @@ use Rattle.std.proofs.lemmas.Bool.Decides.{nat_tests}
 use Rattle.std.proofs.KnownBytes.{Keeps-refl}
 use Rattle.program_manners.specs.Loads.{Loaded}
 use Rattle.program_manners.specs.Refusals.{IsOneOf}
-use Rattle.program_manners.specs.TableLoads.{LoadsTables}
 use Rattle.program_manners.specs.TableWords.{TableNames}
-use Rattle.tariffs.specs.Fares.{Fares}
 use Rattle.world.specs.declared.faults.LoadFault.{LoadFault}
 use Rattle.fare_program.specs.Causes.{IsFaultOfTables, IsFileFault, IsRightFault, IsRightOfSorted}
-use Rattle.fare_program.specs.Causes.{names_reported}
+use Rattle.fare_program.specs.Causes.{IsTableFault, names_reported}
 use Rattle.fare_program.specs.Options.{Request}
 use Rattle.fare_program.specs.declared.fault.Fault.{Fault}
 use Rattle.fare_program.specs.declared.fault.Fault.TheVariants.{ClassName, File, Gather, Late}
-use Rattle.fare_program.specs.declared.fault.Fault.TheVariants.{NamedClass, NoMemory, TooManyTaps}
+use Rattle.fare_program.specs.declared.fault.Fault.TheVariants.{NamedClass, NoMemory, Tables, TooManyTaps}
 use Rattle.fare_program.specs.declared.fault.Fault.TheVariants.{Unopened, Unsorted, Uploads, Write}
-use Rattle.fare_program.specs.inside.Causes.{IsClassFault, IsOfOutput, IsRightOfUploads, IsRunFailure}
+use Rattle.fare_program.specs.inside.Causes.{IsOfOutput, IsRightOfUploads, IsRunFailure}
 use Rattle.fare_program.specs.inside.Ends.{IsLate, IsUnopened, Stops}
 
 -- a file of the words is one of those that are reported
@@ -59,12 +57,14 @@ module _ (Right : List ℕ → Type 0) (out : Option (List ℕ)) where
   before_run uploads (Gather why) is = Keeps-refl out
   before_run uploads _ is = absurd is
 
-  pub before_classes : (tables : TableNames) (texts : List (List ℕ)) (fault : Fault)
-      → IsClassFault tables texts fault → Stops Right out out fault
-  before_classes tables texts ClassName is = Keeps-refl out
-  before_classes tables texts (NamedClass line) is = Keeps-refl out
-  before_classes tables texts NoMemory is = Keeps-refl out
-  before_classes tables texts _ is = absurd is
+  pub before_classes : (tables : TableNames) (loaded loaded' : Option (List Loaded))
+      (refused : Option (Option (List ℕ) × LoadFault)) (fault : Fault)
+      → IsTableFault tables loaded loaded' refused fault → Stops Right out out fault
+  before_classes tables loaded loaded' refused (Tables why) is = Keeps-refl out
+  before_classes tables loaded loaded' refused ClassName is = Keeps-refl out
+  before_classes tables loaded loaded' refused (NamedClass line) is = Keeps-refl out
+  before_classes tables loaded loaded' refused NoMemory is = Keeps-refl out
+  before_classes tables loaded loaded' refused _ is = absurd is
 
   pub before_sorted : (names : List (List ℕ)) (fault : Fault) → IsUnopened names fault
       → Stops Right out out fault
@@ -113,21 +113,20 @@ module _ (request : Request) (under : List ℕ → Option (List ℕ))
   right_uploads NoMemory uploads same is = tt
   right_uploads _ uploads same is = absurd is
 
+  in_tables : (tables : TableNames) → request.table ≡ Some tables → (fault : Fault)
+      → IsTableFault tables loaded loaded' refused fault
+      → IsFaultOfTables request.table loaded loaded' refused fault
+  in_tables tables named fault is =
+      subst (λ t. IsFaultOfTables t loaded loaded' refused fault) (sym named) is
+
   pub right_class : request.traced ≡ true → (tables : TableNames) → request.table ≡ Some tables
-      → (texts : List (List ℕ)) (fares : Fares) → LoadsTables tables loaded loaded' texts fares
-      → (fault : Fault) → IsClassFault tables texts fault → IsRight fault
-  right_class traced tables named texts fares loads ClassName is = (
-    traced,
-    subst (λ t. IsFaultOfTables t loaded loaded' refused ClassName) (sym named)
-        (record { texts = texts; fares = fares; loads = loads; names = is }),
-  )
-  right_class traced tables named texts fares loads (NamedClass line) is = (
-    traced,
-    subst (λ t. IsFaultOfTables t loaded loaded' refused (NamedClass line)) (sym named)
-        (record { texts = texts; fares = fares; loads = loads; names = is.0 }, is.1),
-  )
-  right_class traced tables named texts fares loads NoMemory is = tt
-  right_class traced tables named texts fares loads _ is = absurd is
+      → (fault : Fault) → IsTableFault tables loaded loaded' refused fault → IsRight fault
+  right_class traced tables named (Tables why) is = in_tables tables named (Tables why) is
+  right_class traced tables named ClassName is = (traced, in_tables tables named ClassName is)
+  right_class traced tables named (NamedClass line) is =
+      (traced, in_tables tables named (NamedClass line) is)
+  right_class traced tables named NoMemory is = tt
+  right_class traced tables named _ is = absurd is
 
   pub right_sorted : request.sorted ≡ true → (fault : Fault)
       → IsRightOfSorted request.files (map under request.files) fault → IsRight fault

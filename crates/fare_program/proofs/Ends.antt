@@ -10,7 +10,8 @@ use Rattle.fare_texts.specs.declared.print_fault.PrintFault.{PrintFault}
 use Rattle.fare_texts.specs.declared.print_fault.PrintFault.TheVariants as print
 use Rattle.fare_program.specs.declared.fault.Fault.{Fault}
 use Rattle.fare_program.specs.declared.fault.Fault.TheVariants.{Late, Write}
-use Rattle.fare_program.specs.inside.Ends.{Gives, IsLate, Prints, Stops}
+use Rattle.fare_program.specs.inside.Ends.{Gives, GivesIf, IfKnown, IsLate, Prints}
+use Rattle.fare_program.specs.inside.Ends.{PrintsIf, Stops}
 use Rattle.fare_program.specs.inside.Fault.{printed_as}
 
 -- only a write that failed is reported so
@@ -49,17 +50,37 @@ stops_by A B out out' Write same (text, right, started) = (text, same text right
 stops_by A B out out' (Late why) same stops = tt
 stops_by A B out out' _ same stops = stops
 
-pub prints_by : {T : Type 0} (A B : List ℕ → Type 0) (out out' : Option (List ℕ))
-    (r : Result T Fault) → ((text : List ℕ) → A text → B text) → Prints A out out' r
-    → Prints B out out' r
-prints_by A B out out' (Ok done) same (text, right, written) = (text, same text right, written)
-prints_by A B out out' (Err fault) same stops = stops_by A B out out' fault same stops
+pub prints_by : {T : Type 0} (A B A' B' : List ℕ → Type 0) (out out' : Option (List ℕ))
+    (r : Result T Fault) → ((text : List ℕ) → A text → B text)
+    → ((text : List ℕ) → A' text → B' text) → Prints A A' out out' r → Prints B B' out out' r
+prints_by A B A' B' out out' (Ok done) same front (text, right, written) =
+    (text, same text right, written)
+prints_by A B A' B' out out' (Err fault) same front stops = stops_by A' B' out out' fault front stops
+
+-- also where something is given beside
+pub prints_if : {T : Type 0} (Given : Type 0) (A B : List ℕ → Type 0) (out out' : Option (List ℕ))
+    (r : Result T Fault) → ((text : List ℕ) → A text → B text) → Prints A A out out' r
+    → Prints B (λ text. Given → B text) out out' r
+prints_if Given A B out out' r same =
+    prints_by A B A (λ text. Given → B text) out out' r same (λ text right given. same text right)
+
+-- of files of which the same is known
+pub prints_known : {T : Type 0} (Given Given' : Type 0) (known known' : List (Option (List ℕ)))
+    (A B : List (List ℕ) → List ℕ → Type 0) (out out' : Option (List ℕ)) (r : Result T Fault)
+    → (Given' → Given) → known ≡ known'
+    → ((files : List (List ℕ)) (text : List ℕ) → A files text → B files text)
+    → PrintsIf Given known A out out' r → PrintsIf Given' known' B out out' r
+prints_known Given Given' known known' A B out out' r given same shows =
+    prints_by (IfKnown known A) (IfKnown known' B) (λ text. Given → IfKnown known A text)
+    (λ text. Given' → IfKnown known' B text) out out' r
+    (λ text right files are. shows files text (right files (same ∙ are)))
+    (λ text right more files are. shows files text (right (given more) files (same ∙ are)))
 
 -- what is printed, by what is known of each end of it
 pub prints_of : {T : Type 0} (A : List ℕ → Type 0) (out out' : Option (List ℕ))
     (r : Result T Fault) → OnOk r ((text : List ℕ) × A text × Appends out out' text)
     → IfErr r (λ fault. fault ≡ Write → (text : List ℕ) × A text × Begins out out' text)
-    → IfErr r (λ fault. fault ≢ Write → Keeps out out') → Prints A out out' r
+    → IfErr r (λ fault. fault ≢ Write → Keeps out out') → Prints A A out out' r
 prints_of A out out' (Ok done) ok started kept = ok
 prints_of A out out' (Err fault) ok started kept =
     stopped A out out' fault (λ other late. kept other) started
@@ -72,6 +93,17 @@ gives_by A B out out' (Ok success) same (text, right, written) =
 gives_by A B out out' (Err fault) same stops =
     stops_by (λ text. (success : Bool) × A text success) (λ text. (success : Bool) × B text success)
     out out' fault (λ text right. (right.0, same text right.0 right.1)) stops
+
+-- also where something is given beside
+pub gives_if : (Given : Type 0) (A B : List ℕ → Bool → Type 0) (out out' : Option (List ℕ))
+    (r : Result Bool Fault) → ((text : List ℕ) (success : Bool) → A text success → B text success)
+    → Gives A out out' r → GivesIf Given B out out' r
+gives_if Given A B out out' (Ok success) same (text, right, written) =
+    (text, same text success right, written)
+gives_if Given A B out out' (Err fault) same stops =
+    stops_by (λ text. (success : Bool) × A text success)
+    (λ text. Given → (success : Bool) × B text success)
+    out out' fault (λ text right given. (right.0, same text right.0 right.1)) stops
 
 -- nothing was written before a fault that is none of a write
 pub unwritten : (Right : List ℕ → Type 0) (out : Option (List ℕ)) (fault : Fault) → fault ≢ Write

@@ -2,23 +2,20 @@
 use Rattle.std.proofs.Common.{◌≡◌, ℕ, zero, suc, List, [], ◌∷◌, Bool, true, false, Option, None, Some}
 use Rattle.std.proofs.Common.{length, not, refl, ◌==◌}
 use Rattle.std.specs.Prelude.{◌&&◌, ◌||◌, is_none, is_some}
-use Rattle.std.specs.List.{slice_index_or}
+use Rattle.std.specs.List.{list_all, slice_index_or}
 use Rattle.std.specs.Option.{option_and_then}
 use Rattle.clap.proofs.WalkLemmas.{both}
 use Rattle.program_manners.specs.TableWords.{wrong_word}
 use Rattle.fare_program.specs.Options.{Request, lists}
 use Rattle.fare_program.specs.TokenRanges.{range_fault}
-use Rattle.fare_program.specs.Usage.{all_kept, has_digits, is_usable, keeps_rules, rules_by}
+use Rattle.fare_program.specs.Usage.{has_digits, is_usable, keeps_rules, rules_by}
 
-kept_before : (kept : Bool) (rules : List Bool) → all_kept kept rules ≡ true → kept ≡ true
-kept_before kept [] is = is
-kept_before kept (rule ∷ rules) is = (both kept rule (kept_before (kept && rule) rules is)).0
-
-rule_at : (kept : Bool) (rules : List Bool) (k : ℕ) → all_kept kept rules ≡ true
+rule_at : (rules : List Bool) (k : ℕ) → list_all (λ kept. kept) rules ≡ true
     → slice_index_or rules k true ≡ true
-rule_at kept [] k is = refl
-rule_at kept (rule ∷ rules) zero is = (both kept rule (kept_before (kept && rule) rules is)).1
-rule_at kept (rule ∷ rules) (suc k) is = rule_at (kept && rule) rules k is
+rule_at [] k is = refl
+rule_at (rule ∷ rules) zero is = (both rule (list_all (λ kept. kept) rules) is).0
+rule_at (rule ∷ rules) (suc k) is =
+    rule_at rules k (both rule (list_all (λ kept. kept) rules) is).1
 
 implied : (a b : Bool) → (not a || b) ≡ true → a ≡ true → b ≡ true
 implied true b is so = is
@@ -67,13 +64,13 @@ module _ (request : Request) (usable : is_usable request ≡ true) where
   dates_read = none_of (option_and_then wrong_word request.table) parts.2
 
   pub settled_table : request.settle ≡ true → is_some request.table ≡ true
-  settled_table = implied request.settle (is_some request.table) (rule_at true all_rules 1 parts.0)
+  settled_table = implied request.settle (is_some request.table) (rule_at all_rules 1 parts.0)
 
   settled_list : request.settle ≡ true → request.list ≡ false
-  settled_list = excluded request.settle request.list (rule_at true all_rules 2 parts.0)
+  settled_list = excluded request.settle request.list (rule_at all_rules 2 parts.0)
 
   pub sorted_settles : request.sorted ≡ true → request.settle ≡ true
-  sorted_settles = implied request.sorted request.settle (rule_at true all_rules 10 parts.0)
+  sorted_settles = implied request.sorted request.settle (rule_at all_rules 10 parts.0)
 
   pub sorted_lists : request.sorted ≡ true → lists request ≡ false
   sorted_lists sorted = let settle = sorted_settles sorted in
@@ -81,4 +78,4 @@ module _ (request : Request) (usable : is_usable request ≡ true) where
 
   pub traced_table : request.traced ≡ true → is_some request.table ≡ true
   traced_table traced =
-      settled_table (implied request.traced request.settle (rule_at true all_rules 13 parts.0) traced)
+      settled_table (implied request.traced request.settle (rule_at all_rules 13 parts.0) traced)

@@ -103,7 +103,7 @@ module _ (request : Request) (known : List ℕ → Option (List ℕ)) (origin : 
         loads = loads;
         token = token;
         is_token = is_token;
-        shows = λ bytes files are. subst (λ (b : Bool). ShowsSorted request fares files token text b)
-            (sym succeeded) (shows files are (bytes files are));
+        shows = λ files are. subst (λ (b : Bool). ShowsSorted request fares files token text b)
+            (sym succeeded) (shows files are);
         succeeded = succeeded;
       }))

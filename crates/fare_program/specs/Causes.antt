@@ -1,6 +1,6 @@
 -- Why the program gives up is the case.
 use Rattle.std.specs.Prelude.{◌≡◌, ◌<◌, ℕ, List, [], ◌∷◌, Option, None, Some, true, false}
-use Rattle.std.specs.Prelude.{codes, length, map}
+use Rattle.std.specs.Prelude.{codes, length, map, slice_get}
 use Rattle.tariffs.specs.Fares.{Fares}
 use Rattle.fare_service.specs.Faults.{IsForMemory}
 use Rattle.program_manners.specs.Loads.{Loaded}
@@ -47,27 +47,27 @@ IsRightOfSorted names known Write = Unit {0}
 IsRightOfSorted names known NoMemory = Unit {0}
 IsRightOfSorted names known fault = ⊥
 
--- one of the texts names a class that cannot be in a ledger, and none before it does
-abbrev pub NamesUnplainClass : List (List ℕ) → Type 0
-NamesUnplainClass texts =
-    (wrong : WrongNames) × IsWrongAt texts wrong × (wrong.fault ≡ Name)
-
--- All tables were loaded, and one of their texts names such a class.
-pub record RefusesClass (tables : TableNames) (loaded loaded' : Option (List Loaded)) : Type 0 where
+-- All tables were loaded. A text of them names a class that cannot be in a ledger, and none before it
+-- does.
+pub record RefusesClass (tables : TableNames) (loaded loaded' : Option (List Loaded))
+    (wrong : WrongNames) : Type 0 where
   pub texts : List (List ℕ)
   pub fares : Fares
   pub loads : LoadsTables tables loaded loaded' texts fares
-  pub names : NamesUnplainClass texts
+  pub names : IsWrongAt texts wrong
+  pub kind : wrong.fault ≡ Name
 
--- The fault is one of these tables: why they were not loaded; or a class that they name, in the file
--- of one of them if several are named.
+-- The fault is one of these tables: why they were not loaded; or a class that they name, with the file
+-- of its table if several are named.
 abbrev pub IsTableFault : TableNames → Option (List Loaded) → Option (List Loaded)
     → Option (Option (List ℕ) × LoadFault) → Fault → Type 0
 IsTableFault tables loaded loaded' refused (Tables fault) =
     IsTablesFault tables loaded loaded' refused fault
-IsTableFault tables loaded loaded' refused ClassName = RefusesClass tables loaded loaded'
+IsTableFault tables loaded loaded' refused ClassName =
+    (tables.later ≡ []) × (wrong : WrongNames) × RefusesClass tables loaded loaded' wrong
 IsTableFault tables loaded loaded' refused (NamedClass line) =
-    RefusesClass tables loaded loaded' × IsOneOf line.0.now (table_files tables)
+    (wrong : WrongNames) × RefusesClass tables loaded loaded' wrong
+    × (slice_get (table_files tables) wrong.position ≡ Some line.0.now)
 IsTableFault tables loaded loaded' refused NoMemory = Unit {0}
 IsTableFault tables loaded loaded' refused fault = ⊥
 

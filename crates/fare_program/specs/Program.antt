@@ -28,7 +28,6 @@ use Rattle.toml.specs.Data.{Members}
 use Rattle.world.specs.Origins.{Origin}
 use Rattle.class_names.specs.Classes.{AreTrees, class_of_token, tree_at}
 use Rattle.settled_texts.specs.Ledgers.{IsTracedLedger}
-use Rattle.sorted_bills.specs.Ledgers.{KnownAreBytes}
 
 -- If tables are named, their files were loaded in order: the first table, and each later one from
 -- its date on. Their texts mean these fares.
@@ -119,15 +118,14 @@ pub record RunsService (request : Request) (origin : List ℕ → Origin)
 
 -- The named tables were loaded, and the named files were opened, each of which has its taps in
 -- canonical order. The text is what is asked for of the settled history of the files, or of a part
--- of it, if what stands under their names is known, and is bytes. All is well.
+-- of it, if what stands under their names is known. All is well.
 pub record RunsSorted (request : Request) (known : List ℕ → Option (List ℕ))
     (loaded loaded' : Option (List Loaded)) (text : List ℕ) (success : Bool) : Type 0 where
   pub fares : Fares
   pub loads : LoadsTable request.table loaded loaded' (Some fares)
   pub token : Option Token
   pub is_token : IsTokenIn request.token token
-  pub shows : KnownAreBytes (map known request.files) → (files : List (List ℕ))
-      → map known request.files ≡ map Some files
+  pub shows : (files : List (List ℕ)) → map known request.files ≡ map Some files
       → ShowsSorted request fares files token text success
   pub succeeded : success ≡ true
 

@@ -30,5 +30,4 @@ sorted_text name sorted.NoMemory = codes "fault: out of memory"
 abbrev pub late_text : LateFault → List ℕ
 late_text late.Changed = codes "fault: a file changed while it was read"
 late_text late.Unread = codes "fault: a file cannot be read again"
-late_text late.Write = codes "fault: cannot write"
 late_text late.NoMemory = codes "fault: out of memory"

@@ -1,6 +1,7 @@
 -- Which requests are usage errors.
 use Rattle.std.specs.Prelude.{ℕ, List, [], ◌∷◌, Bool, true, ◌&&◌, ◌||◌, not, is_none, is_ok}
 use Rattle.std.specs.Prelude.{is_some, length, Option, None, Some, ◌==◌}
+use Rattle.std.specs.List.{list_all}
 use Rattle.std.specs.Option.{option_and_then}
 use Rattle.hex.specs.Hex.{decode_sized}
 use Rattle.program_manners.specs.TableWords.{wrong_word}
@@ -21,12 +22,8 @@ rules_by table token file range request =
     ∷ not (request.traced && request.sorted) ∷ (not range || request.sorted)
     ∷ not (range && token) ∷ []
 
-abbrev pub all_kept : Bool → List Bool → Bool
-all_kept kept [] = kept
-all_kept kept (rule ∷ rules) = all_kept (kept && rule) rules
-
 abbrev pub keeps_rules : Request → Bool
-keeps_rules request = all_kept true (rules_by (is_some request.table)
+keeps_rules request = list_all (λ kept. kept) (rules_by (is_some request.table)
     (is_some request.token) (not (length request.files == 0)) (is_some request.tokens) request)
 
 -- the token that is requested, if any, has 32 hexadecimal digits

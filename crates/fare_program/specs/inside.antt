@@ -5,6 +5,7 @@ pub mod Ends
 pub mod Fault
 pub mod Listing
 pub mod Options
+pub mod Parts
 pub mod PostedFiles
 pub mod Settling
 pub mod Uploads

@@ -115,7 +115,6 @@ impl<'a> Fault<'a> {
     {
         match self {
             Fault::Write if end.is_none() => Fault::NoMemory,
-            Fault::Late(LateFault::Write) if end.is_none() => Fault::Late(LateFault::NoMemory),
             fault => fault,
         }
     }

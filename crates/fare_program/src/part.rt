@@ -1,12 +1,11 @@
 //! What is requested of a part of sorted files: of the taps of a range of tokens.
-ghost use Rattle.std.specs.Prelude.{◌≡◌, ◌≤◌, ◌^◌, ◌++◌, ℕ, List, Option, None, IfErr, false, length, map, true};
+ghost use Rattle.std.specs.Prelude.{◌≡◌, ◌≤◌, ◌^◌, ℕ, List, Option, None, IfErr, false, length, map, true};
 ghost use Rattle.histories.specs.declared.entry.Entry.{Entry};
 ghost use Rattle.settlement.specs.Bills.{IsBillOf};
-ghost use Rattle.part_texts.specs.Heads.{part_head};
 ghost use Rattle.fare_program.specs.Causes.{IsRightOfSorted};
-ghost use Rattle.fare_program.specs.Parts.{IsPartText, report_over};
 ghost use Rattle.fare_program.specs.TokenRanges.{range_fault};
-ghost use Rattle.fare_program.specs.inside.Ends.{IfKnown, Prints};
+ghost use Rattle.fare_program.specs.inside.Ends.{Prints, PrintsPart};
+ghost use Rattle.fare_program.specs.inside.Parts.{IsReportOf};
 ghost use Rattle.fare_program.specs.inside.Options.{request_of};
 
 use crate::bill::write_billed;
@@ -18,25 +17,25 @@ use fare_table::FareTable;
 use histories::HashSeed;
 use part_texts::write_part_head;
 use placed_files::Placed;
-use sorted_bills::{PartBill, part_bill, part_spans, write_part_ledger};
+use sorted_bills::{BillFault, PartBill, part_bill, part_spans, write_part_ledger};
 use std::alloc::Global;
 use std::io::Write;
 use std::random::RandomSource;
 
-/// If the first lines are not written, nothing is promised of what was.
+/// Memory that is refused after the first lines is reported as late.
 fn write_made<'a, W: Write>(alloc: Global, made: PartBill, out: &mut W) -> Result<(), Fault<'a>>
     requires { (history : List Entry) × IsBillOf history made.billed.bill
         × (length history ≤ 2 ^ 95) }
-    ensures ends { Prints (λ text. (history : List Entry) → IsBillOf history made.billed.bill
-        → text ≡ part_head made.spans.items ++ report_over made.billed.ends.items history)
-        (W.contents out.old) (W.contents out.new) result }
+    ensures ends { (history : List Entry) → IsBillOf history made.billed.bill
+        → Prints (IsReportOf made history) (IsReportOf made history) (W.contents out.old)
+        (W.contents out.new) result }
     ensures right { IfErr result (λ fault. (names : List (List ℕ)) (known : List (Option (List ℕ)))
         → IsRightOfSorted names known fault) }
 {
     let PartBill { spans, billed } = made;
-    let Ok(()) = write_part_head(alloc, &spans, out) else {
-        return Err(Fault::Late(LateFault::Write));
-    };
+    if let Err(fault) = write_part_head(alloc, &spans, out) {
+        return Err(Fault::of_print(fault));
+    }
     match write_billed(alloc, billed, out) {
         Ok(_) => Ok(()),
         Err(Fault::Write) => Err(Fault::Write),
@@ -53,8 +52,8 @@ fn write_report<'a, R: RandomSource, F: Placed, W: Write>(
     files: &[F],
     out: &mut W,
 ) -> Result<(), Fault<'a>>
-    ensures ends { Prints (IfKnown (map F.bytes files.now) (IsPartText false table.now))
-        (W.contents out.old) (W.contents out.new) result }
+    ensures ends { PrintsPart false (map F.bytes files.now) table.now (W.contents out.old)
+        (W.contents out.new) result }
     ensures right { IfErr result (IsRightOfSorted (request_of options.now).files
         (map F.bytes files.now)) }
 {
@@ -75,8 +74,8 @@ fn write_ledger<'a, F: Placed, W: Write>(
     files: &[F],
     out: &mut W,
 ) -> Result<(), Fault<'a>>
-    ensures ends { Prints (IfKnown (map F.bytes files.now) (IsPartText true table.now))
-        (W.contents out.old) (W.contents out.new) result }
+    ensures ends { PrintsPart true (map F.bytes files.now) table.now (W.contents out.old)
+        (W.contents out.new) result }
     ensures right { IfErr result (IsRightOfSorted (request_of options.now).files
         (map F.bytes files.now)) }
 {
@@ -85,11 +84,12 @@ fn write_ledger<'a, F: Placed, W: Write>(
         Ok(spans) => spans,
         Err(fault) => return Err(Fault::of_bill(&options.files, fault)),
     };
-    let Ok(()) = write_part_head(alloc, &spans, out) else {
-        return Err(Fault::Late(LateFault::Write));
-    };
+    if let Err(fault) = write_part_head(alloc, &spans, out) {
+        return Err(Fault::of_print(fault));
+    }
     match write_part_ledger(alloc, table, files, from, below, &spans, out) {
         Ok(()) => Ok(()),
+        Err(BillFault::Write) => Err(Fault::Write),
         Err(fault) => Err(Fault::Late(LateFault::of_bill(fault))),
     }
 }
@@ -106,9 +106,8 @@ pub(crate) fn charge_part<'a, R: RandomSource, F: Placed, W: Write>(
     out: &mut W,
 ) -> Result<(), Fault<'a>>
     requires { range_fault word.now ≡ None }
-    ensures ends { Prints (IfKnown (map F.bytes files.now)
-        (IsPartText (request_of options.now).ledger table.now)) (W.contents out.old)
-        (W.contents out.new) result }
+    ensures ends { PrintsPart (request_of options.now).ledger (map F.bytes files.now) table.now
+        (W.contents out.old) (W.contents out.new) result }
     ensures right { IfErr result (IsRightOfSorted (request_of options.now).files
         (map F.bytes files.now)) }
 {

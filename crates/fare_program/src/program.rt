@@ -8,8 +8,8 @@ ghost use Rattle.std.specs.Option.{option_and_then};
 ghost use Rattle.clap.specs.Words.{kind_of};
 ghost use Rattle.fare_program.specs.Causes.{IsFaultOfTables, IsFileFault, IsRightFault, names_reported};
 ghost use Rattle.fare_program.specs.inside.Causes.{IsOfOutput};
-ghost use Rattle.fare_program.specs.Ends.{Ends};
-ghost use Rattle.fare_program.specs.inside.Ends.{Gives};
+ghost use Rattle.fare_program.specs.Ends.{AreOfBytes, Ends};
+ghost use Rattle.fare_program.specs.inside.Ends.{Gives, GivesIf};
 ghost use Rattle.fare_program.specs.Fault.{fault_text};
 ghost use Rattle.fare_program.specs.FilesLoaded.{LoadsFiles, names_to_load};
 ghost use Rattle.fare_program.specs.inside.Options.{request_of};
@@ -257,9 +257,10 @@ fn work<'a, R: Threads + Wait + RandomSource + Sync, D: Disk + Sync, S: Source, 
 ) -> Result<bool, Fault<'a>>
     requires usable { is_usable (request_of options.now) ≡ true }
     requires token { IsTokenIn (request_of options.now).token token }
-    ensures ends { Gives (Does (request_of options.now) (D.bytes_under disk.now)
-        (D.origin disk.now) (S.loaded source.old) (S.loaded source.new)) (W.contents out.old)
-        (W.contents out.new) result }
+    ensures ends { GivesIf (AreOfBytes (request_of options.now) (D.bytes_under disk.now))
+        (Does (request_of options.now) (D.bytes_under disk.now) (D.origin disk.now)
+        (S.loaded source.old) (S.loaded source.new)) (W.contents out.old) (W.contents out.new)
+        result }
     ensures right { IfErr result (IsRightFault (request_of options.now) (D.bytes_under disk.now)
         (S.loaded source.old) (S.loaded source.new) (S.refused source.new)) }
 {

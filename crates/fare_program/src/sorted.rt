@@ -4,9 +4,10 @@ ghost use Rattle.std.specs.Prelude.{false, is_none, map, option_map, true};
 ghost use Rattle.std.specs.Option.{option_and_then};
 ghost use Rattle.fare_program.specs.Causes.{IsRightOfSorted};
 ghost use Rattle.fare_program.specs.Parts.{ShowsSorted};
-ghost use Rattle.fare_program.specs.Settling.{ShowsSettled};
 ghost use Rattle.fare_program.specs.TokenRanges.{range_fault};
-ghost use Rattle.fare_program.specs.inside.Ends.{IfKnown, IsUnopened, Prints};
+ghost use Rattle.fare_program.specs.Ends.{AreOfBytes};
+ghost use Rattle.fare_program.specs.Program.{IsTokenIn};
+ghost use Rattle.fare_program.specs.inside.Ends.{IsUnopened, PrintsIf, PrintsSettled};
 ghost use Rattle.fare_program.specs.inside.Options.{request_of};
 
 use crate::bill::write_billed;
@@ -64,9 +65,8 @@ fn write_report<'a, R: Threads + RandomSource + Sync, F: Placed + Sync, W: Write
     out: &mut W,
 ) -> Result<(), Fault<'a>>
     requires { (request_of options.now).ledger ≡ false }
-    ensures ends { Prints (IfKnown (map F.bytes files.now) (λ all text.
-        ShowsSettled (request_of options.now) table.now all None text true)) (W.contents out.old)
-        (W.contents out.new) result }
+    ensures ends { PrintsSettled (request_of options.now) (map F.bytes files.now) table.now None
+        (W.contents out.old) (W.contents out.new) result }
     ensures right { IfErr result (IsRightOfSorted (request_of options.now).files
         (map F.bytes files.now)) }
 {
@@ -91,9 +91,8 @@ fn write_ledger<'a, R: Threads + Sync, F: Placed + Sync, W: Write>(
     out: &mut W,
 ) -> Result<(), Fault<'a>>
     requires { (request_of options.now).ledger ≡ true }
-    ensures ends { Prints (IfKnown (map F.bytes files.now) (λ all text.
-        ShowsSettled (request_of options.now) table.now all None text true)) (W.contents out.old)
-        (W.contents out.new) result }
+    ensures ends { PrintsSettled (request_of options.now) (map F.bytes files.now) table.now None
+        (W.contents out.old) (W.contents out.new) result }
     ensures right { IfErr result (IsRightOfSorted (request_of options.now).files
         (map F.bytes files.now)) }
 {
@@ -114,9 +113,8 @@ fn write_token<'a, R: Threads + Sync, D: Disk, F: Placed + Sync, W: Write>(
     files: &[F],
     out: &mut W,
 ) -> Result<(), Fault<'a>>
-    ensures ends { Prints (IfKnown (map F.bytes files.now) (λ all text.
-        ShowsSettled (request_of options.now) table.now all (Some token) text true))
-        (W.contents out.old) (W.contents out.new) result }
+    ensures ends { PrintsSettled (request_of options.now) (map F.bytes files.now) table.now
+        (Some token) (W.contents out.old) (W.contents out.new) result }
     ensures right { IfErr result (IsRightOfSorted (request_of options.now).files
         (map F.bytes files.now)) }
 {
@@ -141,9 +139,8 @@ fn charge_sorted<'a, R: Threads + RandomSource + Sync, D: Disk, F: Placed + Sync
     files: &[F],
     out: &mut W,
 ) -> Result<(), Fault<'a>>
-    ensures ends { Prints (IfKnown (map F.bytes files.now) (λ all text.
-        ShowsSettled (request_of options.now) table.now all token text true)) (W.contents out.old)
-        (W.contents out.new) result }
+    ensures ends { PrintsSettled (request_of options.now) (map F.bytes files.now) table.now token
+        (W.contents out.old) (W.contents out.new) result }
     ensures right { IfErr result (IsRightOfSorted (request_of options.now).files
         (map F.bytes files.now)) }
 {
@@ -166,9 +163,11 @@ pub(crate) fn work_sorted<'a, R: Threads + RandomSource + Sync, D: Disk, W: Writ
     out: &mut W,
 ) -> Result<(), Fault<'a>>
     requires word { option_and_then range_fault (request_of options.now).tokens ≡ None }
-    ensures ends { Prints (IfKnown
-        (map (D.bytes_under disk.now) (request_of options.now).files) (λ all text.
-        ShowsSorted (request_of options.now) table.now all token text true)) (W.contents out.old)
+    requires token { IsTokenIn (request_of options.now).token token }
+    requires sorted { (request_of options.now).sorted ≡ true }
+    ensures ends { PrintsIf (AreOfBytes (request_of options.now) (D.bytes_under disk.now))
+        (map (D.bytes_under disk.now) (request_of options.now).files) (λ files text.
+        ShowsSorted (request_of options.now) table.now files token text true) (W.contents out.old)
         (W.contents out.new) result }
     ensures right { IfErr result (IsRightOfSorted (request_of options.now).files
         (map (D.bytes_under disk.now) (request_of options.now).files)) }

@@ -66,8 +66,6 @@ pub(crate) enum LateFault {
     Changed,
     /// A file that was checked cannot be read again.
     Unread,
-    /// A write of the ledger of a part failed.
-    Write,
     /// An allocation failed.
     NoMemory,
 }
@@ -81,13 +79,12 @@ impl LateFault {
         }
     }
 
-    /// Why the rest of a part was not written.
+    /// Why the rest of a part was not written, if no write failed.
     pub(crate) fn of_bill(fault: BillFault) -> LateFault {
         match fault {
             BillFault::File(refused) => LateFault::of(refused.fault),
-            BillFault::TooManyTaps | BillFault::Changed => LateFault::Changed,
+            BillFault::TooManyTaps | BillFault::Changed | BillFault::Write => LateFault::Changed,
             BillFault::Late(fault) => LateFault::of(fault),
-            BillFault::Write => LateFault::Write,
             BillFault::NoMemory => LateFault::NoMemory,
         }
     }
@@ -100,7 +97,6 @@ impl fmt::Display for LateFault {
         f.write_str(match self {
             LateFault::Changed => "fault: a file changed while it was read",
             LateFault::Unread => "fault: a file cannot be read again",
-            LateFault::Write => "fault: cannot write",
             LateFault::NoMemory => "fault: out of memory",
         })
     }

@@ -1,11 +1,13 @@
 //! The traced ledger of files.
 ghost use Rattle.std.specs.Prelude.{◌≡◌, ◌≤◌, ℕ, List, Option, IfErr, IfOk, length, map};
 ghost use Rattle.toml.specs.Data.{Members};
-ghost use Rattle.fare_program.specs.inside.Causes.{IsClassFault, IsNamedClass, IsOfOutput};
+ghost use Rattle.fare_program.specs.Causes.{IsTableFault};
+ghost use Rattle.fare_program.specs.inside.Causes.{IsNamedClass, IsOfOutput};
 ghost use Rattle.fare_program.specs.inside.Ends.{Gives};
 ghost use Rattle.program_manners.specs.Loads.{Loaded};
 ghost use Rattle.program_manners.specs.TableLoads.{LoadsTables};
 ghost use Rattle.program_manners.specs.TableViews.{names_of};
+ghost use Rattle.world.specs.declared.faults.LoadFault.{LoadFault};
 ghost use Rattle.class_names.specs.Classes.{AreTrees};
 ghost use Rattle.settled_texts.specs.Ledgers.{IsTracedLedger};
 ghost use Rattle.class_names.specs.Names.{HasClasses, class_by};
@@ -28,7 +30,7 @@ pub(crate) struct Riders {
 /// The texts were read as fare tables before, so each is TOML and names a default class.
 fn of_names<'a>(words: &TableWords<'a>, wrong: WrongNames) -> Fault<'a>
     requires { wrong.position ≤ length (names_of words.now).later }
-    ensures { IsNamedClass (names_of words.now) wrong.fault result }
+    ensures { IsNamedClass (names_of words.now) wrong result }
 {
     match wrong.fault {
         ClassFault::Name if words.later.as_slice().is_empty() => Fault::ClassName,
@@ -52,8 +54,10 @@ pub(crate) fn riders_of<'a>(
     ensures names { IfOk result (λ riders. (tree : Members) × (later : List (ℕ × Members))
         × AreTrees tables.fares (map (λ t. t.items) tables.texts.items) tree later
         × HasClasses riders.names tree later) }
-    ensures fault { IfErr result
-        (IsClassFault (names_of words.now) (map (λ t. t.items) tables.texts.items)) }
+    ensures fault { IfErr result (λ fault. (loaded after : Option (List Loaded))
+        (refused : Option (Option (List ℕ) × LoadFault)) → LoadsTables (names_of words.now) loaded
+        after (map (λ t. t.items) tables.texts.items) tables.fares
+        → IsTableFault (names_of words.now) loaded after refused fault) }
 {
     match ClassNames::of_texts(alloc, &tables.fares, &tables.texts) {
         Ok(names) => Ok(Riders {

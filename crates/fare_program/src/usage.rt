@@ -1,5 +1,6 @@
 //! Which requests are usage errors.
-ghost use Rattle.std.specs.Prelude.{◌≡◌, ◌&&◌, IfOk, OnErr, OnOk, false, is_none, option_map, true};
+ghost use Rattle.std.specs.Prelude.{◌≡◌, IfOk, OnErr, OnOk, false, is_none, option_map, true};
+ghost use Rattle.std.specs.List.{list_all};
 ghost use Rattle.std.specs.Option.{option_and_then};
 ghost use Rattle.fare_program.specs.inside.Options.{request_of};
 ghost use Rattle.fare_program.specs.Program.{IsTokenIn};
@@ -38,18 +39,28 @@ impl fmt::Display for UsageError<'_> {
     }
 }
 
-/// The line of the first broken rule that was found before, or else this one if its rule is broken.
-fn or_broken(found: Option<&'static str>, is_kept: bool, line: &'static str) -> Option<&'static str>
-    ensures { is_none result ≡ (is_none found && is_kept) }
+fn are_kept(rules: &[(bool, &str)]) -> bool
+    ensures { result ≡ list_all (λ rule. rule.0) rules.now }
 {
-    match found {
-        Some(line) => Some(line),
-        None if is_kept => None,
-        None => Some(line),
-    }
+    rules.iter().all(|rule| rule.0)
 }
 
 /// The line of the first rule that is broken.
+fn first_broken(rules: &[(bool, &'static str)]) -> Option<&'static str>
+    ensures { is_none result ≡ list_all (λ rule. rule.0) rules.now }
+{
+    if are_kept(rules) {
+        return None;
+    }
+    for rule in rules {
+        if !rule.0 {
+            return Some(rule.1);
+        }
+    }
+    Some("")
+}
+
+/// The line of the first rule that the request breaks.
 fn broken_rule(options: &Options<'_>) -> Option<&'static str>
     ensures { is_none result ≡ keeps_rules (request_of options.now) }
 {
@@ -60,56 +71,26 @@ fn broken_rule(options: &Options<'_>) -> Option<&'static str>
     let (settle, live, list) = (options.settle, options.live, options.list);
     let (ledger, traced, sorted) = (options.ledger, options.traced, options.sorted);
     let (explain, json) = (options.explain, options.json);
-    let found = or_broken(None, !token | table, "fault: --token needs --table");
-    let found = or_broken(found, !settle | table, "fault: --settle needs --table");
-    let found = or_broken(
-        found,
-        !(settle & list),
-        "fault: --settle cannot be used with --list",
-    );
-    let found = or_broken(
-        found,
-        !(live & settle),
-        "fault: --live cannot be used with --settle",
-    );
-    let found = or_broken(found, !ledger | table, "fault: --ledger needs --table");
-    let found = or_broken(
-        found,
-        !(ledger & list),
-        "fault: --ledger cannot be used with --list",
-    );
-    let found = or_broken(found, !json | explain, "fault: --json needs --explain");
-    let found = or_broken(found, !explain | token, "fault: --explain needs --token");
-    let found = or_broken(
-        found,
-        !(explain & list),
-        "fault: --explain cannot be used with --list",
-    );
-    let found = or_broken(
-        found,
-        !(explain & ledger),
-        "fault: --explain cannot be used with --ledger",
-    );
-    let found = or_broken(found, !sorted | settle, "fault: --sorted needs --settle");
-    let found = or_broken(found, !sorted | file, "fault: --sorted needs a FILE");
-    let found = or_broken(found, !traced | ledger, "fault: --traced needs --ledger");
-    let found = or_broken(found, !traced | settle, "fault: --traced needs --settle");
-    let found = or_broken(
-        found,
-        !(traced & token),
-        "fault: --traced cannot be used with --token",
-    );
-    let found = or_broken(
-        found,
-        !(traced & sorted),
-        "fault: --traced cannot be used with --sorted",
-    );
-    let found = or_broken(found, !range | sorted, "fault: --tokens needs --sorted");
-    or_broken(
-        found,
-        !(range & token),
-        "fault: --tokens cannot be used with --token",
-    )
+    first_broken(&[
+        (!token | table, "fault: --token needs --table"),
+        (!settle | table, "fault: --settle needs --table"),
+        (!(settle & list), "fault: --settle cannot be used with --list"),
+        (!(live & settle), "fault: --live cannot be used with --settle"),
+        (!ledger | table, "fault: --ledger needs --table"),
+        (!(ledger & list), "fault: --ledger cannot be used with --list"),
+        (!json | explain, "fault: --json needs --explain"),
+        (!explain | token, "fault: --explain needs --token"),
+        (!(explain & list), "fault: --explain cannot be used with --list"),
+        (!(explain & ledger), "fault: --explain cannot be used with --ledger"),
+        (!sorted | settle, "fault: --sorted needs --settle"),
+        (!sorted | file, "fault: --sorted needs a FILE"),
+        (!traced | ledger, "fault: --traced needs --ledger"),
+        (!traced | settle, "fault: --traced needs --settle"),
+        (!(traced & token), "fault: --traced cannot be used with --token"),
+        (!(traced & sorted), "fault: --traced cannot be used with --sorted"),
+        (!range | sorted, "fault: --tokens needs --sorted"),
+        (!(range & token), "fault: --tokens cannot be used with --token"),
+    ])
 }
 
 /// The token of these digits, if there are some.

@@ -1,10 +1,8 @@
 -- Causes of faults: what private functions alone cite.
-use Rattle.std.specs.Prelude.{◌≡◌, ◌<◌, ℕ, Bool, List, false}
-use Rattle.class_names.specs.declared.names.ClassFault.{ClassFault}
+use Rattle.std.specs.Prelude.{◌≡◌, ◌<◌, ℕ, Bool, [], Some, false, slice_get}
 use Rattle.class_names.specs.declared.names.ClassFault.TheVariants as class
-use Rattle.program_manners.specs.Refusals.{IsOneOf}
+use Rattle.class_names.specs.declared.names.WrongNames.{WrongNames}
 use Rattle.program_manners.specs.TableWords.{TableNames, table_files}
-use Rattle.fare_program.specs.Causes.{NamesUnplainClass}
 use Rattle.fare_service.specs.Faults.{IsForMemory}
 use Rattle.fare_program.specs.declared.fault.Fault.{Fault}
 use Rattle.fare_program.specs.declared.fault.Fault.TheVariants.{ClassName, Gather, NamedClass}
@@ -34,18 +32,10 @@ IsRunFailure uploads NoMemory = Unit {0}
 IsRunFailure uploads (Gather fault) = IsForMemory fault
 IsRunFailure uploads _ = ⊥
 
--- a name of a class is wrong, of the tables or of the one of this file; or an allocation failed
-abbrev pub IsNamedClass : TableNames → ClassFault → Fault → Type 0
-IsNamedClass tables kind ClassName = kind ≡ class.Name
-IsNamedClass tables kind (NamedClass line) =
-    (kind ≡ class.Name) × IsOneOf line.0.now (table_files tables)
-IsNamedClass tables kind NoMemory = Unit {0}
-IsNamedClass tables kind _ = ⊥
-
--- one of the texts names a class that no ledger can have, or an allocation failed
-abbrev pub IsClassFault : TableNames → List (List ℕ) → Fault → Type 0
-IsClassFault tables texts ClassName = NamesUnplainClass texts
-IsClassFault tables texts (NamedClass line) =
-    NamesUnplainClass texts × IsOneOf line.0.now (table_files tables)
-IsClassFault tables texts NoMemory = Unit {0}
-IsClassFault tables texts _ = ⊥
+-- the name of a class is wrong, in the only table or in the one of this file; or an allocation failed
+abbrev pub IsNamedClass : TableNames → WrongNames → Fault → Type 0
+IsNamedClass tables wrong ClassName = (wrong.fault ≡ class.Name) × (tables.later ≡ [])
+IsNamedClass tables wrong (NamedClass line) =
+    (wrong.fault ≡ class.Name) × (slice_get (table_files tables) wrong.position ≡ Some line.0.now)
+IsNamedClass tables wrong NoMemory = Unit {0}
+IsNamedClass tables wrong _ = ⊥

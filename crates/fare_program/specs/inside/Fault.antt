@@ -4,8 +4,7 @@ use Rattle.program_manners.specs.declared.output.WriteEnd.{WriteEnd}
 use Rattle.fare_texts.specs.declared.print_fault.PrintFault.{PrintFault}
 use Rattle.fare_texts.specs.declared.print_fault.PrintFault.TheVariants as print
 use Rattle.fare_program.specs.declared.fault.Fault.{Fault}
-use Rattle.fare_program.specs.declared.fault.Fault.TheVariants.{Late, NoMemory, Write}
-use Rattle.fare_program.specs.declared.sorted_fault.LateFault.TheVariants as late
+use Rattle.fare_program.specs.declared.fault.Fault.TheVariants.{NoMemory, Write}
 
 -- why a text was not printed
 abbrev pub printed_as : PrintFault → Fault
@@ -16,5 +15,4 @@ printed_as print.NoMemory = NoMemory
 -- that failed, a write is reported as refused memory.
 abbrev pub as_remembered : Option WriteEnd → Fault → Fault
 as_remembered None Write = NoMemory
-as_remembered None (Late late.Write) = Late late.NoMemory
 as_remembered end fault = fault

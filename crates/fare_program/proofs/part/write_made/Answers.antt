@@ -1,28 +1,45 @@
-use Rattle.std.proofs.Common.{◌++◌, List, ap, subst}
-use Rattle.std.proofs.KnownBytes.{Appends-trans}
+use Rattle.std.proofs.Common.{◌++◌, List, ap, refl, subst}
+use Rattle.std.proofs.KnownBytes.{Appends-trans, Keeps-refl}
 use Rattle.std.specs.Io.KnownBytes.{Appends}
-use Rattle.fare_texts.proofs.Beginnings.{begins_after}
+use Rattle.fare_texts.proofs.Beginnings.{begins_after, begins_front}
+use Rattle.fare_texts.specs.WrittenOut.{Begins}
 use Rattle.part_texts.specs.Heads.{part_head}
 use Rattle.sorted_taps.specs.declared.positions.FileSpan.{FileSpan}
-use Rattle.fare_program.proofs.Ends.{started_of}
+use Rattle.fare_program.specs.Parts.{report_over}
+use Rattle.fare_program.proofs.Ends.{printed, started_of}
 use Rattle.fare_program.proofs.part.write_made.Goals as goal
 
-pub returns-in-Ok-write_billed-clause-ends : goal.returns-in-Ok-write_billed-clause-ends
-returns-in-Ok-write_billed-clause-ends g c =
+pub returns-in-Err-clause-ends : goal.returns-in-Err-clause-ends
+returns-in-Err-clause-ends g c history is =
+    let made = c.args.made in
+    let old = g.W.Write.contents c.args.out.now in
+    let new = g.W.Write.contents c.write_part_head.new.out in
+    rw c.of_print.ensures (printed _ _ _ c.in-Err.fault _ c.in-Err.ensures.fault
+    (λ same. rw same (Keeps-refl _))
+    (λ write. (
+      part_head made.spans.items ++ report_over made.billed.ends.items history,
+      refl,
+      begins_front old new (part_head made.spans.items) _
+          (subst (λ (spans : List FileSpan). Begins old new (part_head spans))
+          c.deref.ensures.value (c.in-Err.ensures.started write)),
+    )))
+
+pub returns-in-Ok-clause-ends : goal.returns-in-Ok-clause-ends
+returns-in-Ok-clause-ends g c history is =
     let old = g.W.Write.contents c.args.out.now in
     let mid = g.W.Write.contents c.write_part_head.new.out in
     let new = g.W.Write.contents c.write_billed.new.out in
     let head = part_head c.args.made.spans.items in
-    let (text, (success, report), written) = c.in-Ok-write_billed.ensures.ends in (
+    let (text, (success, report), written) = c.in-Ok.ensures.ends in (
       head ++ text,
-      λ history is. ap (λ body. head ++ body) (report history is),
+      ap (λ body. head ++ body) (report history is),
       Appends-trans old mid new head text
           (subst (λ (spans : List FileSpan). Appends old mid (part_head spans))
-          c.deref.ensures.value c.in-Ok.ensures.ok) written,
+          c.deref.ensures.value c.in_default.ensures.ok) written,
     )
 
 pub returns-in-Err-Write-clause-ends : goal.returns-in-Err-Write-clause-ends
-returns-in-Err-Write-clause-ends g c =
+returns-in-Err-Write-clause-ends g c history is =
     let old = g.W.Write.contents c.args.out.now in
     let mid = g.W.Write.contents c.write_part_head.new.out in
     let new = g.W.Write.contents c.write_billed.new.out in
@@ -30,8 +47,8 @@ returns-in-Err-Write-clause-ends g c =
     let (text, (success, (succeeded, report)), started) = started_of _ _ _ _
     c.in-Err-Write.field-0-is c.in-Err-Write.ensures.ends in (
       head ++ text,
-      λ history is. ap (λ body. head ++ body) (report history is),
+      ap (λ body. head ++ body) (report history is),
       begins_after old mid new head text
           (subst (λ (spans : List FileSpan). Appends old mid (part_head spans))
-          c.deref.ensures.value c.in-Ok.ensures.ok) started,
+          c.deref.ensures.value c.in_default.ensures.ok) started,
     )

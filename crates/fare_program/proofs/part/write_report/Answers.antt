@@ -2,15 +2,15 @@ use Rattle.std.proofs.Common.{ap, map}
 use Rattle.std.proofs.lemmas.Result.{IfErr-weaker}
 use Rattle.fare_program.specs.inside.Options.{request_of}
 use Rattle.fare_program.specs.Parts.{report_over}
-use Rattle.fare_program.proofs.Ends.{prints_by, unwritten}
+use Rattle.fare_program.proofs.Ends.{prints_if, unwritten}
 use Rattle.fare_program.proofs.part.write_report.Goals as goal
 
 pub returns-in-Ok-part_bill-clause-ends : goal.returns-in-Ok-part_bill-clause-ends
 returns-in-Ok-part_bill-clause-ends g c =
     let (history, is, few, part) = c.in-Ok-part_bill.ensures.billed in
     let made = c.in-Ok-part_bill.made in
-    prints_by _ _ _ _ c.write_made.result
-    (λ text right all are bytes.
+    prints_if _ _ _ _ _ c.write_made.result
+    (λ text right all are.
     let (lists, of, ended) = part all are in
     record {
       spans = made.spans.items;
@@ -19,9 +19,9 @@ returns-in-Ok-part_bill-clause-ends g c =
       part = of;
       body = report_over made.billed.ends.items history;
       shows = ap (λ ends. report_over ends history) ended;
-      whole = right history is;
+      whole = right;
     })
-    c.write_made.ensures.ends
+    (c.write_made.ensures.ends history is)
 
 pub returns-in-Ok-part_bill-clause-right : goal.returns-in-Ok-part_bill-clause-right
 returns-in-Ok-part_bill-clause-right g c =

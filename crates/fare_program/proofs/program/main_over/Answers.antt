@@ -6,7 +6,7 @@ use Rattle.std.proofs.KnownBytes.{Appends-kept, Keeps-refl}
 use Rattle.clap.specs.Words.{IsAmong, Text, fault_of, kind_of}
 use Rattle.clap.specs.declared.error.kind.ErrorKind.{ErrorKind}
 use Rattle.fare_program.specs.Causes.{IsRightFault}
-use Rattle.fare_program.specs.Ends.{Did, EndsCommand, HasFailed, HasFinished, IsOfWrite, Leaves}
+use Rattle.fare_program.specs.Ends.{AreOfBytes, Did, EndsCommand, HasFailed, HasFinished, Leaves}
 use Rattle.fare_program.specs.inside.Options.{request_of}
 use Rattle.fare_texts.proofs.Beginnings.{begins_whole}
 use Rattle.fare_program.specs.Fault.{fault_text}
@@ -15,7 +15,6 @@ use Rattle.fare_program.specs.Program.{Does}
 use Rattle.fare_program.specs.Usage.{is_usable}
 use Rattle.fare_program.specs.declared.fault.Fault.{Fault}
 use Rattle.fare_program.specs.declared.fault.Fault.TheVariants.{Late, NoMemory, Write}
-use Rattle.fare_program.specs.declared.sorted_fault.LateFault.TheVariants as late
 use Rattle.fare_program.specs.inside.Ends.{Stops}
 use Rattle.fare_program.specs.inside.Fault.{as_remembered}
 use Rattle.program_manners.specs.LineWritten.{LineWritten}
@@ -33,13 +32,11 @@ asks_for words kind asks among = elim asks [
 
 -- ---- what is reported of a fault
 -- a write is reported only if one that failed is remembered
-write_remembered : (end : Option WriteEnd) (fault : Fault) → IsOfWrite (as_remembered end fault)
+write_remembered : (end : Option WriteEnd) (fault : Fault) → as_remembered end fault ≡ Write
     → end ≢ None
 write_remembered (Some why) fault write none = cc
-write_remembered None Write write none = write
-write_remembered None (Late late.Write) write none = write
-write_remembered None (Late why) write none = write
-write_remembered None fault write none = write
+write_remembered None Write write none = cc
+write_remembered None fault write none = cc
 
 module _ (request : Request) (did : Did) where
   abbrev Right : Fault → Type 0
@@ -49,11 +46,10 @@ module _ (request : Request) (did : Did) where
       → Right (as_remembered end fault)
   right_remembered (Some why) fault right = right
   right_remembered None Write right = tt
-  right_remembered None (Late late.Write) right = right
   right_remembered None fault right = right
 
   abbrev Asked : List ℕ → Type 0
-  Asked text = (success : Bool)
+  Asked text = AreOfBytes request did.under → (success : Bool)
       × Does request did.under did.origin did.loaded did.loaded' text success
 
   left_by : (fault : Fault) → Stops Asked did.out did.out' fault → Leaves request did fault
@@ -66,7 +62,6 @@ module _ (request : Request) (did : Did) where
       → Stops Asked did.out did.out' fault → Leaves request did (as_remembered end fault)
   left_remembered (Some why) fault stops = left_by fault stops
   left_remembered None Write stops = inr stops
-  left_remembered None (Late late.Write) stops = tt
   left_remembered None fault stops = left_by fault stops
 
 -- ---- words that are not read, or are no command line
@@ -82,14 +77,7 @@ returns-in-Err g c =
               0,
               record {
                 done = λ zero. absurd (omega (arith, zero, one));
-                failed = λ _. inr (record {
-                  fault = NoMemory;
-                  usable = λ other. absurd (other refl);
-                  right = tt;
-                  line_reported = line;
-                  write_failed = λ write. absurd write;
-                  left = inl kept;
-                });
+                failed = λ _. inr (inr (record { line_reported = line; unwritten = kept }));
                 refused = λ two. absurd (omega (arith, two, one));
                 bounded = c.show.ensures.status;
               },
@@ -184,14 +172,18 @@ returns-in-Ok-work g c =
           finished true success flushed quiet;
       failed = λ one. elim (c.finish.ensures.ill one) [
         | inl ill ↦ inl (finished false ill.0 ill.1 ill.2)
-        | inr unflushed ↦ inr (record {
+        | inr unflushed ↦ inr (inl (record {
           fault = Write;
-          usable = λ other. usable;
+          usable = usable;
           right = tt;
           line_reported = unflushed.1;
           write_failed = λ write. unflushed.0;
-          left = (text, (c.in-Ok-work.succeeded, does), begins_whole did.out did.out' text added);
-        })
+          left = (
+            text,
+            (λ given. (c.in-Ok-work.succeeded, does)),
+            begins_whole did.out did.out' text added,
+          );
+        }))
       ];
       refused = λ two. absurd (omega (arith, two, c.finish.ensures.status));
       bounded = omega (arith, c.finish.ensures.status);
@@ -229,7 +221,7 @@ returns g c =
     let is = c.as_remembered.ensures in
     let failed : HasFailed request did = record {
       fault = as_remembered end fault;
-      usable = λ other. c.in-Ok-checked.ensures.usable;
+      usable = c.in-Ok-checked.ensures.usable;
       right = right_remembered request did end fault c.in-Err-work.ensures.right;
       line_reported = subst (λ (f : Fault). LineWritten did.said did.said' did.failed
           (fault_text f)) is c.report.ensures.line;
@@ -244,7 +236,7 @@ returns g c =
         subst (λ (asked : Request). EndsCommand asked did c.report.result) c.in-Ok.ensures.request
             (record {
               done = λ zero. absurd (omega (arith, zero, c.report.ensures.status));
-              failed = λ one. inr failed;
+              failed = λ one. inr (inl failed);
               refused = λ two. absurd (omega (arith, two, c.report.ensures.status));
               bounded = omega (arith, c.report.ensures.status);
             }),

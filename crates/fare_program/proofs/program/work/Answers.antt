@@ -6,7 +6,7 @@ use Rattle.program_manners.specs.TableWords.{TableNames}
 use Rattle.fare_program.specs.Program.{LoadsTable}
 use Rattle.fare_program.specs.inside.Options.{request_of}
 use Rattle.fare_program.proofs.Causes.{right_sorted}
-use Rattle.fare_program.proofs.Ends.{gives_by, gives_kept, stops_by}
+use Rattle.fare_program.proofs.Ends.{gives_if, gives_kept, stops_by}
 use Rattle.fare_program.proofs.Usable.{dates_read, range_read, sorted_lists, sorted_settles}
 use Rattle.fare_program.proofs.Usable.{settled_table}
 use Rattle.fare_program.proofs.Works.{does_charge, does_sorted, does_traced, does_untraced}
@@ -19,7 +19,7 @@ returns-then-options-clause-ends g c =
     let origin = g.D.Disk.origin c.args.disk.now in
     let before = g.S.FileSource.loaded c.args.source.now in
     let after = g.S.FileSource.loaded c.work_traced.new.source in
-    gives_by _ _ _ _ c.work_traced.result
+    gives_if _ _ _ _ _ c.work_traced.result
     (λ text success runs. does_traced request known origin before after text success
     c.if-options.true runs)
     c.work_traced.ensures.ends
@@ -73,12 +73,12 @@ returns-in-Err-work_sorted-clause-ends g c =
     let loads = subst (λ (fares : Option Fares). LoadsTable request.table before after fares)
     c.in-Some.is c.in-Ok.ensures.ok in
     stops_by _ _ _ _ c.in-Err-work_sorted.fault
-    (λ text shows. (
+    (λ text shows given. (
       true,
       does_untraced request known origin before after text true c.if-options.false
           (does_sorted request known origin before None after text true c.in-Some.table
           c.args.token (sorted_lists request c.requires.usable c.if-options-2.true)
-          c.if-options-2.true refl loads c.requires.token shows),
+          c.if-options-2.true refl loads c.requires.token (shows given)),
     )) c.in-Err-work_sorted.ensures.ends
 
 pub returns-in-Err-work_sorted-clause-right : goal.returns-in-Err-work_sorted-clause-right
@@ -98,7 +98,7 @@ returns-in-Some-charge_prefetched-clause-ends g c =
     let before = g.S.FileSource.loaded c.args.source.now in
     let between = g.S.FileSource.loaded c.load_table.new.source in
     let after = g.S.FileSource.loaded c.charge_prefetched.new.source in
-    gives_by _ _ _ _ c.in-Some-charge_prefetched.ended
+    gives_if _ _ _ _ _ c.in-Some-charge_prefetched.ended
     (λ text success is. does_untraced request known origin before after text success
     c.if-options.false (does_charge request known origin before between after text success
     c.in-Ok.table c.in-Ok.ensures.ok is.fares is.files is.drawn c.args.token is.is_table
@@ -115,8 +115,8 @@ returns-clause-ends g c =
     let after = g.S.FileSource.loaded c.work_by_table.new.source in
     let loads = subst (λ (l : Option (List Loaded)). LoadsTable request.table before l
     c.in-Ok.table) (sym (c.in-None.ensures.unloaded refl)) c.in-Ok.ensures.ok in
-    gives_kept _ _ _ _ c.work_by_table.result (c.in-None.ensures.none refl)
-    (gives_by _ _ _ _ c.work_by_table.result
+    gives_if _ _ _ _ _ c.work_by_table.result
     (λ text success does. does_untraced request known origin before after text success
     c.if-options.false does)
+    (gives_kept _ _ _ _ c.work_by_table.result (c.in-None.ensures.none refl)
     (c.work_by_table.ensures.ends before loads))

@@ -37,16 +37,18 @@ returns-in-Err-clause-right g c =
 
 pub returns-in-Err-riders_of-clause-ends : goal.returns-in-Err-riders_of-clause-ends
 returns-in-Err-riders_of-clause-ends g c =
-    before_classes _ _ _ _ c.in-Err-riders_of.fault c.in-Err-riders_of.ensures.fault
+    before_classes _ _ (names_of c.in-Some.words) (g.S.FileSource.loaded c.args.source.now)
+    (g.S.FileSource.loaded c.load_tables.new.source)
+    (g.S.FileSource.refused c.load_tables.new.source) c.in-Err-riders_of.fault
+    (c.in-Err-riders_of.ensures.fault _ _ _ c.in-Ok.ensures.ok)
 
 pub returns-in-Err-riders_of-clause-right : goal.returns-in-Err-riders_of-clause-right
 returns-in-Err-riders_of-clause-right g c =
     right_class (request_of c.args.options.now) (g.D.Disk.bytes_under c.args.disk.now)
     (g.S.FileSource.loaded c.args.source.now) (g.S.FileSource.loaded c.load_tables.new.source)
     (g.S.FileSource.refused c.load_tables.new.source) c.requires.traced
-    (names_of c.in-Some.words)
-    (ap (option_map names_of) c.in-Some.is) _ _ c.in-Ok.ensures.ok c.in-Err-riders_of.fault
-    c.in-Err-riders_of.ensures.fault
+    (names_of c.in-Some.words) (ap (option_map names_of) c.in-Some.is) c.in-Err-riders_of.fault
+    (c.in-Err-riders_of.ensures.fault _ _ _ c.in-Ok.ensures.ok)
 
 pub returns-in-Err-load_files-clause-ends : goal.returns-in-Err-load_files-clause-ends
 returns-in-Err-load_files-clause-ends g c =

@@ -1,17 +1,31 @@
-use Rattle.std.proofs.Common.{◌≡◌, ◌∙◌, Bor, List, Option, None, ap, map, option_map, subst, sym, true, ℕ}
-use Rattle.std.specs.Prelude.{MatchOption}
+use Rattle.std.proofs.Common.{◌≡◌, ◌∙◌, Bool, Bor, List, Option, None, Some, ap, false, map}
+use Rattle.std.proofs.Common.{option_map, refl, subst, sym, true, ℕ}
+use Rattle.std.specs.Prelude.{MatchOption, is_some}
 use Rattle.std.specs.Option.{option_and_then}
+use Rattle.sorted_bills.specs.Ledgers.{KnownAreBytes}
+use Rattle.tap_views.specs.declared.token.Token.{Token}
 use Rattle.fare_program.specs.Parts.{IsPartText}
+use Rattle.fare_program.specs.Program.{IsTokenIn}
 use Rattle.fare_program.specs.Settling.{ShowsSettled}
 use Rattle.fare_program.specs.TokenRanges.{range_fault}
 use Rattle.fare_program.specs.inside.Ends.{IsUnopened}
 use Rattle.fare_program.specs.inside.Options.{request_of}
 use Rattle.fare_program.proofs.Causes.{before_sorted, right_unopened}
-use Rattle.fare_program.proofs.Ends.{prints_by}
+use Rattle.fare_program.proofs.Ends.{prints_known}
 use Rattle.fare_program.proofs.sorted.work_sorted.Goals as goal
 
 abbrev name_in : Bor (List ℕ) → List ℕ
 name_in name = name.now
+
+no_token : (digits : Option (List ℕ)) (token : Option Token) → token ≡ None
+    → IsTokenIn digits token → digits ≡ None
+no_token None token none is = refl
+no_token (Some digits) None none is = absurd is
+no_token (Some digits) (Some token) none is = cc
+
+not_true : (b : Bool) → (b ≡ true → ⊥) → b ≡ false
+not_true true never = absurd (never refl)
+not_true false never = refl
 
 pub returns-in-Err-clause-ends : goal.returns-in-Err-clause-ends
 returns-in-Err-clause-ends g c =
@@ -35,12 +49,12 @@ returns-in-Some-clause-ends g c =
     ∙ c.in-Ok.ensures.opened
     ∙ ap (λ (ns : List (Bor (List ℕ))). map (g.D.Disk.bytes_under c.args.disk.now)
     (map name_in ns)) c.deref.ensures.value in
-    prints_by _ _ _ _ c.charge_part.result
-    (λ text shows files are bytes.
-    subst (λ (tokens : Option (List ℕ)). MatchOption tokens
+    let named = ap (option_map name_in) c.in-Some.is in
+    prints_known _ _ _ _ _ _ _ _ c.charge_part.result
+    (λ given. not_true request.ledger (λ ledger. given.0 (ap is_some named, ledger))) opened
+    (λ files text shows. subst (λ (tokens : Option (List ℕ)). MatchOption tokens
     (ShowsSettled request c.args.table.now files c.args.token text true)
-    (λ word. IsPartText request.ledger c.args.table.now files text))
-    (sym (ap (option_map name_in) c.in-Some.is)) (shows files (opened ∙ are) bytes))
+    (λ word. IsPartText request.ledger c.args.table.now files text)) (sym named) shows)
     c.charge_part.ensures.ends
 
 pub returns-clause-ends : goal.returns-clause-ends
@@ -50,10 +64,11 @@ returns-clause-ends g c =
     ∙ c.in-Ok.ensures.opened
     ∙ ap (λ (ns : List (Bor (List ℕ))). map (g.D.Disk.bytes_under c.args.disk.now)
     (map name_in ns)) c.deref.ensures.value in
-    prints_by _ _ _ _ c.charge_sorted.result
-    (λ text shows files are bytes.
-    subst (λ (tokens : Option (List ℕ)). MatchOption tokens
+    prints_known _ _ _ _ _ _ _ _ c.charge_sorted.result
+    (λ given ledger none. subst KnownAreBytes (sym opened)
+    (given.1 (c.requires.sorted, ledger, no_token request.token c.args.token none c.requires.token)))
+    opened
+    (λ files text shows. subst (λ (tokens : Option (List ℕ)). MatchOption tokens
     (ShowsSettled request c.args.table.now files c.args.token text true)
     (λ word. IsPartText request.ledger c.args.table.now files text))
-    (sym (ap (option_map name_in) c.in-None.is)) (shows files (opened ∙ are) bytes))
-    c.charge_sorted.ensures.ends
+    (sym (ap (option_map name_in) c.in-None.is)) shows) c.charge_sorted.ensures.ends

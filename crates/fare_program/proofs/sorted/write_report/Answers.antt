@@ -15,7 +15,7 @@ returns-in-Ok-write_billed-clause-ends g c =
     let made = c.in-Ok-sorted_bill.made in
     let (text, (success, report), written) = c.in-Ok-write_billed.ensures.ends in (
       text,
-      λ all are bytes. shows_bill (request_of c.args.options.now) c.args.table.now all text _
+      λ all are. shows_bill (request_of c.args.options.now) c.args.table.now all text _
           c.requires history (settled all are) made.ends.items
           (c.in-Ok-sorted_bill.ensures.ended all are) (sym c.in-Ok-sorted_bill.ensures.posted)
           (report history is),
@@ -27,7 +27,7 @@ returns-in-Err-write_billed-clause-ends g c =
     let (history, is, few, settled) = c.in-Ok-sorted_bill.ensures.billed in
     let made = c.in-Ok-sorted_bill.made in
     stops_by _ _ _ _ c.in-Err-write_billed.fault
-    (λ text right all are bytes. shows_bill (request_of c.args.options.now) c.args.table.now all
+    (λ text right given all are. shows_bill (request_of c.args.options.now) c.args.table.now all
     text _ c.requires history (settled all are) made.ends.items
     (c.in-Ok-sorted_bill.ensures.ended all are) (sym c.in-Ok-sorted_bill.ensures.posted)
     (right.1.1 history is)) c.in-Err-write_billed.ensures.ends

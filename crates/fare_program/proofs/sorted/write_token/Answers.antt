@@ -1,13 +1,13 @@
 use Rattle.std.proofs.Common.{◌∙◌, ap, sym}
 use Rattle.settlement.specs.Posted.{posted}
-use Rattle.fare_program.proofs.Ends.{prints_by, prints_of, unwritten}
+use Rattle.fare_program.proofs.Ends.{prints_if, prints_of, unwritten}
 use Rattle.fare_program.proofs.sorted.write_token.Goals as goal
 
 pub returns-in-Ok-clause-ends : goal.returns-in-Ok-clause-ends
 returns-in-Ok-clause-ends g c =
     let fares = c.args.table.now in
-    prints_by _ _ _ _ c.write_text.result
-    (λ text shows all are bytes.
+    prints_if _ _ _ _ _ c.write_text.result
+    (λ text shows all are.
     let made = c.in-Ok.ensures.order all are in
     let history = posted fares made.order in
     let own_is = c.posted_taps.ensures.own fares c.args.token made.order

@@ -1,19 +1,35 @@
--- The file of the table whose class is wrong is one of the tables'.
-use Rattle.std.proofs.Common.{◌∙◌, ◌-◌, ◌<◌, ◌∷◌, [], Bor, List, ℕ, ap, arith, inl, inr, length}
-use Rattle.std.proofs.Common.{map, refl, subst, suc, sym, zero, get_or}
+-- The file of the table whose class is wrong is the one at its position.
+use Rattle.std.proofs.Common.{◌≡◌, ◌∙◌, ◌-◌, ◌<◌, ◌∷◌, [], Bor, List, Some, ℕ, ap, arith, get_or}
+use Rattle.std.proofs.Common.{length, map, refl, subst, suc, sym, zero}
+use Rattle.std.specs.Prelude.{slice_get}
 use Rattle.std.proofs.lemmas.List.{length-map}
-use Rattle.program_manners.specs.Refusals.{IsOneOf}
-use Rattle.program_manners.specs.TableWords.{file_named}
+use Rattle.program_manners.specs.TableViews.{names_of}
+use Rattle.program_manners.specs.TableWords.{file_named, table_files}
+use Rattle.fare_program.proofs.Causes.{none_named}
 use Rattle.fare_program.proofs.traced.of_names.Goals as goal
 
-one_later : (words : List (Bor (List ℕ))) (k : ℕ) (d : Bor (List ℕ)) → k < length words
-    → IsOneOf (file_named (get_or words k d).now) (map file_named (map (λ w. w.now) words))
-one_later [] k d within = absurd (omega (arith, within))
-one_later (word ∷ words) zero d within = inl refl
-one_later (word ∷ words) (suc k) d within = inr (one_later words k d (omega (arith, within)))
+later_at : (words : List (Bor (List ℕ))) (k : ℕ) (d : Bor (List ℕ)) → k < length words
+    → slice_get (map file_named (map (λ w. w.now) words)) k
+    ≡ Some (file_named (get_or words k d).now)
+later_at [] k d within = absurd (omega (arith, within))
+later_at (word ∷ words) zero d within = refl
+later_at (word ∷ words) (suc k) d within = later_at words k d (omega (arith, within))
+
+pub returns-in-Name : goal.returns-in-Name
+returns-in-Name c = (
+  c.in-Name.is,
+  none_named c.args.words.now.later.items (sym (c.is_empty.ensures
+      ∙ ap (λ (ws : List (Bor (List ℕ))). length ws == 0) c.as_slice.ensures.value)
+      ∙ c.if-is_empty.true),
+)
 
 pub returns-in-Name-2 : goal.returns-in-Name-2
-returns-in-Name-2 c = (c.in-Name-2.is, inl refl)
+returns-in-Name-2 c =
+    let first : 0 ≡ c.args.wrong.position = omega (arith, c.if-wrong-eq0.true) in (
+      c.in-Name-2.is,
+      subst (λ (k : ℕ). slice_get (table_files (names_of c.args.words.now)) k
+          ≡ Some c.args.words.now.first.now) first refl,
+    )
 
 pub returns-in-Name-3 : goal.returns-in-Name-3
 returns-in-Name-3 c =
@@ -21,10 +37,12 @@ returns-in-Name-3 c =
     let position = c.args.wrong.position in
     let counted = length-map words (λ (w : Bor (List ℕ)). w.now) in
     let within : position - 1 < length words =
-    omega (arith, counted, c.requires, c.if-wrong-eq0.false) in (
+    omega (arith, counted, c.requires, c.if-wrong-eq0.false) in
+    let after : suc (position - 1) ≡ position = omega (arith, c.if-wrong-eq0.false) in (
       c.in-Name-3.is,
-      inr (subst (λ (n : List ℕ). IsOneOf n (map file_named (map (λ w. w.now) words)))
-          (sym (c.of.ensures.name
-          ∙ ap (λ (w : Bor (List ℕ)). file_named w.now) c.index-word.ensures))
-          (one_later words (position - 1) c.index-word.result.now within)),
+      subst (λ (k : ℕ). slice_get (table_files (names_of c.args.words.now)) k
+          ≡ Some c.of.result.name.now) after
+          (later_at words (position - 1) c.index-word.result within
+          ∙ ap Some (sym (c.of.ensures.name
+          ∙ ap (λ (w : Bor (List ℕ)). file_named w.now) c.index-word.ensures))),
     )

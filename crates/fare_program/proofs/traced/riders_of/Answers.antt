@@ -1,5 +1,5 @@
 -- The texts of the tables name classes, or the one that has a wrong name is reported.
-use Rattle.std.proofs.Common.{◌≡◌, ◌∙◌, ℕ, Global, List, Vec, ap, arith, length, map, subst, sym}
+use Rattle.std.proofs.Common.{◌≡◌, ◌∙◌, ℕ, Global, List, Option, Vec, ap, arith, length, map, subst, sym}
 use Rattle.std.proofs.lemmas.List.{length-map}
 use Rattle.std.proofs.lemmas.Option.{slice_get_within}
 use Rattle.toml.specs.Data.{Members}
@@ -10,7 +10,12 @@ use Rattle.class_names.specs.Names.{HasClasses}
 use Rattle.class_names.specs.declared.names.WrongNames.{WrongNames}
 use Rattle.fare_program.specs.declared.fault.Fault.{Fault}
 use Rattle.fare_program.specs.declared.fault.Fault.TheVariants.{ClassName, NamedClass, NoMemory}
-use Rattle.fare_program.specs.inside.Causes.{IsClassFault, IsNamedClass}
+use Rattle.fare_program.specs.Causes.{IsTableFault}
+use Rattle.fare_program.specs.inside.Causes.{IsNamedClass}
+use Rattle.program_manners.specs.Loads.{Loaded}
+use Rattle.program_manners.specs.TableLoads.{LoadsTables}
+use Rattle.tariffs.specs.Fares.{Fares}
+use Rattle.world.specs.declared.faults.LoadFault.{LoadFault}
 use Rattle.program_manners.specs.TableViews.{names_of}
 use Rattle.program_manners.specs.TableWords.{TableNames}
 use Rattle.fare_program.proofs.traced.riders_of.Goals as goal
@@ -25,13 +30,20 @@ wrong_in texts all same wrong at =
     subst (λ (ts : List (Vec ℕ Global)). IsWrongAt (bytes_of ts) wrong) same at
 
 -- the class that is wrong is one of a text
-unplain_class : (tables : TableNames) (texts : List (List ℕ)) (wrong : WrongNames)
-    → IsWrongAt texts wrong → (fault : Fault) → IsNamedClass tables wrong.fault fault
-    → IsClassFault tables texts fault
-unplain_class tables texts wrong at ClassName is = (wrong, at, is)
-unplain_class tables texts wrong at (NamedClass line) is = ((wrong, at, is.0), is.1)
-unplain_class tables texts wrong at NoMemory is = tt
-unplain_class tables texts wrong at _ is = absurd is
+unplain_class : (tables : TableNames) (texts : List (List ℕ)) (fares : Fares)
+    (loaded after : Option (List Loaded)) (refused : Option (Option (List ℕ) × LoadFault))
+    → LoadsTables tables loaded after texts fares → (wrong : WrongNames) → IsWrongAt texts wrong
+    → (fault : Fault) → IsNamedClass tables wrong fault
+    → IsTableFault tables loaded after refused fault
+unplain_class tables texts fares loaded after refused loads wrong at ClassName is =
+    (is.1, wrong, record { texts = texts; fares = fares; loads = loads; names = at; kind = is.0 })
+unplain_class tables texts fares loaded after refused loads wrong at (NamedClass line) is = (
+  wrong,
+  record { texts = texts; fares = fares; loads = loads; names = at; kind = is.0 },
+  is.1,
+)
+unplain_class tables texts fares loaded after refused loads wrong at NoMemory is = tt
+unplain_class tables texts fares loaded after refused loads wrong at _ is = absurd is
 
 -- there is a text for each table
 pub of_texts-requires : goal.of_texts-requires
@@ -47,8 +59,8 @@ returns-in-Ok-clause-names c =
     c.deref.ensures.value c.in-Ok.ensures.classes
 
 pub returns-clause-fault : goal.returns-clause-fault
-returns-clause-fault c =
-    unplain_class (names_of c.args.words.now) _ c.in-Err.wrong
+returns-clause-fault c loaded after refused loads =
+    unplain_class (names_of c.args.words.now) _ _ loaded after refused loads c.in-Err.wrong
     (wrong_in c.args.tables.texts.items c.deref.result.now c.deref.ensures.value c.in-Err.wrong
     c.in-Err.ensures.fault) c.of_names.result c.of_names.ensures
 
