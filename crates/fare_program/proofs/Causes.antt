@@ -13,6 +13,7 @@ use Rattle.fare_program.specs.Causes.{IsTableFault, names_reported}
 use Rattle.fare_program.specs.Options.{Request}
 use Rattle.fare_program.specs.declared.fault.Fault.{Fault}
 use Rattle.fare_program.specs.declared.fault.Fault.TheVariants.{ClassName, File, Gather, Late}
+use Rattle.fare_program.specs.declared.sorted_fault.LateFault.{LateFault}
 use Rattle.fare_program.specs.declared.fault.Fault.TheVariants.{NamedClass, NoMemory, Tables, TooManyTaps}
 use Rattle.fare_program.specs.declared.fault.Fault.TheVariants.{Unopened, Unsorted, Uploads, Write}
 use Rattle.fare_program.specs.inside.Causes.{IsOfOutput, IsRightOfUploads, IsRunFailure}
@@ -42,35 +43,12 @@ among names name refused (File file) one (inr none, why) = absurd none
 among names name refused NoMemory one is = tt
 among names name refused _ one is = absurd is
 
--- ---- nothing is written before these faults
-module _ (Right : List ℕ → Type 0) (out : Option (List ℕ)) where
-  pub before_files : (names : List (List ℕ)) (refused : Option (Option (List ℕ) × LoadFault))
-      (fault : Fault) → IsFileFault names refused fault → Stops Right out out fault
-  before_files names refused (File file) is = Keeps-refl out
-  before_files names refused NoMemory is = Keeps-refl out
-  before_files names refused _ is = absurd is
-
-  pub before_run : (uploads : ℕ) (fault : Fault) → IsRunFailure uploads fault
-      → Stops Right out out fault
-  before_run uploads Uploads is = Keeps-refl out
-  before_run uploads NoMemory is = Keeps-refl out
-  before_run uploads (Gather why) is = Keeps-refl out
-  before_run uploads _ is = absurd is
-
-  pub before_classes : (tables : TableNames) (loaded loaded' : Option (List Loaded))
-      (refused : Option (Option (List ℕ) × LoadFault)) (fault : Fault)
-      → IsTableFault tables loaded loaded' refused fault → Stops Right out out fault
-  before_classes tables loaded loaded' refused (Tables why) is = Keeps-refl out
-  before_classes tables loaded loaded' refused ClassName is = Keeps-refl out
-  before_classes tables loaded loaded' refused (NamedClass line) is = Keeps-refl out
-  before_classes tables loaded loaded' refused NoMemory is = Keeps-refl out
-  before_classes tables loaded loaded' refused _ is = absurd is
-
-  pub before_sorted : (names : List (List ℕ)) (fault : Fault) → IsUnopened names fault
-      → Stops Right out out fault
-  before_sorted names (Unopened file) is = Keeps-refl out
-  before_sorted names NoMemory is = Keeps-refl out
-  before_sorted names _ is = absurd is
+-- ---- nothing is written before faults of which none is a failed write
+pub before : (Right : List ℕ → Type 0) (out : Option (List ℕ)) (Is : Fault → Type 0) → (Is Write → ⊥)
+    → (fault : Fault) → Is fault → Stops Right out out fault
+before Right out Is other Write is = absurd (other is)
+before Right out Is other (Late why) is = tt
+before Right out Is other _ is = Keeps-refl out
 
 -- ---- and each is the right one
 pub right_unopened : (names : List (List ℕ)) (known : List (Option (List ℕ))) (fault : Fault)
@@ -79,14 +57,16 @@ right_unopened names known (Unopened file) is = is
 right_unopened names known NoMemory is = tt
 right_unopened names known _ is = absurd is
 
-pub early : (settle : Bool) (uploads : ℕ) (fault : Fault) → IsRightOfUploads settle uploads fault
-    → IsLate fault → ⊥
-early settle uploads (Late why) right late = right
-early settle uploads _ right late = late
+pub of_output : (Is : Fault → Type 0) → Is Write → Is NoMemory → (fault : Fault) → IsOfOutput fault
+    → Is fault
+of_output Is write memory Write is = write
+of_output Is write memory NoMemory is = memory
+of_output Is write memory _ is = absurd is
 
-pub early_output : (fault : Fault) → IsOfOutput fault → IsLate fault → ⊥
-early_output (Late why) right late = right
-early_output _ right late = late
+pub early : (Is : Fault → Type 0) → ((why : LateFault) → Is (Late why) → ⊥) → (fault : Fault)
+    → Is fault → IsLate fault → ⊥
+early Is never (Late why) is late = never why is
+early Is never _ is late = late
 
 module _ (request : Request) (under : List ℕ → Option (List ℕ))
     (loaded loaded' : Option (List Loaded)) (refused : Option (Option (List ℕ) × LoadFault)) where

@@ -10,14 +10,8 @@ use Rattle.fare_texts.specs.declared.print_fault.PrintFault.{PrintFault}
 use Rattle.fare_texts.specs.declared.print_fault.PrintFault.TheVariants as print
 use Rattle.fare_program.specs.declared.fault.Fault.{Fault}
 use Rattle.fare_program.specs.declared.fault.Fault.TheVariants.{Late, Write}
-use Rattle.fare_program.specs.inside.Ends.{Gives, GivesIf, IfKnown, IsLate, Prints}
-use Rattle.fare_program.specs.inside.Ends.{PrintsIf, Stops}
-use Rattle.fare_program.specs.inside.Fault.{printed_as}
-
--- only a write that failed is reported so
-pub of_write : (fault : PrintFault) → printed_as fault ≡ Write → fault ≡ print.Write
-of_write print.Write is = refl
-of_write print.NoMemory is = cc
+use Rattle.fare_program.specs.inside.Ends.{Gives, GivesIf, IsLate, Stops}
+use Rattle.fare_program.specs.inside.Fault.{ended_as, printed_as}
 
 module _ (Right : List ℕ → Type 0) (out out' : Option (List ℕ)) where
   -- what a fault left, by what a write that failed left
@@ -36,54 +30,12 @@ module _ (Right : List ℕ → Type 0) (out out' : Option (List ℕ)) where
   printed print.Write Same same kept started = started refl
   printed print.NoMemory Same same kept started = kept same
 
-  -- any other fault leaves nothing
-  pub kept_by : (fault : Fault) → fault ≢ Write → (IsLate fault → ⊥) → Stops Right out out' fault
-      → Keeps out out'
-  kept_by Write other early stops = absurd (other refl)
-  kept_by (Late why) other early stops = absurd (early tt)
-  kept_by _ other early stops = stops
-
 -- what is right so is right in another way
 pub stops_by : (A B : List ℕ → Type 0) (out out' : Option (List ℕ)) (fault : Fault)
     → ((text : List ℕ) → A text → B text) → Stops A out out' fault → Stops B out out' fault
 stops_by A B out out' Write same (text, right, started) = (text, same text right, started)
 stops_by A B out out' (Late why) same stops = tt
 stops_by A B out out' _ same stops = stops
-
-pub prints_by : {T : Type 0} (A B A' B' : List ℕ → Type 0) (out out' : Option (List ℕ))
-    (r : Result T Fault) → ((text : List ℕ) → A text → B text)
-    → ((text : List ℕ) → A' text → B' text) → Prints A A' out out' r → Prints B B' out out' r
-prints_by A B A' B' out out' (Ok done) same front (text, right, written) =
-    (text, same text right, written)
-prints_by A B A' B' out out' (Err fault) same front stops = stops_by A' B' out out' fault front stops
-
--- also where something is given beside
-pub prints_if : {T : Type 0} (Given : Type 0) (A B : List ℕ → Type 0) (out out' : Option (List ℕ))
-    (r : Result T Fault) → ((text : List ℕ) → A text → B text) → Prints A A out out' r
-    → Prints B (λ text. Given → B text) out out' r
-prints_if Given A B out out' r same =
-    prints_by A B A (λ text. Given → B text) out out' r same (λ text right given. same text right)
-
--- of files of which the same is known
-pub prints_known : {T : Type 0} (Given Given' : Type 0) (known known' : List (Option (List ℕ)))
-    (A B : List (List ℕ) → List ℕ → Type 0) (out out' : Option (List ℕ)) (r : Result T Fault)
-    → (Given' → Given) → known ≡ known'
-    → ((files : List (List ℕ)) (text : List ℕ) → A files text → B files text)
-    → PrintsIf Given known A out out' r → PrintsIf Given' known' B out out' r
-prints_known Given Given' known known' A B out out' r given same shows =
-    prints_by (IfKnown known A) (IfKnown known' B) (λ text. Given → IfKnown known A text)
-    (λ text. Given' → IfKnown known' B text) out out' r
-    (λ text right files are. shows files text (right files (same ∙ are)))
-    (λ text right more files are. shows files text (right (given more) files (same ∙ are)))
-
--- what is printed, by what is known of each end of it
-pub prints_of : {T : Type 0} (A : List ℕ → Type 0) (out out' : Option (List ℕ))
-    (r : Result T Fault) → OnOk r ((text : List ℕ) × A text × Appends out out' text)
-    → IfErr r (λ fault. fault ≡ Write → (text : List ℕ) × A text × Begins out out' text)
-    → IfErr r (λ fault. fault ≢ Write → Keeps out out') → Prints A A out out' r
-prints_of A out out' (Ok done) ok started kept = ok
-prints_of A out out' (Err fault) ok started kept =
-    stopped A out out' fault (λ other late. kept other) started
 
 pub gives_by : (A B : List ℕ → Bool → Type 0) (out out' : Option (List ℕ)) (r : Result Bool Fault)
     → ((text : List ℕ) (success : Bool) → A text success → B text success) → Gives A out out' r
@@ -104,6 +56,31 @@ gives_if Given A B out out' (Err fault) same stops =
     stops_by (λ text. (success : Bool) × A text success)
     (λ text. Given → (success : Bool) × B text success)
     out out' fault (λ text right given. (right.0, same text right.0 right.1)) stops
+
+-- where less is given
+pub gives_given : (Given Given' : Type 0) (A B : List ℕ → Bool → Type 0) (out out' : Option (List ℕ))
+    (r : Result Bool Fault) → (Given' → Given)
+    → ((text : List ℕ) (success : Bool) → A text success → B text success)
+    → GivesIf Given A out out' r → GivesIf Given' B out out' r
+gives_given Given Given' A B out out' (Ok success) given same (text, right, written) =
+    (text, same text success right, written)
+gives_given Given Given' A B out out' (Err fault) given same stops =
+    stops_by (λ text. Given → (success : Bool) × A text success)
+    (λ text. Given' → (success : Bool) × B text success) out out' fault
+    (λ text right more. let it = right (given more) in (it.0, same text it.0 it.1)) stops
+
+-- a text that was printed, by what is known of each end of it
+pub gives_printed : {T : Type 0} (A : List ℕ → Type 0) (out out' : Option (List ℕ)) (Same : Type 0)
+    (r : Result T PrintFault) (success : Bool) → (Same → Keeps out out')
+    → OnOk r ((text : List ℕ) × A text × Appends out out' text)
+    → IfErr r (λ fault. fault ≡ print.Write → (text : List ℕ) × A text × Begins out out' text)
+    → IfErr r (λ fault. UnchangedUnlessWrite fault Same)
+    → Gives (λ text s. (s ≡ success) × A text) out out' (ended_as r success)
+gives_printed A out out' Same (Ok done) success same (text, right, written) started kept =
+    (text, (refl, right), written)
+gives_printed A out out' Same (Err print.Write) success same ok started kept =
+    let (text, right, front) = started refl in (text, (success, (refl, right)), front)
+gives_printed A out out' Same (Err print.NoMemory) success same ok started kept = same kept
 
 -- nothing was written before a fault that is none of a write
 pub unwritten : (Right : List ℕ → Type 0) (out : Option (List ℕ)) (fault : Fault) → fault ≢ Write

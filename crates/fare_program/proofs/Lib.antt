@@ -1,7 +1,6 @@
 pub mod Appends
 pub mod Billed
 pub mod Causes
-pub mod Counts
 pub mod Ends
 pub mod Explains
 pub mod Going

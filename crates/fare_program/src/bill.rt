@@ -11,6 +11,7 @@ ghost use Rattle.histories.specs.declared.entry.Entry.{Entry};
 
 use crate::fault::Fault;
 use crate::options::Options;
+use crate::output::ended;
 use crate::run::are_posted;
 use fare_table::FareTable;
 use histories::HashSeed;
@@ -41,10 +42,8 @@ pub(crate) fn write_billed<'a, W: Write>(
     let Ok(validators) = bill.validators.sums(alloc) else {
         return Err(Fault::NoMemory);
     };
-    match write_report(alloc, &ends, &totals, &validators, &bill.tokens, out) {
-        Ok(()) => Ok(are_posted(&ends)),
-        Err(fault) => Err(Fault::of_print(fault)),
-    }
+    let written = write_report(alloc, &ends, &totals, &validators, &bill.tokens, out);
+    ended(written, are_posted(&ends))
 }
 
 /// The number of workers does not change the report. Returns whether each file was posted whole.

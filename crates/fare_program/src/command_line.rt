@@ -1,12 +1,9 @@
 //! The command line.
 ghost use Rattle.std.specs.Prelude.{◌≡◌, ◌≤◌, IfOk, map, string_bytes};
 ghost use Rattle.clap.specs.Words.{FailsBy, app_of, fault_of, found_of, matches_of, rows_of};
-ghost use Rattle.clap.specs.Words.{with_rule};
-ghost use Rattle.fare_program.specs.Options.{explain_flag, file_argument, json_flag, ledger_flag};
-ghost use Rattle.fare_program.specs.Options.{form_of, format_option, made_by_option, traced_flag};
-ghost use Rattle.fare_program.specs.Options.{request_by, is_given, program, tokens_option};
+ghost use Rattle.fare_program.specs.Options.{form_of, is_given, program, request_by, text_rules};
+ghost use Rattle.fare_program.specs.Options.{with_rules};
 ghost use Rattle.fare_program.specs.inside.Options.{request_of};
-ghost use Rattle.program_manners.specs.Words.{list_option, null_flag};
 
 use crate::options::Options;
 use clap::{ArgAction, ArgMatches, Command, Error};
@@ -144,10 +141,7 @@ fn command<'a>(alloc: Global) -> Result<Command<'a>, AllocError>
 /// The command line with the options of the ledger, of the explained statement and of a part, the
 /// list of files and the files.
 fn with_texts<'a>(alloc: Global, command: Command<'a>) -> Result<Command<'a>, AllocError>
-    ensures { IfOk result (λ more. app_of more ≡ with_rule (with_rule (with_rule (with_rule
-        (with_rule (with_rule (with_rule (with_rule (with_rule (with_rule (app_of command.entry)
-        ledger_flag) explain_flag) json_flag) traced_flag) tokens_option) made_by_option)
-        format_option) list_option) null_flag) file_argument) }
+    ensures { IfOk result (λ more. app_of more ≡ with_rules (app_of command.entry) text_rules) }
 {
     let ledger = flag_arg(alloc, "ledger", LEDGER_HELP);
     let explain = flag_arg(alloc, "explain", EXPLAIN_HELP);

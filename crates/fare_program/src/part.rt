@@ -4,7 +4,7 @@ ghost use Rattle.histories.specs.declared.entry.Entry.{Entry};
 ghost use Rattle.settlement.specs.Bills.{IsBillOf};
 ghost use Rattle.fare_program.specs.Causes.{IsRightOfSorted};
 ghost use Rattle.fare_program.specs.TokenRanges.{range_fault};
-ghost use Rattle.fare_program.specs.inside.Ends.{Prints, PrintsPart};
+ghost use Rattle.fare_program.specs.inside.Ends.{Gives, GivesPart};
 ghost use Rattle.fare_program.specs.inside.Parts.{IsReportOf};
 ghost use Rattle.fare_program.specs.inside.Options.{request_of};
 
@@ -23,12 +23,11 @@ use std::io::Write;
 use std::random::RandomSource;
 
 /// Memory that is refused after the first lines is reported as late.
-fn write_made<'a, W: Write>(alloc: Global, made: PartBill, out: &mut W) -> Result<(), Fault<'a>>
+fn write_made<'a, W: Write>(alloc: Global, made: PartBill, out: &mut W) -> Result<bool, Fault<'a>>
     requires { (history : List Entry) × IsBillOf history made.billed.bill
         × (length history ≤ 2 ^ 95) }
     ensures ends { (history : List Entry) → IsBillOf history made.billed.bill
-        → Prints (IsReportOf made history) (IsReportOf made history) (W.contents out.old)
-        (W.contents out.new) result }
+        → Gives (IsReportOf made history) (W.contents out.old) (W.contents out.new) result }
     ensures right { IfErr result (λ fault. (names : List (List ℕ)) (known : List (Option (List ℕ)))
         → IsRightOfSorted names known fault) }
 {
@@ -37,7 +36,7 @@ fn write_made<'a, W: Write>(alloc: Global, made: PartBill, out: &mut W) -> Resul
         return Err(Fault::of_print(fault));
     }
     match write_billed(alloc, billed, out) {
-        Ok(_) => Ok(()),
+        Ok(_) => Ok(true),
         Err(Fault::Write) => Err(Fault::Write),
         Err(_) => Err(Fault::Late(LateFault::NoMemory)),
     }
@@ -51,8 +50,8 @@ fn write_report<'a, R: RandomSource, F: Placed, W: Write>(
     range: TokenRange,
     files: &[F],
     out: &mut W,
-) -> Result<(), Fault<'a>>
-    ensures ends { PrintsPart false (map F.bytes files.now) table.now (W.contents out.old)
+) -> Result<bool, Fault<'a>>
+    ensures ends { GivesPart false (map F.bytes files.now) table.now (W.contents out.old)
         (W.contents out.new) result }
     ensures right { IfErr result (IsRightOfSorted (request_of options.now).files
         (map F.bytes files.now)) }
@@ -73,8 +72,8 @@ fn write_ledger<'a, F: Placed, W: Write>(
     range: TokenRange,
     files: &[F],
     out: &mut W,
-) -> Result<(), Fault<'a>>
-    ensures ends { PrintsPart true (map F.bytes files.now) table.now (W.contents out.old)
+) -> Result<bool, Fault<'a>>
+    ensures ends { GivesPart true (map F.bytes files.now) table.now (W.contents out.old)
         (W.contents out.new) result }
     ensures right { IfErr result (IsRightOfSorted (request_of options.now).files
         (map F.bytes files.now)) }
@@ -88,7 +87,7 @@ fn write_ledger<'a, F: Placed, W: Write>(
         return Err(Fault::of_print(fault));
     }
     match write_part_ledger(alloc, table, files, from, below, &spans, out) {
-        Ok(()) => Ok(()),
+        Ok(()) => Ok(true),
         Err(BillFault::Write) => Err(Fault::Write),
         Err(fault) => Err(Fault::Late(LateFault::of_bill(fault))),
     }
@@ -104,9 +103,9 @@ pub(crate) fn charge_part<'a, R: RandomSource, F: Placed, W: Write>(
     word: &str,
     files: &[F],
     out: &mut W,
-) -> Result<(), Fault<'a>>
+) -> Result<bool, Fault<'a>>
     requires { range_fault word.now ≡ None }
-    ensures ends { PrintsPart (request_of options.now).ledger (map F.bytes files.now) table.now
+    ensures ends { GivesPart (request_of options.now).ledger (map F.bytes files.now) table.now
         (W.contents out.old) (W.contents out.new) result }
     ensures right { IfErr result (IsRightOfSorted (request_of options.now).files
         (map F.bytes files.now)) }

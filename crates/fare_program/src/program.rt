@@ -273,10 +273,7 @@ fn work<'a, R: Threads + Wait + RandomSource + Sync, D: Disk + Sync, S: Source, 
     };
     if options.sorted {
         let Some(table) = &table else { unreachable!() };
-        if let Err(fault) = work_sorted(rt, alloc, disk, options, table, token, out) {
-            return Err(fault);
-        }
-        return Ok(true);
+        return work_sorted(rt, alloc, disk, options, table, token, out);
     }
     match charge_prefetched(rt, alloc, disk, options, &table, token, source, out) {
         Some(ended) => ended,

@@ -8,6 +8,7 @@ ghost use Rattle.fare_program.specs.inside.Settling.{Settles};
 use crate::bill::write_bill;
 use crate::fault::Fault;
 use crate::options::Options;
+use crate::output::ended;
 use crate::run::are_posted;
 use crate::settled_token::write_token;
 use fare_table::FareTable;
@@ -45,10 +46,8 @@ fn write_ledger<'a, R: Threads + Sync, U: Uploads + Sync, W: Write>(
     let SettledTaps { ends, lists } = made;
     // proof: the taps, posted in their order, are the settled history
     laws::posted_taps();
-    match write_settled_ledger(rt, alloc, table, &lists, options.workers, out) {
-        Ok(()) => Ok(are_posted(&ends)),
-        Err(fault) => Err(Fault::of_print(fault)),
-    }
+    let written = write_settled_ledger(rt, alloc, table, &lists, options.workers, out);
+    ended(written, are_posted(&ends))
 }
 
 /// Settles the uploads, and writes what is requested. Returns whether each file was posted whole.

@@ -7,12 +7,13 @@ ghost use Rattle.fare_program.specs.Parts.{ShowsSorted};
 ghost use Rattle.fare_program.specs.TokenRanges.{range_fault};
 ghost use Rattle.fare_program.specs.Ends.{AreOfBytes};
 ghost use Rattle.fare_program.specs.Program.{IsTokenIn};
-ghost use Rattle.fare_program.specs.inside.Ends.{IsUnopened, PrintsIf, PrintsSettled};
+ghost use Rattle.fare_program.specs.inside.Ends.{GivesKnown, GivesSettled, IsUnopened};
 ghost use Rattle.fare_program.specs.inside.Options.{request_of};
 
 use crate::bill::write_billed;
 use crate::fault::Fault;
 use crate::options::Options;
+use crate::output::ended;
 use crate::part::charge_part;
 use crate::remarks::note_taps;
 use crate::settled_token::write_text;
@@ -63,9 +64,9 @@ fn write_report<'a, R: Threads + RandomSource + Sync, F: Placed + Sync, W: Write
     table: &FareTable,
     files: &[F],
     out: &mut W,
-) -> Result<(), Fault<'a>>
+) -> Result<bool, Fault<'a>>
     requires { (request_of options.now).ledger ≡ false }
-    ensures ends { PrintsSettled (request_of options.now) (map F.bytes files.now) table.now None
+    ensures ends { GivesSettled (request_of options.now) (map F.bytes files.now) table.now None
         (W.contents out.old) (W.contents out.new) result }
     ensures right { IfErr result (IsRightOfSorted (request_of options.now).files
         (map F.bytes files.now)) }
@@ -74,10 +75,7 @@ fn write_report<'a, R: Threads + RandomSource + Sync, F: Placed + Sync, W: Write
         return Err(Fault::NoMemory);
     };
     match sorted_bill(rt, alloc, table, seed, files, options.workers) {
-        Ok(made) => match write_billed(alloc, made, out) {
-            Ok(_) => Ok(()),
-            Err(fault) => Err(fault),
-        },
+        Ok(made) => write_billed(alloc, made, out),
         Err(fault) => Err(Fault::of_bill(&options.files, fault)),
     }
 }
@@ -89,15 +87,15 @@ fn write_ledger<'a, R: Threads + Sync, F: Placed + Sync, W: Write>(
     table: &FareTable,
     files: &[F],
     out: &mut W,
-) -> Result<(), Fault<'a>>
+) -> Result<bool, Fault<'a>>
     requires { (request_of options.now).ledger ≡ true }
-    ensures ends { PrintsSettled (request_of options.now) (map F.bytes files.now) table.now None
+    ensures ends { GivesSettled (request_of options.now) (map F.bytes files.now) table.now None
         (W.contents out.old) (W.contents out.new) result }
     ensures right { IfErr result (IsRightOfSorted (request_of options.now).files
         (map F.bytes files.now)) }
 {
     match write_sorted_ledger(rt, alloc, table, files, out, options.workers) {
-        Ok(_ends) => Ok(()),
+        Ok(_ends) => Ok(true),
         Err(fault) => Err(Fault::of_bill(&options.files, fault)),
     }
 }
@@ -112,8 +110,8 @@ fn write_token<'a, R: Threads + Sync, D: Disk, F: Placed + Sync, W: Write>(
     token: Token,
     files: &[F],
     out: &mut W,
-) -> Result<(), Fault<'a>>
-    ensures ends { PrintsSettled (request_of options.now) (map F.bytes files.now) table.now
+) -> Result<bool, Fault<'a>>
+    ensures ends { GivesSettled (request_of options.now) (map F.bytes files.now) table.now
         (Some token) (W.contents out.old) (W.contents out.new) result }
     ensures right { IfErr result (IsRightOfSorted (request_of options.now).files
         (map F.bytes files.now)) }
@@ -123,7 +121,7 @@ fn write_token<'a, R: Threads + Sync, D: Disk, F: Placed + Sync, W: Write>(
             // proof: the taps, posted alone, are the token's entries in the settled history
             laws::posted_taps();
             note_taps(disk, &made.taps);
-            write_text(alloc, options, table, token, &made.taps, out)
+            ended(write_text(alloc, options, table, token, &made.taps, out), true)
         }
         Err(fault) => Err(Fault::of_bill(&options.files, fault)),
     }
@@ -138,8 +136,8 @@ fn charge_sorted<'a, R: Threads + RandomSource + Sync, D: Disk, F: Placed + Sync
     token: Option<Token>,
     files: &[F],
     out: &mut W,
-) -> Result<(), Fault<'a>>
-    ensures ends { PrintsSettled (request_of options.now) (map F.bytes files.now) table.now token
+) -> Result<bool, Fault<'a>>
+    ensures ends { GivesSettled (request_of options.now) (map F.bytes files.now) table.now token
         (W.contents out.old) (W.contents out.new) result }
     ensures right { IfErr result (IsRightOfSorted (request_of options.now).files
         (map F.bytes files.now)) }
@@ -161,11 +159,11 @@ pub(crate) fn work_sorted<'a, R: Threads + RandomSource + Sync, D: Disk, W: Writ
     table: &FareTable,
     token: Option<Token>,
     out: &mut W,
-) -> Result<(), Fault<'a>>
+) -> Result<bool, Fault<'a>>
     requires word { option_and_then range_fault (request_of options.now).tokens ≡ None }
     requires token { IsTokenIn (request_of options.now).token token }
     requires sorted { (request_of options.now).sorted ≡ true }
-    ensures ends { PrintsIf (AreOfBytes (request_of options.now) (D.bytes_under disk.now))
+    ensures ends { GivesKnown (AreOfBytes (request_of options.now) (D.bytes_under disk.now))
         (map (D.bytes_under disk.now) (request_of options.now).files) (λ files text.
         ShowsSorted (request_of options.now) table.now files token text true) (W.contents out.old)
         (W.contents out.new) result }

@@ -41,36 +41,29 @@ Gives Right out out' (Ok success) = (text : List ℕ) × Right text success × A
 Gives Right out out' (Err fault) =
     Stops (λ text. (success : Bool) × Right text success) out out' fault
 
--- A right text is written whole, unless a fault stops it. Of a text of which a prefix was written this
--- is known (`Front`).
-abbrev pub Prints : {A : Type 0} → (List ℕ → Type 0) → (List ℕ → Type 0) → Option (List ℕ)
-    → Option (List ℕ) → Result A Fault → Type 0
-Prints Right Front out out' (Ok done) = (text : List ℕ) × Right text × Appends out out' text
-Prints Right Front out out' (Err fault) = Stops Front out out' fault
-
 -- what is right of files of which this is known
 abbrev pub IfKnown : List (Option (List ℕ)) → (List (List ℕ) → List ℕ → Type 0) → List ℕ → Type 0
 IfKnown known Right text = (files : List (List ℕ)) → known ≡ map Some files → Right files text
 
--- Such a text is printed. That of which a prefix was written is right if this is given.
-abbrev pub PrintsIf : {A : Type 0} → Type 0 → List (Option (List ℕ))
-    → (List (List ℕ) → List ℕ → Type 0) → Option (List ℕ) → Option (List ℕ)
-    → Result A Fault → Type 0
-PrintsIf Given known Right =
-    Prints (IfKnown known Right) (λ text. Given → IfKnown known Right text)
+-- A text of sorted files of which this is known is written whole, and succeeds, unless a fault stops
+-- it. The text of which a prefix was written is right if this is given.
+abbrev pub GivesKnown : Type 0 → List (Option (List ℕ)) → (List (List ℕ) → List ℕ → Type 0)
+    → Option (List ℕ) → Option (List ℕ) → Result Bool Fault → Type 0
+GivesKnown Given known Right =
+    GivesIf Given (λ text success. (success ≡ true) × IfKnown known Right text)
 
--- What is requested of settled files is printed. A prefix of the ledger of all tokens is one of the
--- right text if what is known of the files is bytes.
-abbrev pub PrintsSettled : {A : Type 0} → Request → List (Option (List ℕ)) → Fares → Option Token
-    → Option (List ℕ) → Option (List ℕ) → Result A Fault → Type 0
-PrintsSettled request known fares token =
-    PrintsIf (request.ledger ≡ true → token ≡ None → KnownAreBytes known) known
+-- So is what is requested of settled files. A prefix of the ledger of all tokens is one of the right
+-- text if what is known of the files is bytes.
+abbrev pub GivesSettled : Request → List (Option (List ℕ)) → Fares → Option Token
+    → Option (List ℕ) → Option (List ℕ) → Result Bool Fault → Type 0
+GivesSettled request known fares token =
+    GivesKnown (request.ledger ≡ true → token ≡ None → KnownAreBytes known) known
     (λ files text. ShowsSettled request fares files token text true)
 
--- The text of a part is printed. Nothing is said of a prefix of its ledger.
-abbrev pub PrintsPart : {A : Type 0} → Bool → List (Option (List ℕ)) → Fares
-    → Option (List ℕ) → Option (List ℕ) → Result A Fault → Type 0
-PrintsPart ledger known fares = PrintsIf (ledger ≡ false) known (IsPartText ledger fares)
+-- So is the text of a part. Nothing is said of a prefix of its ledger.
+abbrev pub GivesPart : Bool → List (Option (List ℕ)) → Fares → Option (List ℕ) → Option (List ℕ)
+    → Result Bool Fault → Type 0
+GivesPart ledger known fares = GivesKnown (ledger ≡ false) known (IsPartText ledger fares)
 
 -- a sorted file of one of these names was not opened, or an allocation failed
 abbrev pub IsUnopened : List (List ℕ) → Fault → Type 0

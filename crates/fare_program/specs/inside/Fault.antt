@@ -1,5 +1,5 @@
 -- Fault: what private functions alone cite.
-use Rattle.std.specs.Prelude.{None, Option}
+use Rattle.std.specs.Prelude.{Bool, Err, None, Ok, Option, Result}
 use Rattle.program_manners.specs.declared.output.WriteEnd.{WriteEnd}
 use Rattle.fare_texts.specs.declared.print_fault.PrintFault.{PrintFault}
 use Rattle.fare_texts.specs.declared.print_fault.PrintFault.TheVariants as print
@@ -10,6 +10,11 @@ use Rattle.fare_program.specs.declared.fault.Fault.TheVariants.{NoMemory, Write}
 abbrev pub printed_as : PrintFault → Fault
 printed_as print.Write = Write
 printed_as print.NoMemory = NoMemory
+
+-- what the writing of a text comes to, of uploads that are whole or not
+abbrev pub ended_as : {A : Type 0} → Result A PrintFault → Bool → Result Bool Fault
+ended_as (Ok done) success = Ok success
+ended_as (Err fault) success = Err (printed_as fault)
 
 -- What is reported of a fault of the output that remembers this of its writes: if it remembers none
 -- that failed, a write is reported as refused memory.

@@ -1,5 +1,6 @@
 use Rattle.std.proofs.Common.{◌≡◌, ◌∙◌, ap, arith, map, refl}
 use Rattle.std.proofs.KnownBytes.{Keeps-refl}
+use Rattle.std.proofs.lemmas.Result.{IfErr-weaker, on_ok_weaker}
 use Rattle.histories.specs.Sums.{Sums, sums, sums_of}
 use Rattle.histories.specs.Shown.{validator_sum}
 use Rattle.histories.specs.SumsByKey.{sums_by_validator}
@@ -7,7 +8,8 @@ use Rattle.histories.specs.TalliesByKey.{HasRoom}
 use Rattle.histories.proofs.SumsLemmas.{sums-taps}
 use Rattle.report_texts.specs.Report.{report}
 use Rattle.tap_views.specs.UploadEnds.{are_posted}
-use Rattle.fare_program.proofs.Ends.{printed}
+use Rattle.fare_program.specs.inside.Fault.{ended_as}
+use Rattle.fare_program.proofs.Ends.{gives_by, gives_printed}
 use Rattle.fare_program.proofs.bill.write_billed.Goals as goal
 
 pub totals-totals-requires : goal.totals-totals-requires
@@ -22,42 +24,27 @@ sums-requires g c =
     let (history, is, few) = c.requires in
     (history, is.counts.validators, omega (arith, few))
 
-pub returns-in-Ok-write_report-clause-ends : goal.returns-in-Ok-write_report-clause-ends
-returns-in-Ok-write_report-clause-ends g c = (
-  report c.deref.result.now (sums_of c.totals-totals.result) (map validator_sum c.deref-2.result.now)
-      c.args.made.bill.tokens,
-  (
-    c.are_posted.ensures ∙ ap are_posted c.deref-in-Ok-write_report.ensures.value,
-    λ history is.
-        let one : sums_of c.totals-totals.result ≡ sums history =
-        c.totals-totals.ensures ∙ is.counts.totals in
-        let two : map validator_sum c.deref-2.result.now ≡ sums_by_validator history =
-        ap (map validator_sum) c.deref-2.ensures.value
-        ∙ c.in-Ok.ensures history is.counts.validators in
-        λ i. report (c.deref.ensures.value i) (one i) (two i) (is.tokens i),
-  ),
-  c.in-Ok-write_report.ensures.ok,
-)
-
 pub returns-clause-ends : goal.returns-clause-ends
-returns-clause-ends g c = rw c.of_print.ensures
-    (printed _ _ _ c.in-Err.fault _ c.in-Err.ensures.fault
+returns-clause-ends g c =
+    let text = report c.deref.result.now (sums_of c.totals-totals.result)
+    (map validator_sum c.deref-2.result.now) c.args.made.bill.tokens in
+    let written = c.write_report-written.result in
+    rw c.ended.ensures.ended
+    (gives_by (λ shown success. (success ≡ c.are_posted.result) × (shown ≡ text)) _ _ _
+    (ended_as written c.are_posted.result)
+    (λ shown success is. (
+      is.0 ∙ c.are_posted.ensures ∙ ap are_posted c.deref-3.ensures.value,
+      λ history bill.
+          let one : sums_of c.totals-totals.result ≡ sums history =
+          c.totals-totals.ensures ∙ bill.counts.totals in
+          let two : map validator_sum c.deref-2.result.now ≡ sums_by_validator history =
+          ap (map validator_sum) c.deref-2.ensures.value
+          ∙ c.in-Ok.ensures history bill.counts.validators in
+          is.1 ∙ (λ i. report (c.deref.ensures.value i) (one i) (two i) (bill.tokens i)),
+    ))
+    (gives_printed (λ shown. shown ≡ text) _ _ _ written c.are_posted.result
     (λ same. rw same (Keeps-refl _))
-    (λ write. (
-      report c.deref.result.now (sums_of c.totals-totals.result)
-          (map validator_sum c.deref-2.result.now) c.args.made.bill.tokens,
-      (
-        are_posted c.args.made.ends.items,
-        (
-          refl,
-          λ history is.
-              let one : sums_of c.totals-totals.result ≡ sums history =
-              c.totals-totals.ensures ∙ is.counts.totals in
-              let two : map validator_sum c.deref-2.result.now ≡ sums_by_validator history =
-              ap (map validator_sum) c.deref-2.ensures.value
-              ∙ c.in-Ok.ensures history is.counts.validators in
-              λ i. report (c.deref.ensures.value i) (one i) (two i) (is.tokens i),
-        ),
-      ),
-      c.in-Err.ensures.started write,
-    )))
+    (on_ok_weaker written (λ all. (text, refl, all)) c.write_report-written.ensures.ok)
+    (IfErr-weaker written _ _ (λ fault started write. (text, refl, started write))
+    c.write_report-written.ensures.started)
+    c.write_report-written.ensures.fault))

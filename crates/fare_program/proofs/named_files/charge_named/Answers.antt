@@ -2,8 +2,9 @@ use Rattle.std.proofs.Common.{◌≡◌, ◌<◌, Bor, List, ℕ, [], arith, ap,
 use Rattle.std.proofs.lemmas.Result.{IfErr-weaker}
 use Rattle.tariffs.specs.Fares.{Fares}
 use Rattle.fare_program.specs.Program.{ShowsRequest}
+use Rattle.fare_program.specs.inside.Causes.{IsOfOutput, IsRightOfUploads}
 use Rattle.fare_program.specs.inside.Options.{request_of}
-use Rattle.fare_program.proofs.Causes.{early, early_output}
+use Rattle.fare_program.proofs.Causes.{early}
 use Rattle.fare_program.proofs.Ends.{gives_by}
 use Rattle.fare_program.proofs.PostedTexts.{settled_request}
 use Rattle.fare_program.proofs.Prefetched.{drawn_prefetched, settled_prefetched}
@@ -56,8 +57,10 @@ returns-clause-ends g c =
 
 pub returns-then-options-clause-early : goal.returns-then-options-clause-early
 returns-then-options-clause-early g c =
-    IfErr-weaker c.charge_settled.result _ _ early_output c.charge_settled.ensures.output
+    IfErr-weaker c.charge_settled.result _ _
+    (early IsOfOutput (λ why late. late)) c.charge_settled.ensures.output
 
 pub returns-clause-early : goal.returns-clause-early
 returns-clause-early g c =
-    IfErr-weaker c.charge_provided.result _ _ (early _ _) c.charge_provided.ensures.right
+    IfErr-weaker c.charge_provided.result _ _ 
+    (early (IsRightOfUploads _ _) (λ why late. late)) c.charge_provided.ensures.right

@@ -17,18 +17,21 @@ returns-in-Ok-write_part_ledger-clause-ends g c =
     let spans = c.in-Ok.spans.items in
     let (body, part, written) = c.in-Ok-write_part_ledger.ensures.ok in (
       part_head spans ++ body,
-      λ all are.
-          let (lists, history, of, over) = part all are in
-          record {
-            spans = spans;
-            lists = lists;
-            history = history;
-            part = subst (λ (s : List FileSpan). IsPartOf c.args.table.now all s lists history)
-                c.deref-3.ensures.value of;
-            body = body;
-            shows = over;
-            whole = refl;
-          },
+      (
+        refl,
+        λ all are.
+            let (lists, history, of, over) = part all are in
+            record {
+              spans = spans;
+              lists = lists;
+              history = history;
+              part = subst (λ (s : List FileSpan). IsPartOf c.args.table.now all s lists history)
+                  c.deref-3.ensures.value of;
+              body = body;
+              shows = over;
+              whole = refl;
+            },
+      ),
       Appends-trans old mid new (part_head spans) body
           (subst (λ (s : List FileSpan). Appends old mid (part_head s)) c.deref-2.ensures.value
           c.in_default.ensures.ok) written,

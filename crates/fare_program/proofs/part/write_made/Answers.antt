@@ -1,4 +1,4 @@
-use Rattle.std.proofs.Common.{◌++◌, List, ap, refl, subst}
+use Rattle.std.proofs.Common.{◌++◌, List, ap, refl, subst, true}
 use Rattle.std.proofs.KnownBytes.{Appends-trans, Keeps-refl}
 use Rattle.std.specs.Io.KnownBytes.{Appends}
 use Rattle.fare_texts.proofs.Beginnings.{begins_after, begins_front}
@@ -18,7 +18,7 @@ returns-in-Err-clause-ends g c history is =
     (λ same. rw same (Keeps-refl _))
     (λ write. (
       part_head made.spans.items ++ report_over made.billed.ends.items history,
-      refl,
+      (true, (refl, refl)),
       begins_front old new (part_head made.spans.items) _
           (subst (λ (spans : List FileSpan). Begins old new (part_head spans))
           c.deref.ensures.value (c.in-Err.ensures.started write)),
@@ -32,7 +32,7 @@ returns-in-Ok-clause-ends g c history is =
     let head = part_head c.args.made.spans.items in
     let (text, (success, report), written) = c.in-Ok.ensures.ends in (
       head ++ text,
-      ap (λ body. head ++ body) (report history is),
+      (refl, ap (λ body. head ++ body) (report history is)),
       Appends-trans old mid new head text
           (subst (λ (spans : List FileSpan). Appends old mid (part_head spans))
           c.deref.ensures.value c.in_default.ensures.ok) written,
@@ -47,7 +47,7 @@ returns-in-Err-Write-clause-ends g c history is =
     let (text, (success, (succeeded, report)), started) = started_of _ _ _ _
     c.in-Err-Write.field-0-is c.in-Err-Write.ensures.ends in (
       head ++ text,
-      ap (λ body. head ++ body) (report history is),
+      (true, (refl, ap (λ body. head ++ body) (report history is))),
       begins_after old mid new head text
           (subst (λ (spans : List FileSpan). Appends old mid (part_head spans))
           c.deref.ensures.value c.in_default.ensures.ok) started,

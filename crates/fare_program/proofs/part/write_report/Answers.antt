@@ -2,25 +2,28 @@ use Rattle.std.proofs.Common.{ap, map}
 use Rattle.std.proofs.lemmas.Result.{IfErr-weaker}
 use Rattle.fare_program.specs.inside.Options.{request_of}
 use Rattle.fare_program.specs.Parts.{report_over}
-use Rattle.fare_program.proofs.Ends.{prints_if, unwritten}
+use Rattle.fare_program.proofs.Ends.{gives_if, unwritten}
 use Rattle.fare_program.proofs.part.write_report.Goals as goal
 
 pub returns-in-Ok-part_bill-clause-ends : goal.returns-in-Ok-part_bill-clause-ends
 returns-in-Ok-part_bill-clause-ends g c =
     let (history, is, few, part) = c.in-Ok-part_bill.ensures.billed in
     let made = c.in-Ok-part_bill.made in
-    prints_if _ _ _ _ _ c.write_made.result
-    (λ text right all are.
-    let (lists, of, ended) = part all are in
-    record {
-      spans = made.spans.items;
-      lists = lists;
-      history = history;
-      part = of;
-      body = report_over made.billed.ends.items history;
-      shows = ap (λ ends. report_over ends history) ended;
-      whole = right;
-    })
+    gives_if _ _ _ _ _ c.write_made.result
+    (λ text success right. (
+      right.0,
+      λ all are.
+          let (lists, of, ended) = part all are in
+          record {
+            spans = made.spans.items;
+            lists = lists;
+            history = history;
+            part = of;
+            body = report_over made.billed.ends.items history;
+            shows = ap (λ ends. report_over ends history) ended;
+            whole = right.1;
+          },
+    ))
     (c.write_made.ensures.ends history is)
 
 pub returns-in-Ok-part_bill-clause-right : goal.returns-in-Ok-part_bill-clause-right

@@ -6,13 +6,13 @@ use Rattle.std.proofs.KnownBytes.{Appends-kept, Keeps-refl}
 use Rattle.clap.specs.Words.{IsAmong, Text, fault_of, kind_of}
 use Rattle.clap.specs.declared.error.kind.ErrorKind.{ErrorKind}
 use Rattle.fare_program.specs.Causes.{IsRightFault}
-use Rattle.fare_program.specs.Ends.{AreOfBytes, Did, EndsCommand, HasFailed, HasFinished, Leaves}
+use Rattle.fare_program.specs.Ends.{AreOfBytes, Did, Ends, EndsCommand, HasFailed, HasFinished}
+use Rattle.fare_program.specs.Ends.{Leaves}
 use Rattle.fare_program.specs.inside.Options.{request_of}
 use Rattle.fare_texts.proofs.Beginnings.{begins_whole}
 use Rattle.fare_program.specs.Fault.{fault_text}
-use Rattle.fare_program.specs.Options.{AsksForText, Request, program}
+use Rattle.fare_program.specs.Options.{AsksForText, Parses, Request, program, request_by}
 use Rattle.fare_program.specs.Program.{Does}
-use Rattle.fare_program.specs.Usage.{is_usable}
 use Rattle.fare_program.specs.declared.fault.Fault.{Fault}
 use Rattle.fare_program.specs.declared.fault.Fault.TheVariants.{Late, NoMemory, Write}
 use Rattle.fare_program.specs.inside.Ends.{Stops}
@@ -39,30 +39,39 @@ write_remembered None Write write none = cc
 write_remembered None fault write none = cc
 
 module _ (request : Request) (did : Did) where
-  abbrev Right : Fault → Type 0
-  Right fault = IsRightFault request did.under did.loaded did.loaded' did.refused fault
+  abbrev RightFault : Fault → Type 0
+  RightFault fault = IsRightFault request did.under did.loaded did.loaded' did.refused fault
 
-  right_remembered : (end : Option WriteEnd) (fault : Fault) → Right fault
-      → Right (as_remembered end fault)
+  right_remembered : (end : Option WriteEnd) (fault : Fault) → RightFault fault
+      → RightFault (as_remembered end fault)
   right_remembered (Some why) fault right = right
   right_remembered None Write right = tt
   right_remembered None fault right = right
 
-  abbrev Asked : List ℕ → Type 0
-  Asked text = AreOfBytes request did.under → (success : Bool)
+  abbrev Requested : List ℕ → Type 0
+  Requested text = AreOfBytes request did.under → (success : Bool)
       × Does request did.under did.origin did.loaded did.loaded' text success
 
-  left_by : (fault : Fault) → Stops Asked did.out did.out' fault → Leaves request did fault
+  left_by : (fault : Fault) → Stops Requested did.out did.out' fault → Leaves request did fault
   left_by Write stops = stops
   left_by NoMemory stops = inl stops
   left_by (Late why) stops = tt
   left_by _ stops = stops
 
   left_remembered : (end : Option WriteEnd) (fault : Fault)
-      → Stops Asked did.out did.out' fault → Leaves request did (as_remembered end fault)
+      → Stops Requested did.out did.out' fault → Leaves request did (as_remembered end fault)
   left_remembered (Some why) fault stops = left_by fault stops
   left_remembered None Write stops = inr stops
   left_remembered None fault stops = left_by fault stops
+
+-- what words do that are a command line
+ends_by : (words : List Text) (did : Did) (status workers shards : ℕ) (request : Request)
+    → request ≡ request_by workers shards words → Parses words → EndsCommand request did status
+    → Ends words did status
+ends_by words did status workers shards request is parses ends = record {
+  command = λ _. (workers, shards, subst (λ (r : Request). EndsCommand r did status) is ends);
+  answer = λ other. absurd (other parses);
+}
 
 -- ---- words that are not read, or are no command line
 pub returns-in-Err : goal.returns-in-Err
@@ -113,23 +122,17 @@ returns-in-Err g c =
 
 -- ---- a usage error
 pub returns-in-Err-checked : goal.returns-in-Err-checked
-returns-in-Err-checked g c = record {
-  command = λ parses. (
-    c.in-Ok.options.workers,
-    c.in-Ok.options.shards,
-    record {
+returns-in-Err-checked g c =
+    ends_by _ _ _ c.in-Ok.options.workers c.in-Ok.options.shards _ c.in-Ok.ensures.request
+    c.in-Ok.ensures.kinds (record {
       done = λ zero. absurd (omega (arith, zero));
       failed = λ one. absurd (omega (arith, one));
       refused = λ two. (
-        subst (λ (request : Request). is_usable request ≡ false) c.in-Ok.ensures.request
-            c.in-Err-checked.ensures.unusable,
+        c.in-Err-checked.ensures.unusable,
         record { unloaded = refl; unwritten = Keeps-refl _ },
       );
       bounded = omega arith;
-    },
-  );
-  answer = λ other. absurd (other c.in-Ok.ensures.kinds);
-}
+    })
 
 -- ---- the whole text was written, and was flushed or not
 pub returns-in-Ok-work : goal.returns-in-Ok-work
@@ -166,7 +169,8 @@ returns-in-Ok-work g c =
       quiet = subst (λ err. Keeps (g.E.Write.contents c.args.err.now.writer)
           (g.E.Write.contents err.writer)) (sym quiet) (Keeps-refl _);
     } in
-    let ends : EndsCommand request did c.finish.result = record {
+    ends_by _ did _ c.in-Ok.options.workers c.in-Ok.options.shards request c.in-Ok.ensures.request
+    c.in-Ok.ensures.kinds (record {
       done = λ zero.
           let (success, flushed, quiet) = c.finish.ensures.success zero in
           finished true success flushed quiet;
@@ -187,16 +191,7 @@ returns-in-Ok-work g c =
       ];
       refused = λ two. absurd (omega (arith, two, c.finish.ensures.status));
       bounded = omega (arith, c.finish.ensures.status);
-    } in
-    record {
-      command = λ parses. (
-        c.in-Ok.options.workers,
-        c.in-Ok.options.shards,
-        subst (λ (asked : Request). EndsCommand asked did c.finish.result) c.in-Ok.ensures.request
-            ends,
-      );
-      answer = λ other. absurd (other c.in-Ok.ensures.kinds);
-    }
+    })
 
 -- ---- a fault
 pub returns : goal.returns
@@ -229,17 +224,10 @@ returns g c =
           (write_remembered end fault write);
       left = left_remembered request did end fault c.in-Err-work.ensures.ends;
     } in
-    record {
-      command = λ parses. (
-        c.in-Ok.options.workers,
-        c.in-Ok.options.shards,
-        subst (λ (asked : Request). EndsCommand asked did c.report.result) c.in-Ok.ensures.request
-            (record {
-              done = λ zero. absurd (omega (arith, zero, c.report.ensures.status));
-              failed = λ one. inr (inl failed);
-              refused = λ two. absurd (omega (arith, two, c.report.ensures.status));
-              bounded = omega (arith, c.report.ensures.status);
-            }),
-      );
-      answer = λ other. absurd (other c.in-Ok.ensures.kinds);
-    }
+    ends_by _ did _ c.in-Ok.options.workers c.in-Ok.options.shards request c.in-Ok.ensures.request
+    c.in-Ok.ensures.kinds (record {
+      done = λ zero. absurd (omega (arith, zero, c.report.ensures.status));
+      failed = λ one. inr (inl failed);
+      refused = λ two. absurd (omega (arith, two, c.report.ensures.status));
+      bounded = omega (arith, c.report.ensures.status);
+    })

@@ -1,12 +1,13 @@
 use Rattle.std.proofs.Common.{◌≡◌, List, None, Option, Some, is_some, refl, subst, sym, true}
 use Rattle.std.proofs.Common.{false, inr}
+use Rattle.std.proofs.lemmas.Result.{IfErr-weaker}
 use Rattle.tariffs.specs.Fares.{Fares}
 use Rattle.program_manners.specs.Loads.{Loaded}
 use Rattle.program_manners.specs.TableWords.{TableNames}
 use Rattle.fare_program.specs.Program.{LoadsTable}
 use Rattle.fare_program.specs.inside.Options.{request_of}
 use Rattle.fare_program.proofs.Causes.{right_sorted}
-use Rattle.fare_program.proofs.Ends.{gives_if, gives_kept, stops_by}
+use Rattle.fare_program.proofs.Ends.{gives_given, gives_if, gives_kept}
 use Rattle.fare_program.proofs.Usable.{dates_read, range_read, sorted_lists, sorted_settles}
 use Rattle.fare_program.proofs.Usable.{settled_table}
 use Rattle.fare_program.proofs.Works.{does_charge, does_sorted, does_traced, does_untraced}
@@ -54,39 +55,19 @@ returns-then-options-2-clause-ends g c =
     let after = g.S.FileSource.loaded c.load_table.new.source in
     let loads = subst (λ (fares : Option Fares). LoadsTable request.table before after fares)
     c.in-Some.is c.in-Ok.ensures.ok in
-    let (text, shows, written) = c.in_default-work_sorted.ensures.ends in (
-      text,
-      does_untraced request known origin before after text true c.if-options.false
-          (does_sorted request known origin before None after text true c.in-Some.table
-          c.args.token (sorted_lists request c.requires.usable c.if-options-2.true)
-          c.if-options-2.true refl loads c.requires.token shows),
-      written,
-    )
+    gives_given _ _ _ _ _ _ c.work_sorted.result (λ given. given)
+    (λ text success is. does_untraced request known origin before after text success
+    c.if-options.false (does_sorted request known origin before None after text success
+    c.in-Some.table c.args.token (sorted_lists request c.requires.usable c.if-options-2.true)
+    c.if-options-2.true is.0 loads c.requires.token is.1)) c.work_sorted.ensures.ends
 
-pub returns-in-Err-work_sorted-clause-ends : goal.returns-in-Err-work_sorted-clause-ends
-returns-in-Err-work_sorted-clause-ends g c =
-    let request = request_of c.args.options.now in
-    let known = g.D.Disk.bytes_under c.args.disk.now in
-    let origin = g.D.Disk.origin c.args.disk.now in
-    let before = g.S.FileSource.loaded c.args.source.now in
-    let after = g.S.FileSource.loaded c.load_table.new.source in
-    let loads = subst (λ (fares : Option Fares). LoadsTable request.table before after fares)
-    c.in-Some.is c.in-Ok.ensures.ok in
-    stops_by _ _ _ _ c.in-Err-work_sorted.fault
-    (λ text shows given. (
-      true,
-      does_untraced request known origin before after text true c.if-options.false
-          (does_sorted request known origin before None after text true c.in-Some.table
-          c.args.token (sorted_lists request c.requires.usable c.if-options-2.true)
-          c.if-options-2.true refl loads c.requires.token (shows given)),
-    )) c.in-Err-work_sorted.ensures.ends
-
-pub returns-in-Err-work_sorted-clause-right : goal.returns-in-Err-work_sorted-clause-right
-returns-in-Err-work_sorted-clause-right g c =
-    right_sorted (request_of c.args.options.now) (g.D.Disk.bytes_under c.args.disk.now)
+pub returns-then-options-2-clause-right : goal.returns-then-options-2-clause-right
+returns-then-options-2-clause-right g c =
+    IfErr-weaker c.work_sorted.result _ _
+    (right_sorted (request_of c.args.options.now) (g.D.Disk.bytes_under c.args.disk.now)
     (g.S.FileSource.loaded c.args.source.now) (g.S.FileSource.loaded c.load_table.new.source)
-    (g.S.FileSource.refused c.load_table.new.source) c.if-options-2.true
-    c.in-Err-work_sorted.fault c.in-Err-work_sorted.ensures.right
+    (g.S.FileSource.refused c.load_table.new.source) c.if-options-2.true)
+    c.work_sorted.ensures.right
 
 -- files that were read ahead
 pub returns-in-Some-charge_prefetched-clause-ends :

@@ -5,7 +5,7 @@ use Rattle.fare_program.specs.FilesLoaded.{LoadsFiles, names_to_load}
 use Rattle.fare_program.specs.Program.{LoadsTable}
 use Rattle.fare_program.specs.Uploads.{IsListing}
 use Rattle.fare_program.specs.inside.Options.{request_of}
-use Rattle.fare_program.proofs.Causes.{before_files, right_file}
+use Rattle.fare_program.proofs.Causes.{before, right_file}
 use Rattle.fare_program.proofs.Ends.{gives_by, gives_of}
 use Rattle.fare_program.proofs.Works.{does_charge, does_list}
 use Rattle.fare_program.proofs.program.work_by_table.Goals as goal
@@ -18,7 +18,7 @@ name_in name = name.now
 
 pub returns-in-Err-clause-ends : goal.returns-in-Err-clause-ends
 returns-in-Err-clause-ends g c loaded loads =
-    before_files _ _ _ _ c.in-Err.fault c.in-Err.ensures.fault
+    before _ _ (IsFileFault _ _) (λ write. write) c.in-Err.fault c.in-Err.ensures.fault
 
 pub returns-in-Err-clause-right : goal.returns-in-Err-clause-right
 returns-in-Err-clause-right g c loaded =

@@ -7,11 +7,11 @@ use Rattle.class_names.specs.Names.{class_by}
 use Rattle.settled_texts.specs.Ledgers.{IsTracedLedger}
 use Rattle.program_manners.specs.TableViews.{names_of}
 use Rattle.program_manners.specs.TableWords.{TableNames, wrong_word}
-use Rattle.fare_program.specs.Causes.{IsFaultOfTables, IsFileFault, names_reported}
+use Rattle.fare_program.specs.Causes.{IsFaultOfTables, IsFileFault, IsTableFault, names_reported}
 use Rattle.fare_program.specs.FilesLoaded.{LoadsFiles, names_to_load}
 use Rattle.fare_program.specs.declared.fault.Fault.TheVariants.{Tables}
 use Rattle.fare_program.specs.inside.Options.{request_of}
-use Rattle.fare_program.proofs.Causes.{before_classes, before_files, right_class, right_file}
+use Rattle.fare_program.proofs.Causes.{before, right_class, right_file}
 use Rattle.fare_program.proofs.Ends.{gives_by}
 use Rattle.fare_program.proofs.Usable.{dates_read, traced_table}
 use Rattle.fare_program.proofs.program.work_traced.Goals as goal
@@ -37,9 +37,9 @@ returns-in-Err-clause-right g c =
 
 pub returns-in-Err-riders_of-clause-ends : goal.returns-in-Err-riders_of-clause-ends
 returns-in-Err-riders_of-clause-ends g c =
-    before_classes _ _ (names_of c.in-Some.words) (g.S.FileSource.loaded c.args.source.now)
+    before _ _ (IsTableFault (names_of c.in-Some.words) (g.S.FileSource.loaded c.args.source.now)
     (g.S.FileSource.loaded c.load_tables.new.source)
-    (g.S.FileSource.refused c.load_tables.new.source) c.in-Err-riders_of.fault
+    (g.S.FileSource.refused c.load_tables.new.source)) (λ write. write) c.in-Err-riders_of.fault
     (c.in-Err-riders_of.ensures.fault _ _ _ c.in-Ok.ensures.ok)
 
 pub returns-in-Err-riders_of-clause-right : goal.returns-in-Err-riders_of-clause-right
@@ -52,7 +52,8 @@ returns-in-Err-riders_of-clause-right g c =
 
 pub returns-in-Err-load_files-clause-ends : goal.returns-in-Err-load_files-clause-ends
 returns-in-Err-load_files-clause-ends g c =
-    before_files _ _ _ _ c.in-Err-load_files.fault c.in-Err-load_files.ensures.fault
+    before _ _ (IsFileFault _ _) (λ write. write) c.in-Err-load_files.fault
+    c.in-Err-load_files.ensures.fault
 
 pub returns-in-Err-load_files-clause-right : goal.returns-in-Err-load_files-clause-right
 returns-in-Err-load_files-clause-right g c =

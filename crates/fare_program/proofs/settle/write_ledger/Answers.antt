@@ -9,7 +9,8 @@ use Rattle.fare_texts.specs.Ledger.{IsLedgerOver}
 use Rattle.settlement.specs.Posted.{HasName, posted}
 use Rattle.fare_program.specs.inside.Options.{request_of}
 use Rattle.fare_program.proofs.Billed.{shows_ledger}
-use Rattle.fare_program.proofs.Ends.{printed}
+use Rattle.fare_program.specs.inside.Fault.{ended_as}
+use Rattle.fare_program.proofs.Ends.{gives_by, gives_printed}
 use Rattle.fare_program.proofs.settle.write_ledger.Goals as goal
 
 abbrev taps_in : Vec TapFields Global → List TapFields
@@ -39,49 +40,23 @@ write_settled_ledger-requires-clause-named g c κs within =
     (sym c.deref.ensures.value)
     made.named
 
-pub returns-in-Ok-write_settled_ledger-clause-ends :
-    goal.returns-in-Ok-write_settled_ledger-clause-ends
-returns-in-Ok-write_settled_ledger-clause-ends g c =
-    let fares = c.args.table.now in
-    let (files, read, ended, made) = c.in-Ok.ensures in
-    let (text, is, written) = c.in-Ok-write_settled_ledger.ensures.ok in
-    let order = joined c.in-Ok.made.lists.items in (
-      text,
-      (
-        files,
-        read,
-        shows_ledger (request_of c.args.options.now) fares files text _ c.requires
-            (posted fares order) (c.posted_taps.ensures.history fares files order made)
-            c.in-Ok.made.ends.items ended
-            (c.are_posted.ensures ∙ ap are_posted c.deref-in-Ok-write_settled_ledger.ensures.value)
-            (subst (λ (ls : List (Vec TapFields Global)). IsLedgerOver fares
-            (posted fares (joined ls)) None text) c.deref.ensures.value is),
-      ),
-      written,
-    )
-
-pub returns-clause-ends :
-    goal.returns-clause-ends
+pub returns-clause-ends : goal.returns-clause-ends
 returns-clause-ends g c =
     let fares = c.args.table.now in
     let (files, read, ended, made) = c.in-Ok.ensures in
     let order = joined c.in-Ok.made.lists.items in
-    rw c.of_print.ensures (printed _ _ _ c.in-Err-write_settled_ledger.fault _
-    c.in-Err-write_settled_ledger.ensures.fault (λ same. rw same (Keeps-refl _))
-    (λ write.
-    let (text, is, started) = c.in-Err-write_settled_ledger.ensures.started write in (
-      text,
-      (
-        are_posted c.in-Ok.made.ends.items,
-        (
-          files,
-          read,
-          shows_ledger (request_of c.args.options.now) fares files text _ c.requires
-              (posted fares order) (c.posted_taps.ensures.history fares files order made)
-              c.in-Ok.made.ends.items ended refl
-              (subst (λ (ls : List (Vec TapFields Global)). IsLedgerOver fares
-              (posted fares (joined ls)) None text) c.deref.ensures.value is),
-        ),
-      ),
-      started,
-    )))
+    rw c.ended.ensures.ended
+    (gives_by _ _ _ _ (ended_as c.write_settled_ledger-written.result c.are_posted.result)
+    (λ text success is. (
+      files,
+      read,
+      shows_ledger (request_of c.args.options.now) fares files text success c.requires
+          (posted fares order) (c.posted_taps.ensures.history fares files order made)
+          c.in-Ok.made.ends.items ended
+          (is.0 ∙ c.are_posted.ensures ∙ ap are_posted c.deref-2.ensures.value)
+          (subst (λ (ls : List (Vec TapFields Global)). IsLedgerOver fares
+          (posted fares (joined ls)) None text) c.deref.ensures.value is.1),
+    ))
+    (gives_printed _ _ _ _ c.write_settled_ledger-written.result c.are_posted.result
+    (λ same. rw same (Keeps-refl _)) c.write_settled_ledger-written.ensures.ok
+    c.write_settled_ledger-written.ensures.started c.write_settled_ledger-written.ensures.fault))

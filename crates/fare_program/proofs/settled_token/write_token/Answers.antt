@@ -1,32 +1,10 @@
-use Rattle.std.proofs.Common.{◌∙◌, ap, refl, sym}
+use Rattle.std.proofs.Common.{◌∙◌, ap, sym}
+use Rattle.std.proofs.KnownBytes.{Keeps-refl}
 use Rattle.tap_views.specs.UploadEnds.{are_posted}
 use Rattle.settlement.specs.Posted.{posted}
-use Rattle.fare_program.proofs.Ends.{stopped}
+use Rattle.fare_program.specs.inside.Fault.{ended_as}
+use Rattle.fare_program.proofs.Ends.{gives_by, gives_printed}
 use Rattle.fare_program.proofs.settled_token.write_token.Goals as goal
-
-pub returns-in-Ok-write_text-clause-ends : goal.returns-in-Ok-write_text-clause-ends
-returns-in-Ok-write_text-clause-ends g c =
-    let fares = c.args.table.now in
-    let (files, read, ended, made) = c.in-Ok.ensures.order in
-    let (text, shows, written) = c.in-Ok-write_text.ensures.ok in
-    let history = posted fares made.order in
-    let own_is = c.posted_taps.ensures.own fares c.args.token made.order
-    ∙ ap (posted fares) (sym made.own) in (
-      text,
-      (
-        files,
-        read,
-        record {
-          history = history;
-          is_settled = c.posted_taps.ensures.history fares files made.order made.settled;
-          shows = shows files history (own_is ∙ ap (posted fares) (sym c.deref-2.ensures.value));
-          ends = c.in-Ok.made.ends.items;
-          ended = ended;
-          succeeded = c.are_posted.ensures ∙ ap are_posted c.deref-in-Ok-write_text.ensures.value;
-        },
-      ),
-      written,
-    )
 
 pub returns-clause-ends : goal.returns-clause-ends
 returns-clause-ends g c =
@@ -35,24 +13,20 @@ returns-clause-ends g c =
     let history = posted fares made.order in
     let own_is = c.posted_taps.ensures.own fares c.args.token made.order
     ∙ ap (posted fares) (sym made.own) in
-    stopped _ _ _ c.in-Err-write_text.fault (λ other late. c.in-Err-write_text.ensures.fault other)
-    (λ write.
-    let (text, shows, started) = c.in-Err-write_text.ensures.started write in (
-      text,
-      (
-        are_posted c.in-Ok.made.ends.items,
-        (
-          files,
-          read,
-          record {
-            history = history;
-            is_settled = c.posted_taps.ensures.history fares files made.order made.settled;
-            shows = shows files history (own_is ∙ ap (posted fares) (sym c.deref-2.ensures.value));
-            ends = c.in-Ok.made.ends.items;
-            ended = ended;
-            succeeded = refl;
-          },
-        ),
-      ),
-      started,
+    rw c.ended.ensures.ended
+    (gives_by _ _ _ _ (ended_as c.write_text-written.result c.are_posted.result)
+    (λ text success is. (
+      files,
+      read,
+      record {
+        history = history;
+        is_settled = c.posted_taps.ensures.history fares files made.order made.settled;
+        shows = is.1 files history (own_is ∙ ap (posted fares) (sym c.deref-2.ensures.value));
+        ends = c.in-Ok.made.ends.items;
+        ended = ended;
+        succeeded = is.0 ∙ c.are_posted.ensures ∙ ap are_posted c.deref-3.ensures.value;
+      },
     ))
+    (gives_printed _ _ _ _ c.write_text-written.result c.are_posted.result
+    (λ same. rw same (Keeps-refl _)) c.write_text-written.ensures.ok
+    c.write_text-written.ensures.started c.write_text-written.ensures.fault))

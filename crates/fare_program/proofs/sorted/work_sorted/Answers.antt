@@ -10,8 +10,8 @@ use Rattle.fare_program.specs.Settling.{ShowsSettled}
 use Rattle.fare_program.specs.TokenRanges.{range_fault}
 use Rattle.fare_program.specs.inside.Ends.{IsUnopened}
 use Rattle.fare_program.specs.inside.Options.{request_of}
-use Rattle.fare_program.proofs.Causes.{before_sorted, right_unopened}
-use Rattle.fare_program.proofs.Ends.{prints_known}
+use Rattle.fare_program.proofs.Causes.{before, right_unopened}
+use Rattle.fare_program.proofs.Ends.{gives_given}
 use Rattle.fare_program.proofs.sorted.work_sorted.Goals as goal
 
 abbrev name_in : Bor (List ℕ) → List ℕ
@@ -29,7 +29,7 @@ not_true false never = refl
 
 pub returns-in-Err-clause-ends : goal.returns-in-Err-clause-ends
 returns-in-Err-clause-ends g c =
-    before_sorted _ _ _ c.in-Err.fault c.in-Err.ensures.fault
+    before _ _ (IsUnopened _) (λ write. write) c.in-Err.fault c.in-Err.ensures.fault
 
 pub returns-in-Err-clause-right : goal.returns-in-Err-clause-right
 returns-in-Err-clause-right g c =
@@ -50,12 +50,15 @@ returns-in-Some-clause-ends g c =
     ∙ ap (λ (ns : List (Bor (List ℕ))). map (g.D.Disk.bytes_under c.args.disk.now)
     (map name_in ns)) c.deref.ensures.value in
     let named = ap (option_map name_in) c.in-Some.is in
-    prints_known _ _ _ _ _ _ _ _ c.charge_part.result
-    (λ given. not_true request.ledger (λ ledger. given.0 (ap is_some named, ledger))) opened
-    (λ files text shows. subst (λ (tokens : Option (List ℕ)). MatchOption tokens
-    (ShowsSettled request c.args.table.now files c.args.token text true)
-    (λ word. IsPartText request.ledger c.args.table.now files text)) (sym named) shows)
-    c.charge_part.ensures.ends
+    gives_given _ _ _ _ _ _ c.charge_part.result
+    (λ given. not_true request.ledger (λ ledger. given.0 (ap is_some named, ledger)))
+    (λ text success is. (
+      is.0,
+      λ files are. subst (λ (tokens : Option (List ℕ)). MatchOption tokens
+          (ShowsSettled request c.args.table.now files c.args.token text true)
+          (λ word. IsPartText request.ledger c.args.table.now files text)) (sym named)
+          (is.1 files (opened ∙ are)),
+    )) c.charge_part.ensures.ends
 
 pub returns-clause-ends : goal.returns-clause-ends
 returns-clause-ends g c =
@@ -64,11 +67,13 @@ returns-clause-ends g c =
     ∙ c.in-Ok.ensures.opened
     ∙ ap (λ (ns : List (Bor (List ℕ))). map (g.D.Disk.bytes_under c.args.disk.now)
     (map name_in ns)) c.deref.ensures.value in
-    prints_known _ _ _ _ _ _ _ _ c.charge_sorted.result
+    gives_given _ _ _ _ _ _ c.charge_sorted.result
     (λ given ledger none. subst KnownAreBytes (sym opened)
     (given.1 (c.requires.sorted, ledger, no_token request.token c.args.token none c.requires.token)))
-    opened
-    (λ files text shows. subst (λ (tokens : Option (List ℕ)). MatchOption tokens
-    (ShowsSettled request c.args.table.now files c.args.token text true)
-    (λ word. IsPartText request.ledger c.args.table.now files text))
-    (sym (ap (option_map name_in) c.in-None.is)) shows) c.charge_sorted.ensures.ends
+    (λ text success is. (
+      is.0,
+      λ files are. subst (λ (tokens : Option (List ℕ)). MatchOption tokens
+          (ShowsSettled request c.args.table.now files c.args.token text true)
+          (λ word. IsPartText request.ledger c.args.table.now files text))
+          (sym (ap (option_map name_in) c.in-None.is)) (is.1 files (opened ∙ are)),
+    )) c.charge_sorted.ensures.ends

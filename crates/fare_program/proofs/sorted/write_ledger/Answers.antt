@@ -1,4 +1,4 @@
-use Rattle.std.proofs.Common.{refl, sym}
+use Rattle.std.proofs.Common.{refl, sym, true}
 use Rattle.std.proofs.KnownBytes.{Keeps-refl}
 use Rattle.fare_program.specs.inside.Options.{request_of}
 use Rattle.fare_program.proofs.Billed.{shows_ledger}
@@ -9,11 +9,14 @@ pub returns-in-Ok-clause-ends : goal.returns-in-Ok-clause-ends
 returns-in-Ok-clause-ends g c =
     let (text, is, written) = c.in-Ok.ensures.ok in (
       text,
-      λ all are.
-          let made = is all are in
-          shows_ledger (request_of c.args.options.now) c.args.table.now all text _ c.requires
-          made.history made.is_settled c.in-Ok._ends.items (c.in-Ok.ensures.ended all are)
-          (sym c.in-Ok.ensures.posted) made.over,
+      (
+        refl,
+        λ all are.
+            let made = is all are in
+            shows_ledger (request_of c.args.options.now) c.args.table.now all text true c.requires
+            made.history made.is_settled c.in-Ok._ends.items (c.in-Ok.ensures.ended all are)
+            (sym c.in-Ok.ensures.posted) made.over,
+      ),
       written,
     )
 
@@ -27,10 +30,14 @@ returns-in-Err-clause-ends g c =
     let unwritten = c.of_bill.ensures.write write in
     let (text, is, started) = c.in-Err.ensures.started unwritten in (
       text,
-      λ given all are.
-          let made = is all are (given c.requires refl all are) in
-          let (ends, plain, success) = c.in-Err.ensures.sorted unwritten all are in
-          shows_ledger (request_of c.args.options.now) c.args.table.now all text _ c.requires
-          made.history made.is_settled ends plain (sym success) made.over,
+      λ given. (
+        true,
+        refl,
+        λ all are.
+            let made = is all are (given c.requires refl all are) in
+            let (ends, plain, success) = c.in-Err.ensures.sorted unwritten all are in
+            shows_ledger (request_of c.args.options.now) c.args.table.now all text true c.requires
+            made.history made.is_settled ends plain (sym success) made.over,
+      ),
       started,
     ))

@@ -1,7 +1,10 @@
-use Rattle.std.proofs.Common.{sym}
+use Rattle.std.proofs.Common.{◌∙◌, sym, true}
+use Rattle.std.proofs.lemmas.Result.{IfErr-weaker}
+use Rattle.fare_program.specs.Causes.{IsRightOfSorted}
 use Rattle.fare_program.specs.inside.Options.{request_of}
 use Rattle.fare_program.proofs.Billed.{shows_bill}
-use Rattle.fare_program.proofs.Ends.{stops_by, unwritten}
+use Rattle.fare_program.proofs.Causes.{of_output}
+use Rattle.fare_program.proofs.Ends.{gives_if, unwritten}
 use Rattle.fare_program.proofs.sorted.write_report.Goals as goal
 
 pub write_billed-requires : goal.write_billed-requires
@@ -9,28 +12,24 @@ write_billed-requires g c =
     let (history, is, few, settled) = c.in-Ok-sorted_bill.ensures.billed in
     (history, is, few)
 
-pub returns-in-Ok-write_billed-clause-ends : goal.returns-in-Ok-write_billed-clause-ends
-returns-in-Ok-write_billed-clause-ends g c =
+pub returns-in-Ok-sorted_bill-clause-ends : goal.returns-in-Ok-sorted_bill-clause-ends
+returns-in-Ok-sorted_bill-clause-ends g c =
     let (history, is, few, settled) = c.in-Ok-sorted_bill.ensures.billed in
     let made = c.in-Ok-sorted_bill.made in
-    let (text, (success, report), written) = c.in-Ok-write_billed.ensures.ends in (
-      text,
-      λ all are. shows_bill (request_of c.args.options.now) c.args.table.now all text _
+    gives_if _ _ _ _ _ c.write_billed.result
+    (λ text success right. (
+      right.0 ∙ c.in-Ok-sorted_bill.ensures.posted,
+      λ all are. shows_bill (request_of c.args.options.now) c.args.table.now all text true
           c.requires history (settled all are) made.ends.items
           (c.in-Ok-sorted_bill.ensures.ended all are) (sym c.in-Ok-sorted_bill.ensures.posted)
-          (report history is),
-      written,
-    )
+          (right.1 history is),
+    ))
+    c.write_billed.ensures.ends
 
-pub returns-in-Err-write_billed-clause-ends : goal.returns-in-Err-write_billed-clause-ends
-returns-in-Err-write_billed-clause-ends g c =
-    let (history, is, few, settled) = c.in-Ok-sorted_bill.ensures.billed in
-    let made = c.in-Ok-sorted_bill.made in
-    stops_by _ _ _ _ c.in-Err-write_billed.fault
-    (λ text right given all are. shows_bill (request_of c.args.options.now) c.args.table.now all
-    text _ c.requires history (settled all are) made.ends.items
-    (c.in-Ok-sorted_bill.ensures.ended all are) (sym c.in-Ok-sorted_bill.ensures.posted)
-    (right.1.1 history is)) c.in-Err-write_billed.ensures.ends
+pub returns-in-Ok-sorted_bill-clause-right : goal.returns-in-Ok-sorted_bill-clause-right
+returns-in-Ok-sorted_bill-clause-right g c =
+    IfErr-weaker c.write_billed.result _ _ (of_output (IsRightOfSorted _ _) tt tt)
+    c.write_billed.ensures.output
 
 pub returns-in-Err-clause-ends : goal.returns-in-Err-clause-ends
 returns-in-Err-clause-ends g c =
