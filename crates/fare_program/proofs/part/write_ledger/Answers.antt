@@ -2,7 +2,7 @@ use Rattle.std.proofs.Common.{◌++◌, List, refl, subst}
 use Rattle.std.specs.Io.KnownBytes.{Appends}
 use Rattle.std.proofs.KnownBytes.{Appends-trans, Keeps-refl}
 use Rattle.fare_texts.proofs.Beginnings.{begins_after}
-use Rattle.fare_texts.specs.Ledger.{head_text}
+use Rattle.fare_texts.specs.LedgerLines.{head_text}
 use Rattle.sorted_bills.specs.Parts.{IsPartOf}
 use Rattle.part_texts.specs.Heads.{part_head}
 use Rattle.sorted_taps.specs.declared.positions.FileSpan.{FileSpan}

@@ -101,3 +101,8 @@ returns-clause-ends g c =
     c.if-options.false does)
     (gives_kept _ _ _ _ c.work_by_table.result (c.in-None.ensures.none refl)
     (c.work_by_table.ensures.ends before loads))
+
+pub returns-clause-right : goal.returns-clause-right
+returns-clause-right g c =
+    IfErr-weaker c.work_by_table.result _ _
+    (λ fault right. right (g.S.FileSource.loaded c.args.source.now)) c.work_by_table.ensures.right

@@ -19,22 +19,22 @@ taps_in list = list.items
 abbrev joined : List (Vec TapFields Global) → List TapFields
 joined lists = flat_map taps_in lists
 
-pub write_settled_ledger-requires-clause-sorted : goal.write_settled_ledger-requires-clause-sorted
-write_settled_ledger-requires-clause-sorted g c κs within =
+pub write_settled_ledger-written-requires-clause-sorted : goal.write_settled_ledger-written-requires-clause-sorted
+write_settled_ledger-written-requires-clause-sorted g c κs within =
     let made = c.in-Ok.ensures.3 in
     subst (λ (ls : List (Vec TapFields Global)). IsSorted tap_cmp (joined ls))
     (sym c.deref.ensures.value)
     made.canonical.sorted
 
-pub write_settled_ledger-requires-clause-early : goal.write_settled_ledger-requires-clause-early
-write_settled_ledger-requires-clause-early g c κs within =
+pub write_settled_ledger-written-requires-clause-early : goal.write_settled_ledger-written-requires-clause-early
+write_settled_ledger-written-requires-clause-early g c κs within =
     let made = c.in-Ok.ensures.3 in
     subst (λ (ls : List (Vec TapFields Global)). AreEarly (λ (tap : TapFields). tap.moment)
     (joined ls))
     (sym c.deref.ensures.value) made.early
 
-pub write_settled_ledger-requires-clause-named : goal.write_settled_ledger-requires-clause-named
-write_settled_ledger-requires-clause-named g c κs within =
+pub write_settled_ledger-written-requires-clause-named : goal.write_settled_ledger-written-requires-clause-named
+write_settled_ledger-written-requires-clause-named g c κs within =
     let made = c.in-Ok.ensures.3 in
     subst (λ (ls : List (Vec TapFields Global)). All HasName (joined ls))
     (sym c.deref.ensures.value)

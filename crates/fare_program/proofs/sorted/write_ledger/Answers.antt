@@ -32,12 +32,14 @@ returns-in-Err-clause-ends g c =
       text,
       λ given. (
         true,
-        refl,
-        λ all are.
-            let made = is all are (given c.requires refl all are) in
-            let (ends, plain, success) = c.in-Err.ensures.sorted unwritten all are in
-            shows_ledger (request_of c.args.options.now) c.args.table.now all text true c.requires
-            made.history made.is_settled ends plain (sym success) made.over,
+        (
+          refl,
+          λ all are.
+              let made = is all are (given c.requires refl all are) in
+              let (ends, plain, success) = c.in-Err.ensures.sorted unwritten all are in
+              shows_ledger (request_of c.args.options.now) c.args.table.now all text true
+              c.requires made.history made.is_settled ends plain (sym success) made.over,
+        ),
       ),
       started,
     ))

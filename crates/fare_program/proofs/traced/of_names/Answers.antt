@@ -1,5 +1,5 @@
 -- The file of the table whose class is wrong is the one at its position.
-use Rattle.std.proofs.Common.{◌≡◌, ◌∙◌, ◌-◌, ◌<◌, ◌∷◌, [], Bor, List, Some, ℕ, ap, arith, get_or}
+use Rattle.std.proofs.Common.{◌≡◌, ◌==◌, ◌∙◌, ◌-◌, ◌<◌, ◌∷◌, [], Bor, List, Some, ℕ, ap, arith, get_or}
 use Rattle.std.proofs.Common.{length, map, refl, subst, suc, sym, zero}
 use Rattle.std.specs.Prelude.{slice_get}
 use Rattle.std.proofs.lemmas.List.{length-map}
@@ -42,7 +42,7 @@ returns-in-Name-3 c =
       c.in-Name-3.is,
       subst (λ (k : ℕ). slice_get (table_files (names_of c.args.words.now)) k
           ≡ Some c.of.result.name.now) after
-          (later_at words (position - 1) c.index-word.result within
+          (later_at words (position - 1) c.index-word.result.now within
           ∙ ap Some (sym (c.of.ensures.name
           ∙ ap (λ (w : Bor (List ℕ)). file_named w.now) c.index-word.ensures))),
     )
