@@ -121,7 +121,10 @@ fn write_token<'a, R: Threads + Sync, D: Disk, F: Placed + Sync, W: Write>(
             // proof: the taps, posted alone, are the token's entries in the settled history
             laws::posted_taps();
             note_taps(disk, &made.taps);
-            ended(write_text(alloc, options, table, token, &made.taps, out), true)
+            ended(
+                write_text(alloc, options, table, token, &made.taps, out),
+                true,
+            )
         }
         Err(fault) => Err(Fault::of_bill(&options.files, fault)),
     }

@@ -24,7 +24,7 @@ pub(crate) enum UsageError<'a> {
     Range(RangeFault),
     /// The word of a fare table has a wrong date, or lacks one.
     Date(WrongWord<'a>),
-    /// This cannot be requested without that, or beside it: the line says which.
+    /// This cannot be requested without that, or beside it: the text says which.
     Rule(&'static str),
 }
 
@@ -34,7 +34,7 @@ impl fmt::Display for UsageError<'_> {
             UsageError::Digits => f.write_str("fault: --token needs 32 hexadecimal digits"),
             UsageError::Range(fault) => fault.fmt(f),
             UsageError::Date(wrong) => write!(f, "fault: {wrong}"),
-            UsageError::Rule(line) => f.write_str(line),
+            UsageError::Rule(line) => write!(f, "fault: {line}"),
         }
     }
 }
@@ -45,7 +45,7 @@ fn are_kept(rules: &[(bool, &str)]) -> bool
     rules.iter().all(|rule| rule.0)
 }
 
-/// The line of the first rule that is broken.
+/// The text of the first rule that is broken.
 fn first_broken(rules: &[(bool, &'static str)]) -> Option<&'static str>
     ensures { is_none result ≡ list_all (λ rule. rule.0) rules.now }
 {
@@ -60,7 +60,7 @@ fn first_broken(rules: &[(bool, &'static str)]) -> Option<&'static str>
     Some("")
 }
 
-/// The line of the first rule that the request breaks.
+/// The text of the first rule that the request breaks.
 fn broken_rule(options: &Options<'_>) -> Option<&'static str>
     ensures { is_none result ≡ keeps_rules (request_of options.now) }
 {
@@ -72,24 +72,27 @@ fn broken_rule(options: &Options<'_>) -> Option<&'static str>
     let (ledger, traced, sorted) = (options.ledger, options.traced, options.sorted);
     let (explain, json) = (options.explain, options.json);
     first_broken(&[
-        (!token | table, "fault: --token needs --table"),
-        (!settle | table, "fault: --settle needs --table"),
-        (!(settle & list), "fault: --settle cannot be used with --list"),
-        (!(live & settle), "fault: --live cannot be used with --settle"),
-        (!ledger | table, "fault: --ledger needs --table"),
-        (!(ledger & list), "fault: --ledger cannot be used with --list"),
-        (!json | explain, "fault: --json needs --explain"),
-        (!explain | token, "fault: --explain needs --token"),
-        (!(explain & list), "fault: --explain cannot be used with --list"),
-        (!(explain & ledger), "fault: --explain cannot be used with --ledger"),
-        (!sorted | settle, "fault: --sorted needs --settle"),
-        (!sorted | file, "fault: --sorted needs a FILE"),
-        (!traced | ledger, "fault: --traced needs --ledger"),
-        (!traced | settle, "fault: --traced needs --settle"),
-        (!(traced & token), "fault: --traced cannot be used with --token"),
-        (!(traced & sorted), "fault: --traced cannot be used with --sorted"),
-        (!range | sorted, "fault: --tokens needs --sorted"),
-        (!(range & token), "fault: --tokens cannot be used with --token"),
+        (!token | table, "--token needs --table"),
+        (!settle | table, "--settle needs --table"),
+        (!(settle & list), "--settle cannot be used with --list"),
+        (!(live & settle), "--live cannot be used with --settle"),
+        (!ledger | table, "--ledger needs --table"),
+        (!(ledger & list), "--ledger cannot be used with --list"),
+        (!json | explain, "--json needs --explain"),
+        (!explain | token, "--explain needs --token"),
+        (!(explain & list), "--explain cannot be used with --list"),
+        (
+            !(explain & ledger),
+            "--explain cannot be used with --ledger",
+        ),
+        (!sorted | settle, "--sorted needs --settle"),
+        (!sorted | file, "--sorted needs a FILE"),
+        (!traced | ledger, "--traced needs --ledger"),
+        (!traced | settle, "--traced needs --settle"),
+        (!(traced & token), "--traced cannot be used with --token"),
+        (!(traced & sorted), "--traced cannot be used with --sorted"),
+        (!range | sorted, "--tokens needs --sorted"),
+        (!(range & token), "--tokens cannot be used with --token"),
     ])
 }
 

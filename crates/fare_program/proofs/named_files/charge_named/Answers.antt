@@ -62,5 +62,5 @@ returns-then-options-clause-early g c =
 
 pub returns-clause-early : goal.returns-clause-early
 returns-clause-early g c =
-    IfErr-weaker c.charge_provided.result _ _ 
+    IfErr-weaker c.charge_provided.result _ _
     (early (IsRightOfUploads _ _) (λ why late. late)) c.charge_provided.ensures.right
