@@ -16,7 +16,7 @@ use Rattle.fare_program.specs.declared.fault.Fault.TheVariants.{ClassName, File,
 use Rattle.fare_program.specs.declared.sorted_fault.LateFault.{LateFault}
 use Rattle.fare_program.specs.declared.fault.Fault.TheVariants.{NamedClass, NoMemory, Tables, TooManyTaps}
 use Rattle.fare_program.specs.declared.fault.Fault.TheVariants.{Unopened, Unsorted, Uploads, Write}
-use Rattle.fare_program.specs.inside.Causes.{IsOfOutput, IsRightOfUploads, IsRunFailure}
+use Rattle.fare_program.specs.inside.Causes.{IsOfOutput}
 use Rattle.fare_program.specs.inside.Ends.{IsLate, IsUnopened, Stops}
 
 -- a file of the words is one of those that are reported
@@ -78,20 +78,6 @@ module _ (request : Request) (under : List ℕ → Option (List ℕ))
   right_file (File file) is = is
   right_file NoMemory is = tt
   right_file _ is = absurd is
-
-  pub right_output : (fault : Fault) → IsOfOutput fault → IsRight fault
-  right_output Write is = tt
-  right_output NoMemory is = tt
-  right_output _ is = absurd is
-
-  pub right_uploads : (fault : Fault) (uploads : ℕ) → uploads ≡ length request.files
-      → IsRightOfUploads request.settle uploads fault → IsRight fault
-  right_uploads Uploads uploads same is =
-      (is.0, subst (λ (n : ℕ). 65535 < n) same is.1)
-  right_uploads (Gather why) uploads same is = is
-  right_uploads Write uploads same is = tt
-  right_uploads NoMemory uploads same is = tt
-  right_uploads _ uploads same is = absurd is
 
   in_tables : (tables : TableNames) → request.table ≡ Some tables → (fault : Fault)
       → IsTableFault tables loaded loaded' refused fault

@@ -130,16 +130,6 @@ impl From<NoMemory> for Fault<'_> {
     }
 }
 
-impl From<PrintFault> for Fault<'_> {
-    ghost use Rattle.fare_program.specs.inside.Fault.{printed_as};
-
-    ghost from_gives = { λ refused fault. fault ≡ printed_as refused };
-
-    fn from(fault: PrintFault) -> Self {
-        Fault::of_print(fault)
-    }
-}
-
 /// The line of a run that was not gathered.
 #[derive(Clone, Copy)]
 struct GatherLine(GatherFault);
