@@ -243,16 +243,14 @@ module _ (request : Request) (origin : List ℕ → Origin) (words : List (Bor (
 
 -- what was charged ahead, once the source took over the calls
 pub charged_joined : (request : Request) (origin : List ℕ → Origin)
-    (loaded loaded' : Option (List Loaded))
-    (calls : Calls) (after : Run) (table table' : Option Fares) (token : Option Token)
-    (Written : List ℕ → Type 0) (success : Bool) → calls ≡ no_calls
+    (loaded loaded' : Option (List Loaded)) (calls : Calls) (after : Run) (table table' : Option Fares)
+    (token : Option Token) (text : List ℕ) (success : Bool) → calls ≡ no_calls
     → loaded' ≡ option_map (λ l. l ++ after.loads) loaded → table' ≡ table
-    → IsChargedPrefetched request origin (Some calls.run.loads) (Some after.loads) table' token
-    Written success
-    → IsChargedPrefetched request origin loaded loaded' table token Written success
-charged_joined request origin loaded loaded' calls after table table' token Written success none
-    took same
-    is = record {
+    → IsChargedPrefetched request origin (Some calls.run.loads) (Some after.loads) table' token text
+    success
+    → IsChargedPrefetched request origin loaded loaded' table token text success
+charged_joined request origin loaded loaded' calls after table table' token text success none took
+    same is = record {
       fares = is.fares;
       is_table = sym same ∙ is.is_table;
       lists_none = is.lists_none;
@@ -263,7 +261,5 @@ charged_joined request origin loaded loaded' calls after table table' token Writ
           (sym took) (prefetched_joined request origin loaded after.loads is.files is.drawn
           (subst (λ (c : Calls). ArePrefetched request origin (Some c.run.loads) (Some after.loads)
           is.files is.drawn) none is.read));
-      text = is.text;
       shows = is.shows;
-      written = is.written;
     }

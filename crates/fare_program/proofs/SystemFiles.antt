@@ -1,39 +1,32 @@
 -- What is loaded in a run over files of the system.
 use Rattle.std.proofs.Common.{◌≡◌, ◌≢◌, ◌∙◌, ◌+◌, ◌<◌, ◌≤◌, ◌==◌, ◌++◌, ◌∷◌, [], ℕ, zero, suc, List}
-use Rattle.std.proofs.Common.{Bool, true, false, cond, Option, None, Some, All, length, map}
+use Rattle.std.proofs.Common.{Bool, true, false, Option, None, Some, All, length, map}
 use Rattle.std.proofs.Common.{flat_map}
 use Rattle.std.proofs.Common.{arith, ap, ap₂, refl, sym, subst, inl, inr, append-nil, append_assoc}
-use Rattle.std.proofs.Common.{length-append}
 use Rattle.std.specs.Prelude.{◌⊎◌, MatchBool, slice_get}
-use Rattle.std.specs.List.{AllZip}
-use Rattle.std.specs.List.Sorted.{IsPermutation}
 use Rattle.std.proofs.lemmas.Bool.Decides.{eqb_tells}
 use Rattle.std.proofs.lemmas.List.Elements.{All-head, All-tail, All-weaker}
-use Rattle.std.proofs.lemmas.List.Sorted.{IsPermutation-map, IsPermutation-refl}
 use Rattle.std.proofs.lemmas.Slice.Zip.{AllZip-long}
 use Rattle.tariffs.specs.Fares.{Fares}
 use Rattle.tap_views.specs.UploadEnds.{are_posted}
 use Rattle.tap_views.specs.declared.token.Token.{Token}
 use Rattle.tap_views.specs.declared.upload_end.UploadEnd.{UploadEnd}
 use Rattle.tap_views.specs.declared.upload_end.UploadEnd.TheVariants.{Cut, Posted, Refused, Undrawn}
-use Rattle.shared_books.specs.Drawing.{times}
-use Rattle.fare_service.specs.Headline.{drawn_by}
+use Rattle.shared_books.specs.Drawing.{AllBelow, HasAll, times}
 use Rattle.fare_service.specs.Shares.{IsWorkOf, Worked, all_works}
 use Rattle.fare_service.proofs.DrawnUploads.{each_drawn_once}
 use Rattle.fare_service.proofs.GatherLemmas.{each_work}
 use Rattle.fare_service.proofs.PlainLists.{count_other}
-use Rattle.world.specs.Origins.{IsFrom, Origin, file, loads_from}
-use Rattle.fare_program.specs.Causes.{table_files}
-use Rattle.fare_program.specs.FilesLoaded.{AreLoaded, ArePrefetched, AreReadAsDrawn, AreReadInOrder}
-use Rattle.fare_program.specs.FilesLoaded.{LoadsFiles, load_at, loads_of, names_to_load, text_at}
+use Rattle.world.specs.Origins.{Origin, file, loads_from}
+use Rattle.fare_program.specs.FilesLoaded.{AreLoaded, AreReadAsDrawn, AreReadInOrder}
+use Rattle.fare_program.specs.FilesLoaded.{load_at, loads_of, names_to_load, text_at}
 use Rattle.fare_program.specs.Options.{Request}
-use Rattle.fare_program.specs.Program.{LoadsTable, RunsService, ShowsRequest, ShowsLiveRun}
+use Rattle.fare_program.specs.Program.{LoadsTable, ShowsRequest, ShowsLiveRun}
 use Rattle.fare_program.specs.Settling.{ShowsSettled}
-use Rattle.fare_program.specs.SystemFiles.{ChargesFiles, RunsChargeFiles, loads_under}
-use Rattle.fare_program.proofs.Counts.{in_some_order, positions}
-use Rattle.program_manners.specs.Loads.{Loaded, LoadsAll, LoadsOne}
+use Rattle.fare_program.specs.SystemFiles.{RunsChargeFiles, load_of, loads_under}
+use Rattle.program_manners.specs.Loads.{Loaded, LoadsAll}
 use Rattle.program_manners.specs.TableLoads.{LoadsLater, LoadsTables}
-use Rattle.program_manners.specs.TableWords.{TableNames, file_named}
+use Rattle.program_manners.specs.TableWords.{TableNames, file_named, table_files}
 
 -- what a source that tells its loads has loaded after these
 record Grew (before : List Loaded) (after : Option (List Loaded)) (more : List Loaded) : Type
@@ -71,7 +64,7 @@ later_loaded fares (word ∷ words) before after texts all
 
 tables_loaded : (tables : TableNames) (before : List Loaded) (after : Option (List Loaded))
     (texts : List (List ℕ)) (fares : Fares) → LoadsTables tables (Some before) after texts fares
-    → Grew before after (loads_under (table_files (Some tables)) texts)
+    → Grew before after (loads_under (table_files tables) texts)
 tables_loaded tables before after texts fares loads =
     let first = grew before loads.between _ loads.loads_first in
     let more = later_loaded loads.alone tables.later first.now after loads.rest fares
@@ -83,7 +76,7 @@ tables_loaded tables before after texts fares loads =
       grown = more.grown
           ∙ ap (λ (ls : List Loaded). ls ++ loads_under (map file_named tables.later) loads.rest)
           first.grown ∙ append_assoc before _ _
-          ∙ ap (λ (ts : List (List ℕ)). before ++ loads_under (table_files (Some tables)) ts)
+          ∙ ap (λ (ts : List (List ℕ)). before ++ loads_under (table_files tables) ts)
           (sym loads.are_texts);
     }
 
@@ -119,42 +112,12 @@ module _ (origin : List ℕ → Origin) (of_system : (name : List ℕ) → origi
       ap₂ (λ (o : Origin) (ls : List Loaded). loads_from o bytes ++ ls) (of_system name)
       (in_order names files)
 
-  abbrev load_of : List (List ℕ) → List (List ℕ) → ℕ → Loaded
-  load_of names files position =
-      record { name = Some (text_at names position); bytes = text_at files position }
-
   as_drawn : (names files : List (List ℕ)) (drawn : List ℕ)
       → flat_map (load_at origin names files) drawn ≡ map (load_of names files) drawn
   as_drawn names files [] = refl
   as_drawn names files (position ∷ drawn) =
       ap₂ (λ (o : Origin) (ls : List Loaded). loads_from o (text_at files position) ++ ls)
       (of_system (text_at names position)) (as_drawn names files drawn)
-
--- the loads of all places are those under the names
-all_positions : (name_of bytes_of : ℕ → List ℕ) (start : ℕ) (names files : List (List ℕ))
-    → length files ≡ length names
-    → ((position : ℕ) → position < length names
-    → name_of (start + position) ≡ text_at names position)
-    → ((position : ℕ) → position < length names
-    → bytes_of (start + position) ≡ text_at files position)
-    → map (λ position. record { name = Some (name_of position); bytes = bytes_of position })
-    (positions start names) ≡ loads_under names files
-all_positions name_of bytes_of start [] files number names_are files_are = refl
-all_positions name_of bytes_of start (name ∷ names) [] number names_are files_are =
-    absurd (omega (arith, number))
-all_positions name_of bytes_of start (name ∷ names) (bytes ∷ files) number names_are files_are =
-    let first : start ≡ start + 0 = omega arith in
-    let named : name_of start ≡ name = ap name_of first ∙ names_are 0 (omega arith) in
-    let same : bytes_of start ≡ bytes = ap bytes_of first ∙ files_are 0 (omega arith) in
-    ap₂ (λ (l : Loaded) (ls : List Loaded). l ∷ ls)
-    (λ i. record { name = Some (named i); bytes = same i })
-    (all_positions name_of bytes_of (suc start) names files (omega (arith, number))
-    (λ position within.
-    let next : suc start + position ≡ start + suc position = omega arith in
-    ap name_of next ∙ names_are (suc position) (omega (arith, within)))
-    (λ position within.
-    let next : suc start + position ≡ start + suc position = omega arith in
-    ap bytes_of next ∙ files_are (suc position) (omega (arith, within))))
 
 -- ---- what was drawn in a run that is well
 posted_at : (ends : List UploadEnd) (position : ℕ) → are_posted ends ≡ true → position < length ends
@@ -214,84 +177,49 @@ none_outside request fares files drawn token text is position more =
     more
 
 -- ---- the whole
-record FilesLoaded (request : Request) (between : List Loaded) (after : Option (List Loaded))
-    (files : List (List ℕ)) : Type 0 where
-  pub loads : List Loaded
-  pub number : length files ≡ length request.files
-  pub order : MatchBool request.settle (loads ≡ loads_under request.files files)
-      (IsPermutation (loads_under request.files files) loads)
-  pub is_loaded : LoadsAll (Some between) after loads
-
-in_either : (settle : Bool) (loads all : List Loaded) → loads ≡ all
-    → MatchBool settle (loads ≡ all) (IsPermutation all loads)
-in_either true loads all same = same
-in_either false loads all same =
-    subst (λ (ls : List Loaded). IsPermutation all ls) (sym same) (IsPermutation-refl all)
-
 module _ (request : Request) (origin : List ℕ → Origin)
     (of_system : (name : List ℕ) → origin name ≡ file name) (between : List Loaded)
     (after : Option (List Loaded)) (fares : Fares) (files : List (List ℕ)) (drawn : List ℕ)
     (token : Option Token) (text : List ℕ) where
-  abbrev Order : Bool → List Loaded → Type 0
-  Order settle loads = MatchBool settle (loads ≡ loads_under request.files files)
-      (IsPermutation (loads_under request.files files) loads)
+  record FilesLoaded : Type 0 where
+    pub loads : List Loaded
+    pub number : length files ≡ length request.files
+    pub order : (loads ≡ loads_under request.files files) ⊎ ((request.settle ≡ false)
+        × HasAll (length files) drawn × AllBelow (length files) drawn
+        × (loads ≡ map (load_of request.files files) drawn))
+    pub is_loaded : LoadsAll (Some between) after loads
 
-  prefetch_files : (settle : Bool)
+  prefetched : (settle : Bool) → request.settle ≡ settle
       → MatchBool settle (AreReadInOrder origin request.files (Some between) after files)
       (AreReadAsDrawn origin request.files (Some between) after files drawn)
       → MatchBool settle (ShowsSettled request fares files token text true)
-      (ShowsLiveRun request fares files drawn token text true)
-      → (loads : List Loaded) × (length files ≡ length request.files) × Order settle loads
-      × LoadsAll (Some between) after loads
-  prefetch_files true read shows = (
-    loads_of origin request.files files,
-    AllZip-long _ request.files files read.from,
-    in_order origin of_system request.files files,
-    read.loads,
-  )
-  prefetch_files false read shows =
-      let names = request.files in
-      let number : length files ≡ length names = read.number in
-      let positions_are : IsPermutation (positions 0 names) drawn =
-      in_some_order names drawn
-      (λ position within. drawn_once request fares files drawn token text shows position
-      (omega (arith, within, number)))
-      (λ position more. none_outside request fares files drawn token text shows position
-      (omega (arith, more, number))) in
-      let moved = IsPermutation-map (load_of origin of_system names files) (positions 0 names) drawn
-      positions_are in
-      let all : map (load_of origin of_system names files) (positions 0 names)
-      ≡ loads_under names files =
-      all_positions (text_at names) (text_at files) 0 names files number
-      (λ position within. let here : 0 + position ≡ position = omega arith in
-      ap (text_at names) here)
-      (λ position within. let here : 0 + position ≡ position = omega arith in
-      ap (text_at files) here) in (
-        flat_map (load_at origin names files) drawn,
-        number,
-        subst (λ (ls : List Loaded). IsPermutation (loads_under names files) ls)
-            (sym (as_drawn origin of_system names files drawn))
-            (subst (λ (ls : List Loaded). IsPermutation ls
-            (map (load_of origin of_system names files) drawn)) all moved),
-        read.loads,
-      )
+      (ShowsLiveRun request fares files drawn token text true) → FilesLoaded
+  prefetched true settled read shows = record {
+    loads = loads_of origin request.files files;
+    number = AllZip-long _ request.files files read.from;
+    order = inl (in_order origin of_system request.files files);
+    is_loaded = read.loads;
+  }
+  prefetched false live read shows = record {
+    loads = flat_map (load_at origin request.files files) drawn;
+    number = read.number;
+    order = inr (
+      live,
+      drawn_once request fares files drawn token text shows,
+      none_outside request fares files drawn token text shows,
+      as_drawn origin of_system request.files files drawn,
+    );
+    is_loaded = read.loads;
+  }
 
   files_loaded : 0 < length request.files
       → AreLoaded request origin (Some between) after files drawn
-      → ShowsRequest request fares files drawn token text true
-      → FilesLoaded request between after files
+      → ShowsRequest request fares files drawn token text true → FilesLoaded
   files_loaded some (inl loaded) shows =
       let (are, number) = loads_are request.files loaded.loads files
       (loaded.named ∙ named_some request.files some) loaded.bytes in
-      record {
-        loads = loaded.loads;
-        number = number;
-        order = in_either request.settle loaded.loads (loads_under request.files files) are;
-        is_loaded = loaded.is_loaded;
-      }
-  files_loaded some (inr read) shows =
-      let (loads, number, order, is_loaded) = prefetch_files request.settle read shows in
-      record { loads = loads; number = number; order = order; is_loaded = is_loaded }
+      record { loads = loaded.loads; number = number; order = inl are; is_loaded = loaded.is_loaded }
+  files_loaded some (inr read) shows = prefetched request.settle refl read shows
 
 -- fares were loaded from tables
 has_tables : (table : Option TableNames) (before : List Loaded) (between : Option (List Loaded))
@@ -308,12 +236,12 @@ has_tables (Some tables) before between fares (texts, all, loads, same) =
     )
 
 pub charges_files : RunsChargeFiles
-charges_files request origin before after out out' of_system some run =
+charges_files request origin before after text of_system some run =
     let (tables, named, texts, mean) = has_tables request.table before run.between run.fares
     run.loads_table in
     let first = tables_loaded tables before run.between texts run.fares mean in
     let more = files_loaded request origin of_system first.now (Some after) run.fares run.files
-    run.drawn run.token run.text some
+    run.drawn run.token text some
     (subst (λ (t : Option (List Loaded)). AreLoaded request origin t (Some after) run.files
     run.drawn)
     first.is run.loads_files) run.shows in
@@ -326,8 +254,7 @@ charges_files request origin before after out out' of_system some run =
       mean = subst
           (λ (t : Option (List Loaded)). LoadsTables tables (Some before) t texts run.fares)
           first.is mean;
-      tables_loaded = first.grown ∙ ap (λ (t : Option TableNames). before
-          ++ loads_under (table_files t) texts) (sym named);
+      tables_loaded = first.grown;
       files = run.files;
       number = more.number;
       loads = more.loads;
@@ -336,7 +263,5 @@ charges_files request origin before after out out' of_system some run =
       token = run.token;
       is_token = run.is_token;
       drawn = run.drawn;
-      text = run.text;
       shows = run.shows;
-      written = run.written;
     }

@@ -1,5 +1,5 @@
 -- Where the files of a run come from.
-use Rattle.std.specs.Prelude.{◌≡◌, ◌⊎◌, ◌<◌, ℕ, Bool, List, [], ◌∷◌, ◌++◌, map, Option, None, Some}
+use Rattle.std.specs.Prelude.{◌≡◌, ◌⊎◌, ◌<◌, ℕ, List, [], ◌∷◌, ◌++◌, map, Option, None, Some}
 use Rattle.std.specs.Prelude.{All, MatchBool, length, slice_index_or}
 use Rattle.std.specs.List.{AllZip, flat_map}
 use Rattle.world.specs.Origins.{IsFrom, Origin, anywhere, file as of_system, loads_from, memory}

@@ -1,5 +1,5 @@
-pub mod Started
 pub mod Causes
+pub mod Ends
 pub mod Fault
 pub mod FilesLoaded
 pub mod Lines
@@ -7,10 +7,10 @@ pub mod Listing
 pub mod Options
 pub mod Parts
 pub mod Program
-pub mod Runs
 pub mod Settling
 pub mod SortedFaults
 pub mod SystemFiles
 pub mod TokenRanges
 pub mod Uploads
+pub mod Usage
 pub mod inside

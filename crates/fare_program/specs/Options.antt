@@ -1,9 +1,8 @@
 -- The command line, and what its words ask for.
-use Rattle.std.specs.Prelude.{◌≡◌, ◌⊎◌, ℕ, Bool, false, ◌||◌, not, List, [], ◌∷◌, ◌++◌, Option}
+use Rattle.std.specs.Prelude.{◌≡◌, ◌⊎◌, ◌∷◌, ℕ, Bool, false, ◌||◌, not, List, [], Option}
 use Rattle.std.specs.Prelude.{None, Some, codes, is_some, pos, true, unwrap_or}
 use Rattle.std.specs.Option.{option_map_or}
 use Rattle.std.specs.Str.{bytes_eq}
-use Rattle.std.specs.Str.Parse.{digits_value, without_leading_plus}
 use Rattle.clap.specs.Words.{App, IsAmong, Row, Rule, Text, all_of, fault_of, first_of, matches_of}
 use Rattle.clap.specs.Words.{one_of, with_rule}
 use Rattle.fare_texts.specs.declared.form.Form.{Form}
@@ -14,82 +13,27 @@ use Rattle.program_manners.specs.Words.{flag_rule, list_option, named_app, null_
 use Rattle.program_manners.specs.TableWords.{TableNames, tables_in}
 use Rattle.program_manners.specs.Words.{option_rule, positional_rule, repeated_rule}
 
--- `--table F`, as often as wanted
-abbrev pub table_option : Rule
-table_option = repeated_rule (codes "table")
+abbrev pub with_rules : App → List Rule → App
+with_rules app [] = app
+with_rules app (rule ∷ rules) = with_rules (with_rule app rule) rules
 
--- `--list`
-abbrev pub list_flag : Rule
-list_flag = flag_rule (codes "list")
+-- the first options. Of workers there are 1 to 16, by default 2, and of shards 1 to 64, by default 8
+abbrev pub run_rules : List Rule
+run_rules = repeated_rule (codes "table") ∷ flag_rule (codes "settle") ∷ flag_rule (codes "live")
+    ∷ flag_rule (codes "sorted") ∷ flag_rule (codes "list")
+    ∷ number_rule (codes "workers") (pos 16) (codes "2")
+    ∷ number_rule (codes "shards") (pos 64) (codes "8") ∷ option_rule (codes "token") ∷ []
 
--- `--workers N`, a number of 1 to 16; 2 if it is not given
-abbrev pub workers_option : Rule
-workers_option = number_rule (codes "workers") (pos 16) (codes "2")
-
--- `--shards N`, a number of 1 to 64; 8 if it is not given
-abbrev pub shards_option : Rule
-shards_option = number_rule (codes "shards") (pos 64) (codes "8")
-
--- `--token HEX`
-abbrev pub token_option : Rule
-token_option = option_rule (codes "token")
-
--- `--settle`
-abbrev pub settle_flag : Rule
-settle_flag = flag_rule (codes "settle")
-
--- `--live`
-abbrev pub live_flag : Rule
-live_flag = flag_rule (codes "live")
-
--- `--sorted`
-abbrev pub sorted_flag : Rule
-sorted_flag = flag_rule (codes "sorted")
-
--- `--ledger`
-abbrev pub ledger_flag : Rule
-ledger_flag = flag_rule (codes "ledger")
-
--- `--explain`
-abbrev pub explain_flag : Rule
-explain_flag = flag_rule (codes "explain")
-
--- `--json`
-abbrev pub json_flag : Rule
-json_flag = flag_rule (codes "json")
-
--- `--traced`
-abbrev pub traced_flag : Rule
-traced_flag = flag_rule (codes "traced")
-
--- `--tokens FROM..BELOW`
-abbrev pub tokens_option : Rule
-tokens_option = option_rule (codes "tokens")
-
--- `--made-by FILE`
-abbrev pub made_by_option : Rule
-made_by_option = option_rule (codes "made-by")
-
--- `--format FORM`
-abbrev pub format_option : Rule
-format_option = option_rule (codes "format")
-
--- `FILE`, as often as wanted
-abbrev pub file_argument : Rule
-file_argument = positional_rule (codes "FILE") Append
-
--- the program's options, without its files
-abbrev pub app_of_options : App
-app_of_options =
-    with_rule (with_rule (with_rule (with_rule (with_rule (with_rule (with_rule (with_rule (with_rule
-    (with_rule (with_rule (with_rule (with_rule (with_rule (with_rule (with_rule (with_rule
-    (named_app (codes "omny_cli")) table_option) settle_flag) live_flag) sorted_flag) list_flag)
-    workers_option) shards_option) token_option) ledger_flag) explain_flag) json_flag)
-    traced_flag) tokens_option) made_by_option) format_option) list_option) null_flag
+-- the options of texts and lists, and the files
+abbrev pub text_rules : List Rule
+text_rules = flag_rule (codes "ledger") ∷ flag_rule (codes "explain") ∷ flag_rule (codes "json")
+    ∷ flag_rule (codes "traced") ∷ option_rule (codes "tokens") ∷ option_rule (codes "made-by")
+    ∷ option_rule (codes "format") ∷ list_option ∷ null_flag
+    ∷ positional_rule (codes "FILE") Append ∷ []
 
 -- all words that the program takes
 unfoldable pub program : App
-program = with_rule app_of_options file_argument
+program = with_rules (with_rules (named_app (codes "omny_cli")) run_rules) text_rules
 
 -- the words after the program's name are a command line of the program
 abbrev pub Parses : List Text → Type 0
@@ -120,14 +64,6 @@ files_named words = unwrap_or (all_of (codes "FILE") (matches_of program words))
 abbrev pub is_given : Text → List Row → Bool
 is_given name rows = option_map_or (λ text. bytes_eq text (codes "true")) (one_of name rows) false
 
--- the number that the decimal digits write, after a plus if there is one
-abbrev pub number_in_text : Text → ℕ
-number_in_text text = digits_value 10 (without_leading_plus text)
-
--- the number of the option of this name
-abbrev pub number_of : Text → List Row → ℕ
-number_of name rows = option_map_or number_in_text (one_of name rows) 0
-
 -- what a command line asks for
 pub record Request : Type 0 where
   pub table : Option TableNames
@@ -145,13 +81,13 @@ pub record Request : Type 0 where
   pub tokens : Option Text
   pub files : List Text
 
--- what these words ask for
-abbrev pub request_by : List Text → Request
-request_by words = record {
+-- what these words ask for, and with how many workers and shards it is done
+abbrev pub request_by : ℕ → ℕ → List Text → Request
+request_by workers shards words = record {
   table = tables_named words;
   list = is_given (codes "list") (matches_of program words);
-  workers = number_of (codes "workers") (matches_of program words);
-  shards = number_of (codes "shards") (matches_of program words);
+  workers = workers;
+  shards = shards;
   token = token_named words;
   settle = is_given (codes "settle") (matches_of program words);
   live = is_given (codes "live") (matches_of program words);

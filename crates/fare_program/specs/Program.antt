@@ -1,7 +1,6 @@
 -- What a run of the program does.
-use Rattle.std.specs.Prelude.{◌≡◌, ℕ, Bool, true, List, [], ◌∷◌, map, Option}
+use Rattle.std.specs.Prelude.{◌≡◌, ℕ, Bool, true, List, map, Option}
 use Rattle.std.specs.Prelude.{None, Some, Ok, MatchBool}
-use Rattle.std.specs.Io.KnownBytes.{Appends, Keeps}
 use Rattle.hex.specs.Hex.{decode_sized}
 use Rattle.tariffs.specs.Fares.{Fares}
 use Rattle.tap_views.specs.Token.{bytes_of}
@@ -13,19 +12,16 @@ use Rattle.fare_service.specs.Outcomes.{OutcomeView}
 use Rattle.fare_service.specs.Plain.{AreApart}
 use Rattle.histories.specs.Plain.{IsPlain}
 use Rattle.fare_service.specs.Printed.{IsStatementOf, report_with}
-use Rattle.fare_program.specs.Fault.{fault_text}
 use Rattle.fare_program.specs.Options.{Request, form_of, lists}
 use Rattle.fare_texts.specs.declared.form.Form.{Form}
 use Rattle.tap_views.specs.UploadEnds.{are_posted}
 use Rattle.fare_program.specs.Parts.{ShowsSorted}
 use Rattle.fare_program.specs.Settling.{ShowsOver, ShowsSettled}
-use Rattle.fare_program.specs.declared.fault.Fault.{Fault}
 use Rattle.fare_service.specs.Explained.{IsExplainedOf}
 use Rattle.fare_service.specs.Ledger.{IsLedgerOfBooks}
 use Rattle.program_manners.specs.Loads.{Loaded}
 use Rattle.program_manners.specs.TableLoads.{LoadsTables}
 use Rattle.program_manners.specs.TableWords.{TableNames}
-use Rattle.program_manners.specs.LineWritten.{LineWritten}
 use Rattle.fare_program.specs.Uploads.{IsListing}
 use Rattle.fare_program.specs.FilesLoaded.{AreLoaded, LoadsFiles, names_to_load}
 use Rattle.toml.specs.Data.{Members}
@@ -41,19 +37,16 @@ LoadsTable None loaded loaded' fares = (fares ≡ None) × (loaded' ≡ loaded)
 LoadsTable (Some tables) loaded loaded' fares = (texts : List (List ℕ)) × (all : Fares)
     × LoadsTables tables loaded loaded' texts all × (fares ≡ Some all)
 
--- Tables and files were loaded; what was appended to the writer is the listing of these files, with
--- the validators known that the table knows. It is clean if no file has a layout fault.
+-- Tables and files were loaded, and the text is the listing of these files, with the validators
+-- known that the table knows. It is clean if no file has a layout fault.
 pub record RunsListing (table : Option TableNames) (names : List (List ℕ))
-    (loaded loaded' : Option (List Loaded)) (out out' : Option (List ℕ)) (clean : Bool) : Type
-    0 where
+    (loaded loaded' : Option (List Loaded)) (text : List ℕ) (clean : Bool) : Type 0 where
   pub between : Option (List Loaded)
   pub fares : Option Fares
   pub loads_table : LoadsTable table loaded between fares
   pub files : List (List ℕ)
   pub loads_files : LoadsFiles (names_to_load names) between loaded' files
-  pub text : List ℕ
   pub listing : IsListing fares files text clean
-  pub written : Appends out out' text
 
 -- the text is the statement of this token, explained in this form if there is one
 abbrev pub ShowsStatement : Option Form → Token → OutcomeView → List ℕ → Type 0
@@ -109,11 +102,10 @@ ShowsRequest request fares files drawn token text success = MatchBool request.se
     (ShowsLiveRun request fares files drawn token text success)
 
 -- Tables and files were loaded, and their taps posted. Where the bytes of a file come from that was
--- read ahead is given for its name. What was appended to the writer is the
--- report, the statement of the token that is asked for, or the ledger, whichever is asked for.
+-- read ahead is given for its name. The text is the report, the statement of the token that is asked
+-- for, or the ledger, whichever is asked for.
 pub record RunsService (request : Request) (origin : List ℕ → Origin)
-    (loaded loaded' : Option (List Loaded)) (out out' : Option (List ℕ)) (success : Bool) : Type
-    0 where
+    (loaded loaded' : Option (List Loaded)) (text : List ℕ) (success : Bool) : Type 0 where
   pub between : Option (List Loaded)
   pub fares : Fares
   pub loads_table : LoadsTable request.table loaded between (Some fares)
@@ -122,31 +114,25 @@ pub record RunsService (request : Request) (origin : List ℕ → Origin)
   pub loads_files : AreLoaded request origin between loaded' files drawn
   pub token : Option Token
   pub is_token : IsTokenIn request.token token
-  pub text : List ℕ
   pub shows : ShowsRequest request fares files drawn token text success
-  pub written : Appends out out' text
 
 -- The named tables were loaded, and the named files were opened, each of which has its taps in
--- canonical order. What was appended to the writer is what is asked for of the settled history of
--- the files, or of a part of it, if what stands under their names is known. All is well.
+-- canonical order. The text is what is asked for of the settled history of the files, or of a part
+-- of it, if what stands under their names is known. All is well.
 pub record RunsSorted (request : Request) (known : List ℕ → Option (List ℕ))
-    (loaded loaded' : Option (List Loaded)) (out out' : Option (List ℕ)) (success : Bool) : Type
-    0 where
+    (loaded loaded' : Option (List Loaded)) (text : List ℕ) (success : Bool) : Type 0 where
   pub fares : Fares
   pub loads : LoadsTable request.table loaded loaded' (Some fares)
   pub token : Option Token
   pub is_token : IsTokenIn request.token token
-  pub text : List ℕ
   pub shows : (files : List (List ℕ)) → map known request.files ≡ map Some files
       → ShowsSorted request fares files token text success
-  pub written : Appends out out' text
   pub succeeded : success ≡ true
 
--- The named tables were loaded, and then the files. What was appended to the writer is the traced
--- ledger of the files, with the class of each token that the text names which is valid at the tap's
--- moment.
-pub record RunsTraced (request : Request) (loaded loaded' : Option (List Loaded))
-    (out out' : Option (List ℕ)) (success : Bool) : Type 0 where
+-- The named tables were loaded, and then the files. The text is the traced ledger of the files, with
+-- the class of each token that the table's text names which is valid at the tap's moment.
+pub record RunsTraced (request : Request) (loaded loaded' : Option (List Loaded)) (text : List ℕ)
+    (success : Bool) : Type 0 where
   pub tables : TableNames
   pub are_named : request.table ≡ Some tables
   pub texts : List (List ℕ)
@@ -161,29 +147,20 @@ pub record RunsTraced (request : Request) (loaded loaded' : Option (List Loaded)
       → class_of_token (tree_at tree later moment) token ≡ Some (classes moment token)
   pub files : List (List ℕ)
   pub loads_files : LoadsFiles (names_to_load request.files) between loaded' files
-  pub text : List ℕ
   pub shows : IsTracedLedger classes fares files text success
-  pub written : Appends out out' text
 
--- What is asked for beside a traced ledger was done, of files that were loaded, or of sorted files.
--- What stands under a name of a sorted file is given, if it is known.
+-- The text is what is asked for beside a traced ledger, of files that were loaded, or of sorted
+-- files. What stands under a name of a sorted file is given, if it is known.
 abbrev pub DoesUntraced : Request → (List ℕ → Option (List ℕ)) → (List ℕ → Origin)
-    → Option (List Loaded) → Option (List Loaded) → Option (List ℕ) → Option (List ℕ) → Bool
-    → Type 0
-DoesUntraced request known origin loaded loaded' out out' success = MatchBool (lists request)
-    (RunsListing request.table request.files loaded loaded' out out' success)
-    (MatchBool request.sorted (RunsSorted request known loaded loaded' out out' success)
-    (RunsService request origin loaded loaded' out out' success))
+    → Option (List Loaded) → Option (List Loaded) → List ℕ → Bool → Type 0
+DoesUntraced request known origin loaded loaded' text success = MatchBool (lists request)
+    (RunsListing request.table request.files loaded loaded' text success)
+    (MatchBool request.sorted (RunsSorted request known loaded loaded' text success)
+    (RunsService request origin loaded loaded' text success))
 
--- What is asked for was done: a traced ledger was written, or something else.
+-- The text is what is asked for: a traced ledger, or something else.
 abbrev pub Does : Request → (List ℕ → Option (List ℕ)) → (List ℕ → Origin) → Option (List Loaded)
-    → Option (List Loaded) → Option (List ℕ) → Option (List ℕ) → Bool → Type 0
-Does request known origin loaded loaded' out out' success = MatchBool request.traced
-    (RunsTraced request loaded loaded' out out' success)
-    (DoesUntraced request known origin loaded loaded' out out' success)
-
--- The program gave up before it wrote: the fault's line was reported, and nothing was written.
-pub record Aborted (fault : Fault) (said said' : Option (List ℕ)) (failed : Bool)
-    (out out' : Option (List ℕ)) : Type 0 where
-  pub line_reported : LineWritten said said' failed (fault_text fault)
-  pub kept : Keeps out out'
+    → Option (List Loaded) → List ℕ → Bool → Type 0
+Does request known origin loaded loaded' text success = MatchBool request.traced
+    (RunsTraced request loaded loaded' text success)
+    (DoesUntraced request known origin loaded loaded' text success)

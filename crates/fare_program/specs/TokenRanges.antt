@@ -1,5 +1,5 @@
 -- The word of `--tokens`, a range of tokens, and what is wrong with it.
-use Rattle.std.specs.Prelude.{ℕ, ◌==◌, ◌&&◌, Bool, true, List, [], ◌∷◌, Option, None, Some, codes}
+use Rattle.std.specs.Prelude.{ℕ, ◌==◌, ◌&&◌, Bool, true, List, [], ◌∷◌, Option, None, Some}
 use Rattle.std.specs.Prelude.{if◌then◌else◌, is_ok}
 use Rattle.std.specs.Cmp.Lexicographic.{slice_cmp}
 use Rattle.std.specs.List.{after_first, before_first}
@@ -7,16 +7,7 @@ use Rattle.std.specs.Ordering.{is_lt, nat_cmp}
 use Rattle.std.specs.Result.{result_ok}
 use Rattle.hex.specs.Hex.{decode_sized}
 use Rattle.fare_program.specs.declared.token_range.RangeFault.{RangeFault}
-use Rattle.fare_program.specs.declared.token_range.RangeFault.TheVariants.{Digits, Form, NoSorted}
-use Rattle.fare_program.specs.declared.token_range.RangeFault.TheVariants.{Order, WithToken}
-
--- the line of a fault of `--tokens`, without its line feed
-abbrev pub range_text : RangeFault → List ℕ
-range_text Form = codes "fault: --tokens needs FROM..BELOW"
-range_text Digits = codes "fault: --tokens needs 32 hexadecimal digits on each side, or none"
-range_text Order = codes "fault: --tokens needs a FROM that is below BELOW"
-range_text NoSorted = codes "fault: --tokens needs --sorted"
-range_text WithToken = codes "fault: --tokens cannot be used with --token"
+use Rattle.fare_program.specs.declared.token_range.RangeFault.TheVariants.{Digits, Form, Order}
 
 -- what is before a dot and after it and one dot more, if that follows it
 abbrev pub around_dots : List ℕ → List ℕ → Option (List ℕ × List ℕ)

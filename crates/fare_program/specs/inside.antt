@@ -1,12 +1,11 @@
 -- What only private functions cite. Who reads the contracts of public calls need not read it.
 pub mod Causes
 pub mod ChargedPrefetched
-pub mod ChargedPart
-pub mod ChargedSorted
+pub mod Ends
 pub mod Fault
 pub mod Listing
 pub mod Options
+pub mod Parts
 pub mod PostedFiles
 pub mod Settling
-pub mod Tables
 pub mod Uploads

@@ -1,13 +1,9 @@
 //! The command line.
-ghost use Rattle.std.specs.Prelude.{◌≡◌, ◌≤◌, ◌^◌, ◌<◌, ℕ, IfOk, codes, map, string_bytes};
+ghost use Rattle.std.specs.Prelude.{◌≡◌, ◌≤◌, IfOk, map, string_bytes};
 ghost use Rattle.clap.specs.Words.{FailsBy, app_of, fault_of, found_of, matches_of, rows_of};
-ghost use Rattle.clap.specs.Words.{with_rule};
-ghost use Rattle.fare_program.specs.Options.{explain_flag, file_argument, json_flag, ledger_flag};
-ghost use Rattle.fare_program.specs.Options.{form_of, format_option, made_by_option, traced_flag};
-ghost use Rattle.fare_program.specs.Options.{request_by, is_given, number_of, program, tokens_option};
+ghost use Rattle.fare_program.specs.Options.{form_of, is_given, program, request_by, text_rules};
+ghost use Rattle.fare_program.specs.Options.{with_rules};
 ghost use Rattle.fare_program.specs.inside.Options.{request_of};
-ghost use Rattle.fare_program.specs.inside.Options.{HasNumber};
-ghost use Rattle.program_manners.specs.Words.{list_option, null_flag};
 
 use crate::options::Options;
 use clap::{ArgAction, ArgMatches, Command, Error};
@@ -145,10 +141,7 @@ fn command<'a>(alloc: Global) -> Result<Command<'a>, AllocError>
 /// The command line with the options of the ledger, of the explained statement and of a part, the
 /// list of files and the files.
 fn with_texts<'a>(alloc: Global, command: Command<'a>) -> Result<Command<'a>, AllocError>
-    ensures { IfOk result (λ more. app_of more ≡ with_rule (with_rule (with_rule (with_rule
-        (with_rule (with_rule (with_rule (with_rule (with_rule (with_rule (app_of command.entry)
-        ledger_flag) explain_flag) json_flag) traced_flag) tokens_option) made_by_option)
-        format_option) list_option) null_flag) file_argument) }
+    ensures { IfOk result (λ more. app_of more ≡ with_rules (app_of command.entry) text_rules) }
 {
     let ledger = flag_arg(alloc, "ledger", LEDGER_HELP);
     let explain = flag_arg(alloc, "explain", EXPLAIN_HELP);
@@ -173,10 +166,6 @@ fn with_texts<'a>(alloc: Global, command: Command<'a>) -> Result<Command<'a>, Al
 pub(crate) fn matched<'a>(alloc: Global, words: &'a [String]) -> Result<ArgMatches<'a>, Error>
     ensures rows { IfOk result (λ matches. rows_of (found_of matches)
         ≡ matches_of program (map string_bytes words.entry.now)) }
-    ensures workers { IfOk result
-        (λ matches. HasNumber 16 (codes "workers") (rows_of (found_of matches))) }
-    ensures shards { IfOk result
-        (λ matches. HasNumber 64 (codes "shards") (rows_of (found_of matches))) }
     ensures kinds { FailsBy (fault_of program (map string_bytes words.entry.now)) result }
 {
     command(alloc)?.try_get_matches_from(words)
@@ -189,18 +178,13 @@ fn flag_in<'a>(matches: &ArgMatches<'a>, name: &str) -> bool
     matches.get_one(name).unwrap_or(false)
 }
 
-/// The number of an option that has a default.
-fn number_in<'a>(matches: &ArgMatches<'a>, name: &str) -> u32
-    requires { HasNumber 64 name.now (rows_of (found_of matches.now)) }
-    ensures number { result ≡ number_of name.now (rows_of (found_of matches.now)) }
-    ensures range { (most : ℕ) → most < 2 ^ 32
-        → HasNumber most name.now (rows_of (found_of matches.now)) → (1 ≤ result)
-        × (result ≤ most) }
+/// The number of an option that has a default. Its parser takes only numbers of 1 to `most`.
+fn number_in<'a>(matches: &ArgMatches<'a>, name: &str, most: u32) -> u32
+    requires { 1 ≤ most }
+    ensures { (1 ≤ result) × (result ≤ most) }
 {
-    match matches.get_one(name) {
-        Some(number) => number,
-        None => unreachable!(),
-    }
+    let number: u32 = matches.get_one(name).unwrap_or(1);
+    number.max(1).min(most)
 }
 
 impl<'a> Options<'a> {
@@ -220,7 +204,8 @@ impl<'a> Options<'a> {
     /// What the words ask for; else clap's error, which may be a call for help.
     pub(crate) fn read(alloc: Global, words: &'a [String]) -> Result<Options<'a>, Error>
         ensures request { IfOk result
-            (λ options. request_of options ≡ request_by (map string_bytes words.entry.now)) }
+            (λ options. request_of options ≡ request_by options.workers options.shards
+            (map string_bytes words.entry.now)) }
         ensures kinds { FailsBy (fault_of program (map string_bytes words.entry.now)) result }
     {
         let matches = matched(alloc, words)?;
@@ -228,8 +213,8 @@ impl<'a> Options<'a> {
         Ok(Options {
             table: TableWords::of(alloc, &tables)?,
             list: flag_in(&matches, "list"),
-            workers: number_in(&matches, "workers"),
-            shards: number_in(&matches, "shards"),
+            workers: number_in(&matches, "workers", 16),
+            shards: number_in(&matches, "shards", 64),
             token: matches.get_str("token"),
             settle: flag_in(&matches, "settle"),
             live: flag_in(&matches, "live"),

@@ -28,6 +28,7 @@ mod sorted_fault;
 mod token_range;
 mod traced;
 mod uploads;
+mod usage;
 
 pub use file_sources::{Amount, Disk, Host, Source, prefetch_files};
 pub use file_words::{FileWords, FormatWords};

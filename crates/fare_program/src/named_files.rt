@@ -1,8 +1,7 @@
 //! Named files that are read while their taps are charged.
-ghost use Rattle.std.specs.Prelude.{◌≡◌, ◌≢◌, ◌<◌, Bool, false, length, None, Some};
-ghost use Rattle.std.specs.Prelude.{IfErr, IfOk, IfSome, OnErr};
-ghost use Rattle.std.specs.Io.KnownBytes.{Appends, Keeps};
-ghost use Rattle.fare_texts.specs.WrittenOut.{Begins};
+ghost use Rattle.std.specs.Prelude.{◌≡◌, ◌<◌, false, length, None, Some, IfErr, IfSome};
+ghost use Rattle.std.specs.Io.KnownBytes.{Keeps};
+ghost use Rattle.fare_program.specs.inside.Ends.{Gives, IsLate};
 ghost use Rattle.fare_program.specs.inside.Options.{request_of};
 ghost use Rattle.fare_program.specs.inside.ChargedPrefetched.{IsChargedPrefetched};
 
@@ -132,15 +131,10 @@ fn charge_named<'a, R: Threads + Wait + RandomSource + Sync, D: Disk + Sync, W: 
 ) -> Result<bool, Fault<'a>>
     requires list { options.now.list ≡ false }
     requires some { 0 < length options.now.files.items }
-    ensures ok { IfOk result (IsChargedPrefetched (request_of options.now) (D.origin disk.now)
-        (Some calls.old.run.loads) (Some calls.new.run.loads) (Some table.now) token
-        (Appends (W.contents out.old) (W.contents out.new))) }
-    ensures started { IfErr result (λ fault. fault ≡ Fault.Write → (success : Bool)
-        × IsChargedPrefetched (request_of options.now) (D.origin disk.now) (Some calls.old.run.loads)
-        (Some calls.new.run.loads) (Some table.now) token
-        (Begins (W.contents out.old) (W.contents out.new)) success) }
-    ensures fault { IfErr result (λ fault. fault ≢ Fault.Write
-        → Keeps (W.contents out.old) (W.contents out.new)) }
+    ensures ends { Gives (IsChargedPrefetched (request_of options.now) (D.origin disk.now)
+        (Some calls.old.run.loads) (Some calls.new.run.loads) (Some table.now) token)
+        (W.contents out.old) (W.contents out.new) result }
+    ensures early { IfErr result (λ fault. IsLate fault → ⊥) }
 {
     let uploads = NamedFiles {
         alloc,
@@ -151,7 +145,9 @@ fn charge_named<'a, R: Threads + Wait + RandomSource + Sync, D: Disk + Sync, W: 
     if options.settle {
         return charge_settled(rt, alloc, disk, options, table, token, &uploads, calls, out);
     }
-    let own = table.try_clone(alloc)?;
+    let Ok(own) = table.try_clone(alloc) else {
+        return Err(Fault::NoMemory);
+    };
     let keeper = NotingGatekeeper::new(disk, sizes);
     charge_provided(
         rt, alloc, disk, options, own, token, uploads, &keeper, calls, out,
@@ -159,7 +155,7 @@ fn charge_named<'a, R: Threads + Wait + RandomSource + Sync, D: Disk + Sync, W: 
 }
 
 /// Charges the named files while they are read, if all may be read before their turns. Returns
-/// whether each was posted whole. The source takes over what was loaded.
+/// whether each was posted whole, or that a write failed. The source takes over what was loaded.
 ///
 /// `None` says that nothing was written and nothing loaded. Then the files are to be loaded in
 /// their turns, so that the fault of the first file in the order of the words is reported.
@@ -178,27 +174,22 @@ pub(crate) fn charge_prefetched<
     token: Option<Token>,
     source: &mut S,
     out: &mut W,
-) -> Result<Option<bool>, Fault<'a>>
-    ensures done { IfOk result (λ done. IfSome done (IsChargedPrefetched (request_of options.now)
-        (D.origin disk.now) (S.loaded source.old) (S.loaded source.new) table.now token
-        (Appends (W.contents out.old) (W.contents out.new)))) }
-    ensures none { IfOk result (λ done. done ≡ None
-        → Keeps (W.contents out.old) (W.contents out.new)) }
-    ensures unloaded { IfOk result (λ done. done ≡ None
-        → S.loaded source.new ≡ S.loaded source.old) }
-    ensures fault { IfErr result (λ fault. fault ≡ Fault.Write) }
-    ensures started { OnErr result ((success : Bool) × IsChargedPrefetched (request_of options.now)
-        (D.origin disk.now) (S.loaded source.old) (S.loaded source.new) table.now token
-        (Begins (W.contents out.old) (W.contents out.new)) success) }
+) -> Option<Result<bool, Fault<'a>>>
+    ensures ends { IfSome result (Gives (IsChargedPrefetched (request_of options.now)
+        (D.origin disk.now) (S.loaded source.old) (S.loaded source.new) table.now token)
+        (W.contents out.old) (W.contents out.new)) }
+    ensures fault { IfSome result (λ ended. IfErr ended (λ fault. fault ≡ Fault.Write)) }
+    ensures none { result ≡ None → Keeps (W.contents out.old) (W.contents out.new) }
+    ensures unloaded { result ≡ None → S.loaded source.new ≡ S.loaded source.old }
 {
     if options.list || options.files.is_empty() {
-        return Ok(None);
+        return None;
     }
     let Some(table) = table else {
-        return Ok(None);
+        return None;
     };
     let Some(sizes) = sizes_of(alloc, disk, options.files.as_slice()) else {
-        return Ok(None);
+        return None;
     };
     let mut calls = Trace::new();
     match charge_named(
@@ -206,12 +197,12 @@ pub(crate) fn charge_prefetched<
     ) {
         Ok(success) => {
             source.join(calls);
-            Ok(Some(success))
+            Some(Ok(success))
         }
         Err(Fault::Write) => {
             source.join(calls);
-            Err(Fault::Write)
+            Some(Err(Fault::Write))
         }
-        Err(_) => Ok(None),
+        Err(_) => None,
     }
 }

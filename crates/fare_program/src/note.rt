@@ -1,7 +1,7 @@
 //! What a person should know of a run.
 
 use crate::options::Options;
-use crate::program::checked;
+use crate::usage::checked;
 use clap::error::ErrorKind;
 use std::alloc::Global;
 use std::fmt;

@@ -1,22 +1,24 @@
 //! The text that is asked for of files, which are posted as they are or settled.
-ghost use Rattle.std.specs.Prelude.{Bool, ◌≡◌, ◌≢◌, ℕ, List, IfErr, IfOk, OnOk, false, length, map};
-ghost use Rattle.std.specs.Io.KnownBytes.{Appends, Keeps};
+ghost use Rattle.std.specs.Prelude.{◌≡◌, ℕ, List, IfErr, OnOk, false, length, map};
+ghost use Rattle.std.specs.Io.KnownBytes.{Appends};
+ghost use Rattle.fare_texts.specs.PrintFaults.{UnchangedUnlessWrite};
 ghost use Rattle.fare_texts.specs.WrittenOut.{Begins};
-ghost use Rattle.fare_program.specs.Fault.{status_of};
-ghost use Rattle.fare_program.specs.inside.Causes.{IsOfOutput, IsRightOfUploads};
+ghost use Rattle.fare_program.specs.inside.Causes.{IsRightOfUploads};
 ghost use Rattle.fare_program.specs.inside.Options.{request_of};
-ghost use Rattle.fare_program.specs.inside.PostedFiles.{AreProvided};
+ghost use Rattle.fare_program.specs.inside.Ends.{Gives};
+ghost use Rattle.fare_program.specs.inside.PostedFiles.{Posts};
 ghost use Rattle.fare_program.specs.Program.{ShowsRequest, ShowsOf, ShowsStatement, ShowsWith};
 
 use crate::fault::Fault;
 use crate::noting::{NotedUploads, NotingGatekeeper, sizes_in};
 use crate::options::Options;
+use crate::output::ended;
 use crate::remarks::note_outcome;
 use crate::run::{are_posted, post_live};
 use crate::settle::charge_settled;
 use fare_service::{Gatekeeper, Outcome, UploadSource, write_explained, write_ledger};
 use fare_table::FareTable;
-use fare_texts::Form;
+use fare_texts::{Form, PrintFault};
 use file_sources::Disk;
 use std::alloc::Global;
 use std::io::Write;
@@ -28,89 +30,74 @@ use tap_views::Token;
 use world::Trace;
 
 /// Prints the statement of the token, explained if that is asked for.
-#[tactic(auto, using(crate::proofs::WritesFailed::of_write))]
-fn print_statement<'a, W: Write>(
+fn print_statement<W: Write>(
     alloc: Global,
     form: Option<Form>,
     outcome: &Outcome,
     token: Token,
     out: &mut W,
-) -> Result<(), Fault<'a>>
+) -> Result<(), PrintFault>
     ensures ok { OnOk result ((text : List ℕ) × ShowsStatement form token outcome.now text
         × Appends (W.contents out.old) (W.contents out.new) text) }
-    ensures started { IfErr result (λ fault. fault ≡ Fault.Write
+    ensures started { IfErr result (λ fault. fault ≡ PrintFault.Write
         → (text : List ℕ) × ShowsStatement form token outcome.now text
         × Begins (W.contents out.old) (W.contents out.new) text) }
-    ensures output { IfErr result IsOfOutput }
-    ensures status { IfErr result (λ fault. status_of fault ≡ 1) }
-    ensures fault { IfErr result (λ fault. fault ≢ Fault.Write
-        → Keeps (W.contents out.old) (W.contents out.new)) }
+    ensures fault { IfErr result (λ fault. UnchangedUnlessWrite fault (out.new ≡ out.old)) }
 {
     match form {
-        Some(form) => write_explained(alloc, form, outcome.books(), token, out)?,
-        None => outcome.write_statement(alloc, &token, out)?,
+        Some(form) => write_explained(alloc, form, outcome.books(), token, out),
+        None => outcome.write_statement(alloc, &token, out),
     }
-    Ok(())
 }
 
 /// Prints the report, or the statement of the token if one is asked for, explained if that is asked
 /// for.
-#[tactic(auto, using(crate::proofs::WritesFailed::of_write))]
-fn print<'a, R: Threads + Sync, W: Write>(
+fn print<R: Threads + Sync, W: Write>(
     rt: &R,
     alloc: Global,
     form: Option<Form>,
     outcome: &Outcome,
     token: Option<Token>,
     out: &mut W,
-) -> Result<(), Fault<'a>>
+) -> Result<(), PrintFault>
     ensures ok { OnOk result ((text : List ℕ)
         × ShowsWith form token outcome.now.ends outcome.now text
         × Appends (W.contents out.old) (W.contents out.new) text) }
-    ensures started { IfErr result (λ fault. fault ≡ Fault.Write
+    ensures started { IfErr result (λ fault. fault ≡ PrintFault.Write
         → (text : List ℕ) × ShowsWith form token outcome.now.ends outcome.now text
         × Begins (W.contents out.old) (W.contents out.new) text) }
-    ensures output { IfErr result IsOfOutput }
-    ensures status { IfErr result (λ fault. status_of fault ≡ 1) }
-    ensures fault { IfErr result (λ fault. fault ≢ Fault.Write
-        → Keeps (W.contents out.old) (W.contents out.new)) }
+    ensures fault { IfErr result (λ fault. UnchangedUnlessWrite fault (out.new ≡ out.old)) }
 {
     match token {
-        None => outcome.write_report(rt, alloc, out)?,
-        Some(token) => print_statement(alloc, form, outcome, token, out)?,
+        None => outcome.write_report(rt, alloc, out),
+        Some(token) => print_statement(alloc, form, outcome, token, out),
     }
-    Ok(())
 }
 
 /// Prints what is asked for: the ledger, or that of the token; else the report, or the statement of
 /// the token, explained if that is asked for.
-#[tactic(auto, using(crate::proofs::WritesFailed::of_write))]
-fn print_requested<'a, R: Threads + Sync, W: Write>(
+fn print_requested<R: Threads + Sync, W: Write>(
     rt: &R,
     alloc: Global,
-    options: &Options<'a>,
+    options: &Options<'_>,
     outcome: &Outcome,
     token: Option<Token>,
     out: &mut W,
-) -> Result<(), Fault<'a>>
+) -> Result<(), PrintFault>
     ensures ok { OnOk result ((text : List ℕ)
         × ShowsOf (request_of options.now) token outcome.now.ends outcome.now text
         × Appends (W.contents out.old) (W.contents out.new) text) }
-    ensures started { IfErr result (λ fault. fault ≡ Fault.Write
+    ensures started { IfErr result (λ fault. fault ≡ PrintFault.Write
         → (text : List ℕ)
         × ShowsOf (request_of options.now) token outcome.now.ends outcome.now text
         × Begins (W.contents out.old) (W.contents out.new) text) }
-    ensures output { IfErr result IsOfOutput }
-    ensures status { IfErr result (λ fault. status_of fault ≡ 1) }
-    ensures fault { IfErr result (λ fault. fault ≢ Fault.Write
-        → Keeps (W.contents out.old) (W.contents out.new)) }
+    ensures fault { IfErr result (λ fault. UnchangedUnlessWrite fault (out.new ≡ out.old)) }
 {
     if options.ledger {
-        write_ledger(alloc, outcome.books(), token, out)?;
+        write_ledger(alloc, outcome.books(), token, out)
     } else {
-        print(rt, alloc, options.form(), outcome, token, out)?;
+        print(rt, alloc, options.form(), outcome, token, out)
     }
-    Ok(())
 }
 
 /// Posts uploads that are lent, as they are, and writes what is asked for. Says whether each was
@@ -135,34 +122,20 @@ pub(crate) fn charge_provided<
     out: &mut W,
 ) -> Result<bool, Fault<'a>>
     requires { (request_of options.now).settle ≡ false }
-    ensures ok { IfOk result (λ success. (files : List (List ℕ)) × (drawn : List ℕ) × (text : List ℕ)
-        × AreProvided (U.origins uploads) files drawn calls.old.run calls.new.run
-        × ShowsRequest (request_of options.now) table files drawn token text success
-        × Appends (W.contents out.old) (W.contents out.new) text) }
-    ensures started { IfErr result (λ fault. fault ≡ Fault.Write
-        → (success : Bool) × (files : List (List ℕ)) × (drawn : List ℕ) × (text : List ℕ)
-        × AreProvided (U.origins uploads) files drawn calls.old.run calls.new.run
-        × ShowsRequest (request_of options.now) table files drawn token text success
-        × Begins (W.contents out.old) (W.contents out.new) text) }
+    ensures ends { Gives (Posts (request_of options.now) table token (U.origins uploads)
+        calls.old.run calls.new.run) (W.contents out.old) (W.contents out.new) result }
     ensures right { IfErr result (IsRightOfUploads (request_of options.now).settle
         (length (U.origins uploads))) }
-    ensures status { IfErr result (λ fault. status_of fault ≡ 1) }
-    ensures fault { IfErr result (λ fault. fault ≢ Fault.Write
-        → Keeps (W.contents out.old) (W.contents out.new)) }
 {
-    let outcome = post_live(rt, alloc, table, options, uploads, keeper)?;
+    let outcome = match post_live(rt, alloc, table, options, uploads, keeper) {
+        Ok(outcome) => outcome,
+        Err(fault) => return Err(fault),
+    };
     note_outcome(alloc, disk, options, &outcome, token);
     let success = are_posted(outcome.ends());
-    match print_requested(rt, alloc, options, &outcome, token, out) {
-        Ok(()) => {
-            calls.join(outcome.into_calls());
-            Ok(success)
-        }
-        Err(fault) => {
-            calls.join(outcome.into_calls());
-            Err(fault)
-        }
-    }
+    let printed = print_requested(rt, alloc, options, &outcome, token, out);
+    calls.join(outcome.into_calls());
+    ended(printed, success)
 }
 
 /// Posts the files, settled if that is asked for, and writes what is asked for. Says whether each
@@ -177,20 +150,11 @@ pub(crate) fn charge<'a, R: Threads + Wait + RandomSource + Sync, D: Disk + Sync
     files: Vec<Vec<u8>>,
     out: &mut W,
 ) -> Result<bool, Fault<'a>>
-    ensures ok { IfOk result (λ success. (drawn : List ℕ) × (text : List ℕ)
-        × ShowsRequest (request_of options.now) table (map (λ f. f.items) files.items) drawn token text
-        success
-        × Appends (W.contents out.old) (W.contents out.new) text) }
-    ensures started { IfErr result (λ fault. fault ≡ Fault.Write
-        → (success : Bool) × (drawn : List ℕ) × (text : List ℕ)
-        × ShowsRequest (request_of options.now) table (map (λ f. f.items) files.items) drawn token text
-        success
-        × Begins (W.contents out.old) (W.contents out.new) text) }
+    ensures ends { Gives (λ text success. (drawn : List ℕ) × ShowsRequest (request_of options.now)
+        table (map (λ f. f.items) files.items) drawn token text success) (W.contents out.old)
+        (W.contents out.new) result }
     ensures right { IfErr result (IsRightOfUploads (request_of options.now).settle
         (length files.items)) }
-    ensures status { IfErr result (λ fault. status_of fault ≡ 1) }
-    ensures fault { IfErr result (λ fault. fault ≢ Fault.Write
-        → Keeps (W.contents out.old) (W.contents out.new)) }
 {
     let uploads = NotedUploads { disk, all: &files };
     // nothing is read from outside
@@ -200,7 +164,9 @@ pub(crate) fn charge<'a, R: Threads + Wait + RandomSource + Sync, D: Disk + Sync
             rt, alloc, disk, options, &table, token, &uploads, &mut calls, out,
         );
     }
-    let sizes = sizes_in(alloc, &files)?;
+    let Ok(sizes) = sizes_in(alloc, &files) else {
+        return Err(Fault::NoMemory);
+    };
     let keeper = NotingGatekeeper::new(disk, &sizes);
     charge_provided(
         rt,

@@ -2,8 +2,7 @@
 ghost use Rattle.std.specs.Prelude.{◌≡◌, ℕ, true, List, Option, IfErr, IfOk, length};
 ghost use Rattle.tariffs.specs.Fares.{Fares};
 ghost use Rattle.tap_views.specs.declared.token.Token.{Token};
-ghost use Rattle.fare_program.specs.Fault.{status_of};
-ghost use Rattle.fare_program.specs.inside.Fault.{IsRunFailure};
+ghost use Rattle.fare_program.specs.inside.Causes.{IsRunFailure};
 ghost use Rattle.tap_views.specs.UploadEnds.{are_posted, is_posted};
 ghost use Rattle.fare_program.specs.Options.{Request};
 ghost use Rattle.fare_program.specs.Program.{ShowsOf, ShowsPlain};
@@ -80,7 +79,6 @@ pub(crate) fn post_live<
         × IsLiveRun table options.now.shards options.now.workers (U.origins uploads) files
         outcome) }
     ensures fault { IfErr result (IsRunFailure (length (U.origins uploads))) }
-    ensures status { IfErr result (λ fault. status_of fault ≡ 1) }
 {
     let outcome = outcome_of(rt, alloc, table, options, uploads, keeper)?;
     // proof: if no token has taps in two files, what is shown does not depend on the schedule

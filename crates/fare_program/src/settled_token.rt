@@ -1,24 +1,26 @@
 //! What is printed of one token of settled files, from its taps alone.
-ghost use Rattle.std.specs.Prelude.{Bool, ◌≡◌, ◌≢◌, ℕ, List, All, Some, IfErr, IfOk};
+ghost use Rattle.std.specs.Prelude.{◌≡◌, ℕ, List, All, Some, IfErr};
 ghost use Rattle.std.specs.Prelude.{OnOk};
-ghost use Rattle.std.specs.Io.KnownBytes.{Appends, Keeps};
+ghost use Rattle.std.specs.Io.KnownBytes.{Appends};
+ghost use Rattle.fare_texts.specs.PrintFaults.{UnchangedUnlessWrite};
 ghost use Rattle.fare_texts.specs.WrittenOut.{Begins};
 ghost use Rattle.tap_views.specs.Encoding.{AreEarly};
 ghost use Rattle.histories.specs.Entry.{own};
 ghost use Rattle.histories.specs.declared.entry.Entry.{Entry};
 ghost use Rattle.settlement.specs.Posted.{posted, token_of_tap};
-ghost use Rattle.settlement.specs.Reading.{AreRead};
-ghost use Rattle.fare_program.specs.Fault.{status_of};
 ghost use Rattle.fare_program.specs.inside.Causes.{IsOfOutput};
-ghost use Rattle.fare_program.specs.Settling.{IsStatementIn, ShowsOver, ShowsSettled};
+ghost use Rattle.fare_program.specs.inside.Ends.{Gives};
+ghost use Rattle.fare_program.specs.inside.Settling.{Settles};
+ghost use Rattle.fare_program.specs.Settling.{IsStatementIn, ShowsOver};
 ghost use Rattle.fare_program.specs.inside.Options.{request_of};
 
 use crate::fault::Fault;
 use crate::options::Options;
+use crate::output::ended;
 use crate::remarks::note_taps;
 use crate::run::are_posted;
 use fare_table::FareTable;
-use fare_texts::Form;
+use fare_texts::{Form, PrintFault};
 use file_sources::Disk;
 use settled_texts::{write_token_explained, write_token_ledger, write_token_statement};
 use settlement::{TokenTaps, Uploads, laws, settled_taps_of};
@@ -30,49 +32,43 @@ use tap_views::{TapFields, Token};
 use world::Trace;
 
 /// Writes the statement of a token that has these taps, explained if that is asked for.
-#[tactic(auto, using(crate::proofs::WritesFailed::of_write))]
-fn write_statement<'a, W: Write>(
+fn write_statement<W: Write>(
     alloc: Global,
     form: Option<Form>,
     table: &FareTable,
     token: Token,
     taps: &[TapFields],
     out: &mut W,
-) -> Result<(), Fault<'a>>
+) -> Result<(), PrintFault>
     requires early { AreEarly (λ tap. tap.moment) taps.now }
     requires its { All (λ tap. token_of_tap tap ≡ token) taps.now }
     ensures ok { OnOk result ((text : List ℕ)
         × ((history : List Entry) → own token history ≡ posted table.now taps.now
         → IsStatementIn form table.now history token text)
         × Appends (W.contents out.old) (W.contents out.new) text) }
-    ensures started { IfErr result (λ fault. fault ≡ Fault.Write
+    ensures started { IfErr result (λ fault. fault ≡ PrintFault.Write
         → (text : List ℕ)
         × ((history : List Entry) → own token history ≡ posted table.now taps.now
         → IsStatementIn form table.now history token text)
         × Begins (W.contents out.old) (W.contents out.new) text) }
-    ensures output { IfErr result IsOfOutput }
-    ensures status { IfErr result (λ fault. status_of fault ≡ 1) }
-    ensures fault { IfErr result (λ fault. fault ≢ Fault.Write
-        → Keeps (W.contents out.old) (W.contents out.new)) }
+    ensures fault { IfErr result (λ fault. UnchangedUnlessWrite fault (out.new ≡ out.old)) }
 {
     match form {
-        Some(form) => write_token_explained(alloc, form, table, token, taps, out)?,
-        None => write_token_statement(alloc, table, token, taps, out)?,
+        Some(form) => write_token_explained(alloc, form, table, token, taps, out),
+        None => write_token_statement(alloc, table, token, taps, out),
     }
-    Ok(())
 }
 
 /// Writes the ledger of a token that has these taps, or its statement, explained if that is asked
 /// for.
-#[tactic(auto, using(crate::proofs::WritesFailed::of_write))]
-pub(crate) fn write_text<'a, W: Write>(
+pub(crate) fn write_text<W: Write>(
     alloc: Global,
-    options: &Options<'a>,
+    options: &Options<'_>,
     table: &FareTable,
     token: Token,
     taps: &[TapFields],
     out: &mut W,
-) -> Result<(), Fault<'a>>
+) -> Result<(), PrintFault>
     requires early { AreEarly (λ tap. tap.moment) taps.now }
     requires its { All (λ tap. token_of_tap tap ≡ token) taps.now }
     ensures ok { OnOk result ((text : List ℕ)
@@ -80,23 +76,19 @@ pub(crate) fn write_text<'a, W: Write>(
         → own token history ≡ posted table.now taps.now
         → ShowsOver (request_of options.now) (Some token) table.now files history text)
         × Appends (W.contents out.old) (W.contents out.new) text) }
-    ensures started { IfErr result (λ fault. fault ≡ Fault.Write
+    ensures started { IfErr result (λ fault. fault ≡ PrintFault.Write
         → (text : List ℕ)
         × ((files : List (List ℕ)) (history : List Entry)
         → own token history ≡ posted table.now taps.now
         → ShowsOver (request_of options.now) (Some token) table.now files history text)
         × Begins (W.contents out.old) (W.contents out.new) text) }
-    ensures output { IfErr result IsOfOutput }
-    ensures status { IfErr result (λ fault. status_of fault ≡ 1) }
-    ensures fault { IfErr result (λ fault. fault ≢ Fault.Write
-        → Keeps (W.contents out.old) (W.contents out.new)) }
+    ensures fault { IfErr result (λ fault. UnchangedUnlessWrite fault (out.new ≡ out.old)) }
 {
     if options.ledger {
-        write_token_ledger(alloc, table, token, taps, out)?;
+        write_token_ledger(alloc, table, token, taps, out)
     } else {
-        write_statement(alloc, options.form(), table, token, taps, out)?;
+        write_statement(alloc, options.form(), table, token, taps, out)
     }
-    Ok(())
 }
 
 /// Writes what is asked for of the token: of the taps of the uploads no others are kept. Says
@@ -112,26 +104,19 @@ pub(crate) fn write_token<'a, R: Threads + Sync, D: Disk, U: Uploads + Sync, W: 
     calls: &mut Trace,
     out: &mut W,
 ) -> Result<bool, Fault<'a>>
-    ensures ok { IfOk result (λ success. (files : List (List ℕ)) × (text : List ℕ)
-        × AreRead (U.origin uploads.now) 0 (U.number uploads.now) files calls.old.run
-        calls.new.run
-        × ShowsSettled (request_of options.now) table.now files (Some token) text success
-        × Appends (W.contents out.old) (W.contents out.new) text) }
-    ensures started { IfErr result (λ fault. fault ≡ Fault.Write
-        → (success : Bool) × (files : List (List ℕ)) × (text : List ℕ)
-        × AreRead (U.origin uploads.now) 0 (U.number uploads.now) files calls.old.run
-        calls.new.run
-        × ShowsSettled (request_of options.now) table.now files (Some token) text success
-        × Begins (W.contents out.old) (W.contents out.new) text) }
+    ensures ends { Gives (Settles (request_of options.now) table.now (Some token)
+        (U.origin uploads.now) (U.number uploads.now) calls.old.run calls.new.run)
+        (W.contents out.old) (W.contents out.new) result }
     ensures output { IfErr result IsOfOutput }
-    ensures status { IfErr result (λ fault. status_of fault ≡ 1) }
-    ensures fault { IfErr result (λ fault. fault ≢ Fault.Write
-        → Keeps (W.contents out.old) (W.contents out.new)) }
 {
-    let TokenTaps { ends, taps } = settled_taps_of(rt, alloc, uploads, token, calls)?;
+    let made = match settled_taps_of(rt, alloc, uploads, token, calls) {
+        Ok(made) => made,
+        Err(_) => return Err(Fault::NoMemory),
+    };
+    let TokenTaps { ends, taps } = made;
     // proof: the taps, posted alone, are the token's entries in the settled history
     laws::posted_taps();
     note_taps(disk, &taps);
-    write_text(alloc, options, table, token, &taps, out)?;
-    Ok(are_posted(&ends))
+    let written = write_text(alloc, options, table, token, &taps, out);
+    ended(written, are_posted(&ends))
 }

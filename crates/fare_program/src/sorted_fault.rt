@@ -3,6 +3,7 @@ ghost use Rattle.std.specs.Prelude.{◌≡◌, Some};
 ghost use Rattle.fare_program.specs.SortedFaults.{late_text, sorted_text, unopened_text};
 
 use placed_files::Unopened;
+use sorted_bills::BillFault;
 use sorted_taps::SortedFault;
 use std::fmt;
 
@@ -75,6 +76,16 @@ impl LateFault {
             SortedFault::OutOfOrder { .. } | SortedFault::Layout { .. } => LateFault::Changed,
             SortedFault::Unread => LateFault::Unread,
             SortedFault::NoMemory => LateFault::NoMemory,
+        }
+    }
+
+    /// Why the rest of a part was not written, if no write failed.
+    pub(crate) fn of_bill(fault: BillFault) -> LateFault {
+        match fault {
+            BillFault::File(refused) => LateFault::of(refused.fault),
+            BillFault::TooManyTaps | BillFault::Changed | BillFault::Write => LateFault::Changed,
+            BillFault::Late(fault) => LateFault::of(fault),
+            BillFault::NoMemory => LateFault::NoMemory,
         }
     }
 }

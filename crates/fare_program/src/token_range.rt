@@ -2,7 +2,7 @@
 ghost use Rattle.std.specs.Prelude.{◌≡◌, ◌==◌, false, true, None, Some, IfErr, IfOk, List, OnOk, ℕ};
 ghost use Rattle.std.specs.Prelude.{option_map};
 ghost use Rattle.fare_program.specs.TokenRanges.{bytes_of_side, is_side, order_fault, range_fault};
-ghost use Rattle.fare_program.specs.TokenRanges.{range_text, sides_of};
+ghost use Rattle.fare_program.specs.TokenRanges.{sides_of};
 
 use hex::FromHex;
 use std::fmt;
@@ -17,14 +17,9 @@ pub(crate) enum RangeFault {
     Digits,
     /// The first token is not below the one that ends the range.
     Order,
-    NoSorted,
-    /// One token is requested, too.
-    WithToken,
 }
 
 impl fmt::Display for RangeFault {
-    ghost output = { λ fault. Some (range_text fault) };
-
     fn fmt<W: fmt::Write>(&self, f: &mut fmt::Formatter<W>) -> fmt::Result {
         f.write_str(match self {
             RangeFault::Form => "fault: --tokens needs FROM..BELOW",
@@ -32,8 +27,6 @@ impl fmt::Display for RangeFault {
                 "fault: --tokens needs 32 hexadecimal digits on each side, or none"
             }
             RangeFault::Order => "fault: --tokens needs a FROM that is below BELOW",
-            RangeFault::NoSorted => "fault: --tokens needs --sorted",
-            RangeFault::WithToken => "fault: --tokens cannot be used with --token",
         })
     }
 }

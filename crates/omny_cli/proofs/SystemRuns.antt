@@ -25,12 +25,12 @@ if_not : (A B : Type 0) (b : Bool) → b ≡ false → MatchBool b A B → B
 if_not A B b e which = subst (λ (x : Bool). MatchBool x A B) e which
 
 -- what is done for words that ask for a bill of named files
-pub charges_named : (request : Request) (after : List Load) (out' : Option (List ℕ))
-    → ChargesNamed request
-    → Does request (λ _. None) file (Some []) (Some after) (Some []) out' true
-    → ChargesFiles request [] after (Some []) out'
-charges_named request after out' names does =
-    charges_files request file [] after (Some []) out' (λ name. refl) names.some
+pub charges_named : (request : Request) (after : List Load) (text written : List ℕ)
+    → Does request (λ _. None) file (Some []) (Some after) text true → written ≡ text
+    → ChargesNamed request → ChargesFiles request [] after written
+charges_named request after text written does same names =
+    subst (λ (t : List ℕ). ChargesFiles request [] after t) (sym same)
+    (charges_files request file [] after text (λ name. refl) names.some
     (if_not _ _ request.sorted names.sorts_none
     (if_not _ _ _ names.lists_none
-    (if_not _ _ request.traced names.traces_none does)))
+    (if_not _ _ request.traced names.traces_none does))))

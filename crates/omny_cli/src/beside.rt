@@ -1,6 +1,6 @@
 //! A run with a line beside it that says what it does.
-ghost use Rattle.std.specs.Prelude.{◌≡◌, map, string_bytes};
-ghost use Rattle.fare_program.specs.Runs.{IsRun};
+ghost use Rattle.std.specs.Prelude.{map, string_bytes};
+ghost use Rattle.fare_program.specs.Ends.{Ends};
 
 use fare_program::{Complaints, Disk, Output, Source, main_over};
 use run_progress::Ticker;
@@ -27,11 +27,20 @@ fn run<
     out: &mut Output<W>,
     err: &mut Complaints<E>,
 ) -> u8
-    ensures { IsRun (map string_bytes words.now) (D.bytes_under disk.now) (D.origin disk.now)
-        (S.loaded source.old) (S.loaded source.new) (S.refused source.new) (W.contents out.old.writer)
-        (W.contents out.new.writer)
-        (E.contents err.old.writer) (E.contents err.new.writer) out.new.end out.new.is_flushed
-        err.new.failed (err.new ≡ err.old) result }
+    ensures { Ends (map string_bytes words.now) (record {
+      under = D.bytes_under disk.now;
+      origin = D.origin disk.now;
+      loaded = S.loaded source.old;
+      loaded' = S.loaded source.new;
+      refused = S.refused source.new;
+      out = W.contents out.old.writer;
+      out' = W.contents out.new.writer;
+      end = out.new.end;
+      flushed = out.new.is_flushed;
+      said = E.contents err.old.writer;
+      said' = E.contents err.new.writer;
+      failed = err.new.failed;
+    }) result }
 {
     let status = main_over(rt, rt.alloc(), words, disk, source, out, err);
     ticker.end(rt);
@@ -55,11 +64,20 @@ pub fn run_beside_line<
     out: &mut Output<W>,
     err: &mut Complaints<E>,
 ) -> u8
-    ensures { IsRun (map string_bytes words.now) (D.bytes_under disk.now) (D.origin disk.now)
-        (S.loaded source.old) (S.loaded source.new) (S.refused source.new) (W.contents out.old.writer)
-        (W.contents out.new.writer)
-        (E.contents err.old.writer) (E.contents err.new.writer) out.new.end out.new.is_flushed
-        err.new.failed (err.new ≡ err.old) result }
+    ensures { Ends (map string_bytes words.now) (record {
+      under = D.bytes_under disk.now;
+      origin = D.origin disk.now;
+      loaded = S.loaded source.old;
+      loaded' = S.loaded source.new;
+      refused = S.refused source.new;
+      out = W.contents out.old.writer;
+      out' = W.contents out.new.writer;
+      end = out.new.end;
+      flushed = out.new.is_flushed;
+      said = E.contents err.old.writer;
+      said' = E.contents err.new.writer;
+      failed = err.new.failed;
+    }) result }
 {
     let (_, status) = thread::join_mut(
         rt,

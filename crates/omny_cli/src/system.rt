@@ -1,10 +1,10 @@
 //! A run over the files, the standard input and the outputs of the system.
-ghost use Rattle.std.specs.Prelude.{◌≡◌, [], None, Some, map, string_bytes};
+ghost use Rattle.std.specs.Prelude.{◌≡◌, [], ℕ, None, Some, map, string_bytes};
 ghost use Rattle.world.specs.Origins.{file};
 ghost use Rattle.world.specs.Run.{no_calls};
 ghost use Rattle.program_manners.specs.Refusals.{IsShown, refusal_of};
+ghost use Rattle.fare_program.specs.Ends.{Ends};
 ghost use Rattle.fare_program.specs.Options.{Parses, request_by};
-ghost use Rattle.fare_program.specs.Runs.{IsRun};
 ghost use Rattle.fare_program.specs.SystemFiles.{ChargesFiles};
 ghost use Rattle.omny_cli.specs.Charges.{ChargesNamed};
 
@@ -37,16 +37,25 @@ pub fn run_system<R: Threads + Wait + Clock + RandomSource + Sync + AllocGlobal,
     requires unsaid { err.old.writer.to.trace ≡ no_calls }
     // With status 0 the output has the text of exactly the bytes that the named files gave.
     ensures charged { Parses (map string_bytes words.now) → result ≡ 0
-        → ChargesNamed (request_by (map string_bytes words.now))
-        → ChargesFiles (request_by (map string_bytes words.now)) []
-        source.new.from.loads.trace.run.loads (Some []) (Some out.new.writer.to.trace.run.written) }
-    // Each promise of a run, with what the system calls tell.
-    ensures run { IsRun (map string_bytes words.now) (λ _. None) file (Some [])
-        (Some source.new.from.loads.trace.run.loads)
-        (Some (refusal_of source.new.from.loads.last.value)) (Some [])
-        (Some out.new.writer.to.trace.run.written) (Some [])
-        (Some err.new.writer.to.trace.run.written) out.new.end out.new.is_flushed err.new.failed
-        (err.new ≡ err.old) result }
+        → (workers : ℕ) × (shards : ℕ)
+        × (ChargesNamed (request_by workers shards (map string_bytes words.now))
+        → ChargesFiles (request_by workers shards (map string_bytes words.now)) []
+        source.new.from.loads.trace.run.loads out.new.writer.to.trace.run.written) }
+    // The outcome of a run, with what the system calls tell.
+    ensures ends { Ends (map string_bytes words.now) (record {
+      under = λ _. None;
+      origin = file;
+      loaded = Some [];
+      loaded' = Some source.new.from.loads.trace.run.loads;
+      refused = Some (refusal_of source.new.from.loads.last.value);
+      out = Some [];
+      out' = Some out.new.writer.to.trace.run.written;
+      end = out.new.end;
+      flushed = out.new.is_flushed;
+      said = Some [];
+      said' = Some err.new.writer.to.trace.run.written;
+      failed = err.new.failed;
+    }) result }
     // A fault of a file is one that a system call of this run gave.
     ensures refused { ∥ IsShown source.new.from.loads.trace.run
         (refusal_of source.new.from.loads.last.value) ∥₁ }

@@ -1,8 +1,12 @@
 -- Causes of faults: what private functions alone cite.
-use Rattle.std.specs.Prelude.{◌≡◌, ◌<◌, ℕ, Bool, false}
+use Rattle.std.specs.Prelude.{◌≡◌, ◌<◌, ℕ, Bool, [], Some, false, slice_get}
+use Rattle.class_names.specs.declared.names.ClassFault.TheVariants as class
+use Rattle.class_names.specs.declared.names.WrongNames.{WrongNames}
+use Rattle.program_manners.specs.TableWords.{TableNames, table_files}
 use Rattle.fare_service.specs.Faults.{IsForMemory}
 use Rattle.fare_program.specs.declared.fault.Fault.{Fault}
-use Rattle.fare_program.specs.declared.fault.Fault.TheVariants.{Uploads, Gather, Write, NoMemory}
+use Rattle.fare_program.specs.declared.fault.Fault.TheVariants.{ClassName, Gather, NamedClass}
+use Rattle.fare_program.specs.declared.fault.Fault.TheVariants.{NoMemory, Uploads, Write}
 
 -- a write failed, or an allocation failed
 abbrev pub IsOfOutput : Fault → Type 0
@@ -19,3 +23,19 @@ IsRightOfUploads settle uploads (Gather fault) = (settle ≡ false) × IsForMemo
 IsRightOfUploads settle uploads Write = Unit {0}
 IsRightOfUploads settle uploads NoMemory = Unit {0}
 IsRightOfUploads settle uploads fault = ⊥
+
+-- why a run over this number of uploads came to nothing: there were too many of them, or an
+-- allocation failed, also to the gathering
+abbrev pub IsRunFailure : ℕ → Fault → Type 0
+IsRunFailure uploads Uploads = 65535 < uploads
+IsRunFailure uploads NoMemory = Unit {0}
+IsRunFailure uploads (Gather fault) = IsForMemory fault
+IsRunFailure uploads _ = ⊥
+
+-- the name of a class is wrong, in the only table or in the one of this file; or an allocation failed
+abbrev pub IsNamedClass : TableNames → WrongNames → Fault → Type 0
+IsNamedClass tables wrong ClassName = (wrong.fault ≡ class.Name) × (tables.later ≡ [])
+IsNamedClass tables wrong (NamedClass line) =
+    (wrong.fault ≡ class.Name) × (slice_get (table_files tables) wrong.position ≡ Some line.0.now)
+IsNamedClass tables wrong NoMemory = Unit {0}
+IsNamedClass tables wrong _ = ⊥

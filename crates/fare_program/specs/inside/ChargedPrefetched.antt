@@ -8,17 +8,14 @@ use Rattle.fare_program.specs.Options.{Request}
 use Rattle.fare_program.specs.Program.{ShowsRequest}
 use Rattle.program_manners.specs.Loads.{Loaded}
 
--- There is a table, and the files were read ahead. What is asked for of them, well or not, was
--- written, or a prefix of it: `Written` of its text.
+-- There is a table, and the files were read ahead. The text is what is asked for of them.
 pub record IsChargedPrefetched (request : Request) (origin : List ℕ → Origin)
     (loaded loaded' : Option (List Loaded)) (table : Option Fares) (token : Option Token)
-    (Written : List ℕ → Type 0) (success : Bool) : Type 0 where
+    (text : List ℕ) (success : Bool) : Type 0 where
   pub fares : Fares
   pub is_table : table ≡ Some fares
   pub lists_none : request.list ≡ false
   pub files : List (List ℕ)
   pub drawn : List ℕ
   pub read : ArePrefetched request origin loaded loaded' files drawn
-  pub text : List ℕ
   pub shows : ShowsRequest request fares files drawn token text success
-  pub written : Written text

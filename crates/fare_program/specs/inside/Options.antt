@@ -1,7 +1,4 @@
 -- Options: what private functions alone cite.
-use Rattle.std.specs.Prelude.{◌≡◌, ℕ, List, Some, pos}
-use Rattle.clap.specs.Words.{Row, Text}
-use Rattle.clap.specs.Words.{IsSignedIn, one_of, without_minus}
 use Rattle.std.specs.Prelude.{map, option_map}
 use Rattle.fare_program.specs.declared.options.Options.{Options}
 use Rattle.fare_program.specs.Options.{Request}
@@ -25,9 +22,3 @@ request_of options = record {
   tokens = option_map (λ t. t.now) options.tokens;
   files = map (λ f. f.now) options.files.items;
 }
-
--- under the name stands a number of 1 to `most`, of which a minus before it has been left out
-pub record HasNumber (most : ℕ) (name : Text) (rows : List Row) : Type 0 where
-  pub text : Text
-  pub read : one_of name rows ≡ Some (without_minus text)
-  pub within : IsSignedIn (pos 1) (pos most) text

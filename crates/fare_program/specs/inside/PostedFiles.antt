@@ -1,12 +1,12 @@
 -- Posted files: what private functions alone cite.
-use Rattle.std.specs.Prelude.{◌≡◌, ℕ, true, List, Option}
+use Rattle.std.specs.Prelude.{◌≡◌, ℕ, Bool, true, List, Option}
 use Rattle.tariffs.specs.Fares.{Fares}
 use Rattle.tap_views.specs.declared.token.Token.{Token}
 use Rattle.fare_service.specs.Lending.{AreProvidedAs}
 use Rattle.fare_service.specs.Outcomes.{OutcomeView}
 use Rattle.fare_program.specs.Options.{Request}
 use Rattle.tap_views.specs.UploadEnds.{are_posted}
-use Rattle.fare_program.specs.Program.{ShowsOf, ShowsPlain}
+use Rattle.fare_program.specs.Program.{ShowsOf, ShowsPlain, ShowsRequest}
 use Rattle.fare_service.specs.Headline.{AreLoaded, HasRun, drawn_by}
 use Rattle.world.specs.Origins.{Origin}
 use Rattle.world.specs.Run.{Run, with_all}
@@ -30,3 +30,9 @@ pub record AreProvided (uploads : List Origin) (files : List (List ℕ)) (drawn 
   pub run : Run
   pub loaded : AreLoaded uploads files drawn run
   pub appended : new ≡ with_all old run
+
+-- Uploads were lent and posted as they are, and the text is what is asked for of them.
+abbrev pub Posts : Request → Fares → Option Token → List Origin → Run → Run → List ℕ → Bool → Type 0
+Posts request fares token uploads old new text success =
+    (files : List (List ℕ)) × (drawn : List ℕ) × AreProvided uploads files drawn old new
+    × ShowsRequest request fares files drawn token text success

@@ -1,20 +1,16 @@
 -- Settling: what private functions alone cite.
-use Rattle.std.specs.Prelude.{◌≡◌, ℕ, Bool, List}
-use Rattle.histories.specs.declared.entry.Entry.{Entry}
+use Rattle.std.specs.Prelude.{ℕ, Bool, List, Option}
 use Rattle.tariffs.specs.Fares.{Fares}
-use Rattle.tap_views.specs.UploadEnds.{are_posted}
-use Rattle.tap_views.specs.UploadEnds.{ArePlainEnds}
-use Rattle.report_texts.specs.OverHistory.{IsReportOver}
-use Rattle.tap_views.specs.declared.upload_end.UploadEnd.{UploadEnd}
-use Rattle.settlement.specs.Settled.{IsSettledHistory}
+use Rattle.tap_views.specs.declared.token.Token.{Token}
+use Rattle.settlement.specs.Reading.{AreRead}
+use Rattle.world.specs.Origins.{Origin}
+use Rattle.world.specs.Run.{Run}
+use Rattle.fare_program.specs.Options.{Request}
+use Rattle.fare_program.specs.Settling.{ShowsSettled}
 
--- The text is the report of the settled history of the files. It is well if each file ends posted
--- whole.
-pub record ShowsBill (fares : Fares) (files : List (List ℕ)) (text : List ℕ) (success : Bool)
-    : Type 0 where
-  pub history : List Entry
-  pub is_settled : IsSettledHistory fares files history
-  pub shows : IsReportOver files history text
-  pub ends : List UploadEnd
-  pub ended : ArePlainEnds files ends
-  pub succeeded : success ≡ are_posted ends
+-- This number of uploads was read in their order, and the text is what is asked for of them.
+abbrev pub Settles : Request → Fares → Option Token → (ℕ → Origin) → ℕ → Run → Run → List ℕ → Bool
+    → Type 0
+Settles request fares token origin number old new text success = (files : List (List ℕ))
+    × AreRead origin 0 number files old new
+    × ShowsSettled request fares files token text success

@@ -1,53 +1,22 @@
-use Rattle.std.proofs.lemmas.Result.{IfErr-weaker, IfOk-weaker}
-use Rattle.std.proofs.Common.{refl}
-use Rattle.tap_views.specs.UploadEnds.{are_posted}
-use Rattle.fare_program.specs.Parts.{report_over}
+use Rattle.fare_program.specs.inside.Options.{request_of}
+use Rattle.fare_program.proofs.Ends.{gives_by}
+use Rattle.fare_program.proofs.Billed.{shows_bill}
 use Rattle.fare_program.proofs.bill.write_bill.Goals as goal
 
 pub write_billed-requires : goal.write_billed-requires
 write_billed-requires g c =
-    let (files, read, ended, billed) = c.in_ok-made.ensures in
+    let (files, read, ended, billed) = c.in-Ok-settled_bill.ensures in
     (billed.0, billed.2, billed.3)
 
-pub returns-clause-ok : goal.returns-clause-ok
-returns-clause-ok g c =
-    let (files, read, ended, billed) = c.in_ok-made.ensures in
-    let ends = c.in_ok-made.made.ends.items in
-    IfOk-weaker c.write_billed.result _ _
-    (λ success made. (
+pub returns-in-Ok-settled_bill-clause-ends : goal.returns-in-Ok-settled_bill-clause-ends
+returns-in-Ok-settled_bill-clause-ends g c =
+    let (files, read, ended, billed) = c.in-Ok-settled_bill.ensures in
+    gives_by _ _ _ _ c.write_billed.result
+    (λ text success made. (
       files,
-      report_over ends billed.0,
       read,
-      record {
-        history = billed.0;
-        is_settled = billed.1;
-        shows = record { ends = ends; of_uploads = ended; shown = refl };
-        ends = ends;
-        ended = ended;
-        succeeded = made.0;
-      },
-      made.1 billed.0 billed.2,
+      shows_bill (request_of c.args.options.now) c.args.table.now files text success c.requires
+          billed.0 billed.1 c.in-Ok-settled_bill.made.ends.items ended made.0
+          (made.1 billed.0 billed.2),
     ))
-    c.write_billed.ensures.ok
-
-pub returns-clause-started : goal.returns-clause-started
-returns-clause-started g c =
-    let (files, read, ended, billed) = c.in_ok-made.ensures in
-    let ends = c.in_ok-made.made.ends.items in
-    IfErr-weaker c.write_billed.result _ _
-    (λ fault started write. (
-      are_posted ends,
-      files,
-      report_over ends billed.0,
-      read,
-      record {
-        history = billed.0;
-        is_settled = billed.1;
-        shows = record { ends = ends; of_uploads = ended; shown = refl };
-        ends = ends;
-        ended = ended;
-        succeeded = refl;
-      },
-      started write billed.0 billed.2,
-    ))
-    c.write_billed.ensures.started
+    c.write_billed.ensures.ends

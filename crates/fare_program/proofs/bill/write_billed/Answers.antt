@@ -1,8 +1,6 @@
-use Rattle.std.proofs.Common.{◌≡◌, map, ap, subst, sym, ◌∙◌, arith}
-use Rattle.std.proofs.lemmas.Result.{err_from_is_err_and}
-use Rattle.std.specs.Io.KnownBytes.{Appends}
-use Rattle.fare_program.proofs.WritesFailed.{of_write}
-use Rattle.fare_texts.specs.WrittenOut.{Begins}
+use Rattle.std.proofs.Common.{◌≡◌, ◌∙◌, ap, arith, map, refl}
+use Rattle.std.proofs.KnownBytes.{Keeps-refl}
+use Rattle.std.proofs.lemmas.Result.{IfErr-weaker, on_ok_weaker}
 use Rattle.histories.specs.Sums.{Sums, sums, sums_of}
 use Rattle.histories.specs.Shown.{validator_sum}
 use Rattle.histories.specs.SumsByKey.{sums_by_validator}
@@ -10,7 +8,8 @@ use Rattle.histories.specs.TalliesByKey.{HasRoom}
 use Rattle.histories.proofs.SumsLemmas.{sums-taps}
 use Rattle.report_texts.specs.Report.{report}
 use Rattle.tap_views.specs.UploadEnds.{are_posted}
-use Rattle.fare_program.specs.Parts.{report_over}
+use Rattle.fare_program.specs.inside.Fault.{ended_as}
+use Rattle.fare_program.proofs.Ends.{gives_by, gives_printed}
 use Rattle.fare_program.proofs.bill.write_billed.Goals as goal
 
 pub totals-totals-requires : goal.totals-totals-requires
@@ -25,38 +24,27 @@ sums-requires g c =
     let (history, is, few) = c.requires in
     (history, is.counts.validators, omega (arith, few))
 
-pub returns-clause-ok : goal.returns-clause-ok
-returns-clause-ok g c = (
-  c.are_posted.ensures ∙ ap are_posted c.deref-3.ensures.value,
-  λ history is.
-      let one : sums_of c.totals-totals.result ≡ sums history =
-      c.totals-totals.ensures ∙ is.counts.totals in
-      let two : map validator_sum c.deref-2.result.now ≡ sums_by_validator history =
-      ap (map validator_sum) c.deref-2.ensures.value
-      ∙ c.in_ok-validators.ensures history is.counts.validators in
-      let same : report c.deref.result.now (sums_of c.totals-totals.result)
-      (map validator_sum c.deref-2.result.now) c.args.made.bill.tokens
-      ≡ report_over c.args.made.ends.items history =
-      λ i. report (c.deref.ensures.value i) (one i) (two i) (is.tokens i) in
-      subst
-      (Appends (g.W.Write.contents c.args.out.now) (g.W.Write.contents c.write_report.new.out))
-      same c.in_ok-write_report.ensures.ok,
-)
-
--- what a write that failed left
-pub returns-in_err-write_report-clause-started : goal.returns-in_err-write_report-clause-started
-returns-in_err-write_report-clause-started g c =
-    let p = err_from_is_err_and c.from_residual-in_err-write_report.result
-    c.from_residual-in_err-write_report.ensures.1 in
-    rw p.1 (λ write history is.
-    let one : sums_of c.totals-totals.result ≡ sums history =
-    c.totals-totals.ensures ∙ is.counts.totals in
-    let two : map validator_sum c.deref-2.result.now ≡ sums_by_validator history =
-    ap (map validator_sum) c.deref-2.ensures.value
-    ∙ c.in_ok-validators.ensures history is.counts.validators in
-    let same : report c.deref.result.now (sums_of c.totals-totals.result)
-    (map validator_sum c.deref-2.result.now) c.args.made.bill.tokens
-    ≡ report_over c.args.made.ends.items history =
-    λ i. report (c.deref.ensures.value i) (one i) (two i) (is.tokens i) in
-    subst (Begins (g.W.Write.contents c.args.out.now) (g.W.Write.contents c.write_report.new.out))
-    same (c.in_err-write_report.ensures.started (of_write _ (sym p.2 ∙ write))))
+pub returns-clause-ends : goal.returns-clause-ends
+returns-clause-ends g c =
+    let text = report c.deref.result.now (sums_of c.totals-totals.result)
+    (map validator_sum c.deref-2.result.now) c.args.made.bill.tokens in
+    let written = c.write_report-written.result in
+    rw c.ended.ensures.ended
+    (gives_by (λ shown success. (success ≡ c.are_posted.result) × (shown ≡ text)) _ _ _
+    (ended_as written c.are_posted.result)
+    (λ shown success is. (
+      is.0 ∙ c.are_posted.ensures ∙ ap are_posted c.deref-3.ensures.value,
+      λ history bill.
+          let one : sums_of c.totals-totals.result ≡ sums history =
+          c.totals-totals.ensures ∙ bill.counts.totals in
+          let two : map validator_sum c.deref-2.result.now ≡ sums_by_validator history =
+          ap (map validator_sum) c.deref-2.ensures.value
+          ∙ c.in-Ok.ensures history bill.counts.validators in
+          is.1 ∙ (λ i. report (c.deref.ensures.value i) (one i) (two i) (bill.tokens i)),
+    ))
+    (gives_printed (λ shown. shown ≡ text) _ _ _ written c.are_posted.result
+    (λ same. rw same (Keeps-refl _))
+    (on_ok_weaker written (λ all. (text, refl, all)) c.write_report-written.ensures.ok)
+    (IfErr-weaker written _ _ (λ fault started write. (text, refl, started write))
+    c.write_report-written.ensures.started)
+    c.write_report-written.ensures.fault))

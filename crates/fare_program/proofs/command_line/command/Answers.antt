@@ -1,10 +1,7 @@
 use Rattle.std.proofs.Common.{◌∙◌, ap, ap₂}
 use Rattle.std.proofs.lemmas.Result.{IfOk-weaker}
 use Rattle.clap.specs.Words.{App, with_rule}
-use Rattle.program_manners.specs.Words.{list_option, null_flag}
-use Rattle.fare_program.specs.Options.{explain_flag, file_argument, json_flag, ledger_flag}
-use Rattle.fare_program.specs.Options.{format_option, made_by_option, program, tokens_option}
-use Rattle.fare_program.specs.Options.{traced_flag}
+use Rattle.fare_program.specs.Options.{program, text_rules, with_rules}
 use Rattle.fare_program.proofs.command_line.command.Goals as goal
 
 pub returns : goal.returns
@@ -27,9 +24,5 @@ returns c =
     let eight = c.in_ok-command.ensures.shape c.option_arg-token.ensures.local
     ∙ ap₂ with_rule seven c.option_arg-token.ensures.rule in
     IfOk-weaker c.with_texts.result _ _
-    (λ command is. is ∙ ap
-    (λ (a : App). with_rule (with_rule (with_rule (with_rule (with_rule (with_rule
-    (with_rule (with_rule (with_rule (with_rule a ledger_flag) explain_flag) json_flag)
-    traced_flag) tokens_option) made_by_option) format_option) list_option) null_flag)
-    file_argument) eight)
+    (λ command is. is ∙ ap (λ (a : App). with_rules a text_rules) eight)
     c.with_texts.ensures

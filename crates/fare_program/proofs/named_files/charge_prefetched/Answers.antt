@@ -1,16 +1,26 @@
 use Rattle.std.proofs.Common.{sym}
+use Rattle.fare_program.proofs.Ends.{started_of}
 use Rattle.fare_program.proofs.Prefetched.{charged_joined}
 use Rattle.fare_program.proofs.named_files.charge_prefetched.Goals as goal
 
-pub returns-in-Ok-clause-done : goal.returns-in-Ok-clause-done
-returns-in-Ok-clause-done g c =
-    charged_joined _ _ _ _ _ c.charge_named.new.calls.run _ _ _ _ _ c.new-calls.ensures
-    c.join.ensures.loaded (sym c.in-Some.is) c.in-Ok.ensures.ok
+pub returns-in-Ok-clause-ends : goal.returns-in-Ok-clause-ends
+returns-in-Ok-clause-ends g c =
+    let (text, is, written) = c.in-Ok.ensures.ends in (
+      text,
+      charged_joined _ _ _ _ _ c.charge_named.new.calls.run _ _ _ text c.in-Ok.success
+          c.new-calls.ensures c.join.ensures.loaded (sym c.in-Some.is) is,
+      written,
+    )
 
-pub returns-in-Err-Write-clause-started : goal.returns-in-Err-Write-clause-started
-returns-in-Err-Write-clause-started g c =
-    let (success, is) = c.in-Err-Write.ensures.started c.in-Err-Write.field-0-is in (
-      success,
-      charged_joined _ _ _ _ _ c.charge_named.new.calls.run _ _ _ _ _ c.new-calls.ensures
-          c.join-in-Err-Write.ensures.loaded (sym c.in-Some.is) is,
+pub returns-in-Err-Write-clause-ends : goal.returns-in-Err-Write-clause-ends
+returns-in-Err-Write-clause-ends g c =
+    let (text, (success, is), started) = started_of _ _ _ _ c.in-Err-Write.field-0-is
+    c.in-Err-Write.ensures.ends in (
+      text,
+      (
+        success,
+        charged_joined _ _ _ _ _ c.charge_named.new.calls.run _ _ _ text success
+            c.new-calls.ensures c.join-in-Err-Write.ensures.loaded (sym c.in-Some.is) is,
+      ),
+      started,
     )

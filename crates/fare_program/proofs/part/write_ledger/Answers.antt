@@ -1,33 +1,66 @@
 use Rattle.std.proofs.Common.{◌++◌, List, refl, subst}
 use Rattle.std.specs.Io.KnownBytes.{Appends}
-use Rattle.std.proofs.KnownBytes.{Appends-trans}
+use Rattle.std.proofs.KnownBytes.{Appends-trans, Keeps-refl}
+use Rattle.fare_texts.proofs.Beginnings.{begins_after}
+use Rattle.fare_texts.specs.LedgerLines.{head_text}
 use Rattle.sorted_bills.specs.Parts.{IsPartOf}
 use Rattle.part_texts.specs.Heads.{part_head}
 use Rattle.sorted_taps.specs.declared.positions.FileSpan.{FileSpan}
+use Rattle.fare_program.proofs.Ends.{printed, unwritten}
 use Rattle.fare_program.proofs.part.write_ledger.Goals as goal
 
-pub returns-in-Ok-write_part_ledger-clause-ok : goal.returns-in-Ok-write_part_ledger-clause-ok
-returns-in-Ok-write_part_ledger-clause-ok g c =
+pub returns-in-Ok-write_part_ledger-clause-ends : goal.returns-in-Ok-write_part_ledger-clause-ends
+returns-in-Ok-write_part_ledger-clause-ends g c =
     let old = g.W.Write.contents c.args.out.now in
     let mid = g.W.Write.contents c.write_part_head.new.out in
     let new = g.W.Write.contents c.write_part_ledger.new.out in
     let spans = c.in-Ok.spans.items in
-    let (body, part, written) = c.in-Ok-write_part_ledger.ensures.ok in
-    record {
-      text = part_head spans ++ body;
-      shows = λ all are.
-          let (lists, history, of, over) = part all are in
-          record {
-            spans = spans;
-            lists = lists;
-            history = history;
-            part = subst (λ (s : List FileSpan). IsPartOf c.args.table.now all s lists history)
-                c.deref-3.ensures.value of;
-            body = body;
-            shows = over;
-            whole = refl;
-          };
-      written = Appends-trans old mid new (part_head spans) body
+    let (body, part, written) = c.in-Ok-write_part_ledger.ensures.ok in (
+      part_head spans ++ body,
+      (
+        refl,
+        λ all are.
+            let (lists, history, of, over) = part all are in
+            record {
+              spans = spans;
+              lists = lists;
+              history = history;
+              part = subst (λ (s : List FileSpan). IsPartOf c.args.table.now all s lists history)
+                  c.deref-3.ensures.value of;
+              body = body;
+              shows = over;
+              whole = refl;
+            },
+      ),
+      Appends-trans old mid new (part_head spans) body
           (subst (λ (s : List FileSpan). Appends old mid (part_head s)) c.deref-2.ensures.value
-          c.in_ok-write_part_head.ensures.ok) written;
-    }
+          c.in_default.ensures.ok) written,
+    )
+
+-- nothing is known of a prefix of it
+pub returns-in-Err-write_part_head-clause-ends : goal.returns-in-Err-write_part_head-clause-ends
+returns-in-Err-write_part_head-clause-ends g c = rw c.of_print.ensures
+    (printed _ _ _ c.in-Err-write_part_head.fault _ c.in-Err-write_part_head.ensures.fault
+    (λ same. rw same (Keeps-refl _))
+    (λ write. (
+      part_head c.deref-2.result.now,
+      (λ given. absurd (cc)),
+      c.in-Err-write_part_head.ensures.started write,
+    )))
+
+pub returns-in-Err-Write-clause-ends : goal.returns-in-Err-Write-clause-ends
+returns-in-Err-Write-clause-ends g c =
+    let old = g.W.Write.contents c.args.out.now in
+    let mid = g.W.Write.contents c.write_part_head.new.out in
+    let new = g.W.Write.contents c.write_part_ledger.new.out in
+    let (taps, lines, along, started) = c.in-Err-Write.ensures.started c.in-Err-Write.field-0-is in (
+      part_head c.deref-2.result.now ++ (head_text ++ lines),
+      (λ given. absurd (cc)),
+      begins_after old mid new (part_head c.deref-2.result.now) _
+          c.in_default.ensures.ok started,
+    )
+
+pub returns-in-Err-clause-ends : goal.returns-in-Err-clause-ends
+returns-in-Err-clause-ends g c =
+    unwritten _ _ c.of_bill.result
+    (λ write. c.in-Err.ensures.unwritten (c.of_bill.ensures.write write))

@@ -1,19 +1,18 @@
-use Rattle.std.proofs.Common.{ap, map, refl}
-use Rattle.std.proofs.lemmas.Result.{IfErr-weaker, on_ok_weaker}
-use Rattle.part_texts.specs.Heads.{part_head}
+use Rattle.std.proofs.Common.{ap, map}
+use Rattle.std.proofs.lemmas.Result.{IfErr-weaker}
 use Rattle.fare_program.specs.inside.Options.{request_of}
 use Rattle.fare_program.specs.Parts.{report_over}
-use Rattle.std.specs.Prelude.{◌++◌}
+use Rattle.fare_program.proofs.Ends.{gives_if, unwritten}
 use Rattle.fare_program.proofs.part.write_report.Goals as goal
 
-pub returns-in-Ok-clause-ok : goal.returns-in-Ok-clause-ok
-returns-in-Ok-clause-ok g c =
-    let (history, is, few, part) = c.in-Ok.ensures.billed in
-    let made = c.in-Ok.made in
-    on_ok_weaker c.write_made.result
-    (λ written. record {
-      text = part_head made.spans.items ++ report_over made.billed.ends.items history;
-      shows = λ all are.
+pub returns-in-Ok-part_bill-clause-ends : goal.returns-in-Ok-part_bill-clause-ends
+returns-in-Ok-part_bill-clause-ends g c =
+    let (history, is, few, part) = c.in-Ok-part_bill.ensures.billed in
+    let made = c.in-Ok-part_bill.made in
+    gives_if _ _ _ _ _ c.write_made.result
+    (λ text success right. (
+      right.0,
+      λ all are.
           let (lists, of, ended) = part all are in
           record {
             spans = made.spans.items;
@@ -22,41 +21,18 @@ returns-in-Ok-clause-ok g c =
             part = of;
             body = report_over made.billed.ends.items history;
             shows = ap (λ ends. report_over ends history) ended;
-            whole = refl;
-          };
-      written = written history is;
-    })
-    c.write_made.ensures.ok
+            whole = right.1;
+          },
+    ))
+    (c.write_made.ensures.ends history is)
 
-pub returns-in-Ok-clause-right : goal.returns-in-Ok-clause-right
-returns-in-Ok-clause-right g c =
+pub returns-in-Ok-part_bill-clause-right : goal.returns-in-Ok-part_bill-clause-right
+returns-in-Ok-part_bill-clause-right g c =
     IfErr-weaker c.write_made.result _ _
     (λ fault right. right (request_of c.args.options.now).files
     (map g.F.Placed.bytes c.args.files.now)) c.write_made.ensures.right
 
--- ---- what a write that failed left
-pub returns-in-Ok-clause-started : goal.returns-in-Ok-clause-started
-returns-in-Ok-clause-started g c =
-    let (history, is, few, part) = c.in-Ok.ensures.billed in
-    let made = c.in-Ok.made in
-    IfErr-weaker c.write_made.result _ _
-    (λ fault started write. record {
-      text = part_head made.spans.items ++ report_over made.billed.ends.items history;
-      shows = λ all are.
-          let (lists, of, ended) = part all are in
-          record {
-            spans = made.spans.items;
-            lists = lists;
-            history = history;
-            part = of;
-            body = report_over made.billed.ends.items history;
-            shows = ap (λ ends. report_over ends history) ended;
-            whole = refl;
-          };
-      started = started write history is;
-    })
-    c.write_made.ensures.started
-
-pub returns-in-Err-clause-started : goal.returns-in-Err-clause-started
-returns-in-Err-clause-started g c = λ write.
-    absurd (c.in-Err.ensures.unwritten (c.of_bill.ensures.write write))
+pub returns-in-Err-clause-ends : goal.returns-in-Err-clause-ends
+returns-in-Err-clause-ends g c =
+    unwritten _ _ c.of_bill.result
+    (λ write. c.in-Err.ensures.unwritten (c.of_bill.ensures.write write))

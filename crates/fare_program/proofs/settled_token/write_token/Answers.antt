@@ -1,56 +1,32 @@
-use Rattle.std.proofs.Common.{◌∙◌, ap, refl, sym}
-use Rattle.std.proofs.lemmas.Result.{err_from_is_err_and}
+use Rattle.std.proofs.Common.{◌∙◌, ap, sym}
+use Rattle.std.proofs.KnownBytes.{Keeps-refl}
 use Rattle.tap_views.specs.UploadEnds.{are_posted}
 use Rattle.settlement.specs.Posted.{posted}
+use Rattle.fare_program.specs.inside.Fault.{ended_as}
+use Rattle.fare_program.proofs.Ends.{gives_by, gives_printed}
 use Rattle.fare_program.proofs.settled_token.write_token.Goals as goal
 
-pub returns-clause-ok : goal.returns-clause-ok
-returns-clause-ok g c =
+pub returns-clause-ends : goal.returns-clause-ends
+returns-clause-ends g c =
     let fares = c.args.table.now in
-    let token = c.args.token in
-    let (files, read, ended, made) = c.in_ok-ends.ensures.order in
-    let written = c.in_ok-write_text.ensures.ok in
+    let (files, read, ended, made) = c.in-Ok.ensures.order in
     let history = posted fares made.order in
-    let own_is = c.posted_taps.ensures.own fares token made.order
-    ∙ ap (posted fares) (sym made.own) in (
-      files,
-      written.0,
-      read,
-      record {
-        history = history;
-        is_settled = c.posted_taps.ensures.history fares files made.order made.settled;
-        shows = written.1 files history (own_is ∙ ap (posted fares) (sym c.deref-2.ensures.value));
-        ends = c.in_ok-ends.field-0.ends.items;
-        ended = ended;
-        succeeded = c.are_posted.ensures ∙ ap are_posted c.deref-3.ensures.value;
-      },
-      written.2,
-    )
-
--- what a write that failed left
-pub returns-in_err-write_text-clause-started : goal.returns-in_err-write_text-clause-started
-returns-in_err-write_text-clause-started g c =
-    let fares = c.args.table.now in
-    let token = c.args.token in
-    let (files, read, ended, made) = c.in_ok-ends.ensures.order in
-    let history = posted fares made.order in
-    let own_is = c.posted_taps.ensures.own fares token made.order
+    let own_is = c.posted_taps.ensures.own fares c.args.token made.order
     ∙ ap (posted fares) (sym made.own) in
-    let p = err_from_is_err_and c.from_residual-in_err-write_text.result
-    c.from_residual-in_err-write_text.ensures.1 in
-    rw p.1 (λ write.
-    let written = c.in_err-write_text.ensures.started (sym p.2 ∙ write) in (
-      are_posted c.in_ok-ends.field-0.ends.items,
+    rw c.ended.ensures.ended
+    (gives_by _ _ _ _ (ended_as c.write_text-written.result c.are_posted.result)
+    (λ text success is. (
       files,
-      written.0,
       read,
       record {
         history = history;
         is_settled = c.posted_taps.ensures.history fares files made.order made.settled;
-        shows = written.1 files history (own_is ∙ ap (posted fares) (sym c.deref-2.ensures.value));
-        ends = c.in_ok-ends.field-0.ends.items;
+        shows = is.1 files history (own_is ∙ ap (posted fares) (sym c.deref-2.ensures.value));
+        ends = c.in-Ok.made.ends.items;
         ended = ended;
-        succeeded = refl;
+        succeeded = is.0 ∙ c.are_posted.ensures ∙ ap are_posted c.deref-3.ensures.value;
       },
-      written.2,
     ))
+    (gives_printed _ _ _ _ c.write_text-written.result c.are_posted.result
+    (λ same. rw same (Keeps-refl _)) c.write_text-written.ensures.ok
+    c.write_text-written.ensures.started c.write_text-written.ensures.fault))

@@ -31,8 +31,7 @@ returns-clause-opened g c =
     c.loop-name.invariant
     ∙ ap (λ ns. map under (map name_in ns)) (take_all _ c.args.names.now c.loop-name-test.false)
 
-pub returns-in-Err-clause-right : goal.returns-in-Err-clause-right
-returns-in-Err-clause-right g c = λ known.
+pub returns-in-Err-clause-fault : goal.returns-in-Err-clause-fault
+returns-in-Err-clause-fault g c =
     let no_name : Bor (List ℕ) = record { ref_ptr = (0, 0); now = [] } in
-    c.of_unopened.ensures.right (map name_in c.args.names.now) known
-    (is_one_at c.args.names.now c.loop-name.name-index no_name _ c.loop-name-test.true refl)
+    is_one_at c.args.names.now c.loop-name.name-index no_name _ c.loop-name-test.true refl

@@ -1,73 +1,79 @@
-use Rattle.std.proofs.Common.{◌≡◌, ◌∙◌, ℕ, List, Bor, ap, map, refl, subst, sym, true}
-use Rattle.std.proofs.lemmas.Result.{err_from_is_err_and}
-use Rattle.tariffs.specs.Fares.{Fares}
+use Rattle.std.proofs.Common.{◌≡◌, ◌∙◌, Bool, Bor, List, Option, None, Some, ap, false, map}
+use Rattle.std.proofs.Common.{option_map, refl, subst, sym, true, ℕ}
+use Rattle.std.specs.Prelude.{MatchOption, is_some}
+use Rattle.std.specs.Option.{option_and_then}
+use Rattle.sorted_bills.specs.Ledgers.{KnownAreBytes}
+use Rattle.tap_views.specs.declared.token.Token.{Token}
+use Rattle.fare_program.specs.Parts.{IsPartText}
+use Rattle.fare_program.specs.Program.{IsTokenIn}
 use Rattle.fare_program.specs.Settling.{ShowsSettled}
+use Rattle.fare_program.specs.TokenRanges.{range_fault}
+use Rattle.fare_program.specs.inside.Ends.{IsUnopened}
 use Rattle.fare_program.specs.inside.Options.{request_of}
-use Rattle.tap_views.proofs.Choices.{IfErr_handed_on}
-use Rattle.fare_program.proofs.SortedRuns.{one_table}
-use Rattle.fare_program.specs.Causes.{IsRightOfSorted}
+use Rattle.fare_program.proofs.Causes.{before, right_unopened}
+use Rattle.fare_program.proofs.Ends.{gives_given}
 use Rattle.fare_program.proofs.sorted.work_sorted.Goals as goal
 
 abbrev name_in : Bor (List ℕ) → List ℕ
 name_in name = name.now
 
-pub returns-clause-ok : goal.returns-clause-ok
-returns-clause-ok g c =
+no_token : (digits : Option (List ℕ)) (token : Option Token) → token ≡ None
+    → IsTokenIn digits token → digits ≡ None
+no_token None token none is = refl
+no_token (Some digits) None none is = absurd is
+no_token (Some digits) (Some token) none is = cc
+
+not_true : (b : Bool) → (b ≡ true → ⊥) → b ≡ false
+not_true true never = absurd (never refl)
+not_true false never = refl
+
+pub returns-in-Err-clause-ends : goal.returns-in-Err-clause-ends
+returns-in-Err-clause-ends g c =
+    before _ _ (IsUnopened _) (λ write. write) c.in-Err.fault c.in-Err.ensures.fault
+
+pub returns-in-Err-clause-right : goal.returns-in-Err-clause-right
+returns-in-Err-clause-right g c =
+    right_unopened _ _ c.in-Err.fault
+    (subst (λ (ns : List (Bor (List ℕ))). IsUnopened (map name_in ns) c.in-Err.fault)
+    c.deref.ensures.value c.in-Err.ensures.fault)
+
+pub charge_part-requires : goal.charge_part-requires
+charge_part-requires g c =
+    subst (λ (tokens : Option (List ℕ)). option_and_then range_fault tokens ≡ None)
+    (ap (option_map name_in) c.in-Some.is) c.requires.word
+
+pub returns-in-Some-clause-ends : goal.returns-in-Some-clause-ends
+returns-in-Some-clause-ends g c =
     let request = request_of c.args.options.now in
-    let done = c.in_ok-charge_sorted.ensures.ok in (
-      refl,
-      λ fares is.
-          let one : c.in-Some.table ≡ fares =
-          one_table c.in-Some.table fares (sym c.in-Some.is ∙ is) in
-          record {
-            text = done.text;
-            shows = λ files are. subst
-                (λ (f : Fares). ShowsSettled request f files c.args.token done.text true) one
-                (done.shows files (ap (map g.D.File.Placed.bytes) c.deref-2.ensures.value
-                ∙ c.in_ok-files.ensures.opened
-                ∙ ap (λ (ns : List (Bor (List ℕ))). map (g.D.Disk.bytes_under c.args.disk.now)
-                (map name_in ns)) c.deref.ensures.value
-                ∙ are));
-            written = done.written;
-          },
-    )
-
-pub returns-in_err-files-clause-right : goal.returns-in_err-files-clause-right
-returns-in_err-files-clause-right g c =
-    let known = map (g.D.Disk.bytes_under c.args.disk.now) (request_of c.args.options.now).files in
-    let fault = c.in_err-files.field-0.0 in
-    IfErr_handed_on c.from_residual.result fault
-    (IsRightOfSorted (request_of c.args.options.now).files known) c.from_residual.ensures.1
-    (subst (λ (ns : List (Bor (List ℕ))). IsRightOfSorted (map name_in ns) known fault)
-    c.deref.ensures.value (c.in_err-files.ensures.right known))
-
--- ---- what a write that failed left
-pub returns-in_err-files-clause-started : goal.returns-in_err-files-clause-started
-returns-in_err-files-clause-started g c =
-    let p = err_from_is_err_and c.from_residual.result c.from_residual.ensures.1 in
-    rw p.1 (λ write other. absurd (c.in_err-files.ensures.unwritten (sym p.2 ∙ write)))
-
-pub returns-in_err-charge_sorted-clause-started : goal.returns-in_err-charge_sorted-clause-started
-returns-in_err-charge_sorted-clause-started g c =
-    let request = request_of c.args.options.now in
-    let p = err_from_is_err_and c.from_residual-in_err-charge_sorted.result
-    c.from_residual-in_err-charge_sorted.ensures.1 in
-    rw p.1 (λ write other fares is.
-    let opened = ap (map g.D.File.Placed.bytes) c.deref-2.ensures.value
-    ∙ c.in_ok-files.ensures.opened
+    let opened = ap (map g.D.File.Placed.bytes) c.deref-in-Some.ensures.value
+    ∙ c.in-Ok.ensures.opened
     ∙ ap (λ (ns : List (Bor (List ℕ))). map (g.D.Disk.bytes_under c.args.disk.now)
     (map name_in ns)) c.deref.ensures.value in
-    let done = c.in_err-charge_sorted.ensures.started (sym p.2 ∙ write)
-    (λ ledger none files are. other ledger none files (sym opened ∙ are)) in
-    let one : c.in-Some.table ≡ fares = one_table c.in-Some.table fares (sym c.in-Some.is ∙ is) in
-    record {
-      text = done.text;
-      shows = λ files are. subst
-          (λ (f : Fares). ShowsSettled request f files c.args.token done.text true) one
-          (done.shows files (ap (map g.D.File.Placed.bytes) c.deref-2.ensures.value
-          ∙ c.in_ok-files.ensures.opened
-          ∙ ap (λ (ns : List (Bor (List ℕ))). map (g.D.Disk.bytes_under c.args.disk.now)
-          (map name_in ns)) c.deref.ensures.value
-          ∙ are));
-      started = done.started;
-    })
+    let named = ap (option_map name_in) c.in-Some.is in
+    gives_given _ _ _ _ _ _ c.charge_part.result
+    (λ given. not_true request.ledger (λ ledger. given.0 (ap is_some named, ledger)))
+    (λ text success is. (
+      is.0,
+      λ files are. subst (λ (tokens : Option (List ℕ)). MatchOption tokens
+          (ShowsSettled request c.args.table.now files c.args.token text true)
+          (λ word. IsPartText request.ledger c.args.table.now files text)) (sym named)
+          (is.1 files (opened ∙ are)),
+    )) c.charge_part.ensures.ends
+
+pub returns-clause-ends : goal.returns-clause-ends
+returns-clause-ends g c =
+    let request = request_of c.args.options.now in
+    let opened = ap (map g.D.File.Placed.bytes) c.deref-in-None.ensures.value
+    ∙ c.in-Ok.ensures.opened
+    ∙ ap (λ (ns : List (Bor (List ℕ))). map (g.D.Disk.bytes_under c.args.disk.now)
+    (map name_in ns)) c.deref.ensures.value in
+    gives_given _ _ _ _ _ _ c.charge_sorted.result
+    (λ given ledger none. subst KnownAreBytes (sym opened)
+    (given.1 (c.requires.sorted, ledger, no_token request.token c.args.token none c.requires.token)))
+    (λ text success is. (
+      is.0,
+      λ files are. subst (λ (tokens : Option (List ℕ)). MatchOption tokens
+          (ShowsSettled request c.args.table.now files c.args.token text true)
+          (λ word. IsPartText request.ledger c.args.table.now files text))
+          (sym (ap (option_map name_in) c.in-None.is)) (is.1 files (opened ∙ are)),
+    )) c.charge_sorted.ensures.ends

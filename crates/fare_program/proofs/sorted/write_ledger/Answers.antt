@@ -1,60 +1,45 @@
-use Rattle.std.proofs.Common.{Bool, None, subst, sym}
-use Rattle.std.specs.Prelude.{MatchBool}
+use Rattle.std.proofs.Common.{refl, sym, true}
 use Rattle.std.proofs.KnownBytes.{Keeps-refl}
-use Rattle.fare_texts.specs.Ledger.{IsLedgerOver}
-use Rattle.fare_program.specs.Options.{form_of}
-use Rattle.fare_program.specs.Settling.{IsTextOver}
 use Rattle.fare_program.specs.inside.Options.{request_of}
+use Rattle.fare_program.proofs.Billed.{shows_ledger}
+use Rattle.fare_program.proofs.Ends.{stopped}
 use Rattle.fare_program.proofs.sorted.write_ledger.Goals as goal
 
-pub returns-in-Ok-clause-ok : goal.returns-in-Ok-clause-ok
-returns-in-Ok-clause-ok g c = λ ledger.
-    let request = request_of c.args.options.now in
-    let fares = c.args.table.now in
-    let (text, is, written) = c.in-Ok.ensures.ok in
-    record {
-      text = text;
-      shows = λ all are.
-          let made = is all are in
-          record {
-            history = made.history;
-            is_settled = made.is_settled;
-            shows = subst (λ (b : Bool). MatchBool b (IsLedgerOver fares made.history None text)
-                (IsTextOver (form_of request) None fares all made.history text)) (sym ledger)
-                made.over;
-            ends = c.in-Ok._ends.items;
-            ended = c.in-Ok.ensures.ended all are;
-            succeeded = sym c.in-Ok.ensures.posted;
-          };
-      written = written;
-    }
+pub returns-in-Ok-clause-ends : goal.returns-in-Ok-clause-ends
+returns-in-Ok-clause-ends g c =
+    let (text, is, written) = c.in-Ok.ensures.ok in (
+      text,
+      (
+        refl,
+        λ all are.
+            let made = is all are in
+            shows_ledger (request_of c.args.options.now) c.args.table.now all text true c.requires
+            made.history made.is_settled c.in-Ok._ends.items (c.in-Ok.ensures.ended all are)
+            (sym c.in-Ok.ensures.posted) made.over,
+      ),
+      written,
+    )
 
-pub returns-in-Err-clause-fault : goal.returns-in-Err-clause-fault
-returns-in-Err-clause-fault g c = λ write late.
+pub returns-in-Err-clause-ends : goal.returns-in-Err-clause-ends
+returns-in-Err-clause-ends g c =
+    stopped _ _ _ c.of_bill.result
+    (λ write late.
     let same = c.in-Err.ensures.kept (c.of_bill.ensures.before write late) in
-    rw same (Keeps-refl _)
-
--- ---- what a write that failed left
-pub returns-in-Err-clause-started : goal.returns-in-Err-clause-started
-returns-in-Err-clause-started g c = λ write ledger bytes.
-    let request = request_of c.args.options.now in
-    let fares = c.args.table.now in
+    rw same (Keeps-refl _))
+    (λ write.
     let unwritten = c.of_bill.ensures.write write in
-    let (text, is, started) = c.in-Err.ensures.started unwritten in
-    record {
-      text = text;
-      shows = λ all are.
-          let made = is all are (bytes all are) in
-          let (ends, plain, success) = c.in-Err.ensures.sorted unwritten all are in
-          record {
-            history = made.history;
-            is_settled = made.is_settled;
-            shows = subst (λ (b : Bool). MatchBool b (IsLedgerOver fares made.history None text)
-                (IsTextOver (form_of request) None fares all made.history text)) (sym ledger)
-                made.over;
-            ends = ends;
-            ended = plain;
-            succeeded = sym success;
-          };
-      started = started;
-    }
+    let (text, is, started) = c.in-Err.ensures.started unwritten in (
+      text,
+      λ given. (
+        true,
+        (
+          refl,
+          λ all are.
+              let made = is all are (given c.requires refl all are) in
+              let (ends, plain, success) = c.in-Err.ensures.sorted unwritten all are in
+              shows_ledger (request_of c.args.options.now) c.args.table.now all text true
+              c.requires made.history made.is_settled ends plain (sym success) made.over,
+        ),
+      ),
+      started,
+    ))

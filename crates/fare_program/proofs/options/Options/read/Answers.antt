@@ -2,7 +2,7 @@ use Rattle.std.proofs.Common.{◌∙◌, [], ℕ, Bor, List, ap, codes, map}
 use Rattle.std.specs.Prelude.{unwrap_or}
 use Rattle.clap.specs.Words.{all_of, first_of, found_of}
 use Rattle.clap.proofs.WalkLemmas.{first_value-rows}
-use Rattle.fare_program.specs.Options.{is_given, number_of}
+use Rattle.fare_program.specs.Options.{is_given}
 use Rattle.program_manners.specs.TableWords.{tables_in}
 use Rattle.fare_program.proofs.options.Options.read.Goals as goal
 
@@ -15,8 +15,6 @@ returns-clause-request c =
     (ap (λ (words : List (Bor (List ℕ))). map (λ w. w.now) words) c.deref.ensures.value
     ∙ c.in_ok-tables.ensures ∙ ap (λ r. unwrap_or (all_of (codes "table") r) []) rows) in
     let list = c.flag_in.ensures ∙ ap (is_given (codes "list")) rows in
-    let workers = c.number_in.ensures.number ∙ ap (number_of (codes "workers")) rows in
-    let shards = c.number_in-2.ensures.number ∙ ap (number_of (codes "shards")) rows in
     let token = c.get_str.ensures ∙ first_value-rows found (codes "token")
     ∙ ap (first_of (codes "token")) rows in
     let settle = c.flag_in-2.ensures ∙ ap (is_given (codes "settle")) rows in
@@ -32,8 +30,8 @@ returns-clause-request c =
     λ i. record {
       table = table i;
       list = list i;
-      workers = workers i;
-      shards = shards i;
+      workers = c.number_in.result;
+      shards = c.number_in-2.result;
       token = token i;
       settle = settle i;
       live = live i;

@@ -1,0 +1,127 @@
+-- How a run ends.
+use Rattle.std.specs.Prelude.{◌≡◌, ◌≢◌, ◌≤◌, ◌⊎◌, ℕ, Bool, true, false, List, Option, None}
+use Rattle.std.specs.Prelude.{is_some, map}
+use Rattle.std.specs.Io.KnownBytes.{Appends, Keeps}
+use Rattle.clap.specs.Words.{Text}
+use Rattle.fare_texts.specs.WrittenOut.{Begins}
+use Rattle.fare_program.specs.Causes.{IsRightFault}
+use Rattle.fare_program.specs.Fault.{fault_text}
+use Rattle.fare_program.specs.Options.{AsksForText, Parses, Request, request_by}
+use Rattle.fare_program.specs.Program.{Does}
+use Rattle.fare_program.specs.Usage.{is_usable}
+use Rattle.fare_program.specs.declared.fault.Fault.{Fault}
+use Rattle.fare_program.specs.declared.fault.Fault.TheVariants.{Late, NoMemory, Write}
+use Rattle.program_manners.specs.LineWritten.{LineWritten}
+use Rattle.program_manners.specs.Loads.{Loaded}
+use Rattle.program_manners.specs.declared.output.WriteEnd.{WriteEnd}
+use Rattle.sorted_bills.specs.Ledgers.{KnownAreBytes}
+use Rattle.world.specs.Origins.{Origin}
+use Rattle.world.specs.declared.faults.LoadFault.{LoadFault}
+
+-- What a run did, of which some may not be known.
+pub record Did : Type 0 where
+  -- what is on the disk under a name, and where the bytes come from that are read whole
+  pub under : List ℕ → Option (List ℕ)
+  pub origin : List ℕ → Origin
+  -- what the source had loaded before and after, and the last load that it refused
+  pub loaded : Option (List Loaded)
+  pub loaded' : Option (List Loaded)
+  pub refused : Option (Option (List ℕ) × LoadFault)
+  -- what was written to the output before and after, why a write to it failed, if it remembers
+  -- one, and whether it was flushed
+  pub out : Option (List ℕ)
+  pub out' : Option (List ℕ)
+  pub end : Option WriteEnd
+  pub flushed : Bool
+  -- what was said on the standard error before and after, and whether some of it failed
+  pub said : Option (List ℕ)
+  pub said' : Option (List ℕ)
+  pub failed : Bool
+
+-- the ledger of all tokens of sorted files is requested: its lines go out while these are read
+abbrev pub IsSortedLedger : Request → Type 0
+IsSortedLedger request = (request.sorted ≡ true) × (request.ledger ≡ true) × (request.token ≡ None)
+
+-- the ledger of a part is requested: nothing is promised of a prefix of it
+abbrev pub IsPartLedger : Request → Type 0
+IsPartLedger request = (is_some request.tokens ≡ true) × (request.ledger ≡ true)
+
+-- The ledger of a part is not requested. If that of all tokens is, what is known of the files is
+-- bytes, as of all files that can be read.
+abbrev pub AreOfBytes : Request → (List ℕ → Option (List ℕ)) → Type 0
+AreOfBytes request under =
+    (¬ IsPartLedger request) × (IsSortedLedger request → KnownAreBytes (map under request.files))
+
+-- a prefix of a text that is requested was written, and nothing else
+abbrev pub HasStarted : Request → Did → Type 0
+HasStarted request did = (text : List ℕ)
+    × (AreOfBytes request did.under → (success : Bool)
+    × Does request did.under did.origin did.loaded did.loaded' text success)
+    × Begins did.out did.out' text
+
+-- What this fault left in the output. If a write failed, a prefix of the text that is requested was
+-- written, and nothing else. If an allocation failed, nothing was written, or such a prefix. Before
+-- any other fault nothing was written, unless a sorted file was refused after all were checked.
+abbrev pub Leaves : Request → Did → Fault → Type 0
+Leaves request did Write = HasStarted request did
+Leaves request did NoMemory = Keeps did.out did.out' ⊎ HasStarted request did
+Leaves request did (Late fault) = Unit {0}
+Leaves request did fault = Keeps did.out did.out'
+
+-- The text that is asked for was written whole and flushed, and nothing was said.
+pub record HasFinished (request : Request) (did : Did) (success : Bool) : Type 0 where
+  pub usable : is_usable request ≡ true
+  pub text : List ℕ
+  pub does : Does request did.under did.origin did.loaded did.loaded' text success
+  pub written : Appends did.out did.out' text
+  pub flushed : did.flushed ≡ true
+  pub quiet : Keeps did.said did.said'
+
+-- The right fault was reported. That of a write is reported only if the output remembers one that
+-- failed.
+pub record HasFailed (request : Request) (did : Did) : Type 0 where
+  pub fault : Fault
+  pub usable : is_usable request ≡ true
+  pub right : IsRightFault request did.under did.loaded did.loaded' did.refused fault
+  pub line_reported : LineWritten did.said did.said' did.failed (fault_text fault)
+  pub write_failed : fault ≡ Write → did.end ≢ None
+  pub left : Leaves request did fault
+
+-- nothing was loaded or written
+pub record HasDoneNothing (did : Did) : Type 0 where
+  pub unloaded : did.loaded' ≡ did.loaded
+  pub unwritten : Keeps did.out did.out'
+
+-- the line of this fault was reported, and nothing was written
+pub record Aborted (fault : Fault) (did : Did) : Type 0 where
+  pub line_reported : LineWritten did.said did.said' did.failed (fault_text fault)
+  pub unwritten : Keeps did.out did.out'
+
+-- How a command line ends. With status 1 a fault was reported, or an upload is damaged or not
+-- finished, as the text says. Only usage errors have status 2. Before them only an allocation may
+-- fail.
+pub record EndsCommand (request : Request) (did : Did) (status : ℕ) : Type 0 where
+  pub done : status ≡ 0 → HasFinished request did true
+  pub failed : status ≡ 1
+      → HasFinished request did false ⊎ (HasFailed request did ⊎ Aborted NoMemory did)
+  pub refused : status ≡ 2 → (is_usable request ≡ false) × HasDoneNothing did
+  pub bounded : status ≤ 2
+
+-- the line of a write that failed was reported, and the output remembers that one did
+pub record HasReportedWrite (did : Did) : Type 0 where
+  pub line_reported : LineWritten did.said did.said' did.failed (fault_text Write)
+  pub write_failed : did.end ≢ None
+
+-- How words end that are no command line: with 0 and 1 help or the version was shown or not, or an
+-- allocation failed.
+pub record EndsAnswer (words : List Text) (did : Did) (status : ℕ) : Type 0 where
+  pub done : status ≡ 0 → AsksForText words × Keeps did.said did.said'
+  pub failed : status ≡ 1 → Aborted NoMemory did ⊎ (AsksForText words × HasReportedWrite did)
+  pub refused : status ≡ 2 → HasDoneNothing did
+  pub bounded : status ≤ 2
+
+-- THE outcome of a run of these words.
+pub record Ends (words : List Text) (did : Did) (status : ℕ) : Type 0 where
+  pub command : Parses words → (workers : ℕ) × (shards : ℕ)
+      × EndsCommand (request_by workers shards words) did status
+  pub answer : ¬ Parses words → EndsAnswer words did status

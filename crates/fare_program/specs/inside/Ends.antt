@@ -1,0 +1,72 @@
+-- How the writing of a text ends: what private functions alone cite.
+use Rattle.std.specs.Prelude.{◌≡◌, ℕ, List, Bool, Option, None, Some, Result, Ok, Err, false, map, true}
+use Rattle.std.specs.Io.KnownBytes.{Appends, Keeps}
+use Rattle.tariffs.specs.Fares.{Fares}
+use Rattle.tap_views.specs.declared.token.Token.{Token}
+use Rattle.fare_texts.specs.WrittenOut.{Begins}
+use Rattle.fare_program.specs.Options.{Request}
+use Rattle.fare_program.specs.Parts.{IsPartText}
+use Rattle.fare_program.specs.Settling.{ShowsSettled}
+use Rattle.fare_program.specs.declared.fault.Fault.{Fault}
+use Rattle.fare_program.specs.declared.fault.Fault.TheVariants.{Late, NoMemory, Write}
+use Rattle.fare_program.specs.declared.fault.Fault.TheVariants.{Unopened as AtOpening}
+use Rattle.program_manners.specs.Refusals.{IsOneOf}
+use Rattle.sorted_bills.specs.Ledgers.{KnownAreBytes}
+
+-- the text of sorted files was broken off: one of them was refused after all were checked
+abbrev pub IsLate : Fault → Type 0
+IsLate (Late fault) = Unit {0}
+IsLate _ = ⊥
+
+-- What a fault leaves: a prefix of a right text if a write failed, else nothing, unless a sorted file
+-- was refused after all were checked.
+abbrev pub Stops : (List ℕ → Type 0) → Option (List ℕ) → Option (List ℕ) → Fault → Type 0
+Stops Right out out' Write = (text : List ℕ) × Right text × Begins out out' text
+Stops Right out out' (Late fault) = Unit {0}
+Stops Right out out' fault = Keeps out out'
+
+-- A text that succeeds or not is written whole, unless a fault stops it. The text of which a prefix
+-- was written is right if this is given.
+abbrev pub GivesIf : Type 0 → (List ℕ → Bool → Type 0) → Option (List ℕ) → Option (List ℕ)
+    → Result Bool Fault → Type 0
+GivesIf Given Right out out' (Ok success) =
+    (text : List ℕ) × Right text success × Appends out out' text
+GivesIf Given Right out out' (Err fault) =
+    Stops (λ text. Given → (success : Bool) × Right text success) out out' fault
+
+-- The same where nothing need be given.
+abbrev pub Gives : (List ℕ → Bool → Type 0) → Option (List ℕ) → Option (List ℕ)
+    → Result Bool Fault → Type 0
+Gives Right out out' (Ok success) = (text : List ℕ) × Right text success × Appends out out' text
+Gives Right out out' (Err fault) =
+    Stops (λ text. (success : Bool) × Right text success) out out' fault
+
+-- what is right of files of which this is known
+abbrev pub IfKnown : List (Option (List ℕ)) → (List (List ℕ) → List ℕ → Type 0) → List ℕ → Type 0
+IfKnown known Right text = (files : List (List ℕ)) → known ≡ map Some files → Right files text
+
+-- A text of sorted files of which this is known is written whole, and succeeds, unless a fault stops
+-- it. The text of which a prefix was written is right if this is given.
+abbrev pub GivesKnown : Type 0 → List (Option (List ℕ)) → (List (List ℕ) → List ℕ → Type 0)
+    → Option (List ℕ) → Option (List ℕ) → Result Bool Fault → Type 0
+GivesKnown Given known Right =
+    GivesIf Given (λ text success. (success ≡ true) × IfKnown known Right text)
+
+-- So is what is requested of settled files. A prefix of the ledger of all tokens is one of the right
+-- text if what is known of the files is bytes.
+abbrev pub GivesSettled : Request → List (Option (List ℕ)) → Fares → Option Token
+    → Option (List ℕ) → Option (List ℕ) → Result Bool Fault → Type 0
+GivesSettled request known fares token =
+    GivesKnown (request.ledger ≡ true → token ≡ None → KnownAreBytes known) known
+    (λ files text. ShowsSettled request fares files token text true)
+
+-- So is the text of a part. Nothing is said of a prefix of its ledger.
+abbrev pub GivesPart : Bool → List (Option (List ℕ)) → Fares → Option (List ℕ) → Option (List ℕ)
+    → Result Bool Fault → Type 0
+GivesPart ledger known fares = GivesKnown (ledger ≡ false) known (IsPartText ledger fares)
+
+-- a sorted file of one of these names was not opened, or an allocation failed
+abbrev pub IsUnopened : List (List ℕ) → Fault → Type 0
+IsUnopened names (AtOpening file) = IsOneOf file.name.now names
+IsUnopened names NoMemory = Unit {0}
+IsUnopened names fault = ⊥
