@@ -1,5 +1,6 @@
 //! The system, for what the frame runs.
 
+use crate::hint::Unmade;
 use crate::progress::Progress;
 use crate::whole::read_whole;
 use std::fmt::Display;
@@ -20,6 +21,9 @@ pub(crate) struct Framed<'r, W, E> {
     counts: Progress<'r>,
     progress: Progress<'r>,
     done: u64,
+    /// Whether it is asked why a file is not made.
+    asks: bool,
+    unmade: Option<Unmade>,
 }
 
 impl<'r, W, E> Framed<'r, W, E> {
@@ -29,6 +33,7 @@ impl<'r, W, E> Framed<'r, W, E> {
         rt: &'r HostRuntime,
         counts: Progress<'r>,
         progress: Progress<'r>,
+        asks: bool,
         out: W,
         err: E,
     ) -> Framed<'r, W, E> {
@@ -38,7 +43,20 @@ impl<'r, W, E> Framed<'r, W, E> {
             counts,
             progress,
             done: 0,
+            asks,
+            unmade: None,
         }
+    }
+
+    /// The last file that was begun and not made, if the system said why.
+    pub(crate) fn into_unmade(self) -> Option<Unmade> {
+        self.unmade
+    }
+
+    fn note_unmade(&mut self, name: &str, error: io::Error)
+        ensures { self.new.system ≡ self.old.system }
+    {
+        self.unmade = Unmade::new(self.rt.alloc(), name, error);
     }
 
     fn end_shown(&mut self)
@@ -146,10 +164,23 @@ impl<W: Write, E: Write> World for Framed<'_, W, E> {
     }
 
     fn finish(&mut self, name: &str, file: NewFile<File>) -> Result<(), MakeFault> {
+        let mut file = file;
+        if self.asks
+            && let Err(error) = file.flush()
+        {
+            self.note_unmade(name, error);
+        }
         self.system.finish(name, file)
     }
 
     fn fail(&mut self, name: &str, file: NewFile<File>) -> MakeFault {
+        let mut file = file;
+        // what refused a write refuses the next one, too
+        if self.asks
+            && let Err(error) = file.write(&[0])
+        {
+            self.note_unmade(name, error);
+        }
         self.system.fail(name, file)
     }
 
