@@ -191,7 +191,7 @@ impl Accounts {
         ensures err { OnErr result ((other : Token) → StillKept self.old self.new other) }
     {
         if table.has_caps_at(tap.moment) {
-            return self.capped_step(table, clock, token, bytes, tap.mode, tap.moment, known);
+            return self.step_under_caps(table, clock, token, bytes, tap.mode, tap.moment, known);
         }
         let position = self.position(token, known)?;
         let reply = self.plain_step(table, clock, token, bytes, tap, position);
@@ -231,8 +231,7 @@ impl Accounts {
     /// taken, would cost a run without caps some stores at each tap.
     #[cold]
     #[inline(never)]
-    #[tactic(auto, unfolding(crate::specs::inside::Accounts::kept_at, crate::specs::inside::Accounts::further_at))]
-    fn capped_step(
+    fn step_under_caps(
         &mut self,
         table: &FareTable,
         clock: &Clock,
@@ -256,16 +255,40 @@ impl Accounts {
         ensures err { OnErr result ((other : Token) → StillKept self.old self.new other) }
     {
         let position = self.position(token, known)?;
+        let tap = TapIn { moment, mode };
+        let reply = self.capped_step(table, clock, token, bytes, tap, position)?;
+        Ok((position, reply))
+    }
+
+    #[tactic(auto, unfolding(crate::specs::inside::Accounts::kept_at, crate::specs::inside::Accounts::further_at))]
+    fn capped_step(
+        &mut self,
+        table: &FareTable,
+        clock: &Clock,
+        token: Token,
+        bytes: &[u8],
+        tap: TapIn,
+        position: u32,
+    ) -> Result<Reply, NoMemory>
+        requires there { IsPosition self.old token position }
+        requires bytes { bytes.now ≡ bytes_of token }
+        requires clock { clock.now ≡ table.now.zone }
+        requires mode { ForSome tap.mode (λ mode. mode.position < length table.now.meaning.modes) }
+        requires early { tap.moment < 4_102_444_800_000 }
+        requires kept { (taps : List TapIn) × HasKept table.now self.old token taps }
+        ensures steps { IfOk result (Steps table.now token tap self.old self.new) }
+        ensures counting { IsCounting self.new → IsCounting self.old }
+        ensures tokens { tokens_of self.new ≡ tokens_of self.old }
+        ensures err { OnErr result ((other : Token) → StaysKept self.old self.new other) }
+    {
         let mut account = self.capped_at(position, token);
-        let reply = account
-            .explain_step(table, clock, bytes, TapIn { moment, mode })
-            .reply();
+        let reply = account.step(table, clock, bytes, tap);
         self.further.insert(token, account.further)?;
         let (_, kept) = self.map.pair_mut(position as usize);
         kept.account = account.account;
         let was_added = kept.counts.add(reply);
         self.counting = self.counting & was_added;
-        Ok((position, reply))
+        Ok(reply)
     }
 
     #[tactic(auto, unfolding(crate::specs::inside::Accounts::kept_at))]
