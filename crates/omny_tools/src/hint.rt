@@ -1,7 +1,7 @@
 //! What a terminal shows about a fault: what to do, or why the system refuses a file. It is tested,
 //! and nothing but safety is proved.
 
-use hints::{Hint, Named, Said, hint_on_fault, kind_of_file, not_uploads};
+use hints::{Hint, Named, Said, hint_on_fault, hint_on_list, kind_of_file, not_uploads};
 use program_manners::Complaints;
 use std::alloc::{AllocError, Global};
 use std::fs;
@@ -233,13 +233,8 @@ pub(crate) fn report_hints(
 
 /// Says on a terminal why a list was not read.
 pub(crate) fn report_list_hint(rt: &HostRuntime, said: &Said) {
-    let none = Failures {
-        text: None,
-        unmade: &None,
-    };
     if rt.stderr().is_terminal()
-        && let Some(line) = said.line()
-        && let Some(hint) = hint_on_line(rt, line, none)
+        && let Some(hint) = hint_on_list(rt, rt.alloc(), said)
     {
         Complaints::new(rt.stderr()).report_line(hint);
     }
