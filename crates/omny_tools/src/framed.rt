@@ -1,4 +1,5 @@
 //! The system, for what the frame runs.
+ghost use Rattle.std.specs.Io.KnownBytes.{Keeps};
 
 use crate::hint::Unmade;
 use crate::progress::Progress;
@@ -11,6 +12,30 @@ use tool_program::Counted;
 use world::{
     Fault, Inputs, LoadFault, Loaded, MakeFault, NewFile, Stream, System, Trace, World, WriteFault,
 };
+
+/// Why the file cannot be flushed, if that is asked.
+fn flush_error<F: Write>(asks: bool, file: &mut F) -> Option<io::Error>
+    ensures { Keeps (F.contents file.old) (F.contents file.new) }
+{
+    if !asks {
+        return None;
+    }
+    match file.flush() {
+        Ok(()) => None,
+        Err(error) => Some(error),
+    }
+}
+
+/// Why the file cannot be written, if that is asked: what refused a write refuses the next one, too.
+fn write_error<F: Write>(asks: bool, file: &mut F) -> Option<io::Error> {
+    if !asks {
+        return None;
+    }
+    match file.write(&[0]) {
+        Ok(_) => None,
+        Err(error) => Some(error),
+    }
+}
 
 /// The system. It shows how much is read and written, and takes that away before anything else is
 /// said.
@@ -53,10 +78,12 @@ impl<'r, W, E> Framed<'r, W, E> {
         self.unmade
     }
 
-    fn note_unmade(&mut self, name: &str, error: io::Error)
+    fn note_unmade(&mut self, name: &str, why: Option<io::Error>)
         ensures { self.new.system ≡ self.old.system }
     {
-        self.unmade = Unmade::new(self.rt.alloc(), name, error);
+        if let Some(error) = why {
+            self.unmade = Unmade::new(self.rt.alloc(), name, error);
+        }
     }
 
     fn end_shown(&mut self)
@@ -165,22 +192,15 @@ impl<W: Write, E: Write> World for Framed<'_, W, E> {
 
     fn finish(&mut self, name: &str, file: NewFile<File>) -> Result<(), MakeFault> {
         let mut file = file;
-        if self.asks
-            && let Err(error) = file.flush()
-        {
-            self.note_unmade(name, error);
-        }
+        let why = flush_error(self.asks, &mut file);
+        self.note_unmade(name, why);
         self.system.finish(name, file)
     }
 
     fn fail(&mut self, name: &str, file: NewFile<File>) -> MakeFault {
         let mut file = file;
-        // what refused a write refuses the next one, too
-        if self.asks
-            && let Err(error) = file.write(&[0])
-        {
-            self.note_unmade(name, error);
-        }
+        let why = write_error(self.asks, &mut file);
+        self.note_unmade(name, why);
         self.system.fail(name, file)
     }
 
