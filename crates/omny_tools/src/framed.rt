@@ -74,8 +74,8 @@ impl<'r, W, E> Framed<'r, W, E> {
     }
 
     /// The last file that was begun and not made, if the system said why.
-    pub(crate) fn into_unmade(self) -> Option<Unmade> {
-        self.unmade
+    pub(crate) fn take_unmade(&mut self) -> Option<Unmade> {
+        self.unmade.take()
     }
 
     fn note_unmade(&mut self, name: &str, why: Option<io::Error>)

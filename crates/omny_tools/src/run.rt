@@ -96,7 +96,8 @@ pub(crate) fn run<R: Threads + Sync, E: Write>(
         &mut Pieces::new(rt),
         &mut framed,
     );
-    let unmade = framed.into_unmade();
+    let unmade = framed.take_unmade();
+    drop(framed);
     if status == 1 || status == 3 {
         let failures = Failures {
             text: out.error(),

@@ -137,9 +137,7 @@ fn kind_of(first: &[u8]) -> Option<&'static str> {
             "it is zip, as a spreadsheet is: save the sheet as CSV, or unzip -p FILE | omny_tools encode .. -",
         )
     } else if first.starts_with(b"PAR1") {
-        Some(
-            "it is Parquet: duckdb -csv -c \"from read_parquet('FILE')\" | omny_tools encode .. -",
-        )
+        Some("it is Parquet: duckdb -csv -c \"from read_parquet('FILE')\" | omny_tools encode .. -")
     } else if first.starts_with(&[0xff, 0xfe]) || first.starts_with(&[0xfe, 0xff]) {
         Some("it is UTF-16: iconv -f UTF-16 -t UTF-8 FILE | omny_tools encode .. -")
     } else if first.get(1) == Some(&0) {
