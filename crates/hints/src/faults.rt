@@ -2,6 +2,7 @@
 
 use crate::damage::hint_on_file;
 use crate::hint::Hint;
+use crate::overheard::Said;
 use program_manners::STANDARD_INPUT;
 use std::alloc::Global;
 use std::fs::Files;
@@ -93,4 +94,14 @@ pub fn hint_on_fault<'a, R: Files>(
         return Some(hint);
     }
     hint_on_layout(rt, alloc, fault)
+}
+
+/// The hint on the fault of a list of files, if one was reported.
+pub fn hint_on_list<'a, R: Files>(rt: &R, alloc: Global, said: &'a Said) -> Option<Hint<'a>> {
+    let none = Named {
+        charges: false,
+        table: None,
+        error: None,
+    };
+    hint_on_fault(rt, alloc, said.line()?, none)
 }

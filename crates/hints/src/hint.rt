@@ -1,5 +1,6 @@
 //! The line of a hint.
 
+use crate::kinds::Kind;
 use crate::shown::Quoted;
 use std::fmt::Write as _;
 use std::{fmt, io};
@@ -31,6 +32,68 @@ pub enum Hint<'a> {
     Unsorted(&'a str),
     /// More files are damaged.
     MoreDamaged,
+    /// This file is of another kind, and CSV is wanted: the command with these words, whose first is
+    /// the program, reads what another program makes of it.
+    Piped(Kind, &'a str, &'a [String]),
+    /// This CSV is no tap table.
+    NoTapTable(&'a str),
+    /// No file can be made in this folder, which is none.
+    NoFolder(&'a str),
+    /// A file of this name is not replaced, since it is not regular.
+    NotRegular(&'a str),
+}
+
+/// Writes the command that makes CSV of a file of this kind.
+fn write_source<W: fmt::Write>(kind: Kind, name: &str, f: &mut fmt::Formatter<W>) -> fmt::Result {
+    let name = Quoted(name);
+    match kind {
+        Kind::Gzip => write!(f, "zcat {name}"),
+        Kind::Zip => write!(f, "unzip -p {name}"),
+        Kind::Sheet => write!(f, "libreoffice --headless --convert-to csv {name}"),
+        Kind::Parquet => write!(f, "duckdb -csv -c \"from read_parquet('\"{name}\"')\""),
+        Kind::Utf16 => write!(f, "iconv -f UTF-16 -t UTF-8 {name}"),
+        Kind::Utf16Le => write!(f, "iconv -f UTF-16LE -t UTF-8 {name}"),
+        Kind::Utf16Be => write!(f, "iconv -f UTF-16BE -t UTF-8 {name}"),
+        Kind::SeparatorLine => write!(f, "tail -n +2 {name}"),
+    }
+}
+
+/// Writes the words after the program's name, with `-` for the last one that is this name.
+fn write_words<W: fmt::Write>(
+    words: &[String],
+    name: &str,
+    f: &mut fmt::Formatter<W>,
+) -> fmt::Result {
+    let mut last = 0;
+    for number in 1..words.len() {
+        if words[number].as_str() == name {
+            last = number;
+        }
+    }
+    for number in 1..words.len() {
+        if number == last {
+            f.write_str(" -")?;
+        } else {
+            write!(f, " {}", Quoted(words[number].as_str()))?;
+        }
+    }
+    Ok(())
+}
+
+fn write_piped<W: fmt::Write>(
+    kind: Kind,
+    name: &str,
+    words: &[String],
+    f: &mut fmt::Formatter<W>,
+) -> fmt::Result {
+    f.write_str("hint: `")?;
+    write_source(kind, name, f)?;
+    if kind == Kind::Sheet {
+        return f.write_str("` makes CSV of its first sheet");
+    }
+    f.write_str(" | omny_tools")?;
+    write_words(words, name, f)?;
+    f.write_str("`")
 }
 
 #[derive(Clone, Copy)]
@@ -121,6 +184,19 @@ impl fmt::Display for Hint<'_> {
             Hint::MoreDamaged => {
                 f.write_str("hint: others may be damaged, too: omny_tools uploads says of each")
             }
+            Hint::Piped(kind, name, words) => write_piped(*kind, name, words, f),
+            Hint::NoTapTable(name) => write!(
+                f,
+                "hint: if {} is an export of an agency, name its columns: `omny_tools encode --columns token=NAME,validator=NAME,moment=NAME {}`",
+                Quoted(name),
+                Quoted(name)
+            ),
+            Hint::NoFolder(name) => write!(f, "hint: {}: Not a directory", Quoted(name)),
+            Hint::NotRegular(name) => write!(
+                f,
+                "hint: {} is no regular file, and is not replaced",
+                Quoted(name)
+            ),
         }
     }
 }

@@ -5,12 +5,14 @@
 mod damage;
 mod faults;
 mod hint;
+mod kinds;
 mod overheard;
 mod shown;
 mod unwritten;
 
-pub use damage::damaged;
-pub use faults::{Named, hint_on_fault};
+pub use damage::{damaged, not_uploads};
+pub use faults::{Named, hint_on_fault, hint_on_list};
 pub use hint::Hint;
+pub use kinds::{Kind, kind_of_file};
 pub use overheard::{Overheard, Said};
 pub use unwritten::Unwritten;

@@ -19,6 +19,18 @@ impl Said {
         self.used == 0
     }
 
+    /// The lines that were kept whole, the first one first.
+    pub fn lines(&self) -> &str {
+        let text = self.line().unwrap_or("");
+        if self.used < KEPT_BYTES {
+            return text;
+        }
+        match text.rsplit_once('\n') {
+            Some((whole, _)) => whole,
+            None => "",
+        }
+    }
+
     /// The text without its last line feed.
     pub fn line(&self) -> Option<&str> {
         let kept = self.kept.get(..self.used).unwrap_or(&[]);

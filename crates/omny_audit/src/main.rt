@@ -6,6 +6,7 @@
 mod audit;
 mod check;
 mod fault;
+mod input_words;
 mod laws;
 mod ledger;
 mod made_by;
@@ -16,7 +17,8 @@ mod text;
 mod traced;
 
 use file_sources::Host;
-use hints::{Named, Overheard, Said, Unwritten, hint_on_fault};
+use hints::{Named, Overheard, Said, Unwritten, hint_on_fault, hint_on_list};
+use input_words::InputWords;
 use made_by::compare;
 use options::{Options, list_words, reads_input};
 use program::main_over;
@@ -27,13 +29,26 @@ use std::process::ExitCode;
 use text_forms::{FINDINGS, Form, Shaped};
 use world::{Stream, System};
 
-/// The words, with the names of the list that they name. On an error it was reported, and the error
-/// is the status.
+/// The words, with the name of the standard input for `-`, and with the names of the list that they
+/// name. On an error it was reported, and the error is the status.
 fn words_with_list<E: Write>(rt: &HostRuntime, err: &mut Complaints<E>) -> Result<Vec<String>, u8> {
     let words = match words_of(rt) {
         Ok(words) => words,
         Err(fault) => return Err(unread_words(&fault, err)),
     };
+    let Ok(inputs) = InputWords::of(rt.alloc(), &words) else {
+        err.report_line("fault: out of memory");
+        return Err(1);
+    };
+    let InputWords {
+        words,
+        replaced,
+        lists,
+    } = inputs;
+    if replaced > 1 || (replaced > 0 && (lists > 0 || reads_input(rt.alloc(), &words))) {
+        err.report_line("error: - can be named only once");
+        return Err(2);
+    }
     let list = list_words(rt.alloc(), &words);
     let more = take_list(rt, &words, list, Some("uploads"), err)?;
     Ok(more.unwrap_or(words))
@@ -99,6 +114,15 @@ fn report_hint(rt: &HostRuntime, words: &[String], said: &Said, error: Option<io
     }
 }
 
+/// Says on a terminal why a list was not read.
+fn report_list_hint(rt: &HostRuntime, said: &Said) {
+    if rt.stderr().is_terminal()
+        && let Some(hint) = hint_on_list(rt, rt.alloc(), said)
+    {
+        Complaints::new(rt.stderr()).report_line(hint);
+    }
+}
+
 /// The form of the findings that the words name; else the line of a usage error.
 fn form_of(rt: &HostRuntime, words: &[String]) -> Result<Form, &'static str> {
     let Ok(options) = Options::read(rt.alloc(), words) else {
@@ -145,13 +169,14 @@ fn run(rt: &HostRuntime, words: &[String], mut err: Escaping<io::Stderr>) -> u8 
 }
 
 fn main(rt: HostRuntime) -> ExitCode {
-    let mut complaints = Complaints::new(Escaping::new(rt.stderr()));
+    let mut complaints = Complaints::new(Overheard::new(Escaping::new(rt.stderr())));
     let words = words_with_list(&rt, &mut complaints);
-    let err = complaints.into_writer();
+    let (err, said) = complaints.into_writer().into_parts();
     let status = match words {
         Ok(words) => run(&rt, &words, err),
         Err(status) => {
             err.finish();
+            report_list_hint(&rt, &said);
             status
         }
     };

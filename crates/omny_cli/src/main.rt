@@ -12,7 +12,7 @@ mod system;
 
 use fare_program::{Complaints, FileWords, Host, Note, Output, list_words, unread_words, words_of};
 use forms::form_of;
-use hints::{Named, Overheard, Said, damaged, hint_on_fault};
+use hints::{Named, Overheard, Said, damaged, hint_on_fault, hint_on_list};
 use input_words::{INPUT_FILE, with_input_file};
 use program_manners::{Escaping, WriteEnd, take_list};
 use provenance::RunSums;
@@ -43,10 +43,23 @@ fn ticker_for(rt: &HostRuntime, words: &[String], sums: Option<RunSums>) -> Tick
 /// The words, with the name of the standard input for `-`, and with the names of the list that they
 /// name. On an error the reason was printed.
 fn words_with_files(rt: &HostRuntime) -> Result<Vec<String>, u8> {
-    let mut err = Complaints::new(Escaping::new(rt.stderr()));
+    let mut err = Complaints::new(Overheard::new(Escaping::new(rt.stderr())));
     let words = named_words(rt, &mut err);
-    err.into_writer().finish();
+    let (escaping, said) = err.into_writer().into_parts();
+    escaping.finish();
+    if words.is_err() {
+        report_list_hint(rt, &said);
+    }
     words
+}
+
+/// Says on a terminal why a list was not read.
+fn report_list_hint(rt: &HostRuntime, said: &Said) {
+    if rt.stderr().is_terminal()
+        && let Some(hint) = hint_on_list(rt, rt.alloc(), said)
+    {
+        Complaints::new(rt.stderr()).report_line(hint);
+    }
 }
 
 fn named_words<E: Write>(rt: &HostRuntime, err: &mut Complaints<E>) -> Result<Vec<String>, u8> {

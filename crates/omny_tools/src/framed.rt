@@ -1,5 +1,7 @@
 //! The system, for what the frame runs.
+ghost use Rattle.std.specs.Io.KnownBytes.{Keeps};
 
+use crate::hint::Unmade;
 use crate::progress::Progress;
 use crate::whole::read_whole;
 use std::fmt::Display;
@@ -11,6 +13,30 @@ use world::{
     Fault, Inputs, LoadFault, Loaded, MakeFault, NewFile, Stream, System, Trace, World, WriteFault,
 };
 
+/// Why the file cannot be flushed, if that is asked.
+fn flush_error<F: Write>(asks: bool, file: &mut F) -> Option<io::Error>
+    ensures { Keeps (F.contents file.old) (F.contents file.new) }
+{
+    if !asks {
+        return None;
+    }
+    match file.flush() {
+        Ok(()) => None,
+        Err(error) => Some(error),
+    }
+}
+
+/// Why the file cannot be written, if that is asked: what refused a write refuses the next one, too.
+fn write_error<F: Write>(asks: bool, file: &mut F) -> Option<io::Error> {
+    if !asks {
+        return None;
+    }
+    match file.write(&[0]) {
+        Ok(_) => None,
+        Err(error) => Some(error),
+    }
+}
+
 /// The system. It shows how much is read and written, and takes that away before anything else is
 /// said.
 #[derive(Drop)]
@@ -20,6 +46,9 @@ pub(crate) struct Framed<'r, W, E> {
     counts: Progress<'r>,
     progress: Progress<'r>,
     done: u64,
+    /// Whether it is asked why a file is not made.
+    asks: bool,
+    unmade: Option<Unmade>,
 }
 
 impl<'r, W, E> Framed<'r, W, E> {
@@ -29,6 +58,7 @@ impl<'r, W, E> Framed<'r, W, E> {
         rt: &'r HostRuntime,
         counts: Progress<'r>,
         progress: Progress<'r>,
+        asks: bool,
         out: W,
         err: E,
     ) -> Framed<'r, W, E> {
@@ -38,6 +68,21 @@ impl<'r, W, E> Framed<'r, W, E> {
             counts,
             progress,
             done: 0,
+            asks,
+            unmade: None,
+        }
+    }
+
+    /// The last file that was begun and not made, if the system said why.
+    pub(crate) fn take_unmade(&mut self) -> Option<Unmade> {
+        self.unmade.take()
+    }
+
+    fn note_unmade(&mut self, name: &str, why: Option<io::Error>)
+        ensures { self.new.system ≡ self.old.system }
+    {
+        if let Some(error) = why {
+            self.unmade = Unmade::new(self.rt.alloc(), name, error);
         }
     }
 
@@ -146,10 +191,16 @@ impl<W: Write, E: Write> World for Framed<'_, W, E> {
     }
 
     fn finish(&mut self, name: &str, file: NewFile<File>) -> Result<(), MakeFault> {
+        let mut file = file;
+        let why = flush_error(self.asks, &mut file);
+        self.note_unmade(name, why);
         self.system.finish(name, file)
     }
 
     fn fail(&mut self, name: &str, file: NewFile<File>) -> MakeFault {
+        let mut file = file;
+        let why = write_error(self.asks, &mut file);
+        self.note_unmade(name, why);
         self.system.fail(name, file)
     }
 

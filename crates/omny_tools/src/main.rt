@@ -3,6 +3,7 @@
 #![tactic(auto)]
 
 mod framed;
+mod hint;
 mod manner;
 mod output;
 mod placed;
@@ -11,6 +12,8 @@ mod run;
 mod streams;
 mod whole;
 
+use hint::report_list_hint;
+use hints::Overheard;
 use program_manners::{Complaints, Escaping, take_list, unread_words, words_of};
 use run::run;
 use std::io::Write;
@@ -19,9 +22,13 @@ use tool_words::list_words;
 
 /// The words, with the names of the list that they name. On an error the reason was printed.
 fn words_with_list(rt: &HostRuntime) -> Result<Vec<String>, u8> {
-    let mut err = Complaints::new(Escaping::new(rt.stderr()));
+    let mut err = Complaints::new(Overheard::new(Escaping::new(rt.stderr())));
     let words = named_words(rt, &mut err);
-    err.into_writer().finish();
+    let (escaping, said) = err.into_writer().into_parts();
+    escaping.finish();
+    if words.is_err() {
+        report_list_hint(rt, &said);
+    }
     words
 }
 

@@ -1,16 +1,18 @@
 //! The whole program over the system, from the words to the status.
 
 use crate::framed::Framed;
+use crate::hint::{Failures, report_hints};
 use crate::manner::form_of;
 use crate::output::{WRITE_BYTES, collect};
 use crate::placed::FilesByName;
 use crate::progress::Progress;
 use crate::streams::Pieces;
+use hints::{Overheard, Unwritten};
 use jiff::Timestamp;
 use program_manners::Complaints;
 use std::hash::RandomState;
 use std::io;
-use std::io::Write;
+use std::io::{IsTerminal, Write};
 use std::marker::Sync;
 use std::thread::Threads;
 use text_forms::{Shaped, UPLOADS};
@@ -80,8 +82,11 @@ pub(crate) fn run<R: Threads + Sync, E: Write>(
     } else {
         Progress::beside_text(rt)
     };
-    let mut framed = Framed::new(rt, counts, progress, out, rt.stderr());
-    main_over(
+    let asks = rt.stderr().is_terminal();
+    let mut out = Unwritten::new(out);
+    let mut err = Overheard::new(rt.stderr());
+    let mut framed = Framed::new(rt, counts, progress, asks, &mut out, &mut err);
+    let status = main_over(
         threads,
         rt.alloc(),
         seed,
@@ -90,5 +95,15 @@ pub(crate) fn run<R: Threads + Sync, E: Write>(
         &FilesByName::new(rt),
         &mut Pieces::new(rt),
         &mut framed,
-    )
+    );
+    let unmade = framed.take_unmade();
+    drop(framed);
+    if status == 1 || status == 3 {
+        let failures = Failures {
+            text: out.error(),
+            unmade: &unmade,
+        };
+        report_hints(rt, words, err.said(), failures);
+    }
+    status
 }

@@ -43,9 +43,17 @@ impl Quotes {
     }
 }
 
+/// Whether the text begins as gzip, zip or Parquet does: its quotes mean nothing.
+fn is_archive(text: &[u8]) -> bool {
+    text.starts_with(&[0x1f, 0x8b]) || text.starts_with(b"PK\x03\x04") || text.starts_with(b"PAR1")
+}
+
 /// The line of the last quote that opens a field, if nothing closes it. It takes all later rows
 /// into its field. No clause says more of it.
 pub(crate) fn open_quote(text: &[u8], separator: u8) -> Option<u64> {
+    if is_archive(text) {
+        return None;
+    }
     let mut quotes = Quotes {
         position: Position::Begin,
         line: 1,

@@ -38,6 +38,8 @@ pub(crate) enum Need {
 #[derive(Clone, Copy)]
 pub(crate) enum Row {
     One(Takes, Need),
+    /// One that `-h` does not show.
+    Rare(Takes, Need),
     /// A list of files: two options, which each program has.
     List,
 }
@@ -87,6 +89,14 @@ fn arg<'a>(alloc: Global, takes: Takes, need: Need, is_whole: bool) -> Result<Ar
     }
 }
 
+/// The argument, which `-h` does not show.
+fn hidden<'a>(arg: Arg<'a>) -> Arg<'a>
+    ensures rule { rule_of result ≡ rule_of arg.entry }
+    ensures local { result.global ≡ arg.entry.global }
+{
+    arg.hide_short_help(true)
+}
+
 impl Row {
     fn add_to<'a>(
         &self,
@@ -100,6 +110,7 @@ impl Row {
         match *self {
             Row::List => add_list_args(alloc, command),
             Row::One(takes, need) => command.arg(arg(alloc, takes, need, is_whole)?),
+            Row::Rare(takes, need) => command.arg(hidden(arg(alloc, takes, need, is_whole)?)),
         }
     }
 }

@@ -11,6 +11,10 @@ use std::alloc::{AllocError, Global};
 const ENCODE_NOTES: &str = "Examples:
   omny_tools encode taps.csv > day.tap
   omny_tools encode --columns token=card,validator=reader,moment=tapped_at
+    --only result=ok export.csv > day.tap
+
+More examples:
+  omny_tools encode --columns token=card,validator=reader,moment=tapped_at
     --only result=ok --validators readers.csv --refused refused.csv
     export.csv > day.tap
   omny_tools encode --from tides --validators-make readers.csv --out day.tap
@@ -112,7 +116,7 @@ pub(crate) fn encode_command<'a>(alloc: Global, is_whole: bool) -> Result<Comman
             Takes::Value("validators", "DEVICES", VALIDATORS_HELP),
             Need::Never,
         ),
-        Row::One(
+        Row::Rare(
             Takes::Value("validators-make", "DEVICES", VALIDATORS_MAKE_HELP),
             Need::Apart(&["validators"]),
         ),
@@ -120,14 +124,14 @@ pub(crate) fn encode_command<'a>(alloc: Global, is_whole: bool) -> Result<Comman
             Takes::Values("only", "COLUMN=VALUE", ONLY_HELP),
             Need::Never,
         ),
-        Row::One(
+        Row::Rare(
             Takes::Values("drop", "COLUMN=VALUE", DROP_HELP),
             Need::Never,
         ),
-        Row::One(Takes::Value("count", "COLUMN", COUNT_HELP), Need::Never),
-        Row::One(Takes::Flag("token-hash", HASH_HELP), Need::Never),
+        Row::Rare(Takes::Value("count", "COLUMN", COUNT_HELP), Need::Never),
+        Row::Rare(Takes::Flag("token-hash", HASH_HELP), Need::Never),
         Row::One(Takes::Value("token-key", "KEY", KEY_HELP), Need::Never),
-        Row::One(
+        Row::Rare(
             Takes::Value("separator", "SEPARATOR", SEPARATOR_HELP),
             Need::Never,
         ),
@@ -137,7 +141,7 @@ pub(crate) fn encode_command<'a>(alloc: Global, is_whole: bool) -> Result<Comman
             Need::Never,
         ),
         Row::One(Takes::Value("zone", "ZONE", ZONE_HELP), Need::Never),
-        Row::One(Takes::Value("fold", "FOLD", FOLD_HELP), Need::Never),
+        Row::Rare(Takes::Value("fold", "FOLD", FOLD_HELP), Need::Never),
         Row::One(
             Takes::Value("refused", "REFUSED", REFUSED_HELP),
             Need::Never,

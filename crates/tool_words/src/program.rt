@@ -21,7 +21,6 @@ const NOTES: &str = "Examples:
   omny_tools encode taps.csv > day.tap
   omny_tools uploads --look monday.tap tuesday.tap
   omny_tools sort --out week.tap monday.tap tuesday.tap
-  omny_tools table table.toml
   omny_tools encode --help
 
 Exit status:

@@ -28,8 +28,10 @@ have one, and of all days from --from to --until if both are given.";
 
 const NOTES: &str = "Examples:
   omny_tools uploads monday.tap tuesday.tap
-  omny_tools uploads --good-part whole.tap damaged.tap
   omny_tools uploads --look --within 60 --table table.toml week/*.tap
+
+More examples:
+  omny_tools uploads --good-part whole.tap damaged.tap
   omny_tools uploads --look --format json week/*.tap
   omny_tools uploads --list --from 2026-03-02T00:00:00Z week/*.tap
 

@@ -133,11 +133,17 @@ fn kind_of(first: &[u8]) -> Option<&'static str> {
     if first.starts_with(&[0x1f, 0x8b]) {
         Some("it is gzip: zcat FILE | omny_tools encode .. -")
     } else if first.starts_with(b"PK\x03\x04") {
-        Some("it is zip, as a spreadsheet is: save the sheet as CSV, or unzip -p")
+        Some(
+            "it is zip, as a spreadsheet is: save the sheet as CSV, or unzip -p FILE | omny_tools encode .. -",
+        )
     } else if first.starts_with(b"PAR1") {
-        Some("it is Parquet: duckdb -csv -c \"from 'FILE'\" | omny_tools encode .. -")
+        Some("it is Parquet: duckdb -csv -c \"from read_parquet('FILE')\" | omny_tools encode .. -")
     } else if first.starts_with(&[0xff, 0xfe]) || first.starts_with(&[0xfe, 0xff]) {
         Some("it is UTF-16: iconv -f UTF-16 -t UTF-8 FILE | omny_tools encode .. -")
+    } else if first.get(1) == Some(&0) {
+        Some("it is UTF-16: iconv -f UTF-16LE -t UTF-8 FILE | omny_tools encode .. -")
+    } else if first.first() == Some(&0) {
+        Some("it is UTF-16: iconv -f UTF-16BE -t UTF-8 FILE | omny_tools encode .. -")
     } else if first.starts_with(b"sep=") {
         Some("its first line says what the separator is: tail -n +2 FILE | omny_tools encode .. -")
     } else {

@@ -28,6 +28,7 @@ rule_by _ rule = rule
 -- the rules of a row
 abbrev pub rules_of : Row → List Rule
 rules_of (row.One takes need) = rule_by need (taken_rule takes) ∷ []
+rules_of (row.Rare takes need) = rule_by need (taken_rule takes) ∷ []
 rules_of row.List = list_option ∷ null_flag ∷ []
 
 -- the command with these rules after its own
