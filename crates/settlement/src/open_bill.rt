@@ -138,7 +138,7 @@ impl OpenBill {
         Ok(())
     }
 
-    /// Adds taps whose tokens do not fall, from the bill's on. After an allocation failure the bill
+    /// Adds taps of nondecreasing tokens, from the bill's on. After an allocation failure the bill
     /// is of no use.
     pub fn add(
         &mut self,

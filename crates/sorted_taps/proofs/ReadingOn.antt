@@ -11,7 +11,7 @@ use Rattle.tap_views.specs.declared.encoder.TapFields.{TapFields}
 use Rattle.tap_views.specs.declared.fault.LayoutFault.{LayoutFault}
 use Rattle.tap_views.specs.declared.fault.LayoutFault.TheVariants.{Short, Magic, Flags, TooMany}
 use Rattle.tap_views.specs.declared.fault.LayoutFault.TheVariants.{Length, Moment}
-use Rattle.sorted_taps.specs.Fronts.{IsFinal}
+use Rattle.sorted_taps.specs.inside.Final.{IsFinal}
 use Rattle.sorted_taps.specs.declared.decoded_taps.Decoded.{Decoded}
 use Rattle.sorted_taps.specs.inside.Decoding.{IsDecodedAt, IsReadOn}
 use Rattle.sorted_taps.proofs.Fronts.{fault_of_front}

@@ -103,11 +103,11 @@ returns-then-is_empty-clause-merged g c = λ all are.
     takes.items ∙ ap (λ (l : List TapFields). l ++ takes.more) cleared in
     let zero : vec_len run ≡ 0 = eqb-true (vec_len run) 0 (sym c.is_empty.ensures ∙ c.if-is_empty.true) in
     let none : run.items ≡ [] = nil_from_length run.items (grind arith) in
-    let (started, begun, taken) = c.loop.invariant.taken all are in
+    let (started, earlier, taken) = c.loop.invariant.taken all are in
     let still : AreTaken all mid [] new =
     subst (λ (ts : List TapFields). AreTaken all mid ts new) (sym is ∙ none) (takes.taken all are) in
     let end = c.in_ok-take_run.ensures.end refl (none ∙ sym cleared) in
-    let merged = taken_merged all started new taps begun
+    let merged = taken_merged all started new taps earlier
     (subst (λ rs. AreTaken all started taps rs) still taken) end in
     record {
       lists = merged.lists;
@@ -140,9 +140,9 @@ loop-preserved g c =
       put = rw c.deref-in-loop-2.ensures.value at
           (c.in_ok-put_all.ensures.put old taps c.loop.invariant.put);
       taken = λ all are.
-          let (started, begun, taken) = c.loop.invariant.taken all are in (
+          let (started, earlier, taken) = c.loop.invariant.taken all are in (
             started,
-            begun,
+            earlier,
             taken_append all started mid new taps run.items taken
                 (subst (λ (ts : List TapFields). AreTaken all mid ts new) (sym is)
                 (takes.taken all are)),
