@@ -23,6 +23,8 @@
 # make bench    one table of speed and memory, live and settled, beside Rust without proofs, within
 #               ten minutes, and a tap's instructions if valgrind is there. If no proved program is
 #               there, a trial is built and measured, and it says so
+# make agencies what the programs print of the agencies in examples/agencies: reports, statements,
+#               amounts, and what the checkers say of the ledgers
 # make audit    the checkers of ledgers over the example, some zones, a generated week and spoilt
 #               ledgers
 # make sql      the example's ledger in SQLite and in PostgreSQL, an auditor's questions, those that
@@ -39,7 +41,7 @@
 # page chromium. cluster needs Slurm and Dask, and root for Slurm. If these are not there, model, sql,
 # viewer, serve and cluster say so in a line and are skipped.
 
-.PHONY: run trial build install test wrong model hostile bench audit sql viewer serve cluster
+.PHONY: run trial build install test wrong model hostile bench agencies audit sql viewer serve cluster
 
 PREFIX ?= /usr/local
 
@@ -82,6 +84,7 @@ test:
 	fi && rt ci
 	@scripts/version
 	@tests/program_cases
+	@tests/agencies
 	@tests/tool_manners
 	@tests/text_forms
 	@tests/settled_week
@@ -97,6 +100,9 @@ hostile:
 
 bench:
 	@bench/run
+
+agencies:
+	@tests/agencies
 
 audit:
 	@ledgers/audit/run

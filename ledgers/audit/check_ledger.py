@@ -36,10 +36,10 @@ MINUTE_MS, DAY_MS, MOMENT_LIMIT = 60_000, 86_400_000, 4_102_444_800_000
 HEAD = ("token,line,moment,validator,mode,answer,cents,"
         "window_start,window_end,ride,reason,points_at\n")
 TRACED_HEAD = HEAD[:-1] + ",class,upload,place\n"
-NUMBER, WORD = "(?:0|[1-9][0-9]*)", "[a-z-]{0,16}"
+NUMBER, WORD, REASON = "(?:0|[1-9][0-9]*)", "[a-z-]{0,16}", "[a-z:-]{0,24}"
 MOMENT = "[0-9]{4}-[0-9]{2}-[0-9]{2}T(?:[01][0-9]|2[0-3])(?::[0-5][0-9]){2}[.][0-9]{3}Z"
 LINE = re.compile(f"([0-9a-f]{{32}}),({NUMBER}),({MOMENT}),({NUMBER}),{WORD},{WORD},({NUMBER}),"
-                  f"({MOMENT}|),({MOMENT}|),({NUMBER}|),{WORD},({MOMENT}|)\n")
+                  f"({MOMENT}|),({MOMENT}|),({NUMBER}|),{REASON},({MOMENT}|)\n")
 # a line that has a tap, whatever it says of it, and its cents behind the validator
 TAP = re.compile(f"([0-9a-f]{{32}}),[^,]*,({MOMENT}),({NUMBER})(,.*\n|\n)")
 CENTS = re.compile(f",[^,]*,[^,]*,({NUMBER}),")
@@ -280,12 +280,13 @@ class Account:
         if left <= 0:
             return "capped", 0, self.rides, "ceiling"
         ceilings = fares.ceilings[fares.classes.get(self.token, fares.usual_class)]
-        least = min((max(0, ceilings.get(name, 100_000_000) - self.caps[name][1])
-                     for name, _, modes in fares.caps if mode in modes), default=100_000_000)
+        least, cap = min(((max(0, ceilings.get(name, 100_000_000) - self.caps[name][1]), name)
+                          for name, _, modes in fares.caps if mode in modes),
+                         default=(100_000_000, ""))
         if least == 0:
-            return "capped", 0, self.rides, "cap"
+            return "capped", 0, self.rides, "cap:" + cap
         if least < min(fare, left):
-            return "paid", least, self.rides, "cap-cut"
+            return "paid", least, self.rides, "cap-cut:" + cap
         return "paid", min(fare, left), self.rides, "full" if left >= fare else "ceiling-cut"
 
 class Sums:

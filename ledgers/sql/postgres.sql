@@ -25,8 +25,10 @@ CREATE TABLE line (
   ride         bigint,
   reason       text        COLLATE "C" NOT NULL,
   points_at    timestamptz CHECK ((points_at IS NOT NULL) = (reason IN ('transfer', 'stale'))),
-  CHECK (CASE answer WHEN 'paid' THEN reason IN ('full', 'ceiling-cut', 'cap-cut')
-                     WHEN 'capped' THEN reason IN ('ceiling', 'cap', 'ride-limit')
+  CHECK (CASE answer WHEN 'paid' THEN reason IN ('full', 'ceiling-cut')
+                                      OR reason ~ '^cap-cut:[a-z]{1,16}$'
+                     WHEN 'capped' THEN reason IN ('ceiling', 'ride-limit')
+                                        OR reason ~ '^cap:[a-z]{1,16}$'
                      WHEN 'transfer' THEN reason = answer WHEN 'stale' THEN reason = answer
                      WHEN 'unknown' THEN reason = answer ELSE false END)
 );

@@ -15,8 +15,12 @@ CREATE TABLE line (
   ride         INTEGER,                             -- the ride's place in its window, from 1
   reason       TEXT    NOT NULL,
   points_at    TEXT    CHECK ((points_at IS NOT NULL) = (reason = 'transfer' OR reason = 'stale')),
-  CHECK (CASE answer WHEN 'paid' THEN reason = 'full' OR reason = 'ceiling-cut' OR reason = 'cap-cut'
-                     WHEN 'capped' THEN reason = 'ceiling' OR reason = 'cap' OR reason = 'ride-limit'
+  CHECK (CASE answer WHEN 'paid' THEN reason = 'full' OR reason = 'ceiling-cut'
+                                      OR (reason GLOB 'cap-cut:[a-z]*' AND length(reason) <= 24
+                                          AND substr(reason, 9) NOT GLOB '*[^a-z]*')
+                     WHEN 'capped' THEN reason = 'ceiling' OR reason = 'ride-limit'
+                                        OR (reason GLOB 'cap:[a-z]*' AND length(reason) <= 20
+                                            AND substr(reason, 5) NOT GLOB '*[^a-z]*')
                      WHEN 'transfer' THEN reason = answer WHEN 'stale' THEN reason = answer
                      WHEN 'unknown' THEN reason = answer ELSE 0 END),
   PRIMARY KEY (token, line)

@@ -8,6 +8,9 @@ declare -A SPOILT=(
     ["a transfer that costs cents"]='3s/,transfer,0,/,transfer,300,/'
     ["a column too few"]='2s/,full,//'
     ["a line twice"]='3p'
+    ["a cap without a name"]='2s/,full,/,cap-cut,/'
+    ["a cap with a digit in its name"]='2s/,full,/,cap-cut:day2,/'
+    ["a paid ride that a cap freed"]='2s/,full,/,cap:day,/'
 )
 
 # the same of the columns of the example's traced ledger

@@ -32,6 +32,12 @@ CREATE VIEW riders_at_cap AS
          count(CASE reason WHEN 'ride-limit' THEN 1 END) AS by_rides
   FROM line WHERE answer = 'capped' GROUP BY token, window_start;
 
+-- The rides that a cap beside `window` cut or freed, with its name.
+CREATE VIEW cap_rides AS
+  SELECT token, line, day, mode, answer, cents,
+         substr(reason, CASE answer WHEN 'paid' THEN 9 ELSE 5 END) AS cap
+  FROM line WHERE reason LIKE 'cap-cut:%' OR reason LIKE 'cap:%';
+
 -- Each transfer beside the ride that gives it: a token has one live tap at a moment.
 CREATE VIEW transfer_ride AS
   SELECT t.token, t.line, t.moment, t.mode, r.line AS ride_line, r.moment AS ride_moment,

@@ -16,16 +16,16 @@ pairs_below : (n p : ℕ) → are_pairs n ≡ true → p < n
 pairs_below zero p all low = absurd (omega (arith, low))
 pairs_below (suc n) p all low =
     let both = and_parts _ (are_pairs n) all in
-    by_place (cases_eq p n) (and_parts _ _ both.0) (pairs_below n p both.1)
+    by_position (cases_eq p n) (and_parts _ _ both.0) (pairs_below n p both.1)
   where
-    by_place : (p ≡ n) ⊎ (p ≢ n)
+    by_position : (p ≡ n) ⊎ (p ≢ n)
         → (eqb (get_or PAIRS (n * 2) 0) (48 + n / 10) ≡ true)
         × (eqb (get_or PAIRS (n * 2 + 1) 0) (48 + n % 10) ≡ true)
         → (p < n → (get_or PAIRS (p * 2) 0 ≡ 48 + p / 10)
         × (get_or PAIRS (p * 2 + 1) 0 ≡ 48 + p % 10))
         → (get_or PAIRS (p * 2) 0 ≡ 48 + p / 10) × (get_or PAIRS (p * 2 + 1) 0 ≡ 48 + p % 10)
-    by_place (inl same) (tens, ones) rest = rw same (eqb-true _ _ tens, eqb-true _ _ ones)
-    by_place (inr apart) both rest = rest (omega (arith, low, apart))
+    by_position (inl same) (tens, ones) rest = rw same (eqb-true _ _ tens, eqb-true _ _ ones)
+    by_position (inr apart) both rest = rest (omega (arith, low, apart))
 
 -- the digits that the table has of a number
 pub pairs_at : (p : ℕ) → p < 100

@@ -1,10 +1,8 @@
 -- One line after another: what the explainer has come to, and what was written.
-use Rattle.std.proofs.Common.{◌≡◌, ℕ, ◌+◌, ◌<◌, true, false, List, [], ◌∷◌, ◌++◌, Option, Some}
-use Rattle.std.proofs.Common.{length, take, drop, get_or, refl, sym, ap, subst, ◌∙◌}
-use Rattle.std.proofs.Common.{append_assoc, append-nil, add-one, drop-cons, arith}
-use Rattle.std.specs.Prelude.{slice_get}
-use Rattle.std.proofs.lemmas.List.{get_or-map, length-map, take-append-drop}
-use Rattle.std.proofs.Math.Seq.{take-suc}
+use Rattle.std.proofs.Common.{◌≡◌, ℕ, true, false, List, [], ◌∷◌, ◌++◌, Option}
+use Rattle.std.proofs.Common.{take, drop, refl, sym, ap, subst, ◌∙◌}
+use Rattle.std.proofs.Common.{append_assoc, append-nil}
+use Rattle.std.proofs.lemmas.List.{take-append-drop}
 use Rattle.tariffs.specs.Fares.{Fares}
 use Rattle.histories.specs.Entry.{own}
 use Rattle.tap_views.specs.Token.{token_eq}
@@ -13,9 +11,8 @@ use Rattle.tap_views.specs.declared.token.Token.{Token}
 use Rattle.tap_views.proofs.TokenLemmas.{token_eq-refl}
 use Rattle.fare_texts.specs.Explainers.{HasExplained}
 use Rattle.fare_texts.specs.WrittenOut.{Begins, GoesOut}
-use Rattle.fare_texts.specs.Lines.{AreLinesAlong, AreUpTo, HasConsumed, IsLineAfter, Nondecreasing}
+use Rattle.fare_texts.specs.Lines.{AreLinesAlong, AreUpTo, HasConsumed, IsLineAfter}
 use Rattle.tap_views.specs.TokenOrder.{IsUpTo}
-use Rattle.fare_texts.specs.Lines.{NondecreasingFrom}
 use Rattle.fare_texts.specs.declared.explainer.Explainer.{Explainer}
 use Rattle.fare_texts.proofs.Increasing.{none_below, own_push, up_push, up_weaker}
 use Rattle.tap_views.proofs.TokensUp.{up_itself}

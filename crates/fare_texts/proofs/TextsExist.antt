@@ -152,14 +152,15 @@ pointing words at =
     let found = moment_exists at in
     (words ++ found.0, record { moment = found.0; is = found.1; shown = refl })
 
-fields_exist : (why : CappedReason) → (text : List ℕ) × IsReasonFields why text
-fields_exist Unknown = (codes ",,,unknown,", refl)
-fields_exist (Stale latest) = pointing (codes ",,,stale,") latest
-fields_exist (Transfer moment mode) = pointing (codes ",,,transfer,") moment
-fields_exist (Ride start until charge) =
+fields_exist : (caps : List (List ℕ)) (why : CappedReason)
+    → (text : List ℕ) × IsReasonFields caps why text
+fields_exist caps Unknown = (codes ",,,unknown,", refl)
+fields_exist caps (Stale latest) = pointing (codes ",,,stale,") latest
+fields_exist caps (Transfer moment mode) = pointing (codes ",,,transfer,") moment
+fields_exist caps (Ride start until charge) =
     let from = moment_exists start in
     let to = moment_exists until in (
-      from.0 ++ (codes "," ++ (to.0 ++ ride_rest charge)),
+      from.0 ++ (codes "," ++ (to.0 ++ ride_rest caps charge)),
       record { from = from.0; starts = from.1; to = to.0; ends = to.1; shown = refl },
     )
 
@@ -167,7 +168,7 @@ pub line_exists : (fares : Fares) (token : Token) (number : ℕ) (entry : Entry)
     → (line : List ℕ) × IsLedgerLine fares token number entry why line
 line_exists fares token number entry why =
     let moment = moment_exists entry.moment in
-    let fields = fields_exist why in (
+    let fields = fields_exist fares.meaning.cap_names why in (
       line_head token number
           ++ (moment.0 ++ (entry_fields fares entry ++ (fields.0 ++ codes "\n"))),
       record {

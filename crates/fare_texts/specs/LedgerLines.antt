@@ -1,6 +1,6 @@
 -- The ledger: a header line, and a line of twelve fields for each entry of a token.
 use Rattle.std.specs.Prelude.{◌≡◌, ℕ, ◌+◌, List, [], ◌∷◌, ◌++◌, length, map, Option, Some, None}
-use Rattle.std.specs.Prelude.{codes, slice_index_or}
+use Rattle.std.specs.Prelude.{codes, if◌then◌else◌, nat_le, slice_index_or}
 use Rattle.std.specs.Fmt.{decimal}
 use Rattle.hex.specs.Hex.{encode_lower}
 use Rattle.tariffs.specs.Fares.{Fares, mode_at}
@@ -61,19 +61,31 @@ window_rest (CeilingCut position cents) = position_fields position (codes "ceili
 window_rest (CeilingReached position) = position_fields position (codes "ceiling")
 window_rest RideLimitReached = codes ",,ride-limit,"
 
--- a ride's place and what decided its cents: `window`, or a cap beside it
-abbrev pub ride_rest : CapCharge → List ℕ
-ride_rest (ByWindow charge) = window_rest charge
-ride_rest (CapCut position cents cap) = position_fields position (codes "cap-cut")
-ride_rest (CapReached position cap) = position_fields position (codes "cap")
+-- a colon and the name, which names the cap after a reason's word: `:month`. A name of more than 16
+-- bytes, which no fare table has, is left out with its colon.
+unfoldable pub cap_suffix : List ℕ → List ℕ
+cap_suffix name = if nat_le (length name) 16 then codes ":" ++ name else []
+
+-- the reason of a ride whose cents a cap decided: `cap:month`
+abbrev pub cap_reason : List ℕ → List (List ℕ) → ℕ → List ℕ
+cap_reason word caps cap = word ++ cap_suffix (slice_index_or caps cap [])
+
+-- a ride's place and what decided its cents: `window`, or a cap beside it, which is named
+abbrev pub ride_rest : List (List ℕ) → CapCharge → List ℕ
+ride_rest caps (ByWindow charge) = window_rest charge
+ride_rest caps (CapCut position cents cap) =
+    position_fields position (cap_reason (codes "cap-cut") caps cap)
+ride_rest caps (CapReached position cap) =
+    position_fields position (cap_reason (codes "cap") caps cap)
 
 -- the window's start and end, the ride's place and what decided its cents
-pub record IsRideFields (start until : ℕ) (charge : CapCharge) (text : List ℕ) : Type 0 where
+pub record IsRideFields (caps : List (List ℕ)) (start until : ℕ) (charge : CapCharge)
+    (text : List ℕ) : Type 0 where
   pub from : List ℕ
   pub starts : IsMomentText start from
   pub to : List ℕ
   pub ends : IsMomentText until to
-  pub shown : text ≡ from ++ (codes "," ++ (to ++ ride_rest charge))
+  pub shown : text ≡ from ++ (codes "," ++ (to ++ ride_rest caps charge))
 
 -- the words, and the moment to which they point
 pub record IsPointing (words : List ℕ) (at : ℕ) (text : List ℕ) : Type 0 where
@@ -81,12 +93,12 @@ pub record IsPointing (words : List ℕ) (at : ℕ) (text : List ℕ) : Type 0 w
   pub is : IsMomentText at moment
   pub shown : text ≡ words ++ moment
 
--- the last five fields, by the reason
-abbrev pub IsReasonFields : CappedReason → List ℕ → Type 0
-IsReasonFields Unknown text = text ≡ codes ",,,unknown,"
-IsReasonFields (Stale latest) text = IsPointing (codes ",,,stale,") latest text
-IsReasonFields (Transfer moment mode) text = IsPointing (codes ",,,transfer,") moment text
-IsReasonFields (Ride start until charge) text = IsRideFields start until charge text
+-- the last five fields, by the reason, with the names of the caps
+abbrev pub IsReasonFields : List (List ℕ) → CappedReason → List ℕ → Type 0
+IsReasonFields caps Unknown text = text ≡ codes ",,,unknown,"
+IsReasonFields caps (Stale latest) text = IsPointing (codes ",,,stale,") latest text
+IsReasonFields caps (Transfer moment mode) text = IsPointing (codes ",,,transfer,") moment text
+IsReasonFields caps (Ride start until charge) text = IsRideFields caps start until charge text
 
 -- the line of a token's entry with this number and this reason
 pub record IsLedgerLine (fares : Fares) (token : Token) (number : ℕ) (entry : Entry)
@@ -94,7 +106,7 @@ pub record IsLedgerLine (fares : Fares) (token : Token) (number : ℕ) (entry : 
   pub moment : List ℕ
   pub is : IsMomentText entry.moment moment
   pub reason_fields : List ℕ
-  pub explained : IsReasonFields why reason_fields
+  pub explained : IsReasonFields fares.meaning.cap_names why reason_fields
   pub shown : line ≡ line_head token number
       ++ (moment ++ (entry_fields fares entry ++ (reason_fields ++ codes "\n")))
 

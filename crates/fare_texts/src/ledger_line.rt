@@ -20,7 +20,7 @@ use tap_views::Token;
 use tariffs::FareTable;
 
 /// A longer name of a mode is appended on its own, since a line has no room for it.
-const MODE_BYTES: usize = 36;
+const MODE_BYTES: usize = 24;
 
 /// Appends the line of a token's entry, whose number among the token's lines counts from 1.
 pub fn write_line(
@@ -37,7 +37,7 @@ pub fn write_line(
 {
     let mode = mode_field(table, entry.moment, entry.validator);
     let mut line = Line::new();
-    put_end(&mut line, entry, reason);
+    put_end(&mut line, table, entry, reason);
     if mode.len() > MODE_BYTES {
         append_apart(text, token, number, entry, mode, &line)?;
         return Ok(());
@@ -93,15 +93,16 @@ fn put_start(line: &mut Line, token: Token, number: u64, entry: &Entry)
 
 /// Puts what a line has after its mode, as `,paid,300,..`.
 #[inline(always)]
-fn put_end(line: &mut Line, entry: &Entry, reason: &CappedReason)
+fn put_end(line: &mut Line, table: &FareTable, entry: &Entry, reason: &CappedReason)
     requires { line.old ≡ [] }
-    ensures put { (fields : List ℕ) × IsReasonFields reason.now fields
+    ensures put { (fields : List ℕ)
+        × IsReasonFields table.now.meaning.cap_names reason.now fields
         × (line.new ≡ codes "," ++ (answer_text entry.now.answer
         ++ (codes "," ++ (decimal entry.now.cents ++ (codes "," ++ (fields ++ codes "\n")))))) }
-    ensures short { length line.new ≤ 192 }
+    ensures short { length line.new ≤ 201 }
 {
     line.put(b"\n");
-    put_reason_fields(line, reason);
+    put_reason_fields(line, table, reason);
     line.put(b",");
     line.put_short(u64::from(entry.cents));
     line.put(b",");

@@ -1,5 +1,5 @@
 -- Lists with the same elements, each as often, in whatever order.
-use Rattle.std.proofs.Common.{◌≡◌, ◌+◌, Bool, true, List, [], ◌∷◌, ◌++◌, map, filter, cond}
+use Rattle.std.proofs.Common.{◌≡◌, Bool, true, List, [], ◌∷◌, ◌++◌, map, filter, cond}
 use Rattle.std.proofs.Common.{sym, ap, ◌∙◌, arith, All, inl, inr}
 use Rattle.std.specs.Prelude.{◌⊎◌, Contains}
 use Rattle.std.specs.List.Sorted.{IsPermutation}

@@ -19,7 +19,8 @@ use Rattle.tap_views.proofs.TokenLemmas.{same_token}
 use Rattle.ledger_check.specs.Ledger.{IsLedgerOf, IsPostable}
 use Rattle.fare_service.specs.Ledger.{IsLedgerOfBooks as IsWrittenOf}
 use Rattle.fare_texts.specs.Ledger.{IsLedgerOver}
-use Rattle.laws.specs.Written.{AreBooksOf, AreLetters, AreShort, CanBePrinted, reported_entries}
+use Rattle.laws.specs.Written.{AreBooksOf, AreShort, CanBePrinted, HasLetterNames}
+use Rattle.laws.specs.Written.{reported_entries}
 use Rattle.laws.proofs.Owned.{own_is_legal}
 use Rattle.laws.proofs.LedgerTokens.{written_is_read}
 
@@ -115,7 +116,7 @@ from_none fares shards books each k book is =
 
 pub books_are_read : (fares : Fares) (shards : ℕ) (books : List Book) (only : Option Token)
     (text : List ℕ) → AreBooksOf fares shards books
-    → AllByRecursion IsPostable (all_entries books) → AreLetters fares.meaning.modes
+    → AllByRecursion IsPostable (all_entries books) → HasLetterNames fares
     → length (reported_entries only (all_entries books)) ≤ 2 ^ 62
     → AreShort text → IsWrittenOf books only text
     → IsLedgerOf fares (reported_entries only (all_entries books)) text

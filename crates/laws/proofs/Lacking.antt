@@ -2,7 +2,7 @@
 use Rattle.std.proofs.Common.{◌≡◌, ◌≢◌, ℕ, ◌+◌, ◌/◌, ◌%◌, ◌<◌, ◌≤◌, ◌==◌, ℤ, pos, negsuc, Bool}
 use Rattle.std.proofs.Common.{true, false, cond, List, [], ◌∷◌, ◌++◌, zero, suc, refl, sym, ap}
 use Rattle.std.proofs.Common.{subst, ◌∙◌, arith, append_assoc, ⊎_elim, Option, Some, None}
-use Rattle.std.proofs.Common.{true≢false, codes, nat_lt}
+use Rattle.std.proofs.Common.{true≢false, codes, length, nat_le, nat_lt}
 use Rattle.std.specs.Prelude.{slice_index_or}
 use Rattle.std.specs.Char.{is_ascii_lowercase}
 use Rattle.std.specs.Fmt.{decimal, digit_glyph, digits, digits_onto}
@@ -28,11 +28,11 @@ use Rattle.tap_views.specs.declared.token.Token.{Token}
 use Rattle.fare_texts.specs.Moments.{IsCivilText, IsMomentText, clock_text, pad3}
 use Rattle.fare_texts.specs.StatementText.{answer_text}
 use Rattle.fare_texts.specs.LedgerLines.{IsReasonFields, IsLedgerLine, entry_fields, line_head}
-use Rattle.fare_texts.specs.LedgerLines.{mode_field, name_or_empty, position_fields, ride_rest}
-use Rattle.fare_texts.specs.LedgerLines.{window_rest}
+use Rattle.fare_texts.specs.LedgerLines.{cap_suffix, mode_field, name_or_empty, position_fields}
+use Rattle.fare_texts.specs.LedgerLines.{ride_rest, window_rest}
 use Rattle.ledger_check.specs.Lines.{Lacks}
 use Rattle.ledger_check.proofs.LineLemmas.{has_none, lacks-append, lacks-at, lacks-tested}
-use Rattle.laws.specs.Written.{AreLetters}
+use Rattle.laws.specs.Written.{AreLetters, HasLetterNames}
 
 -- ---- numbers
 glyph_other : (d : ℕ) → digit_glyph false d ≢ 10
@@ -202,29 +202,45 @@ window_free (CeilingReached position) =
     placed_free position (codes "ceiling") (written (codes "ceiling") refl)
 window_free RideLimitReached = written (codes ",,ride-limit,") refl
 
-ride_free : (charge : CapCharge) → Free (ride_rest charge)
-ride_free (ByWindow charge) = window_free charge
-ride_free (CapCut position cents cap) =
-    placed_free position (codes "cap-cut") (written (codes "cap-cut") refl)
-ride_free (CapReached position cap) =
-    placed_free position (codes "cap") (written (codes "cap") refl)
+suffix_free : (name : List ℕ) → Free name → Free (cap_suffix name)
+unfolding cap_suffix
+suffix_free name is = by (nat_le (length name) 16)
+  where
+    by : (fits : Bool) → Free (cond fits (codes ":" ++ name) [])
+    by true = both (written (codes ":") refl) is
+    by false = written [] refl
 
-reason_fields_lacks : (why : CappedReason) (text : List ℕ) → IsReasonFields why text
-    → Lacks 10 text
-reason_fields_lacks Unknown text is =
+capped_free : (caps : List (List ℕ)) (word : List ℕ) (position cap : ℕ) → AreLetters caps
+    → Free word → Free (position_fields position (word ++ cap_suffix (slice_index_or caps cap [])))
+capped_free caps word position cap letters is =
+    placed_free position (word ++ cap_suffix (slice_index_or caps cap []))
+    (both is (suffix_free (slice_index_or caps cap [])
+    (free (slice_index_or caps cap []) (named_lacks caps cap letters))))
+
+ride_free : (caps : List (List ℕ)) (charge : CapCharge) → AreLetters caps
+    → Free (ride_rest caps charge)
+ride_free caps (ByWindow charge) letters = window_free charge
+ride_free caps (CapCut position cents cap) letters =
+    capped_free caps (codes "cap-cut") position cap letters (written (codes "cap-cut") refl)
+ride_free caps (CapReached position cap) letters =
+    capped_free caps (codes "cap") position cap letters (written (codes "cap") refl)
+
+reason_fields_lacks : (caps : List (List ℕ)) (why : CappedReason) (text : List ℕ)
+    → AreLetters caps → IsReasonFields caps why text → Lacks 10 text
+reason_fields_lacks caps Unknown text letters is =
     subst (Lacks 10) (sym is) (lacks-tested 10 (codes ",,,unknown,") refl)
-reason_fields_lacks (Stale latest) text is =
+reason_fields_lacks caps (Stale latest) text letters is =
     subst (Lacks 10) (sym is.shown)
     (lacks-append 10 (codes ",,,stale,") is.moment (lacks-tested 10 (codes ",,,stale,") refl)
     (moment_lacks latest is.moment is.is))
-reason_fields_lacks (Transfer moment mode) text is =
+reason_fields_lacks caps (Transfer moment mode) text letters is =
     subst (Lacks 10) (sym is.shown)
     (lacks-append 10 (codes ",,,transfer,") is.moment (lacks-tested 10 (codes ",,,transfer,") refl)
     (moment_lacks moment is.moment is.is))
-reason_fields_lacks (Ride start until charge) text is =
+reason_fields_lacks caps (Ride start until charge) text letters is =
     let from = free is.from (moment_lacks start is.from is.starts) in
     let to = free is.to (moment_lacks until is.to is.ends) in
-    subst (Lacks 10) (sym is.shown) (both from (both comma (both to (ride_free charge)))).lacks
+    subst (Lacks 10) (sym is.shown) (both from (both comma (both to (ride_free caps charge letters)))).lacks
 
 -- ---- the line
 pub record EndsOnce (line : List ℕ) : Type 0 where
@@ -239,14 +255,15 @@ five a b c d e =
     (append_assoc b (c ++ d) e ∙ ap (λ (t : List ℕ). b ++ t) (append_assoc c d e)))
 
 pub line_ends_once : (fares : Fares) (token : Token) (position : ℕ) (entry : Entry)
-    (why : CappedReason) (line : List ℕ) → AreLetters fares.meaning.modes
+    (why : CappedReason) (line : List ℕ) → HasLetterNames fares
     → IsLedgerLine fares token position entry why line → EndsOnce line
-line_ends_once fares token position entry why line letters is = record {
+line_ends_once fares token position entry why line names is = record {
   front = line_head token position ++ (is.moment ++ (entry_fields fares entry ++ is.reason_fields));
   lacks = (both (head_free token position)
       (both (free is.moment (moment_lacks entry.moment is.moment is.is))
-      (both (fields_free fares entry letters)
-      (free is.reason_fields (reason_fields_lacks why is.reason_fields is.explained))))).lacks;
+      (both (fields_free fares entry names.modes)
+      (free is.reason_fields (reason_fields_lacks fares.meaning.cap_names why is.reason_fields
+      names.caps is.explained))))).lacks;
   shown = is.shown ∙ five (line_head token position) is.moment (entry_fields fares entry)
       is.reason_fields (10 ∷ []);
 }

@@ -24,7 +24,7 @@ use Rattle.ledger_check.specs.Ledger.{token_number}
 use Rattle.ledger_check.specs.Lines.{lines_of}
 use Rattle.ledger_check.proofs.LineLemmas.{lacks-tested, lines-line}
 use Rattle.ledger_check.proofs.TokenOrder.{less_number}
-use Rattle.laws.specs.Written.{AreLetters, AreShort, CanBePrinted, reported_entries}
+use Rattle.laws.specs.Written.{AreShort, CanBePrinted, HasLetterNames, reported_entries}
 use Rattle.laws.proofs.Lacking.{line_ends_once}
 use Rattle.laws.proofs.Owned.{AllOf, all_parts, own_all, own_below, own_each, replied_same}
 
@@ -71,7 +71,7 @@ record IsOwn (fares : Fares) (token : Token) (entries : List Entry) : Type 0 whe
   pub postable : AllByRecursion IsPostable entries
   pub legal : IsLegal fares entries
 
-module _ (fares : Fares) (letters : AreLetters fares.meaning.modes) (token : Token)
+module _ (fares : Fares) (letters : HasLetterNames fares) (token : Token)
     (done : List Entry) (below : AreBelow token done) where
   nondecreasing : (earlier : List Entry) (entry : Entry) → AllOf token earlier → entry.token ≡ token
       → IsPostable entry
@@ -209,7 +209,7 @@ goes_on fares history done token list known goes = record {
     )
 
 reported_each : (fares : Fares) (history done : List Entry) (list : List Token) (text : List ℕ)
-    → AreLetters fares.meaning.modes → ((t : Token) → IsLegal fares (own t history))
+    → HasLetterNames fares → ((t : Token) → IsLegal fares (own t history))
     → AllByRecursion IsPostable history → Goes fares history done list
     → AreLinesOfEach fares history list text
     → Reported fares done (flat_map (λ token. own token history) list) text

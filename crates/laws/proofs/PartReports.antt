@@ -1,8 +1,7 @@
 -- Parts of files are parts of a history, and their numbers fit.
-use Rattle.std.specs.Prelude.{◌≡◌, ℕ, ◌+◌, ◌<◌, ◌≤◌, ◌^◌, List, [], ◌∷◌, ◌++◌, All, None, Ok}
-use Rattle.std.specs.Prelude.{flat_map, length, map, sum_by}
+use Rattle.std.specs.Prelude.{◌≡◌, ℕ, ◌+◌, ◌<◌, ◌^◌, List, [], ◌∷◌, ◌++◌, All, None, Ok}
+use Rattle.std.specs.Prelude.{flat_map, length, map}
 use Rattle.std.specs.List.{AllByRecursion, AllZip}
-use Rattle.std.specs.List.Sorted.{IsPermutation}
 use Rattle.std.proofs.Common.{refl, sym, ap, subst, ◌∙◌, arith, length-append}
 use Rattle.std.proofs.lemmas.List.{length-map}
 use Rattle.std.proofs.lemmas.List.Sorted.{length_permutation}
@@ -18,7 +17,6 @@ use Rattle.histories.specs.SumsByKey.{sums_by_token, sums_by_validator}
 use Rattle.histories.specs.declared.entry.Entry.{Entry}
 use Rattle.report_texts.specs.OverHistory.{IsReportOver}
 use Rattle.report_texts.specs.Report.{report}
-use Rattle.settlement.specs.Posted.{posted}
 use Rattle.settlement.proofs.TokenRuns.{posted_length}
 use Rattle.sorted_bills.specs.Parts.{ArePartsOf, AreIncreasing, IsPartOf, PartView, added}
 use Rattle.sorted_bills.specs.Parts.{numbers_of_parts}
@@ -35,7 +33,7 @@ use Rattle.part_texts.specs.Shown.{SpanFits, part_text, sum_up}
 use Rattle.laws.specs.PartTexts.{IsLedgerText, history_part, part_report}
 use Rattle.laws.specs.Sizes.{CanBeWritten, HaveBoundedTerms, HaveNumbers, HavePositions}
 use Rattle.laws.proofs.CentsFit.{posted_few, tokens_fit}
-use Rattle.laws.proofs.SumsFit.{CanBeSummed, CostsFew, EntryFits, summed}
+use Rattle.laws.proofs.SumsFit.{CostsFew, EntryFits, summed}
 
 -- ---- lengths
 number_of_spans : (files : List (List ℕ)) (spans : List FileSpan) (lists : List (List TapFields))

@@ -292,7 +292,7 @@ charged : (fares : Fares) (token other : Token) (history again : List Entry)
     (capped_rules_of fares (bytes_of other))
     → own other again ≡ map (entry_for other) (own token history)
     → ChargedAlike fares token other history again
-unfolding taps_of
+unfolding taps_of capped_rules_of
 charged fares token other history again rules lines =
     let taps : taps_of fares other again ≡ taps_of fares token history =
     ap (map (tap_of fares)) lines ∙ taps_for fares other (own token history) in

@@ -1,17 +1,13 @@
 -- The sums of a history have 64 bits, if the fares have bounded terms.
 use Rattle.std.specs.Prelude.{◌≡◌, ℕ, ◌+◌, ◌*◌, ◌<◌, ◌≤◌, ◌^◌, Bool, true, false, cond, List, []}
 use Rattle.std.specs.Prelude.{◌∷◌, length, map, filter, All, sum_by}
-use Rattle.std.specs.BTreeSet.{insert_key}
 use Rattle.std.specs.List.{AllByRecursion}
 use Rattle.std.specs.Ordering.{nat_cmp}
-use Rattle.std.specs.declared.cmp.Ordering.{Ordering}
-use Rattle.std.specs.declared.cmp.Ordering.TheVariants.{Less, Equal, Greater}
 use Rattle.std.proofs.Common.{refl, arith}
 use Rattle.std.proofs.lemmas.List.{length-map}
 use Rattle.std.proofs.lemmas.List.Sums.{sum_by-cons}
-use Rattle.std.proofs.lemmas.List.Elements.{All-filter, All-head, All-map, All-nil, All-tail}
+use Rattle.std.proofs.lemmas.List.Elements.{All-filter, All-map}
 use Rattle.std.proofs.lemmas.List.Elements.{All-weaker, recursion_from_All}
-use Rattle.std.proofs.lemmas.Map.Views.{All-insert_key}
 use Rattle.account_rule.specs.declared.reply.Answer.{Answer}
 use Rattle.account_rule.specs.declared.reply.Answer.TheVariants.{Paid, Transfer, Capped, Stale}
 use Rattle.account_rule.specs.declared.reply.Answer.TheVariants.{Unknown}

@@ -1,5 +1,5 @@
 -- What numbers of 64 bits can hold.
-use Rattle.std.specs.Prelude.{ℕ, ◌<◌, ◌^◌, List, All, flat_map, length, map}
+use Rattle.std.specs.Prelude.{ℕ, ◌<◌, ◌^◌, List, All, flat_map, length}
 use Rattle.std.specs.List.{AllByRecursion}
 use Rattle.tariffs.specs.Fares.{Fares, class_of, meaning_at, ride_terms}
 use Rattle.tariffs.specs.Terms.{AreBoundedTerms}

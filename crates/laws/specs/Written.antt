@@ -16,9 +16,14 @@ use Rattle.fare_texts.specs.Ledger.{ledger_tokens}
 abbrev pub reported_entries : Option Token → List Entry → List Entry
 reported_entries only history = flat_map (λ token. own token history) (ledger_tokens only history)
 
--- each name of a mode is of letters `a` to `z`, as those of every table that was read
+-- each name is of letters `a` to `z`
 abbrev pub AreLetters : List (List ℕ) → Type 0
 AreLetters names = AllByRecursion (λ name. list_all is_ascii_lowercase name ≡ true) names
+
+-- the names of modes and caps are of letters, as those of every table that was read
+pub record HasLetterNames (fares : Fares) : Type 0 where
+  pub modes : AreLetters fares.meaning.modes
+  pub caps : AreLetters fares.meaning.cap_names
 
 -- no line of the text has more than 255 bytes
 abbrev pub AreShort : List ℕ → Type 0
@@ -28,7 +33,7 @@ AreShort text = AllByRecursion (λ line. length line ≤ 255) (lines_of text)
 pub record CanBePrinted (fares : Fares) (only : Option Token) (history : List Entry) : Type 0 where
   pub legal : (token : Token) → IsLegal fares (own token history)
   pub postable : AllByRecursion IsPostable history
-  pub names : AreLetters fares.meaning.modes
+  pub names : HasLetterNames fares
   pub few : length (reported_entries only history) ≤ 2 ^ 62
 
 -- books under one table, each of its own of `shards` shards, and with a legal history

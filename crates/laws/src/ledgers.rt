@@ -15,7 +15,7 @@ ghost use Rattle.ledger_check.specs.declared.checker.Verdict.{Verdict};
 ghost use Rattle.fare_service.specs.Ledger.{IsLedgerOfBooks as IsWrittenOf};
 ghost use Rattle.fare_texts.specs.Ledger.{IsLedgerOver};
 ghost use Rattle.laws.specs.Traced.{TracedLinesAreReadBack};
-ghost use Rattle.laws.specs.Written.{AreBooksOf, AreLetters, AreShort, CanBePrinted};
+ghost use Rattle.laws.specs.Written.{AreBooksOf, AreShort, CanBePrinted, HasLetterNames};
 ghost use Rattle.laws.specs.Written.{reported_entries};
 
 use ledger_check::laws::{columns_are_read_back, verdicts_decide};
@@ -37,14 +37,14 @@ pub fn own_entries_are_legal()
 pub fn printed_ledger_is_legal()
     ensures ledger { (fares : Fares) (shards : ℕ) (books : List Book) (only : Option Token)
         (text : List ℕ) → AreBooksOf fares shards books
-        → AllByRecursion IsPostable (all_entries books) → AreLetters fares.meaning.modes
+        → AllByRecursion IsPostable (all_entries books) → HasLetterNames fares
         → length (reported_entries only (all_entries books)) ≤ 2 ^ 62 → AreShort text
         → IsWrittenOf books only text
         → IsLedgerOf fares (reported_entries only (all_entries books)) text }
 
     ensures legal { (fares : Fares) (shards : ℕ) (books : List Book) (only : Option Token)
         (text : List ℕ) (verdict : Verdict) → AreBooksOf fares shards books
-        → AllByRecursion IsPostable (all_entries books) → AreLetters fares.meaning.modes
+        → AllByRecursion IsPostable (all_entries books) → HasLetterNames fares
         → length (reported_entries only (all_entries books)) ≤ 2 ^ 62 → AreShort text
         → IsWrittenOf books only text → IsVerdict fares text verdict
         → IsTrue (is_legal verdict) }

@@ -10,7 +10,7 @@ use Rattle.tap_views.specs.declared.encoder.TapFields.{TapFields}
 use Rattle.tap_views.specs.TapOrder.{tap_cmp}
 use Rattle.ledger_check.specs.Balances.{IsMore, copies_among, left_at}
 use Rattle.ledger_check.proofs.SameTaps.{same_exact}
-use Rattle.ledger_check.proofs.Times.{one, one_self, permutation_of_times, times_push}
+use Rattle.ledger_check.proofs.Times.{one_self, permutation_of_times, times_push}
 
 -- IsBalance, of a balance's two fields
 abbrev pub Balances : BTreeMap TapFields ℕ → Option TapFields → List TapFields → List TapFields

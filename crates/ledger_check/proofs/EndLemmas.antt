@@ -1,9 +1,8 @@
 -- The end of a text that a recount has read.
-use Rattle.std.proofs.Common.{◌≡◌, ◌≢◌, ℕ, ◌+◌, ◌^◌, ◌<◌, ◌≤◌, Bool, true, false, List, [], ◌∷◌}
+use Rattle.std.proofs.Common.{◌≡◌, ℕ, ◌+◌, ◌<◌, Bool, true, false, List, [], ◌∷◌}
 use Rattle.std.proofs.Common.{◌++◌, length, Option, None, refl, sym, ap, subst, ◌∙◌, arith}
-use Rattle.std.proofs.Common.{append-nil, length-append, if◌then◌else◌}
+use Rattle.std.proofs.Common.{append-nil, length-append}
 use Rattle.std.proofs.lemmas.Slice.Eq.{bytes_eq-Decides}
-use Rattle.std.specs.Prelude.{nat_eq}
 use Rattle.std.specs.Str.{bytes_eq}
 use Rattle.tariffs.specs.Fares.{Fares}
 use Rattle.ledger_check.specs.FullBalances.{IsFullBalance}
@@ -22,7 +21,7 @@ use Rattle.ledger_check.specs.declared.lines_fed.LinesFed.{LinesFed}
 use Rattle.ledger_check.specs.declared.walk.LineFinding.{LineFinding}
 use Rattle.ledger_check.specs.declared.walk.CountedTap.{CountedTap}
 use Rattle.ledger_check.specs.declared.walk.Remark.{Remark}
-use Rattle.ledger_check.specs.declared.walk.Remark.TheVariants.{Nothing, NoLine}
+use Rattle.ledger_check.specs.declared.walk.Remark.TheVariants.{NoLine}
 use Rattle.ledger_check.proofs.LineEnds.{head_ends}
 use Rattle.ledger_check.proofs.LineLemmas.{lines-part}
 use Rattle.ledger_check.proofs.FullCheckLemmas.{cut_line, kept_none, names_none, none_kept}

@@ -11,7 +11,6 @@ use Rattle.std.specs.Str.Parse.{AllDigits}
 use Rattle.hex.specs.Hex.{encode_lower, encode_with, lower_digits}
 use Rattle.jiff_core.specs.declared.civil.date.Date.{Date}
 use Rattle.jiff_core.specs.Date.{epoch_day}
-use Rattle.jiff_core.proofs.DateLemmas.{civil}
 use Rattle.jiff_fmt.specs.Text.{date_text, pad2, pad4, year_text}
 use Rattle.fare_texts.specs.Moments.{IsMomentText, clock_text, pad3}
 use Rattle.line_forms.specs.Columns.{ends_column, is_column}

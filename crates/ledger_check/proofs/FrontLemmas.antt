@@ -42,7 +42,7 @@ columns_read a b c d rest plain_a plain_b plain_c plain_d ends =
     let third : next_column (44 ∷ (c ++ 44 ∷ (d ++ rest))) ≡ Some (c, 44 ∷ (d ++ rest)) =
     column_read c (44 ∷ (d ++ rest)) plain_c refl in
     let second : next_column (44 ∷ (b ++ 44 ∷ (c ++ 44 ∷ (d ++ rest))))
-        ≡ Some (b, 44 ∷ (c ++ 44 ∷ (d ++ rest))) =
+    ≡ Some (b, 44 ∷ (c ++ 44 ∷ (d ++ rest))) =
     column_read b (44 ∷ (c ++ 44 ∷ (d ++ rest))) plain_b refl in
     ap (go_on (then_read next_column (then_read next_column next_column)))
     (column_read a (44 ∷ (b ++ 44 ∷ (c ++ 44 ∷ (d ++ rest)))) plain_a refl)

@@ -1,6 +1,6 @@
 -- The sums of the entries of lines that were taken.
-use Rattle.std.proofs.Common.{◌≡◌, ◌+◌, ◌<◌, ◌≤◌, ◌^◌, ◌∷◌, ◌++◌, [], ℕ, Bool, true, false, List}
-use Rattle.std.proofs.Common.{Option, None, Some, length, refl, sym, ap, subst, ◌∙◌, arith}
+use Rattle.std.proofs.Common.{◌≡◌, ◌+◌, ◌<◌, ◌≤◌, ◌^◌, ◌∷◌, [], ℕ, List}
+use Rattle.std.proofs.Common.{Option, None, Some, length, sym, ap, subst, ◌∙◌, arith}
 use Rattle.std.proofs.Common.{length-append}
 use Rattle.std.specs.Prelude.{IfSome}
 use Rattle.std.specs.Str.{bytes_eq}
@@ -11,7 +11,6 @@ use Rattle.ledger_check.specs.FullChecks.{AreTaken, IsCounted, IsJudged, IsTaken
 use Rattle.ledger_check.specs.FullChecks.{decreases_after, entries_from, entries_with, one_wrong}
 use Rattle.ledger_check.specs.FullChecks.{run_of, wrong_count}
 use Rattle.ledger_check.specs.FullCheckStates.{HasEntries}
-use Rattle.ledger_check.specs.OpenSums.{AreOpenSums}
 use Rattle.ledger_check.specs.inside.FullChecks.{IfRight}
 use Rattle.ledger_check.specs.inside.OpenSums.{AreUpTo, HasRoomFor}
 use Rattle.ledger_check.specs.declared.open_sums.OpenSums.{OpenSums}

@@ -1,9 +1,9 @@
 -- Numbers of digits that make a date and a time of day.
-use Rattle.std.proofs.Common.{◌≡◌, ◌≢◌, ◌+◌, ◌*◌, ◌/◌, ◌%◌, ◌<◌, ◌≤◌, ◌^◌, ℕ, ℤ, pos, ◌+ℤ◌, List}
-use Rattle.std.proofs.Common.{Some, get_or, ap, sym, subst, ◌∙◌, arith, refl, to_z, w8, w16}
+use Rattle.std.proofs.Common.{◌≡◌, ◌+◌, ◌*◌, ◌/◌, ◌%◌, ◌<◌, ℕ, pos}
+use Rattle.std.proofs.Common.{subst, arith, to_z, w8, w16}
 use Rattle.std.proofs.lemmas.Int.{ints}
 use Rattle.jiff_core.specs.declared.civil.date.Date.{Date}
-use Rattle.jiff_core.specs.Calendar.{IsDate, IsYear, days_in_month}
+use Rattle.jiff_core.specs.Calendar.{IsDate, IsYear}
 use Rattle.jiff_core.proofs.CalendarLemmas.{days_in_month_bounds}
 use Rattle.jiff_core.proofs.SignedLemmas.{signed_arith}
 

@@ -1,5 +1,5 @@
 -- The entries of the last token, and the entries of all.
-use Rattle.std.proofs.Common.{◌≡◌, ℕ, ◌+◌, ◌<◌, ◌≤◌, ◌⊎◌, inl, inr, ⊎_elim, Bool, true, false, cond}
+use Rattle.std.proofs.Common.{◌≡◌, ℕ, ◌<◌, ◌≤◌, ◌⊎◌, inl, inr, ⊎_elim, Bool, true, false, cond}
 use Rattle.std.proofs.Common.{List, [], ◌∷◌, ◌++◌, length, get_or, filter, All, refl, sym, ap}
 use Rattle.std.proofs.Common.{subst, ◌∙◌, arith, zero, suc, length-append, le_of_eq}
 use Rattle.std.specs.Prelude.{nat_lt}

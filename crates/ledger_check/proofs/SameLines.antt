@@ -1,5 +1,5 @@
 -- An entry has one line.
-use Rattle.std.proofs.Common.{◌≡◌, ℕ, ◌+◌, ◌<◌, ◌≤◌, ◌%◌, ℤ, List, ◌∷◌, [], ◌++◌, sym, ap, subst}
+use Rattle.std.proofs.Common.{◌≡◌, ℕ, ◌<◌, ◌≤◌, ◌%◌, ℤ, List, ◌∷◌, [], ◌++◌, sym, ap, subst}
 use Rattle.std.proofs.Common.{◌∙◌, ⊎_elim}
 use Rattle.std.proofs.lemmas.Bool.{cases_lt}
 use Rattle.jiff_core.specs.declared.civil.date.Date.{Date}
@@ -58,10 +58,10 @@ pointing_same words at a b is also =
     is.shown ∙ ap (λ (t : List ℕ). words ++ t) (moment_same at is.moment also.moment is.is also.is)
     ∙ sym also.shown
 
-ride_same : (start until : ℕ) (charge : CapCharge) (a b : List ℕ)
-    → IsRideFields start until charge a → IsRideFields start until charge b → a ≡ b
-ride_same start until charge a b is also =
-    let rest = ride_rest charge in
+ride_same : (caps : List (List ℕ)) (start until : ℕ) (charge : CapCharge) (a b : List ℕ)
+    → IsRideFields caps start until charge a → IsRideFields caps start until charge b → a ≡ b
+ride_same caps start until charge a b is also =
+    let rest = ride_rest caps charge in
     is.shown
     ∙ ap (λ (t : List ℕ). t ++ (44 ∷ [] ++ (is.to ++ rest)))
     (moment_same start is.from also.from is.starts also.starts)
@@ -69,12 +69,13 @@ ride_same start until charge a b is also =
     (moment_same until is.to also.to is.ends also.ends)
     ∙ sym also.shown
 
-reason_fields_same : (why : CappedReason) (a b : List ℕ) → IsReasonFields why a
-    → IsReasonFields why b → a ≡ b
-reason_fields_same Unknown a b is also = is ∙ sym also
-reason_fields_same (Stale latest) a b is also = pointing_same _ latest a b is also
-reason_fields_same (Transfer moment mode) a b is also = pointing_same _ moment a b is also
-reason_fields_same (Ride start until charge) a b is also = ride_same start until charge a b is also
+reason_fields_same : (caps : List (List ℕ)) (why : CappedReason) (a b : List ℕ)
+    → IsReasonFields caps why a → IsReasonFields caps why b → a ≡ b
+reason_fields_same caps Unknown a b is also = is ∙ sym also
+reason_fields_same caps (Stale latest) a b is also = pointing_same _ latest a b is also
+reason_fields_same caps (Transfer moment mode) a b is also = pointing_same _ moment a b is also
+reason_fields_same caps (Ride start until charge) a b is also =
+    ride_same caps start until charge a b is also
 
 -- an entry has one line
 pub line_same : (fares : Fares) (token : Token) (number : ℕ) (entry : Entry) (why : CappedReason)
@@ -88,7 +89,8 @@ line_same fares token number entry why a b is also =
     ∙ ap (λ (t : List ℕ). head ++ (t ++ (fields ++ (is.reason_fields ++ 10 ∷ []))))
     (moment_same entry.moment is.moment also.moment is.is also.is)
     ∙ ap (λ (t : List ℕ). head ++ (also.moment ++ (fields ++ (t ++ 10 ∷ []))))
-    (reason_fields_same why is.reason_fields also.reason_fields is.explained also.explained)
+    (reason_fields_same fares.meaning.cap_names why is.reason_fields also.reason_fields is.explained
+    also.explained)
     ∙ sym also.shown
 
 abbrev entry_by : Token → ℕ → ℕ → Answer → ℕ → Entry

@@ -1,5 +1,5 @@
 -- Taps that compare equal are one tap.
-use Rattle.std.proofs.Common.{◌≡◌, true, refl, subst}
+use Rattle.std.proofs.Common.{◌≡◌, true, subst}
 use Rattle.std.specs.Cmp.{eq_by_cmp_equiv, Equal-is}
 use Rattle.tap_views.specs.TapOrder.{tap_cmp}
 use Rattle.tap_views.specs.declared.encoder.TapFields.{TapFields}

@@ -1,14 +1,11 @@
 -- What follows from a true verdict.
-use Rattle.std.proofs.Common.{◌≡◌, ℕ, ◌+◌, Bool, true, false, List, [], ◌∷◌, ◌++◌, length, refl}
-use Rattle.std.proofs.Common.{sym, ap, subst, ◌∙◌, arith, ⊎_elim, IsTrue, ◌↔◌, string_bytes, ◌⊎◌}
+use Rattle.std.proofs.Common.{◌≡◌, ℕ, true, false, List, [], ◌∷◌, ◌++◌, refl}
+use Rattle.std.proofs.Common.{sym, subst, ◌∙◌, ⊎_elim}
 use Rattle.tariffs.specs.Fares.{Fares}
-use Rattle.histories.specs.declared.entry.Entry.{Entry}
-use Rattle.fare_texts.specs.LedgerLines.{head_text}
 use Rattle.ledger_check.specs.Ledger.{AreNext, IsLedger}
 use Rattle.ledger_check.specs.Lines.{lines_of}
-use Rattle.ledger_check.specs.Verdicts.{IsFirstWrong, IsHeadless, IsTrueOf, IsVerdict}
-use Rattle.ledger_check.specs.Verdicts.{IsWholeLedger, VerdictsDecide, is_legal}
-use Rattle.ledger_check.specs.declared.checker.Verdict.{Verdict}
+use Rattle.ledger_check.specs.Verdicts.{IsFirstWrong, IsHeadless}
+use Rattle.ledger_check.specs.Verdicts.{VerdictsDecide}
 use Rattle.ledger_check.specs.declared.checker.Verdict.TheVariants.{Legal, Wants, NoLine}
 use Rattle.ledger_check.proofs.EntryLists.{next-front}
 

@@ -1,6 +1,6 @@
 -- What a check finds of a ledger's text.
 use Rattle.std.specs.Prelude.{◌≡◌, ◌↔◌, ℕ, ◌+◌, Bool, true, false, List, [], ◌∷◌, ◌++◌, length}
-use Rattle.std.specs.Prelude.{Option, Some, None, IsTrue, map, string_bytes, ◌⊎◌}
+use Rattle.std.specs.Prelude.{Option, None, IsTrue, map, string_bytes, ◌⊎◌}
 use Rattle.tariffs.specs.Fares.{Fares}
 use Rattle.histories.specs.declared.entry.Entry.{Entry}
 use Rattle.fare_texts.specs.LedgerLines.{head_text}

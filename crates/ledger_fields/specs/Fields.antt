@@ -4,7 +4,8 @@ use Rattle.std.specs.List.{list_all}
 use Rattle.line_forms.specs.Numbers.{number_in}
 use Rattle.ledger_fields.specs.Moments.{is_moment}
 use Rattle.ledger_fields.specs.declared.field.Field.{Field}
-use Rattle.ledger_fields.specs.declared.field.Field.TheVariants.{LaterMoment, Moment, PastMoment, Ride, Token, Word}
+use Rattle.ledger_fields.specs.declared.field.Field.TheVariants.{LaterMoment, Moment, PastMoment, Reason, Ride, Token}
+use Rattle.ledger_fields.specs.declared.field.Field.TheVariants.{Word}
 
 -- a digit of a token: `0` to `9`, or `a` to `f`
 abbrev pub is_token_byte : ℕ → Bool
@@ -14,6 +15,10 @@ is_token_byte byte = (nat_le 48 byte && nat_le byte 57) || (nat_le 97 byte && na
 abbrev pub is_word_byte : ℕ → Bool
 is_word_byte byte = (nat_le 97 byte && nat_le byte 122) || (byte == 45)
 
+-- a byte of a reason: of a word, or the colon before the name of a cap
+abbrev pub is_reason_byte : ℕ → Bool
+is_reason_byte byte = is_word_byte byte || (byte == 58)
+
 -- the text is one of the field
 abbrev pub fits : Field → List ℕ → Bool
 fits Token text = (length text == 32) && list_all is_token_byte text
@@ -21,4 +26,5 @@ fits Moment text = is_moment 2100 text
 fits PastMoment text = (length text == 0) || is_moment 2100 text
 fits LaterMoment text = (length text == 0) || is_moment 10000 text
 fits Word text = nat_le (length text) 16 && list_all is_word_byte text
+fits Reason text = nat_le (length text) 24 && list_all is_reason_byte text
 fits Ride text = (length text == 0) || is_some (number_in (2 ^ 32) text)

@@ -6,7 +6,8 @@ use Rattle.line_forms.specs.Numbers.{number_at}
 use Rattle.ledger_fields.specs.Fields.{fits}
 use Rattle.ledger_fields.specs.Rows.{Row}
 use Rattle.ledger_fields.specs.declared.field.Field.{Field}
-use Rattle.ledger_fields.specs.declared.field.Field.TheVariants.{LaterMoment, Moment, PastMoment, Ride, Token, Word}
+use Rattle.ledger_fields.specs.declared.field.Field.TheVariants.{LaterMoment, Moment, PastMoment, Reason, Ride, Token}
+use Rattle.ledger_fields.specs.declared.field.Field.TheVariants.{Word}
 use Rattle.ledger_fields.specs.declared.form.RowFields.{RowFields}
 
 -- a comma, and a field
@@ -17,7 +18,7 @@ next_field field = after_read (codes ",") (column_where (fits field))
 abbrev pub next_number : ℕ → Reader ℕ
 next_number bound = after_read (codes ",") (number_at bound)
 
--- `,full,`
+-- `,full,` or `,cap:month,`
 abbrev pub ReasonFields : Type 0
 ReasonFields = List ℕ × List ℕ
 
@@ -35,7 +36,7 @@ abbrev pub LineFields : Type 0
 LineFields = List ℕ × (ℕ × (List ℕ × (ℕ × ChargeFields)))
 
 abbrev pub reason_fields : Reader ReasonFields
-reason_fields = then_read (next_field Word) (next_field PastMoment)
+reason_fields = then_read (next_field Reason) (next_field PastMoment)
 
 abbrev pub window_fields : Reader WindowFields
 window_fields =

@@ -7,7 +7,7 @@ pub record Key : Type 0 where
   pub moment : List ℕ
   pub validator : ℕ
 
--- what is charged by it: the answer, the cents and the word of the reason
+-- what is charged by it: the answer, the cents and the reason
 pub record Charge : Type 0 where
   pub answer : List ℕ
   pub cents : ℕ

@@ -2,7 +2,7 @@
 
 ghost use Rattle.std.specs.Prelude.{◌≡◌};
 ghost use Rattle.std.specs.List.{list_all};
-ghost use Rattle.ledger_fields.specs.Fields.{fits, is_token_byte, is_word_byte};
+ghost use Rattle.ledger_fields.specs.Fields.{fits, is_reason_byte, is_token_byte, is_word_byte};
 
 use crate::moment::is_moment;
 use line_forms::column::column_before;
@@ -18,6 +18,9 @@ const YEAR_LIMIT: u64 = 10_000;
 /// How many bytes a word has at most.
 const MAX_WORD_BYTES: usize = 16;
 
+/// How many bytes a reason has at most: a word, a colon and the name of a cap.
+const MAX_REASON_BYTES: usize = 24;
+
 /// What a field has.
 #[derive(Clone, Copy)]
 pub(crate) enum Field {
@@ -31,6 +34,8 @@ pub(crate) enum Field {
     LaterMoment,
     /// At most 16 letters and hyphens.
     Word,
+    /// At most 24 letters, hyphens and colons.
+    Reason,
     /// A number of at most 32 bits, or nothing.
     Ride,
 }
@@ -47,6 +52,12 @@ fn is_word_byte(byte: u8) -> bool
     (97 <= byte && byte <= 122) || byte == 45
 }
 
+fn is_reason_byte(byte: u8) -> bool
+    ensures { result ≡ is_reason_byte byte }
+{
+    is_word_byte(byte) || byte == 58
+}
+
 fn are_token_bytes(text: &[u8]) -> bool
     ensures { result ≡ list_all is_token_byte text.now }
 {
@@ -59,6 +70,12 @@ fn are_word_bytes(text: &[u8]) -> bool
     text.iter().all(|byte| is_word_byte(*byte))
 }
 
+fn are_reason_bytes(text: &[u8]) -> bool
+    ensures { result ≡ list_all is_reason_byte text.now }
+{
+    text.iter().all(|byte| is_reason_byte(*byte))
+}
+
 impl Field {
     fn fits(self, text: &[u8]) -> bool
         ensures { result ≡ fits self text.now }
@@ -69,6 +86,7 @@ impl Field {
             Field::PastMoment => text.is_empty() || is_moment(text, TAP_YEAR_LIMIT),
             Field::LaterMoment => text.is_empty() || is_moment(text, YEAR_LIMIT),
             Field::Word => text.len() <= MAX_WORD_BYTES && are_word_bytes(text),
+            Field::Reason => text.len() <= MAX_REASON_BYTES && are_reason_bytes(text),
             Field::Ride => text.is_empty() || number_32_of(text).is_some(),
         }
     }

@@ -18,7 +18,7 @@ pub struct RowFields<'a> {
     /// The word of the answer.
     pub answer: &'a [u8],
     pub cents: u32,
-    /// The word of the reason.
+    /// The reason: a word, or a word, a colon and the name of a cap.
     pub reason: &'a [u8],
 }
 
@@ -27,7 +27,7 @@ pub fn row_fields(line: &[u8]) -> Option<RowFields<'_>>
     ensures { MatchOption result (row_in line.now ≡ None)
         (λ fields. row_in line.now ≡ Some (row_of_fields fields)) }
 {
-    let reason = Then(After(b",", Field::Word), After(b",", Field::PastMoment));
+    let reason = Then(After(b",", Field::Reason), After(b",", Field::PastMoment));
     let window = Then(
         After(b",", Field::PastMoment),
         Then(

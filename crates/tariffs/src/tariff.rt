@@ -87,6 +87,7 @@ impl Tariff {
     }
 
     /// The mode of a validator, or `None` if no range has it.
+    #[inline(always)]
     pub fn mode_of(&self, validator: u32) -> Option<Mode>
         ensures mode { option_map (λ m. m.position) result ≡ mode_in self.now.meaning validator }
         ensures within { IfSome result (λ m. m.position < length self.now.meaning.modes) }

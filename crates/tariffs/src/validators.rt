@@ -76,6 +76,7 @@ impl Ranges {
         self.ranges.as_slice()
     }
 
+    #[inline(always)]
     pub(crate) fn at(&self, number: u32) -> Option<RangeRest>
         ensures { result ≡ option_map (λ range. range.1) (range_at self.now number) }
     {
@@ -85,6 +86,7 @@ impl Ranges {
 }
 
 /// Of few ranges none is hinted, since two or three halves are faster.
+#[inline(always)]
 fn range_at<'a>(
     ranges: &'a [(u32, RangeRest)],
     firsts: &[u32],
@@ -103,6 +105,7 @@ fn range_at<'a>(
 }
 
 /// The choice is a sum and no branch: numbers come in no order that a processor predicts.
+#[inline(always)]
 fn range_near<'a>(
     ranges: &'a [(u32, RangeRest)],
     hint: usize,
@@ -135,6 +138,8 @@ fn is_just_before(ranges: &[(u32, RangeRest)], position: usize, number: u32) -> 
     ranges[position - 1].1.last < number && number < ranges[position].0
 }
 
+#[cold]
+#[inline(never)]
 #[tactic(auto, using(crate::proofs::ApartLemmas::found))]
 fn range_by_halves<'a>(
     ranges: &'a [(u32, RangeRest)],

@@ -39,6 +39,7 @@ impl Hints {
     }
 
     /// The index of the range that may have the number, or of the one before it. No branch.
+    #[inline(always)]
     pub(crate) fn at(&self, number: u32) -> usize {
         let step = step_of(number.saturating_sub(self.lowest), self.width_bits);
         match self.positions.get(step.min(self.last_step)) {

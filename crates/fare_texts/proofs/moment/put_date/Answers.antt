@@ -1,4 +1,4 @@
-use Rattle.std.proofs.Common.{◌≡◌, ◌++◌, ◌/◌, ◌%◌, [], ◌∷◌, List, ℕ, ℤ, ap, codes, sym, subst, ◌∙◌, arith}
+use Rattle.std.proofs.Common.{◌≡◌, ◌++◌, ◌/◌, ◌%◌, [], ◌∷◌, ℤ, codes, sym, subst, arith}
 use Rattle.std.proofs.lemmas.Int.{ints}
 use Rattle.jiff.proofs.SpanFacts.{signed_arith}
 use Rattle.jiff_fmt.specs.Text.{pad2, year_text}

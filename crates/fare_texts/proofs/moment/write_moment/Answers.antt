@@ -1,4 +1,4 @@
-use Rattle.std.proofs.Common.{◌++◌, [], ◌≡◌, List, ℕ, string_bytes, ap, ◌∙◌, append-nil}
+use Rattle.std.proofs.Common.{◌++◌, ◌≡◌, List, ℕ, string_bytes, ap, ◌∙◌, append-nil}
 use Rattle.fare_texts.proofs.moment.write_moment.Goals as goal
 
 pub returns : goal.returns

@@ -7,6 +7,8 @@ pub returns-in-Unknown-clause-put : goal.returns-in-Unknown-clause-put
 returns-in-Unknown-clause-put c =
     let fields = codes ",,,unknown," in (
       fields,
-      subst (λ (why : CappedReason). IsReasonFields why fields) (sym c.in-Unknown.is) refl,
+      subst
+          (λ (why : CappedReason). IsReasonFields c.args.table.now.meaning.cap_names why fields)
+          (sym c.in-Unknown.is) refl,
       c.put.ensures.put,
     )

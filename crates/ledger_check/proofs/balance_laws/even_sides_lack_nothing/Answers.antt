@@ -1,8 +1,7 @@
-use Rattle.std.proofs.Common.{◌≡◌, ℕ, ◌<◌, ◌-◌, List, [], ◌∷◌, refl, arith}
+use Rattle.std.proofs.Common.{◌≡◌, List, [], ◌∷◌, refl, arith}
 use Rattle.std.proofs.lemmas.List.Sums.{sum_by-cons}
 use Rattle.tap_views.specs.declared.encoder.TapFields.{TapFields}
 use Rattle.ledger_check.specs.Balances.{copies_among}
-use Rattle.ledger_check.specs.FullBalances.{AreLacking}
 use Rattle.ledger_check.proofs.Times.{one, one_self, permutation_of_times, times_permutation}
 use Rattle.ledger_check.proofs.balance_laws.even_sides_lack_nothing.Goals as goal
 

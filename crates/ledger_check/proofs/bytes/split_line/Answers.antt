@@ -1,6 +1,5 @@
-use Rattle.std.proofs.Common.{◌≡◌, ℕ, ◌<◌, ◌∙◌, ap, sym, subst, arith, eq-eqb, eqb-true, ◌++◌, ◌∷◌}
-use Rattle.std.proofs.Common.{◌+◌, List, take}
-use Rattle.ledger_check.specs.Lines.{IsLine, Lacks}
+use Rattle.std.proofs.Common.{sym, subst, arith, eq-eqb, eqb-true}
+use Rattle.ledger_check.specs.Lines.{IsLine}
 use Rattle.ledger_check.proofs.LineLemmas.{lacks-reads, line_is}
 use Rattle.ledger_check.proofs.bytes.split_line.Goals as goal
 

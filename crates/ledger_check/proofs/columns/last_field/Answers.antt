@@ -1,7 +1,6 @@
-use Rattle.std.proofs.Common.{◌≡◌, ◌≢◌, ◌∙◌, ℕ, ◌+◌, ◌-◌, ◌<◌, ◌≤◌, ◌^◌, Bool, true, false, List}
-use Rattle.std.proofs.Common.{[], ◌∷◌, ◌++◌, length, take, drop, Option, None, Some, refl, sym, ap}
-use Rattle.std.proofs.Common.{subst, arith, eq-eqb, eqb-true, suc, rules, tests, if◌then◌else◌}
-use Rattle.std.proofs.lemmas.Bool.Decides.{nat_tests}
+use Rattle.std.proofs.Common.{◌∙◌, ℕ, List}
+use Rattle.std.proofs.Common.{take, drop, Some, sym, ap}
+use Rattle.std.proofs.Common.{arith, eq-eqb, eqb-true, suc}
 use Rattle.ledger_check.specs.Columns.{last_field}
 use Rattle.ledger_check.proofs.LineLemmas.{cut_at, lacks-reads, rest_is}
 use Rattle.ledger_check.proofs.ColumnLemmas.{after_lacks, last_is, last_none}

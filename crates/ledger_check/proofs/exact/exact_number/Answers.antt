@@ -1,4 +1,4 @@
-use Rattle.std.proofs.Common.{◌≡◌, ◌∙◌, ◌^◌, ◌<◌, ℕ, List, Option, None, Some, decimal, subst, sym, arith}
+use Rattle.std.proofs.Common.{◌≡◌, ◌∙◌, ◌^◌, ◌<◌, ℕ, List, Option, None, Some, decimal, sym, arith}
 use Rattle.std.specs.Prelude.{MatchOption}
 use Rattle.line_forms.specs.FormLaws.{number_is, number_sound}
 use Rattle.line_forms.specs.Numbers.{IsNumber, number_in}

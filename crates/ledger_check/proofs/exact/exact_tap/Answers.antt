@@ -1,5 +1,5 @@
 -- A line names a tap exactly if each of its columns is read.
-use Rattle.std.proofs.Common.{◌≡◌, ◌∷◌, ◌++◌, ◌∙◌, ℕ, List, Some, None, true, false, sym, ap, subst}
+use Rattle.std.proofs.Common.{◌≡◌, ◌∙◌, ℕ, List, Some, None, true, false, sym, ap, subst}
 use Rattle.std.proofs.Common.{rules, tests}
 use Rattle.std.proofs.lemmas.Bool.{false≢true}
 use Rattle.std.proofs.lemmas.Option.{same_Some}
@@ -59,10 +59,17 @@ returns c =
       moment_text = front.moment.now;
       is = c.in_ok-is_exact.ensures.0 yes;
       columns = columns
-          ∙ ap (λ (t : List ℕ). Some ((t, (number, (front.moment.now, front.validator.now))),
-          front.rest.now)) token.1
-          ∙ ap (λ (v : List ℕ). Some ((encode_lower (bytes_of c.in-Some-exact_token.token),
-          (number, (front.moment.now, v))), front.rest.now)) validator.1;
+          ∙ ap (λ (t : List ℕ). Some (
+            (t, (number, (front.moment.now, front.validator.now))),
+            front.rest.now,
+          )) token.1
+          ∙ ap (λ (v : List ℕ). Some (
+            (
+              encode_lower (bytes_of c.in-Some-exact_token.token),
+              (number, (front.moment.now, v)),
+            ),
+            front.rest.now,
+          )) validator.1;
       front = c.requires.line.0;
       ends = c.requires.line.1;
       short = c.requires.short;

@@ -1,9 +1,7 @@
-use Rattle.std.proofs.Common.{◌≡◌, ℕ, ℤ, pos, ap, sym, subst, ◌∙◌, arith, to_z, w8, w16}
+use Rattle.std.proofs.Common.{◌≡◌, ℤ, pos, ap, sym, subst, ◌∙◌, to_z, w8, w16}
 use Rattle.std.proofs.lemmas.Bool.{false≢true}
-use Rattle.jiff_core.specs.declared.civil.date.Date.{Date}
 use Rattle.jiff_core.specs.Calendar.{IsDate}
 use Rattle.jiff_core.proofs.DateLemmas.{epoch_day_same}
-use Rattle.jiff_core.proofs.SignedLemmas.{signed_arith}
 use Rattle.ledger_check.proofs.MomentLemmas.{is_date, narrow, wide}
 use Rattle.ledger_check.proofs.moment.date_of.Goals as goal
 

@@ -1,4 +1,4 @@
-use Rattle.std.proofs.Common.{◌≡◌, ◌+◌, ◌*◌, ◌/◌, ◌%◌, ◌<◌, ℕ, List, Some, length, ap, sym, ◌∙◌}
+use Rattle.std.proofs.Common.{◌/◌, ◌%◌, ℕ, List, Some, length, ap, ◌∙◌}
 use Rattle.std.proofs.Common.{arith}
 use Rattle.ledger_check.proofs.FieldLemmas.{clock_length, moment_length, moment_parts}
 use Rattle.std.proofs.lemmas.Option.{same_Some}

@@ -1,4 +1,4 @@
-use Rattle.std.proofs.Common.{◌≡◌, ◌+◌, ◌*◌, ◌/◌, ◌%◌, ◌<◌, ℕ, List, Some, get_or, ap, sym, ◌∙◌}
+use Rattle.std.proofs.Common.{◌/◌, ◌%◌, ℕ, List, Some, get_or, ap}
 use Rattle.std.proofs.Common.{arith}
 use Rattle.std.proofs.lemmas.Option.{same_Some}
 use Rattle.ledger_check.proofs.MomentLemmas.{clock_number}

@@ -1,4 +1,4 @@
-use Rattle.std.proofs.Common.{◌≡◌, ◌+◌, pos, Some, ap, arith}
+use Rattle.std.proofs.Common.{Some, ap, arith}
 use Rattle.jiff_core.proofs.SignedLemmas.{signed_arith}
 use Rattle.ledger_check.proofs.moment.since_epoch.Goals as goal
 

@@ -1,5 +1,5 @@
 use Rattle.std.proofs.Common.{◌≡◌, false, sym, ◌∙◌, rules, tests}
-use Rattle.ledger_check.proofs.Balanced.{none_left, still_more, unfound}
+use Rattle.ledger_check.proofs.Balanced.{none_left, unfound}
 use Rattle.ledger_check.proofs.balance.Balance.subtract.Goals as goal
 
 pub returns-then-not-take_one : goal.returns-then-not-take_one

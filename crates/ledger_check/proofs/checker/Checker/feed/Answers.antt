@@ -1,5 +1,5 @@
 -- Each round reads one line more of the piece.
-use Rattle.std.proofs.Common.{◌≡◌, ◌++◌, [], ℕ, List, refl, sym, ap, subst, ◌∙◌, append_assoc}
+use Rattle.std.proofs.Common.{◌++◌, [], ℕ, List, refl, sym, ap, subst, ◌∙◌, append_assoc}
 use Rattle.std.proofs.Common.{append-nil}
 use Rattle.ledger_check.specs.FullCheckStates.{IsFed, IsRightSoFar}
 use Rattle.ledger_check.proofs.CheckerLemmas.{fed_more, fed_none}

@@ -1,4 +1,4 @@
-use Rattle.std.proofs.Common.{◌≡◌, Bool, true, false, refl, sym, ap, subst, ◌∙◌, arith}
+use Rattle.std.proofs.Common.{◌≡◌, Bool, true, false, refl, sym, ◌∙◌, arith}
 use Rattle.std.proofs.lemmas.Result.{on_ok_weaker}
 use Rattle.ledger_check.proofs.FullyBalanced.{subtracted_missing, subtracted_surplus}
 use Rattle.ledger_check.proofs.full_balance.FullBalance.subtract.Goals as goal

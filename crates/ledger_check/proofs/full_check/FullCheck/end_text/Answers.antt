@@ -1,4 +1,4 @@
-use Rattle.std.proofs.Common.{◌≡◌, ◌∙◌, ℕ, refl, sym, string_bytes, true, false}
+use Rattle.std.proofs.Common.{◌∙◌, refl, sym, string_bytes}
 use Rattle.std.proofs.lemmas.Bool.{false≢true}
 use Rattle.ledger_check.proofs.EndLemmas.{ended_cut, ended_whole}
 use Rattle.ledger_check.proofs.full_check.FullCheck.end_text.Goals as goal

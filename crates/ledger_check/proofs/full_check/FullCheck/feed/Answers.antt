@@ -1,5 +1,5 @@
 -- Each round reads one line more of the piece.
-use Rattle.std.proofs.Common.{◌≡◌, ◌++◌, [], ℕ, List, refl, sym, ap, subst, ◌∙◌, append_assoc}
+use Rattle.std.proofs.Common.{◌++◌, [], ℕ, List, refl, sym, ap, subst, ◌∙◌, append_assoc}
 use Rattle.std.proofs.Common.{append-nil, string_bytes}
 use Rattle.ledger_check.specs.FullCheckStates.{HasFed, HasFullyChecked}
 use Rattle.ledger_check.proofs.full_check.FullCheck.feed.Goals as goal

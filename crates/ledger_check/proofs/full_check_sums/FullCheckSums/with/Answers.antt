@@ -1,4 +1,4 @@
-use Rattle.std.proofs.Common.{◌≡◌, ℕ, ◌+◌, ◌≤◌, ◌^◌, Option, ◌∷◌, length, sym, subst, ap, ap₂, ◌∙◌}
+use Rattle.std.proofs.Common.{◌≡◌, Option, ◌∷◌, sym, subst, ap, ap₂, ◌∙◌}
 use Rattle.std.proofs.Common.{arith}
 use Rattle.tap_views.specs.declared.token.Token.{Token}
 use Rattle.ledger_check.specs.FullChecks.{charged_cents, last_wrong_token, one_other, one_wrong}

@@ -1,6 +1,5 @@
 use Rattle.std.proofs.Common.{◌≡◌, ◌≤◌, ◌++◌, List, ℕ, [], length, inl, refl, sym, ap, subst, arith}
 use Rattle.std.proofs.lemmas.Bool.Decides.{nat_tests}
-use Rattle.ledger_check.specs.Lines.{IsLine}
 use Rattle.ledger_check.specs.FullCheckStates.{IsKept}
 use Rattle.ledger_check.proofs.LineEnds.{empty_list}
 use Rattle.ledger_check.proofs.FullCheckLemmas.{kept_none, line_ends, took_line_of}

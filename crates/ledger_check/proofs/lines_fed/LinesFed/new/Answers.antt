@@ -1,4 +1,4 @@
-use Rattle.std.proofs.Common.{◌≤◌, [], inl, refl, arith}
+use Rattle.std.proofs.Common.{[], inl, refl, arith}
 use Rattle.ledger_check.proofs.lines_fed.LinesFed.new.Goals as goal
 
 pub returns : goal.returns

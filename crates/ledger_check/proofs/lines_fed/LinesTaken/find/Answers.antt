@@ -1,4 +1,4 @@
-use Rattle.std.proofs.Common.{◌≡◌, ◌<◌, ◌≤◌, ℕ, List, length, refl, arith}
+use Rattle.std.proofs.Common.{refl, arith}
 use Rattle.ledger_check.proofs.FullCheckLemmas.{found_first, found_judged, found_long, kept_line}
 use Rattle.ledger_check.proofs.lines_fed.LinesTaken.find.Goals as goal
 

@@ -1,4 +1,4 @@
-use Rattle.std.proofs.Common.{◌∷◌, List, Option, refl, string_bytes, sym, subst, arith}
+use Rattle.std.proofs.Common.{Option, refl, string_bytes, sym, subst, arith}
 use Rattle.ledger_check.specs.FullChecks.{TakenLine}
 use Rattle.ledger_check.specs.FullCheckStates.{AreSums, HasEntries}
 use Rattle.ledger_check.specs.declared.open_sums.OpenSums.{OpenSums}

@@ -1,4 +1,4 @@
-use Rattle.std.proofs.Common.{◌==◌, ◌∙◌, ◌∷◌, ◌+◌, ℕ, List, [], refl, sym, ap, subst, arith}
+use Rattle.std.proofs.Common.{◌==◌, ◌∙◌, ◌∷◌, ℕ, List, [], refl, sym, ap, subst, arith}
 use Rattle.account_rule.specs.declared.reply.Reply.{Reply}
 use Rattle.histories.specs.Sums.{add_sums, sums_of_replies}
 use Rattle.histories.specs.SumsByKey.{validator_of}

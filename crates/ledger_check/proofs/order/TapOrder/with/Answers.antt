@@ -1,4 +1,4 @@
-use Rattle.std.proofs.Common.{◌≡◌, ◌∙◌, ◌+◌, ◌++◌, ◌∷◌, [], Bool, ℕ, Option, Some, None, ap, arith}
+use Rattle.std.proofs.Common.{◌≡◌, ◌∙◌, ◌+◌, ◌∷◌, [], Bool, ℕ, Option, Some, None, ap, arith}
 use Rattle.std.proofs.Common.{length, length-append, sym, if◌then◌else◌}
 use Rattle.std.specs.Option.{option_or}
 use Rattle.tap_views.specs.declared.encoder.TapFields.{TapFields}

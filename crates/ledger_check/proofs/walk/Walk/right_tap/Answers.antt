@@ -1,4 +1,4 @@
-use Rattle.std.proofs.Common.{◌≡◌, false, ◌∙◌, List, ℕ, rules, tests, string_bytes}
+use Rattle.std.proofs.Common.{◌≡◌, false, ◌∙◌, rules, tests, string_bytes}
 use Rattle.std.specs.Prelude.{IsTrue}
 use Rattle.ledger_check.proofs.WalkLemmas.{judged_right}
 use Rattle.ledger_check.proofs.walk.Walk.right_tap.Goals as goal
