@@ -4,11 +4,10 @@
 use hints::{Hint, Named, Said, hint_on_fault, hint_on_list, kind_of_file, not_uploads};
 use program_manners::Complaints;
 use std::alloc::{AllocError, Global};
-use std::fs;
 use std::fs::File;
 use std::hash::{BuildHasher, Hasher, RandomState};
-use std::io;
 use std::io::IsTerminal;
+use std::{fs, io};
 use tool_words::{Task, read};
 use world::folder_of;
 
@@ -128,11 +127,7 @@ fn hint_on_task<'a>(
 }
 
 /// The hint on a line, unless it says itself what to do, or has names that are not shown as they are.
-fn hint_on_line<'a>(
-    rt: &HostRuntime,
-    line: &'a str,
-    failures: Failures<'a>,
-) -> Option<Hint<'a>> {
+fn hint_on_line<'a>(rt: &HostRuntime, line: &'a str, failures: Failures<'a>) -> Option<Hint<'a>> {
     if line.contains("\\") {
         return None;
     }
