@@ -204,7 +204,7 @@ pub(crate) fn report_hints(
         Ok(task) => Some(task),
         Err(_) => None,
     };
-    if has_shown(rt, words, task.as_ref(), said, failures) {
+    if has_shown(rt, words, task.as_ref(), said, failures) || !said.is_silent() {
         return;
     }
     let Some(task) = task else {
