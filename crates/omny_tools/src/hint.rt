@@ -191,11 +191,11 @@ fn has_shown<'a>(
 }
 
 /// Says on a terminal what to do about the faults that were reported, or about uploads that are none.
-pub(crate) fn report_hints(
+pub(crate) fn report_hints<'a>(
     rt: &HostRuntime,
-    words: &[String],
-    said: &Said,
-    failures: Failures<'_>,
+    words: &'a [String],
+    said: &'a Said,
+    failures: Failures<'a>,
 ) {
     if !rt.stderr().is_terminal() {
         return;
