@@ -126,7 +126,7 @@ fn hint_on_task<'a>(
     }
 }
 
-/// The hint on a line, unless it says itself what to do, or has names that are not shown as they are.
+/// The hint on a line, unless it says what to do, or has names that are not shown as they are.
 fn hint_on_line<'a>(rt: &HostRuntime, line: &'a str, failures: Failures<'a>) -> Option<Hint<'a>> {
     if line.contains("\\") {
         return None;
@@ -190,7 +190,8 @@ fn has_shown<'a>(
     shown > 0
 }
 
-/// Says on a terminal what to do about the faults that were reported, or about uploads that are none.
+/// Says on a terminal what to do about the faults that were reported, or about files that are no
+/// uploads.
 pub(crate) fn report_hints<'a>(
     rt: &HostRuntime,
     words: &'a [String],
