@@ -172,9 +172,9 @@ fn has_shown<'a>(
     failures: Failures<'a>,
 ) -> bool {
     let mut err = Complaints::new(rt.stderr());
-    let mut shown = 0;
+    let mut shown = 0usize;
     for line in said.lines().split('\n') {
-        if shown == MOST_HINTS {
+        if shown >= MOST_HINTS {
             break;
         }
         let hint = match (hint_on_line(rt, line, failures), task) {
@@ -184,7 +184,7 @@ fn has_shown<'a>(
         };
         if let Some(hint) = hint {
             err.report_line(hint);
-            shown += 1;
+            shown = shown.saturating_add(1);
         }
     }
     shown > 0
