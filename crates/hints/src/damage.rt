@@ -60,7 +60,7 @@ pub(crate) fn hint_on_file<'a, R: Files>(rt: &R, alloc: Global, name: &'a str) -
     }
 }
 
-/// The hints on the files of these names: on the first few that are no uploads by their first bytes.
+/// The hints on files that are no uploads by their first bytes: on the first few.
 pub fn not_uploads<'a, R: Files>(
     rt: &R,
     alloc: Global,

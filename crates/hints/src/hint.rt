@@ -32,8 +32,8 @@ pub enum Hint<'a> {
     Unsorted(&'a str),
     /// More files are damaged.
     MoreDamaged,
-    /// This file is of another kind, and CSV is wanted: the command with these words, whose first is
-    /// the program, reads what another program makes of it.
+    /// This file is of another kind, and CSV is wanted: the command with these words, of which the
+    /// first is the program, reads what another program makes of it.
     Piped(Kind, &'a str, &'a [String]),
     /// This CSV is no tap table.
     NoTapTable(&'a str),

@@ -26,7 +26,7 @@ fn flush_error<F: Write>(asks: bool, file: &mut F) -> Option<io::Error>
     }
 }
 
-/// Why the file cannot be written, if that is asked: what refused a write refuses the next one, too.
+/// Why the file cannot be written, if that is asked: what refused a write refuses the next one.
 fn write_error<F: Write>(asks: bool, file: &mut F) -> Option<io::Error> {
     if !asks {
         return None;

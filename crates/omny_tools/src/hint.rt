@@ -4,11 +4,10 @@
 use hints::{Hint, Named, Said, hint_on_fault, hint_on_list, kind_of_file, not_uploads};
 use program_manners::Complaints;
 use std::alloc::{AllocError, Global};
-use std::fs;
 use std::fs::File;
 use std::hash::{BuildHasher, Hasher, RandomState};
-use std::io;
 use std::io::IsTerminal;
+use std::{fs, io};
 use tool_words::{Task, read};
 use world::folder_of;
 
@@ -127,12 +126,8 @@ fn hint_on_task<'a>(
     }
 }
 
-/// The hint on a line, unless it says itself what to do, or has names that are not shown as they are.
-fn hint_on_line<'a>(
-    rt: &HostRuntime,
-    line: &'a str,
-    failures: Failures<'a>,
-) -> Option<Hint<'a>> {
+/// The hint on a line, unless it says what to do, or has names that are not shown as they are.
+fn hint_on_line<'a>(rt: &HostRuntime, line: &'a str, failures: Failures<'a>) -> Option<Hint<'a>> {
     if line.contains("\\") {
         return None;
     }
@@ -177,9 +172,9 @@ fn has_shown<'a>(
     failures: Failures<'a>,
 ) -> bool {
     let mut err = Complaints::new(rt.stderr());
-    let mut shown = 0;
+    let mut shown = 0usize;
     for line in said.lines().split('\n') {
-        if shown == MOST_HINTS {
+        if shown >= MOST_HINTS {
             break;
         }
         let hint = match (hint_on_line(rt, line, failures), task) {
@@ -189,18 +184,19 @@ fn has_shown<'a>(
         };
         if let Some(hint) = hint {
             err.report_line(hint);
-            shown += 1;
+            shown = shown.saturating_add(1);
         }
     }
     shown > 0
 }
 
-/// Says on a terminal what to do about the faults that were reported, or about uploads that are none.
-pub(crate) fn report_hints(
+/// Says on a terminal what to do about the faults that were reported, or about files that are no
+/// uploads.
+pub(crate) fn report_hints<'a>(
     rt: &HostRuntime,
-    words: &[String],
-    said: &Said,
-    failures: Failures<'_>,
+    words: &'a [String],
+    said: &'a Said,
+    failures: Failures<'a>,
 ) {
     if !rt.stderr().is_terminal() {
         return;
@@ -209,7 +205,7 @@ pub(crate) fn report_hints(
         Ok(task) => Some(task),
         Err(_) => None,
     };
-    if has_shown(rt, words, task.as_ref(), said, failures) {
+    if has_shown(rt, words, task.as_ref(), said, failures) || !said.is_silent() {
         return;
     }
     let Some(task) = task else {
