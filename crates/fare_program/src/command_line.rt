@@ -23,10 +23,10 @@ live, stale or unknown.";
 
 const NOTES: &str = "Examples:
   omny_cli --table table.toml --settle a.tap b.tap
-  omny_cli --table table.toml --settle --token HEX --explain a.tap b.tap
   omny_cli --table table.toml --settle --ledger a.tap b.tap > ledger.csv
 
 More examples:
+  omny_cli --table table.toml --settle --token HEX --explain a.tap b.tap
   omny_cli --table table.toml --settle --sorted monday.tap tuesday.tap
   omny_cli --table table.toml --settle --ledger --traced a.tap b.tap
   omny_cli --table old.toml --table new.toml@2026-01-04 --settle a.tap b.tap
@@ -120,11 +120,11 @@ fn command<'a>(alloc: Global) -> Result<Command<'a>, AllocError>
 {
     let table = repeated_arg(alloc, "table", "F", TABLE_HELP);
     let settle = flag_arg(alloc, "settle", SETTLE_HELP);
-    let live = flag_arg(alloc, "live", LIVE_HELP);
+    let live = flag_arg(alloc, "live", LIVE_HELP).hide_short_help(true);
     let sorted = flag_arg(alloc, "sorted", SORTED_HELP);
-    let list = flag_arg(alloc, "list", LIST_HELP);
-    let workers = number_arg(alloc, "workers", 16, "2", WORKERS_HELP);
-    let shards = number_arg(alloc, "shards", 64, "8", SHARDS_HELP);
+    let list = flag_arg(alloc, "list", LIST_HELP).hide_short_help(true);
+    let workers = number_arg(alloc, "workers", 16, "2", WORKERS_HELP).hide_short_help(true);
+    let shards = number_arg(alloc, "shards", 64, "8", SHARDS_HELP).hide_short_help(true);
     let token = option_arg(alloc, "token", "HEX", TOKEN_HELP);
     let command = new_command(alloc, "omny_cli", ABOUT, NOTES)
         .arg(table)?
@@ -145,9 +145,9 @@ fn with_texts<'a>(alloc: Global, command: Command<'a>) -> Result<Command<'a>, Al
 {
     let ledger = flag_arg(alloc, "ledger", LEDGER_HELP);
     let explain = flag_arg(alloc, "explain", EXPLAIN_HELP);
-    let json = flag_arg(alloc, "json", JSON_HELP);
-    let traced = flag_arg(alloc, "traced", TRACED_HELP);
-    let tokens = option_arg(alloc, "tokens", "RANGE", TOKENS_HELP);
+    let json = flag_arg(alloc, "json", JSON_HELP).hide_short_help(true);
+    let traced = flag_arg(alloc, "traced", TRACED_HELP).hide_short_help(true);
+    let tokens = option_arg(alloc, "tokens", "RANGE", TOKENS_HELP).hide_short_help(true);
     let made_by = option_arg(alloc, "made-by", "FILE", MADE_BY_HELP);
     let format = option_arg(alloc, "format", "FORM", FORMAT_HELP);
     let file = positional_arg(alloc, "FILE", ArgAction::Append, FILE_HELP);
