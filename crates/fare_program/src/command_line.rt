@@ -1,12 +1,13 @@
 //! The command line.
 ghost use Rattle.std.specs.Prelude.{◌≡◌, ◌≤◌, IfOk, map, string_bytes};
 ghost use Rattle.clap.specs.Words.{FailsBy, app_of, fault_of, found_of, matches_of, rows_of};
+ghost use Rattle.clap.specs.Words.{rule_of};
 ghost use Rattle.fare_program.specs.Options.{form_of, is_given, program, request_by, text_rules};
 ghost use Rattle.fare_program.specs.Options.{with_rules};
 ghost use Rattle.fare_program.specs.inside.Options.{request_of};
 
 use crate::options::Options;
-use clap::{ArgAction, ArgMatches, Command, Error};
+use clap::{Arg, ArgAction, ArgMatches, Command, Error};
 use fare_texts::Form;
 use program_manners::{
     TableWords, add_list_args, flag_arg, names_in, new_command, number_arg, option_arg,
@@ -114,26 +115,34 @@ const FORMAT_HELP: &str = "Print it as text, json or csv [default: text]";
 
 const FILE_HELP: &str = "Uploads, at most 64 MiB each [default: standard input, as -]";
 
+/// The argument, which `-h` does not show.
+fn hidden<'a>(arg: Arg<'a>) -> Arg<'a>
+    ensures rule { rule_of result ≡ rule_of arg.entry }
+    ensures local { result.global ≡ arg.entry.global }
+{
+    arg.hide_short_help(true)
+}
+
 /// The command line, as clap reads it.
 fn command<'a>(alloc: Global) -> Result<Command<'a>, AllocError>
     ensures { IfOk result (λ command. app_of command ≡ program) }
 {
     let table = repeated_arg(alloc, "table", "F", TABLE_HELP);
     let settle = flag_arg(alloc, "settle", SETTLE_HELP);
-    let live = flag_arg(alloc, "live", LIVE_HELP).hide_short_help(true);
+    let live = flag_arg(alloc, "live", LIVE_HELP);
     let sorted = flag_arg(alloc, "sorted", SORTED_HELP);
-    let list = flag_arg(alloc, "list", LIST_HELP).hide_short_help(true);
-    let workers = number_arg(alloc, "workers", 16, "2", WORKERS_HELP).hide_short_help(true);
-    let shards = number_arg(alloc, "shards", 64, "8", SHARDS_HELP).hide_short_help(true);
+    let list = flag_arg(alloc, "list", LIST_HELP);
+    let workers = number_arg(alloc, "workers", 16, "2", WORKERS_HELP);
+    let shards = number_arg(alloc, "shards", 64, "8", SHARDS_HELP);
     let token = option_arg(alloc, "token", "HEX", TOKEN_HELP);
     let command = new_command(alloc, "omny_cli", ABOUT, NOTES)
         .arg(table)?
         .arg(settle)?
-        .arg(live)?
+        .arg(hidden(live))?
         .arg(sorted)?
-        .arg(list)?
-        .arg(workers)?
-        .arg(shards)?
+        .arg(hidden(list))?
+        .arg(hidden(workers))?
+        .arg(hidden(shards))?
         .arg(token)?;
     with_texts(alloc, command)
 }
@@ -145,18 +154,18 @@ fn with_texts<'a>(alloc: Global, command: Command<'a>) -> Result<Command<'a>, Al
 {
     let ledger = flag_arg(alloc, "ledger", LEDGER_HELP);
     let explain = flag_arg(alloc, "explain", EXPLAIN_HELP);
-    let json = flag_arg(alloc, "json", JSON_HELP).hide_short_help(true);
-    let traced = flag_arg(alloc, "traced", TRACED_HELP).hide_short_help(true);
-    let tokens = option_arg(alloc, "tokens", "RANGE", TOKENS_HELP).hide_short_help(true);
+    let json = flag_arg(alloc, "json", JSON_HELP);
+    let traced = flag_arg(alloc, "traced", TRACED_HELP);
+    let tokens = option_arg(alloc, "tokens", "RANGE", TOKENS_HELP);
     let made_by = option_arg(alloc, "made-by", "FILE", MADE_BY_HELP);
     let format = option_arg(alloc, "format", "FORM", FORMAT_HELP);
     let file = positional_arg(alloc, "FILE", ArgAction::Append, FILE_HELP);
     let command = command
         .arg(ledger)?
         .arg(explain)?
-        .arg(json)?
-        .arg(traced)?
-        .arg(tokens)?
+        .arg(hidden(json))?
+        .arg(hidden(traced))?
+        .arg(hidden(tokens))?
         .arg(made_by)?
         .arg(format)?;
     add_list_args(alloc, command)?.arg(file)

@@ -11,16 +11,16 @@ returns c =
     ∙ ap₂ with_rule c.new_command.ensures c.repeated_arg-table.ensures.rule in
     let two = c.in_ok-arg-2.ensures.shape c.flag_arg-settle.ensures.local
     ∙ ap₂ with_rule one c.flag_arg-settle.ensures.rule in
-    let three = c.in_ok-arg-3.ensures.shape c.flag_arg-live.ensures.local
-    ∙ ap₂ with_rule two c.flag_arg-live.ensures.rule in
+    let three = c.in_ok-arg-3.ensures.shape (c.hidden.ensures.local ∙ c.flag_arg-live.ensures.local)
+    ∙ ap₂ with_rule two (c.hidden.ensures.rule ∙ c.flag_arg-live.ensures.rule) in
     let four = c.in_ok-arg-4.ensures.shape c.flag_arg-sorted.ensures.local
     ∙ ap₂ with_rule three c.flag_arg-sorted.ensures.rule in
-    let five = c.in_ok-arg-5.ensures.shape c.flag_arg-list.ensures.local
-    ∙ ap₂ with_rule four c.flag_arg-list.ensures.rule in
-    let six = c.in_ok-arg-6.ensures.shape c.number_arg-workers.ensures.local
-    ∙ ap₂ with_rule five c.number_arg-workers.ensures.rule in
-    let seven = c.in_ok-arg-7.ensures.shape c.number_arg-shards.ensures.local
-    ∙ ap₂ with_rule six c.number_arg-shards.ensures.rule in
+    let five = c.in_ok-arg-5.ensures.shape (c.hidden-2.ensures.local ∙ c.flag_arg-list.ensures.local)
+    ∙ ap₂ with_rule four (c.hidden-2.ensures.rule ∙ c.flag_arg-list.ensures.rule) in
+    let six = c.in_ok-arg-6.ensures.shape (c.hidden-3.ensures.local ∙ c.number_arg-workers.ensures.local)
+    ∙ ap₂ with_rule five (c.hidden-3.ensures.rule ∙ c.number_arg-workers.ensures.rule) in
+    let seven = c.in_ok-arg-7.ensures.shape (c.hidden-4.ensures.local ∙ c.number_arg-shards.ensures.local)
+    ∙ ap₂ with_rule six (c.hidden-4.ensures.rule ∙ c.number_arg-shards.ensures.rule) in
     let eight = c.in_ok-command.ensures.shape c.option_arg-token.ensures.local
     ∙ ap₂ with_rule seven c.option_arg-token.ensures.rule in
     IfOk-weaker c.with_texts.result _ _

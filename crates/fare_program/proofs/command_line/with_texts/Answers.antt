@@ -10,12 +10,12 @@ returns c =
     ∙ ap₂ with_rule refl c.flag_arg-ledger.ensures.rule in
     let two = c.in_ok-arg-2.ensures.shape c.flag_arg-explain.ensures.local
     ∙ ap₂ with_rule one c.flag_arg-explain.ensures.rule in
-    let three = c.in_ok-arg-3.ensures.shape c.flag_arg-json.ensures.local
-    ∙ ap₂ with_rule two c.flag_arg-json.ensures.rule in
-    let four = c.in_ok-arg-4.ensures.shape c.flag_arg-traced.ensures.local
-    ∙ ap₂ with_rule three c.flag_arg-traced.ensures.rule in
-    let five = c.in_ok-arg-5.ensures.shape c.option_arg-tokens.ensures.local
-    ∙ ap₂ with_rule four c.option_arg-tokens.ensures.rule in
+    let three = c.in_ok-arg-3.ensures.shape (c.hidden.ensures.local ∙ c.flag_arg-json.ensures.local)
+    ∙ ap₂ with_rule two (c.hidden.ensures.rule ∙ c.flag_arg-json.ensures.rule) in
+    let four = c.in_ok-arg-4.ensures.shape (c.hidden-2.ensures.local ∙ c.flag_arg-traced.ensures.local)
+    ∙ ap₂ with_rule three (c.hidden-2.ensures.rule ∙ c.flag_arg-traced.ensures.rule) in
+    let five = c.in_ok-arg-5.ensures.shape (c.hidden-3.ensures.local ∙ c.option_arg-tokens.ensures.local)
+    ∙ ap₂ with_rule four (c.hidden-3.ensures.rule ∙ c.option_arg-tokens.ensures.rule) in
     let six = c.in_ok-arg-6.ensures.shape c.option_arg-made_by.ensures.local
     ∙ ap₂ with_rule five c.option_arg-made_by.ensures.rule in
     let seven = c.in_ok-command.ensures.shape c.option_arg-format.ensures.local
