@@ -2,9 +2,8 @@
 use Rattle.std.proofs.Common.{◌≡◌, ◌∙◌, ℕ, Bool, true, false, not, List, [], ◌∷◌, ◌++◌, length, map}
 use Rattle.std.proofs.Common.{refl, sym, ap, subst, append-nil, append_assoc, nat_eq, Option, Some}
 use Rattle.std.proofs.Common.{None, if◌then◌else◌, Bor, ◌≤◌, ◌⊎◌, inl, inr, suc, arith, option_map}
-use Rattle.std.proofs.lemmas.List.Elements.{Contains-push}
 use Rattle.std.specs.Str.{bytes_eq}
-use Rattle.std.specs.Prelude.{Contains, unwrap_or, ◌≢◌}
+use Rattle.std.specs.Prelude.{unwrap_or}
 use Rattle.ledger_check.specs.Columns.{has_traced_head, traced_head}
 use Rattle.std.proofs.lemmas.Bool.Decides.{nat_tests}
 use Rattle.std.proofs.lemmas.List.{map-append, take-append-le}
@@ -20,13 +19,8 @@ use Rattle.ledger_check.specs.declared.positions.Positions.{Positions}
 use Rattle.omny_audit.specs.Reports.{Given}
 use Rattle.omny_audit.specs.inside.Traced.{HaveNamed}
 use Rattle.omny_audit.specs.inside.Audits.{GoesOn}
-use Rattle.omny_audit.specs.inside.Fault.{IsStreamFault, unread_as}
-use Rattle.world.specs.Loads.{IsRefused}
-use Rattle.world.specs.Run.{Calls, Load, Run}
+use Rattle.world.specs.Run.{Load}
 use Rattle.world.specs.Streams.{HasRead, IsWhole}
-use Rattle.world.specs.declared.faults.LoadFault.{LoadFault}
-use Rattle.world.specs.declared.faults.LoadFault.TheVariants as load
-use Rattle.world.specs.declared.faults.WriteFault.{WriteFault}
 use Rattle.world.specs.declared.stream.Stream.{Stream}
 use Rattle.world.proofs.Streams.{whole_at_end}
 
@@ -122,16 +116,6 @@ pub read_named : (s : Stream) (name : Option Text) (bytes : List ℕ) → HasRea
 read_named s name bytes read =
     subst (λ (n : Option Text). HasRead s n bytes) (sym (ap (λ (x : Load). x.name) read.reading))
     read
-
--- a read of the ledger that was refused
-pub refused_stream : (before : Run) (ledger : Calls) (name : Option Text)
-    (cut : Option WriteFault) (why : LoadFault) → why ≢ load.TooLong → ledger.reading.name ≡ name
-    → IsRefused before ledger.run name why → IsStreamFault ledger cut (unread_as why)
-refused_stream before ledger name cut load.Unread short named is =
-    subst (λ (n : Option Text). Contains ledger.run.unread n) (sym named)
-    (subst (λ (r : Run). Contains r.unread name) (sym is) (Contains-push before.unread name))
-refused_stream before ledger name cut load.TooLong short named is = absurd (short refl)
-refused_stream before ledger name cut load.NoMemory short named is = tt
 
 pub ends_push : (files : List (List ℕ)) (ends : List UploadEnd) (file : List ℕ) (end : UploadEnd)
     → ArePlainEnds files ends → IsPlainEnd file end

@@ -5,9 +5,10 @@ ghost use Rattle.tap_views.specs.declared.encoder.TapFields.{TapFields};
 ghost use Rattle.omny_audit.specs.Reports.{IsAudit};
 ghost use Rattle.omny_audit.specs.Traced.{ReadLine};
 ghost use Rattle.omny_audit.specs.inside.Audits.{EndsAs, GoesOn, HasAudited, HasEnded, HasTaken};
-ghost use Rattle.omny_audit.specs.inside.Audits.{IsNext, given_in};
+ghost use Rattle.omny_audit.specs.inside.Audits.{Stands, given_in};
 ghost use Rattle.omny_audit.specs.inside.Checks.{is_decided};
-ghost use Rattle.world.specs.Streams.{HasRead};
+ghost use Rattle.world.specs.Run.{Calls};
+ghost use Rattle.world.specs.Streams.{HasRead, IsWhole};
 
 use crate::check::{Check, are_both, is_either};
 use crate::fault::Fault;
@@ -125,8 +126,10 @@ impl Audit<'_> {
         requires { (valid : List TapFields) × (file written : List ℕ)
             × HasAudited self.old valid file written }
         ensures { IfOk result (λ next. (valid : List TapFields) (file written : List ℕ)
-            → HasAudited self.old valid file written
-            → IsNext self.old self.new valid file piece.now (written ++ next.0.items) next.1) }
+            (ledger : Calls) → HasAudited self.old valid file written
+            → ledger.reading.bytes ≡ file ++ piece.now → (piece.now ≡ [] → IsWhole ledger)
+            → Stands (given_in self.old valid) self.new valid ledger (written ++ next.0.items)
+            next.1) }
     {
         let mut reported = String::new(alloc);
         if piece.is_empty() {
@@ -166,13 +169,13 @@ pub(crate) fn audit_over<'a, W: World>(
             return Err(Fault::NoMemory);
         };
         if let Err(why) = world.write(next.0.as_slice()) {
-            return Err(Fault::of_write(why));
+            return Err(Fault::Unwritten(why));
         }
         if let Some(succeeded) = next.1 {
             return Ok(succeeded);
         }
         if let Err(why) = ledger.read(&mut piece) {
-            return Err(Fault::of_ledger(why));
+            return Err(Fault::Ledger(why));
         }
     }
     // no run makes so many reads

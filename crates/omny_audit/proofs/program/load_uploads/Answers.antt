@@ -59,6 +59,8 @@ pub returns-in-Err-clause-fault : goal.returns-in-Err-clause-fault
 returns-in-Err-clause-fault c =
     let names = c.args.names.now in
     let k = c.loop-name.name-index in
-    c.in-Err.ensures.fault (map (λ n. n.now) names)
-    (one_of (get_or names k no_name).now (map (λ n. n.now) names)
-    (is_one_at names k no_name _ c.loop-name-test.true refl))
+    let name = (get_or names k no_name).now in (
+      name,
+      one_of name (map (λ n. n.now) names) (is_one_at names k no_name _ c.loop-name-test.true refl),
+      c.in-Err.ensures.fault,
+    )
