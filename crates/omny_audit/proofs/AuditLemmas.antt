@@ -7,8 +7,6 @@ use Rattle.tariffs.specs.Fares.{Fares}
 use Rattle.histories.specs.declared.entry.Entry.{Entry}
 use Rattle.tap_views.specs.declared.encoder.TapFields.{TapFields}
 use Rattle.ledger_check.specs.Ledger.{IsLedgerOf}
-use Rattle.omny_audit.specs.Findings.{FindingsDecide, FullFindingsDecide, IsFindingOf}
-use Rattle.omny_audit.specs.Findings.{IsRightLedger}
 use Rattle.omny_audit.specs.Reports.{AuditsDecide, HasOwnReport, IsReportLine, are_whole}
 use Rattle.omny_audit.specs.Reports.{ledger_in}
 use Rattle.tap_views.specs.declared.upload_end.UploadEnd.{UploadEnd}
@@ -23,16 +21,6 @@ use Rattle.report_check.specs.Reports.{ReportVerdictsDecide}
 
 false_true : false ≡ true → ⊥
 false_true h = cc
-
--- of all lines, or up to the first wrong one
-sound_is : FindingsDecide → FullFindingsDecide → (all live : Bool) (fares : Fares)
-    (ledger : List ℕ) (valid : Option (List TapFields)) (found : List ℕ) (sound : Bool)
-    → IsFindingOf all live fares ledger valid found sound
-    → (sound ≡ true) ↔ IsRightLedger live fares ledger valid
-sound_is some full true live fares ledger valid found sound is =
-    full live fares ledger valid found sound is
-sound_is some full false live fares ledger valid found sound is =
-    some live fares ledger valid found sound is
 
 -- a report that is right is that of the ledger's entries
 own_of : ReportVerdictsDecide
@@ -123,11 +111,10 @@ looked_at : (all legal : Bool) → legal ≡ true → (all || legal) ≡ true
 looked_at true legal is = refl
 looked_at false legal is = is
 
-pub decides : FindingsDecide → FullFindingsDecide → ReportVerdictsDecide → AuditsDecide
-decides some full verdicts given file read text success audit =
+pub decides : ReportVerdictsDecide → AuditsDecide
+decides verdicts given file read text success audit =
     let ledger = ledger_in given file in
-    let sound = sound_is some full given.all given.live given.fares ledger given.valid audit.found
-    audit.sound audit.finding in
+    let sound = audit.is_sound in
     let looked = given.all || audit.legal in
     let last = audit.last in (
       λ is.

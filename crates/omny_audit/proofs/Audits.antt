@@ -29,7 +29,8 @@ use Rattle.omny_audit.specs.declared.fault.Fault.{Fault}
 use Rattle.omny_audit.specs.declared.fault.Fault.TheVariants.{Unwritten}
 use Rattle.omny_audit.specs.inside.Audits.{EndsAs, HasAudited, HasEnded, Stands, given_in}
 use Rattle.omny_audit.specs.inside.Fault.{IsStreamFault}
-use Rattle.omny_audit.specs.inside.Checks.{HasChecked, is_all, is_decided}
+use Rattle.omny_audit.specs.declared.check.Found.{Found}
+use Rattle.omny_audit.specs.inside.Checks.{Finds, HasChecked, is_all, is_decided}
 use Rattle.omny_audit.specs.Traced.{Wanted}
 use Rattle.omny_audit.specs.declared.traced.TracedPieces.{TracedPieces}
 use Rattle.omny_audit.specs.inside.Traced.{wanted_by}
@@ -54,6 +55,17 @@ undecided (First checker balance None) legal wrong looked = refl
 undecided (First checker balance (Some verdict)) legal wrong looked =
     absurd (true≢false (sym looked ∙ wrong refl))
 undecided (All full_check full) legal wrong looked = refl
+
+-- what is not legal is not well
+pub unsound : (all live : Bool) (fares : Fares) (text : List ℕ) (valid : Option (List TapFields))
+    (reported : List ℕ) (found : Found) → Finds all live fares text valid reported found
+    → found.is_legal ≡ false → found.is_sound ≡ false
+unsound all live fares text valid reported found is wrong = by_sound found.is_sound refl
+  where
+    by_sound : (sound : Bool) → found.is_sound ≡ sound → sound ≡ false
+    by_sound false same = refl
+    by_sound true same = let right = is.sound.0 same in
+        sym (is.legal.1 (right.0, right.1)) ∙ wrong
 
 -- the first wrong line stays the first
 checked_more : (fares : Fares) (subtracts : Bool) (valid : List TapFields) (check : Check)

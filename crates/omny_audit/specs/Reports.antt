@@ -1,13 +1,14 @@
 -- What is found of a ledger and of the report that is held beside it.
 use Rattle.std.specs.Prelude.{◌≡◌, ◌↔◌, ◌⊎◌, ◌&&◌, ◌||◌, ℕ, Bool, true, false, List, [], ◌++◌, codes}
-use Rattle.std.specs.Prelude.{◌+◌, ◌∷◌, if◌then◌else◌, is_some, Option, None, Some}
+use Rattle.std.specs.Prelude.{◌+◌, ◌∷◌, if◌then◌else◌, is_some, map, Option, None, Some}
 use Rattle.std.specs.Fmt.{decimal}
 use Rattle.tariffs.specs.Fares.{Fares}
 use Rattle.ledger_check.specs.Columns.{read_as}
 use Rattle.ledger_check.specs.FirstLines.{AreFirstTaken}
 use Rattle.ledger_check.specs.FullChecks.{TakenLine, remark_lines}
 use Rattle.ledger_check.specs.Ledger.{IsLedger, IsLedgerOf}
-use Rattle.omny_audit.specs.Findings.{HasValidTaps, HasOrder, IsFindingOf}
+use Rattle.ledger_check.specs.Orders.{tap_of_entry}
+use Rattle.omny_audit.specs.Findings.{HasOrder, HasValidTaps, IsFindingOf, IsRightLedger}
 use Rattle.omny_audit.specs.Traced.{AreColumnsReported, HasRightColumns, ReadLine, Wanted}
 use Rattle.report_check.specs.Reports.{IsReportBeside, IsReportVerdictBeside, is_of_ledger}
 use Rattle.report_texts.specs.Report.{upload_line}
@@ -110,9 +111,10 @@ pub record AreLastLines (ends : Option (List UploadEnd)) (fares : Fares) (ledger
 pub record IsAudit (given : Given) (file : List ℕ) (read : List ReadLine) (text : List ℕ)
     (success : Bool) : Type 0 where
   pub found : List ℕ
+  pub finding : IsFindingOf given.all given.fares (ledger_in given file) given.valid found
   pub sound : Bool
-  pub finding : IsFindingOf given.all given.live given.fares (ledger_in given file) given.valid found
-      sound
+  pub is_sound : (sound ≡ true)
+      ↔ IsRightLedger given.live given.fares (ledger_in given file) given.valid
   pub legal : Bool
   pub is_legal : (legal ≡ true) ↔ IsLedger given.fares (ledger_in given file)
   pub columns : List ℕ
@@ -146,7 +148,8 @@ HasOwnReport ends (Some report) entries = IsReportBeside ends entries report
 abbrev pub IsRightAudit : Given → List ℕ → List ReadLine → Type 0
 IsRightAudit given file read =
     (entries : List Entry) × IsLedgerOf given.fares entries (ledger_in given file)
-    × HasValidTaps given.valid entries × HasOrder given.live entries
+    × HasValidTaps given.valid (map tap_of_entry entries)
+    × HasOrder given.live (map tap_of_entry entries)
     × HasRightColumns given.wanted file read
     × HasOwnReport given.ends given.report entries × (are_whole given.ends ≡ true)
 

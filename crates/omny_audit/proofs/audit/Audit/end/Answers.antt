@@ -7,7 +7,7 @@ use Rattle.omny_audit.specs.Traced.{AreColumnsReported}
 use Rattle.omny_audit.specs.inside.Audits.{given_in}
 use Rattle.omny_audit.specs.inside.Reports.{text_of}
 use Rattle.omny_audit.specs.inside.Traced.{wanted_by}
-use Rattle.omny_audit.proofs.Audits.{undecided}
+use Rattle.omny_audit.proofs.Audits.{undecided, unsound}
 use Rattle.omny_audit.proofs.audit.Audit.end.Goals as goal
 
 pub finish-requires : goal.finish-requires
@@ -18,8 +18,11 @@ finish-requires c =
 
 pub returns-clause-decided : goal.returns-clause-decided
 returns-clause-decided c = λ is.
-    c.are_both.ensures
-    ∙ ap (λ (b : Bool). b && c.are_both-is_after.result) (c.in_ok-found.ensures.unsound is)
+    let has = c.requires.3 in
+    let found = c.in_ok-found.ensures.found c.args.self.now.table.now c.requires.0 _ c.requires.2
+    has.checked in
+    c.are_both.ensures ∙ ap (λ (b : Bool). b && c.are_both-is_after.result)
+    (unsound _ _ _ _ _ _ _ found.2 (c.in_ok-found.ensures.decided is))
 
 pub returns-clause-ended : goal.returns-clause-ended
 returns-clause-ended c = λ valid file before has.
@@ -39,15 +42,15 @@ returns-clause-ended c = λ valid file before has.
     let reported = columns.2 file (λ look. has.all (undecided audit.check legal
     c.in_ok-found.ensures.decided (sym looked ∙ look))) in
     let last = wrote.2 audit.table.now (ledger_in given file) (λ yes entries of.
-    c.in_ok-found.ensures.sums audit.table.now valid (ledger_in given file) written has.checked
-    (and_parts legal right (sym whole ∙ yes)).0 entries of) in (
+    found.2.sums (and_parts legal right (sym whole ∙ yes)).0 entries of) in (
       reported.0,
       record {
         found = written ++ found.0;
+        finding = found.2.finding;
         sound = c.in_ok-found.found.is_sound;
-        finding = found.2;
+        is_sound = found.2.sound;
         legal = legal;
-        is_legal = found.3;
+        is_legal = found.2.legal;
         columns = columns.0;
         right = right;
         are_columns = subst (λ (b : Bool). AreColumnsReported (wanted_by audit.trace) b file
