@@ -75,33 +75,26 @@ unfoldable pub uncompared_text : Option (List UploadEnd) → List ℕ
 uncompared_text None = codes "upload lines not compared\n"
 uncompared_text (Some ends) = []
 
--- what is found of the report: a verdict that is true beside whatever entries the ledger has
-pub record IsReportFinding (ends : Option (List UploadEnd)) (fares : Fares)
-    (ledger report rest : List ℕ) (fits : Bool) : Type 0 where
-  pub verdict : ReportVerdict
-  pub shown : rest ≡ report_text verdict ++ uncompared_text ends
-  pub reported : fits ≡ is_of_ledger verdict
-  pub true_of : (entries : List Entry) → IsLedgerOf fares entries ledger
-      → IsReportVerdictBeside ends entries report verdict
+-- what is said of the report, if there is a verdict on it
+abbrev pub verdict_lines : Option (List UploadEnd) → Option ReportVerdict → List ℕ
+verdict_lines ends None = []
+verdict_lines ends (Some verdict) = report_text verdict ++ uncompared_text ends
 
--- What follows the finding on the ledger, which is legal or not: nothing without a report, or
--- after a ledger that is not legal; else the line of the verdict on the report.
-abbrev pub IsReportLine : Option (List UploadEnd) → Fares → List ℕ → Option (List ℕ) → Bool
-    → List ℕ → Bool → Type 0
-IsReportLine ends fares ledger None legal rest fits = (rest ≡ []) × (fits ≡ true)
-IsReportLine ends fares ledger (Some report) false rest fits = (rest ≡ []) × (fits ≡ false)
-IsReportLine ends fares ledger (Some report) true rest fits =
-    IsReportFinding ends fares ledger report rest fits
+-- The verdict on the report beside a ledger that is right or not. There is none without a report, or
+-- on one beside a ledger that is not; else it is true beside whatever entries the ledger has.
+abbrev pub IsVerdictOn : Option (List UploadEnd) → Fares → List ℕ → Option (List ℕ) → Bool
+    → Option ReportVerdict → Type 0
+IsVerdictOn ends fares ledger None right verdict = verdict ≡ None
+IsVerdictOn ends fares ledger (Some report) false verdict = verdict ≡ None
+IsVerdictOn ends fares ledger (Some report) true None = ⊥
+IsVerdictOn ends fares ledger (Some report) true (Some verdict) = (entries : List Entry)
+    → IsLedgerOf fares entries ledger → IsReportVerdictBeside ends entries report verdict
 
--- what is found of the report, if there is one, and after it the lines of uploads that have a
--- layout fault
-pub record AreLastLines (ends : Option (List UploadEnd)) (fares : Fares) (ledger : List ℕ)
-    (report : Option (List ℕ)) (legal : Bool) (rest : List ℕ) (success : Bool) : Type 0 where
-  pub line : List ℕ
-  pub fits : Bool
-  pub report_line : IsReportLine ends fares ledger report legal line fits
-  pub shown : rest ≡ line ++ damage_text ends
-  pub both : success ≡ (fits && are_whole ends)
+-- whether the verdict is that the report is the ledger's, if there is a report
+abbrev pub fits : Option (List ℕ) → Option ReportVerdict → Bool
+fits None verdict = true
+fits (Some report) None = false
+fits (Some report) (Some verdict) = is_of_ledger verdict
 
 -- What is found of a ledger's file, of which these lines were read, if it is traced: what is found
 -- of the ledger that is read of it, beside the valid taps of the uploads, if there are uploads;
@@ -120,12 +113,13 @@ pub record IsAudit (given : Given) (file : List ℕ) (read : List ReadLine) (tex
   pub columns : List ℕ
   pub right : Bool
   pub are_columns : AreColumnsReported given.wanted (given.all || legal) file read columns right
-  pub rest : List ℕ
-  pub fits : Bool
-  pub last : AreLastLines given.ends given.fares (ledger_in given file) given.report
-      (legal && right) rest fits
-  pub shown : text ≡ found ++ (columns ++ rest)
-  pub both : success ≡ (sound && (right && fits))
+  pub verdict : Option ReportVerdict
+  pub is_verdict : IsVerdictOn given.ends given.fares (ledger_in given file) given.report
+      (legal && right) verdict
+  pub shown : text
+      ≡ found ++ (columns ++ (verdict_lines given.ends verdict ++ damage_text given.ends))
+  pub both : success
+      ≡ (sound && (right && (fits given.report verdict && are_whole given.ends)))
 
 -- What an audit that fails may leave: a prefix of what is found of the file, or of the remarks on
 -- its first lines, which are a prefix of it if all wrong lines are asked for

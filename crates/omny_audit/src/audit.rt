@@ -12,7 +12,7 @@ ghost use Rattle.world.specs.Streams.{HasRead, IsWhole};
 
 use crate::check::{Check, are_both, is_either};
 use crate::fault::Fault;
-use crate::report::{HeldReport, write_last_lines};
+use crate::report::{HeldReport, are_whole, fits, verdict_on, write_last_lines};
 use crate::traced::{TracedPieces, read_end, read_piece, write_columns};
 use fare_table::{Clock, FareTable};
 use std::alloc::Global;
@@ -108,15 +108,10 @@ impl Audit<'_> {
         let is_looked_at = is_either(all, found.is_legal);
         let is_right = write_columns(alloc, &mut text, is_looked_at, &self.trace)?;
         let is_whole = are_both(found.is_legal, is_right);
-        let fits = write_last_lines(
-            alloc,
-            &mut text,
-            is_whole,
-            &self.report,
-            &found.sums,
-            self.ends,
-        )?;
-        let is_after = are_both(is_right, fits);
+        let verdict = verdict_on(alloc, is_whole, &self.report, &found.sums, self.ends)?;
+        write_last_lines(alloc, &mut text, &verdict, self.ends)?;
+        let is_last = are_both(fits(&self.report, &verdict), are_whole(self.ends));
+        let is_after = are_both(is_right, is_last);
         Ok((text, are_both(found.is_sound, is_after)))
     }
 
