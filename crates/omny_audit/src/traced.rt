@@ -12,11 +12,10 @@ ghost use Rattle.ledger_check.specs.Positions.{HasUploads, is_named, uploads_of}
 ghost use Rattle.ledger_check.specs.Taps.{IsTapOfLine};
 ghost use Rattle.omny_audit.specs.Traced.{AreColumnsReported, IsFaultAfter, IsPositionFault};
 ghost use Rattle.omny_audit.specs.Traced.{NamesTapWithColumns, ReadLine, class_fault, class_text};
-ghost use Rattle.omny_audit.specs.Traced.{fault_by, lines_read, position_fault_text, position_text};
+ghost use Rattle.omny_audit.specs.Traced.{fault_by, fault_text, lines_read, places_text};
+ghost use Rattle.omny_audit.specs.Traced.{position_text};
 ghost use Rattle.omny_audit.specs.Traced.{traced_by};
 ghost use Rattle.omny_audit.specs.declared.traced.PositionFault.{PositionFault as AFault};
-ghost use Rattle.omny_audit.specs.declared.traced.PositionFault.TheVariants.{NoLine, OtherTap};
-ghost use Rattle.omny_audit.specs.declared.traced.PositionFault.TheVariants.{Repeated};
 ghost use Rattle.omny_audit.specs.inside.Traced.{HasLines, HasLooked, HasPositions, HasReadAll};
 ghost use Rattle.omny_audit.specs.inside.Traced.{HasReadAs, HasTraced, HaveNamed, IsKeptOf, placed_of};
 ghost use Rattle.omny_audit.specs.inside.Traced.{uploads_in, wanted_by, wanted_of};
@@ -29,6 +28,7 @@ use ledger_check::{
     traced_head_line,
 };
 use std::alloc::{AllocError, Global};
+use std::fmt;
 use tap_views::TapFields;
 
 /// The most bytes of a traced ledger's line, with its line feed.
@@ -63,6 +63,31 @@ pub(crate) enum PositionFault {
         upload: u64,
         position: u64,
     },
+}
+
+impl fmt::Display for PositionFault {
+    ghost output = { λ fault. Some (fault_text fault) };
+
+    fn fmt<W: fmt::Write>(&self, f: &mut fmt::Formatter<W>) -> fmt::Result {
+        match self {
+            PositionFault::OtherTap {
+                line,
+                upload,
+                position,
+            } => write!(
+                f,
+                "line {line} has another tap than upload {upload} has at place {position}"
+            ),
+            PositionFault::Repeated {
+                line,
+                upload,
+                position,
+            } => write!(f, "line {line} has upload {upload} place {position} again"),
+            PositionFault::NoLine { upload, position } => {
+                write!(f, "no line has upload {upload} place {position}")
+            }
+        }
+    }
 }
 
 /// The tap of a line, and its columns.
@@ -448,56 +473,12 @@ fn class_line(
     }
 }
 
-#[tactic(auto, unfolding(crate::specs::Traced::position_fault_text))]
-fn other_tap_line(
-    alloc: Global,
-    line: u64,
-    upload: u32,
-    position: u64,
-) -> Result<String, AllocError>
-    ensures { IfOk result (λ reported. string_bytes reported
-        ≡ position_fault_text (Some (OtherTap line upload position))) }
-{
-    format!(in alloc; "line {line} has another tap than upload {upload} has at place {position}\n")
-}
-
-#[tactic(auto, unfolding(crate::specs::Traced::position_fault_text))]
-fn repeated_line(alloc: Global, line: u64, upload: u32, position: u64) -> Result<String, AllocError>
-    ensures { IfOk result (λ reported. string_bytes reported
-        ≡ position_fault_text (Some (Repeated line upload position))) }
-{
-    format!(in alloc; "line {line} has upload {upload} place {position} again\n")
-}
-
-#[tactic(auto, unfolding(crate::specs::Traced::position_fault_text))]
-fn no_line_line(alloc: Global, upload: u64, position: u64) -> Result<String, AllocError>
-    ensures { IfOk result (λ reported. string_bytes reported
-        ≡ position_fault_text (Some (NoLine upload position))) }
-{
-    format!(in alloc; "no line has upload {upload} place {position}\n")
-}
-
-#[tactic(auto, unfolding(crate::specs::Traced::position_fault_text))]
 fn position_line(alloc: Global, fault: &Option<PositionFault>) -> Result<String, AllocError>
-    ensures { IfOk result (λ reported. string_bytes reported ≡ position_fault_text fault.now) }
+    ensures { IfOk result (λ reported. string_bytes reported ≡ places_text fault.now) }
 {
-    match *fault {
+    match fault {
         None => format!(in alloc; "all places of the uploads\n"),
-        Some(
-            PositionFault::OtherTap {
-                line,
-                upload,
-                position,
-            },
-        ) => other_tap_line(alloc, line, upload, position),
-        Some(
-            PositionFault::Repeated {
-                line,
-                upload,
-                position,
-            },
-        ) => repeated_line(alloc, line, upload, position),
-        Some(PositionFault::NoLine { upload, position }) => no_line_line(alloc, upload, position),
+        Some(fault) => format!(in alloc; "{fault}\n"),
     }
 }
 
