@@ -2,13 +2,10 @@
 use Rattle.std.proofs.Common.{◌≡◌, ◌∙◌, inl, inr, ℕ, ◌+◌, ◌<◌, ◌≤◌, Bool, false, true, List, []}
 use Rattle.std.proofs.Common.{◌∷◌, ◌++◌, append_assoc, append-nil, length, Option, None, Some, refl}
 use Rattle.std.proofs.Common.{sym, ap, subst, arith, if◌then◌else◌}
-use Rattle.std.specs.Prelude.{◌&&◌, is_some, not}
-use Rattle.std.specs.Option.{option_or}
+use Rattle.std.specs.Prelude.{is_some}
 use Rattle.std.specs.Str.{bytes_eq}
-use Rattle.std.proofs.Math.Bool.{or-false}
 use Rattle.std.proofs.lemmas.Slice.Eq.{bytes_eq-Decides}
 use Rattle.tap_views.specs.declared.encoder.TapFields.{TapFields}
-use Rattle.class_names.specs.Names.{class_by}
 use Rattle.fare_texts.specs.LedgerLines.{head_text}
 use Rattle.ledger_check.specs.Columns.{cut_line, read_as, traced_head, untraced_by}
 use Rattle.ledger_check.specs.Columns.{untraced_line, untraced_lines}
@@ -16,17 +13,11 @@ use Rattle.ledger_check.specs.Lines.{IsLine, Lacks, lines_of}
 use Rattle.ledger_check.proofs.ColumnLemmas.{cut_long, untraced-append}
 use Rattle.ledger_check.proofs.LineLemmas.{lacks-append, lines-part}
 use Rattle.ledger_check.proofs.FullCheckLemmas.{split_line_at, split_part}
-use Rattle.ledger_check.specs.Positions.{uploads_of}
-use Rattle.ledger_check.specs.declared.positions.Positions.{Positions}
-use Rattle.omny_audit.specs.Traced.{AreColumnsReported, IsPositionFault, ReadLine, class_text}
-use Rattle.omny_audit.specs.Traced.{have_position, lines_read, position_text, wrong_class}
-use Rattle.omny_audit.specs.Traced.{wrong_position}
-use Rattle.omny_audit.specs.inside.Traced.{HasLines, HasPositions, HasReadAll, HasReadAs, HasTraced}
-use Rattle.omny_audit.specs.inside.Traced.{IsKeptOf, uploads_in, wanted_by, wrong_position_in}
-use Rattle.omny_audit.specs.declared.traced.PositionFault.{PositionFault}
+use Rattle.omny_audit.specs.Traced.{ReadLine, lines_read}
+use Rattle.omny_audit.specs.inside.Traced.{HasLines, HasReadAs, HasTraced, IsKeptOf, wanted_by}
+use Rattle.omny_audit.specs.inside.Traced.{wrong_position_in}
 use Rattle.omny_audit.specs.declared.traced.LinesRead.{LinesRead}
 use Rattle.omny_audit.specs.declared.traced.TracedPieces.{TracedPieces}
-use Rattle.omny_audit.specs.declared.traced.WrongClass.{WrongClass}
 
 -- ---- a line of which only some was kept
 head_short : length traced_head ≤ 352
@@ -67,11 +58,7 @@ pub untraced_more : (lines : List (List ℕ)) (line : List ℕ)
 untraced_more lines line = ap (λ (t : List ℕ). untraced_lines lines ++ t)
     (sym (append-nil (untraced_line line))) ∙ sym (untraced-append lines (line ∷ []))
 
--- ---- a line that names no tap
-pub or_none : {A : Type 0} (found : Option A) → option_or found None ≡ found
-or_none None = refl
-or_none (Some wrong) = refl
-
+-- no line has a wrong place
 pub none_wrong : (uploads : Option (List (List TapFields))) → None ≡ wrong_position_in uploads []
 none_wrong None = refl
 none_wrong (Some uploads) = refl
@@ -140,44 +127,3 @@ reads_more (Some trace) file reported (read, is) more = (
       ∙ ap (λ (t : List ℕ). t ++ untraced_lines (lines_of (is.started ++ more)))
       (sym is.lines.shown),
 )
-
--- this is reported of the columns, for some lines of the file
-abbrev ReportedOf : TracedPieces → Option PositionFault → List ℕ → Bool → Option TracedPieces → Bool
-    → Type 0
-ReportedOf trace fault file right o looked =
-    (read : List ReadLine) × AreColumnsReported (wanted_by o) looked file read
-    (class_text (class_by trace.so_far.names) trace.so_far.wrong_class
-    ++ position_text (uploads_in trace.so_far.positions) fault) right
-
--- what is reported of the columns, and whether they are right
-pub columns_reported : (trace : TracedPieces) (looked : Bool) (o : Option TracedPieces)
-    (file : List ℕ)
-    (fault : Option PositionFault) (right classes positions : Bool) → o ≡ Some trace → looked ≡ true
-    → classes ≡ not (is_some trace.so_far.wrong_class) → positions ≡ not (is_some fault)
-    → right ≡ (classes && positions)
-    → ((read : List ReadLine) → HasPositions trace.so_far.positions trace.so_far.wrong_position read
-    → IsPositionFault (uploads_in trace.so_far.positions) read fault)
-    → (looked ≡ true → HasReadAll o file)
-    → (read : List ReadLine) × AreColumnsReported (wanted_by o) looked file read
-    (class_text (class_by trace.so_far.names) trace.so_far.wrong_class
-    ++ position_text (uploads_in trace.so_far.positions) fault) right
-columns_reported trace looked o file fault right classes positions is look of_classes of_positions
-    both
-    found
-    all = subst (λ (o : Option TracedPieces). ReportedOf trace fault file right o looked)
-    (sym is)
-    (subst (λ (l : Bool). ReportedOf trace fault file right (Some trace) l) (sym look)
-    (let known = subst (λ (o : Option TracedPieces). HasReadAll o file) is (all look) in (
-      known.0,
-      (
-        known.1,
-        fault,
-        found known.0 known.2.positions,
-        ap (λ (w : Option WrongClass). class_text (class_by trace.so_far.names) w
-            ++ position_text (uploads_in trace.so_far.positions) fault) known.2.class,
-        both ∙ ap (λ (b : Bool). b && positions) (of_classes
-            ∙ ap (λ (w : Option WrongClass). not (is_some w)) known.2.class)
-            ∙ ap (λ (b : Bool). not (is_some (wrong_class (class_by trace.so_far.names) known.0))
-            && b) of_positions,
-      ),
-    )))
