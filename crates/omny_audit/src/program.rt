@@ -338,7 +338,7 @@ fn end_run<W: World>(ended: Result<bool, Fault<'_>>, world: &mut W) -> u8
     match world.flush() {
         Ok(()) if succeeded => 0,
         Ok(()) => 1,
-        Err(why) => fail(&Fault::Unwritten(why), world),
+        Err(unflushed) => fail(&Fault::Unwritten(unflushed), world),
     }
 }
 

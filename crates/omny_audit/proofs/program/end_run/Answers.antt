@@ -28,10 +28,10 @@ returns-in-Err-flush g c = λ request did ends.
     let done = rw c.in-Ok.is at ends in
     let cut = c.in-Err-flush.ensures.cut in
     rw c.fail-in-Err-flush.ensures.status (inr (record {
-      fault = Unwritten c.in-Err-flush.why;
+      fault = Unwritten c.in-Err-flush.unflushed;
       before = g.W.Inputs.run c.flush.new.self;
       fails = rw cut (unflushed request did done.0 c.in-Ok.succeeded
-          (g.W.Inputs.run c.args.world.now) c.in-Err-flush.why done.1 done.2);
+          (g.W.Inputs.run c.args.world.now) c.in-Err-flush.unflushed done.1 done.2);
       quiet = ap (λ r. r.said) cut ∙ ap (λ r. r.said) done.2;
       reported = c.fail-in-Err-flush.ensures.reported;
     }))
