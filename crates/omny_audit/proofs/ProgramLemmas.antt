@@ -6,14 +6,13 @@ use Rattle.std.specs.Str.{bytes_eq}
 use Rattle.std.specs.Prelude.{unwrap_or}
 use Rattle.ledger_check.specs.Columns.{has_traced_head, traced_head}
 use Rattle.std.proofs.lemmas.Bool.Decides.{nat_tests}
-use Rattle.std.proofs.lemmas.List.{map-append, take-append-le}
+use Rattle.std.proofs.lemmas.List.{flat_map_more, map-append, take-append-le}
+use Rattle.std.proofs.lemmas.List.Elements.{AllZip-append}
 use Rattle.clap.specs.Words.{Text}
 use Rattle.ledger_check.specs.Balances.{AreValidFields}
-use Rattle.tap_views.specs.UploadEnds.{ArePlainEnds, IsPlainEnd}
 use Rattle.tap_views.specs.declared.upload_end.UploadEnd.{UploadEnd}
 use Rattle.tap_views.specs.declared.encoder.TapFields.{TapFields}
-use Rattle.omny_audit.specs.Program.{AreValidFieldsOfAll, AreValidFieldsOfEach, HoldsOfRead}
-use Rattle.omny_audit.specs.Program.{LoadsNamedFiles, compared}
+use Rattle.omny_audit.specs.Program.{AreValidFieldsOfAll, HoldsOfRead, LoadsNamedFiles, compared}
 use Rattle.ledger_check.specs.Positions.{HasUploads}
 use Rattle.ledger_check.specs.declared.positions.Positions.{Positions}
 use Rattle.omny_audit.specs.Reports.{Given}
@@ -45,26 +44,11 @@ loads_push names name loaded loaded' loaded'' files bytes all one = record {
 pub posted_push : (uploads : List (List ℕ)) (valid : List TapFields) (upload : List ℕ)
     (taps : List TapFields) → AreValidFieldsOfAll uploads valid
     → AreValidFields upload taps → AreValidFieldsOfAll (uploads ++ upload ∷ []) (valid ++ taps)
-posted_push [] valid upload taps all one =
-    (taps, [], one, refl, ap (λ (xs : List TapFields). xs ++ taps) all ∙ sym (append-nil taps))
-posted_push (first ∷ uploads) valid upload taps all one = (
-  all.0,
-  all.1 ++ taps,
-  all.2,
-  posted_push uploads all.1 upload taps all.3 one,
-  ap (λ (xs : List TapFields). xs ++ taps) all.4 ∙ append_assoc all.0 all.1 taps,
+posted_push uploads valid upload taps (lists, each, all) one = (
+  lists ++ taps ∷ [],
+  AllZip-append AreValidFields uploads lists (upload ∷ []) (taps ∷ []) each (one, tt),
+  ap (λ (xs : List TapFields). xs ++ taps) all ∙ flat_map_more (λ list. list) [] lists taps,
 )
-
--- the taps of each upload, one more
-pub each_push : (uploads : List (List ℕ)) (lists : List (List TapFields)) (upload : List ℕ)
-    (taps : List TapFields) → AreValidFieldsOfEach uploads lists → AreValidFields upload taps
-    → AreValidFieldsOfEach (uploads ++ upload ∷ []) (lists ++ taps ∷ [])
-each_push [] [] upload taps all one = (one, refl)
-each_push [] (list ∷ lists) upload taps all one =
-    let bad : list ∷ lists ≡ [] = all in absurd (cc)
-each_push (first ∷ uploads) [] upload taps all one = absurd all
-each_push (first ∷ uploads) (list ∷ lists) upload taps all one =
-    (all.0, each_push uploads lists upload taps all.1 one)
 
 not_zero : (n : ℕ) → nat_eq (suc n) 0 ≡ false
 not_zero n = grind (arith, nat_tests)
@@ -116,14 +100,6 @@ pub read_named : (s : Stream) (name : Option Text) (bytes : List ℕ) → HasRea
 read_named s name bytes read =
     subst (λ (n : Option Text). HasRead s n bytes) (sym (ap (λ (x : Load). x.name) read.reading))
     read
-
-pub ends_push : (files : List (List ℕ)) (ends : List UploadEnd) (file : List ℕ) (end : UploadEnd)
-    → ArePlainEnds files ends → IsPlainEnd file end
-    → ArePlainEnds (files ++ file ∷ []) (ends ++ end ∷ [])
-ends_push [] [] file end are is = (is, tt)
-ends_push [] (e ∷ ends) file end are is = absurd are
-ends_push (f ∷ files) [] file end are is = absurd are
-ends_push (f ∷ files) (e ∷ ends) file end are is = (are.0, ends_push files ends file end are.1 is)
 
 -- a name that is lent, or what stands for it
 pub provided_name : (name : Option (Bor Text)) (usual : Bor Text)

@@ -23,9 +23,9 @@ loop-name-init c = (
     is_loaded = sym (append-nil c.args.files.now.loads.trace.run.loads);
   },
   record {
-    are_valid = refl;
+    are_valid = ([], tt, refl);
     balance = c.new.ensures;
-    are_lists = refl;
+    are_lists = tt;
     positions = c.new-2.ensures;
     ends = subst (ArePlainEnds []) (sym c.new-3.ensures.items) tt;
   },
