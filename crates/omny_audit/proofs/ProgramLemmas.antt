@@ -7,7 +7,7 @@ use Rattle.std.specs.Prelude.{unwrap_or}
 use Rattle.ledger_check.specs.Columns.{has_traced_head, traced_head}
 use Rattle.std.proofs.lemmas.Bool.Decides.{nat_tests}
 use Rattle.std.proofs.lemmas.List.{flat_map_more, map-append, take-append-le}
-use Rattle.std.proofs.lemmas.List.Elements.{AllZip-append}
+use Rattle.tap_views.proofs.Lists.{AllZip-append}
 use Rattle.clap.specs.Words.{Text}
 use Rattle.ledger_check.specs.Balances.{AreValidFields}
 use Rattle.tap_views.specs.declared.upload_end.UploadEnd.{UploadEnd}

@@ -1,6 +1,6 @@
 use Rattle.std.proofs.Common.{◌++◌, ◌∙◌, ◌∷◌, [], ap, subst, sym, ℕ}
 use Rattle.tap_views.specs.UploadEnds.{ArePlainEnds, IsPlainEnd, end_by}
-use Rattle.std.proofs.lemmas.List.Elements.{AllZip-append}
+use Rattle.tap_views.proofs.Lists.{AllZip-append}
 use Rattle.ledger_check.specs.Balances.{AreValidFields}
 use Rattle.omny_audit.proofs.ProgramLemmas.{posted_push}
 use Rattle.omny_audit.proofs.program.add_upload.Goals as goal

@@ -1,5 +1,5 @@
-use Rattle.std.proofs.Common.{◌≡◌, ◌∙◌, ◌≤◌, ℕ, List, [], append-nil, arith, inl, inr, map, refl}
-use Rattle.std.proofs.Common.{string_bytes, subst, suc, sym, zero}
+use Rattle.std.proofs.Common.{◌≡◌, ◌∙◌, ◌≤◌, ℕ, List, None, ap, arith, inl, inr, map, refl, rules}
+use Rattle.std.proofs.Common.{option_map, string_bytes, subst, suc, sym, tests, zero}
 use Rattle.std.specs.Prelude.{◌⊎◌}
 use Rattle.clap.specs.Words.{HasKind, IsAmong, Kinds, Text, kind_of}
 use Rattle.clap.specs.declared.error.Error.{Error}
@@ -9,7 +9,10 @@ use Rattle.program_manners.proofs.Refusals.{only_memory}
 use Rattle.program_manners.specs.Words.{IsRequest}
 use Rattle.world.specs.Run.{Run}
 use Rattle.world.specs.Writes.{IsSaid}
-use Rattle.omny_audit.specs.Ends.{EndsAnswer, IsPrinted, did_by}
+use Rattle.program_manners.specs.TableViews.{names_of}
+use Rattle.program_manners.specs.TableWords.{wrong_word}
+use Rattle.omny_audit.specs.Ends.{EndsAnswer, IsPrinted, IsRefused, did_by}
+use Rattle.omny_audit.specs.inside.Options.{audit_request_of}
 use Rattle.omny_audit.specs.Options.{AsksForAuditText}
 use Rattle.omny_audit.specs.declared.fault.Fault.TheVariants.{NoMemory}
 use Rattle.omny_audit.proofs.Causes.{started_none}
@@ -35,6 +38,11 @@ answer_is words old new (suc zero) few none two = tt
 answer_is words old new (suc (suc zero)) few none two = two refl
 answer_is words old new (suc (suc (suc n))) few none two = absurd (omega (arith, few))
 
+refused_is : (words : List Text) (old new : Run) (n : ℕ) → IsRefused old new n
+    → EndsAnswer words old new n
+refused_is words old new n (inl two, said) = rw two said
+refused_is words old new n (inr one, said) = rw one tt
+
 -- words that are a command line are refused for want of memory alone
 pub returns-in-Err-clause-ends : goal.returns-in-Err-clause-ends
 returns-in-Err-clause-ends g c = record {
@@ -55,4 +63,32 @@ returns-in-Err-clause-ends g c = record {
         c.show.ensures.refused,
     record { unloaded = refl; unread = c.requires },
   );
+}
+
+-- a table has a wrong date
+pub returns-in-Some-clause-ends : goal.returns-in-Some-clause-ends
+returns-in-Some-clause-ends g c =
+    let request = c.in-Ok.ensures.request in
+    let wrong = c.wrong_word.ensures in
+    record {
+      command = λ is. let none = rw (sym request) at is.1 in absurd cc;
+      answer = λ no. (
+        refused_is (map string_bytes c.args.words.now) _ _ c.say.result c.say.ensures,
+        record { unloaded = refl; unread = c.requires },
+      );
+    }
+
+pub returns-clause-ends : goal.returns-clause-ends
+returns-clause-ends g c = record {
+  command = λ is. rw (sym c.in-Ok.ensures.request)
+      (c.end_run.ensures (audit_request_of c.in-Ok.options)
+      (did_by c.args.files.now.loads c.audit-ended.new.files.loads c.audit-ended.new.ledger.trace
+      (g.W.Inputs.run c.args.world.now) (g.W.Inputs.run c.audit-ended.new.world))
+      c.audit-ended.ensures);
+  answer = λ no. absurd (no (
+    c.in-Ok.ensures.kinds,
+    (let none : wrong_word (names_of c.in-Ok.options.table) ≡ None =
+        sym c.wrong_word.ensures ∙ ap (option_map wrong_of) (search (rules, tests)) in
+        rw (sym c.in-Ok.ensures.request) none),
+  ));
 }
