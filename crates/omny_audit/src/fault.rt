@@ -58,6 +58,7 @@ pub(crate) fn fail<W: World>(fault: &Fault<'_>, world: &mut W) -> u8
 }
 
 /// The line of why fare tables were not loaded.
+#[derive(Clone, Copy)]
 struct TablesLine<'a>(TablesFault<'a>);
 
 impl fmt::Display for TablesLine<'_> {

@@ -327,7 +327,7 @@ fn show<W: World>(alloc: Global, error: &Error, world: &mut W) -> u8
 
 /// Flushes the output after the finding. A flush that fails is reported as a write is.
 fn end_run<W: World>(ended: Result<bool, Fault<'_>>, world: &mut W) -> u8
-    ensures ends { (request : AuditRequest) (did : Did)
+    ensures { (request : AuditRequest) (did : Did)
         → EndsAudit request (record did { new = W.run world.old }) ended.entry
         → EndsRun request (record did { new = W.run world.new }) result }
 {

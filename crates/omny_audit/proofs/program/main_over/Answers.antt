@@ -1,5 +1,5 @@
 use Rattle.std.proofs.Common.{◌≡◌, ◌∙◌, ◌≤◌, ℕ, List, None, ap, arith, inl, inr, map, refl, rules}
-use Rattle.std.proofs.Common.{option_map, string_bytes, subst, suc, sym, tests, zero}
+use Rattle.std.proofs.Common.{Some, option_map, string_bytes, subst, suc, sym, tests, zero}
 use Rattle.std.specs.Prelude.{◌⊎◌}
 use Rattle.clap.specs.Words.{HasKind, IsAmong, Kinds, Text, kind_of}
 use Rattle.clap.specs.declared.error.Error.{Error}
@@ -9,7 +9,7 @@ use Rattle.program_manners.proofs.Refusals.{only_memory}
 use Rattle.program_manners.specs.Words.{IsRequest}
 use Rattle.world.specs.Run.{Run}
 use Rattle.world.specs.Writes.{IsSaid}
-use Rattle.program_manners.specs.TableViews.{names_of}
+use Rattle.program_manners.specs.TableViews.{names_of, wrong_of}
 use Rattle.program_manners.specs.TableWords.{wrong_word}
 use Rattle.omny_audit.specs.Ends.{EndsAnswer, IsPrinted, IsRefused, did_by}
 use Rattle.omny_audit.specs.inside.Options.{audit_request_of}
@@ -67,16 +67,17 @@ returns-in-Err-clause-ends g c = record {
 
 -- a table has a wrong date
 pub returns-in-Some-clause-ends : goal.returns-in-Some-clause-ends
-returns-in-Some-clause-ends g c =
-    let request = c.in-Ok.ensures.request in
-    let wrong = c.wrong_word.ensures in
-    record {
-      command = λ is. let none = rw (sym request) at is.1 in absurd cc;
-      answer = λ no. (
-        refused_is (map string_bytes c.args.words.now) _ _ c.say.result c.say.ensures,
-        record { unloaded = refl; unread = c.requires },
-      );
-    }
+returns-in-Some-clause-ends g c = record {
+  command = λ is.
+      let none = rw (sym c.in-Ok.ensures.request) at is.1 in
+      let bad : Some (wrong_of c.in-Some.wrong) ≡ None =
+      sym (ap (option_map wrong_of) c.in-Some.is) ∙ c.wrong_word.ensures ∙ none in
+      absurd cc;
+  answer = λ no. (
+    refused_is (map string_bytes c.args.words.now) _ _ c.say.result c.say.ensures,
+    record { unloaded = refl; unread = c.requires },
+  );
+}
 
 pub returns-clause-ends : goal.returns-clause-ends
 returns-clause-ends g c = record {
@@ -85,10 +86,8 @@ returns-clause-ends g c = record {
       (did_by c.args.files.now.loads c.audit-ended.new.files.loads c.audit-ended.new.ledger.trace
       (g.W.Inputs.run c.args.world.now) (g.W.Inputs.run c.audit-ended.new.world))
       c.audit-ended.ensures);
-  answer = λ no. absurd (no (
-    c.in-Ok.ensures.kinds,
-    (let none : wrong_word (names_of c.in-Ok.options.table) ≡ None =
-        sym c.wrong_word.ensures ∙ ap (option_map wrong_of) (search (rules, tests)) in
-        rw (sym c.in-Ok.ensures.request) none),
-  ));
+  answer = λ no.
+      let none : wrong_word (names_of c.in-Ok.options.table) ≡ None =
+      first_of (cc, search (rules, tests)) in
+      absurd (no (c.in-Ok.ensures.kinds, rw (sym c.in-Ok.ensures.request) none));
 }
