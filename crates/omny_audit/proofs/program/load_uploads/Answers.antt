@@ -64,3 +64,13 @@ returns-in-Err-clause-fault c =
       one_of name (map (λ n. n.now) names) (is_one_at names k no_name _ c.loop-name-test.true refl),
       c.in-Err.ensures.fault,
     )
+
+pub returns-in_default-clause-fault : goal.returns-in_default-clause-fault
+returns-in_default-clause-fault c =
+    let names = c.args.names.now in
+    let k = c.loop-name.name-index in
+    let name = (get_or names k no_name).now in (
+      name,
+      one_of name (map (λ n. n.now) names) (is_one_at names k no_name _ c.loop-name-test.true refl),
+      tt,
+    )
