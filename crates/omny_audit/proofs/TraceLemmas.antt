@@ -114,6 +114,10 @@ module _ (trace after : TracedPieces) (file text : List ℕ) (read : List ReadLi
       ∙ sym (split_end ∙ ap (λ (ls : List (List ℕ)). lines_read read ++ ls)
       (lines-part is.started is.lacks (kept_some trace.started.items is.started is.kept some)))
 
+pub with_text : (trace : TracedPieces) (file text text' : List ℕ) (read : List ReadLine)
+    → text ≡ text' → HasTraced trace file text read → HasTraced trace file text' read
+with_text trace file text text' read same is = rw (sym same) is
+
 -- what is read of a file that goes on
 pub reads_more : (trace : Option TracedPieces) (file reported : List ℕ)
     → HasReadAs trace file reported

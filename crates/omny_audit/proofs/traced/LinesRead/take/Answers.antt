@@ -15,7 +15,11 @@ returns-clause-read c = λ whole before read kept has.
       refl,
       record {
         are = (has.are, rw (sym same.0) c.in_ok-named.ensures.names);
-        looked = c.in_ok-look.ensures.looked read whole has.looked;
+        looked = c.in_ok-look.ensures.looked read whole (record {
+          count = has.looked.count;
+          class = has.looked.class;
+          positions = has.looked.positions;
+        });
         shown = ap (λ (t : List ℕ). before ++ t) c.in_ok-named.ensures.text
             ∙ sym (append_assoc before text (untraced_line line))
             ∙ ap (λ (t : List ℕ). t ++ untraced_line line) has.shown

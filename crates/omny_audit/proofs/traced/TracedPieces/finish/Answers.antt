@@ -1,4 +1,4 @@
-use Rattle.std.proofs.Common.{◌<◌, ◌≤◌, List, ℕ, length, sym, subst, arith}
+use Rattle.std.proofs.Common.{◌<◌, ◌≤◌, ◌∷◌, List, ℕ, length, sym, subst, arith}
 use Rattle.std.proofs.lemmas.Bool.Decides.{nat_tests}
 use Rattle.ledger_check.proofs.LineEnds.{empty_list}
 use Rattle.omny_audit.specs.inside.Traced.{IsKeptOf}
@@ -21,4 +21,4 @@ returns-clause-read c = λ file before read is.
     let kept = subst (λ (k : List ℕ). IsKeptOf k is.started) (sym c.as_slice.ensures.value)
     is.kept in
     let next = c.in_ok-take.ensures.read is.started before read kept is.lines in
-    (_, ended_cut trace trace file _ read is next.0.line some next.1, next.2)
+    (next.0 ∷ read, ended_cut trace trace file _ read is next.0.line some next.1, next.2)
