@@ -28,12 +28,13 @@ own_of : ReportVerdictsDecide → (ends : Option (List UploadEnd)) (fares : Fare
     (report : Option (List ℕ)) (right : Bool) (verdict : Option ReportVerdict)
     (entries : List Entry) → IsVerdictOn ends fares ledger report right verdict
     → fits report verdict ≡ true → IsLedgerOf fares entries ledger → HasOwnReport ends report entries
-own_of verdicts ends fares ledger None right verdict entries is yes of = tt
-own_of verdicts ends fares ledger (Some report) right None entries is yes of =
-    absurd (false_true yes)
-own_of verdicts ends fares ledger (Some report) false (Some verdict) entries is yes of = absurd cc
-own_of verdicts ends fares ledger (Some report) true (Some verdict) entries is yes of =
-    (verdicts ends entries report verdict (is entries of)).0 yes
+own_of verdicts ends fares ledger None right verdict entries is holds of = tt
+own_of verdicts ends fares ledger (Some report) right None entries is holds of =
+    absurd (false_true holds)
+own_of verdicts ends fares ledger (Some report) false (Some verdict) entries is holds of =
+    let bad : ◌≡◌ {A = Option ReportVerdict} (Some verdict) None = is in absurd (cc)
+own_of verdicts ends fares ledger (Some report) true (Some verdict) entries is holds of =
+    (verdicts ends entries report verdict (is entries of)).0 holds
 
 -- and that of the ledger's entries fits
 fits_of : ReportVerdictsDecide → (ends : Option (List UploadEnd)) (fares : Fares) (ledger : List ℕ)
@@ -41,11 +42,11 @@ fits_of : ReportVerdictsDecide → (ends : Option (List UploadEnd)) (fares : Far
     (entries : List Entry) → right ≡ true → IsVerdictOn ends fares ledger report right verdict
     → IsLedgerOf fares entries ledger → HasOwnReport ends report entries
     → fits report verdict ≡ true
-fits_of verdicts ends fares ledger None right verdict entries yes is of own = refl
-fits_of verdicts ends fares ledger (Some report) false verdict entries yes is of own =
-    absurd (false_true yes)
-fits_of verdicts ends fares ledger (Some report) true None entries yes is of own = absurd is
-fits_of verdicts ends fares ledger (Some report) true (Some verdict) entries yes is of own =
+fits_of verdicts ends fares ledger None right verdict entries holds is of own = refl
+fits_of verdicts ends fares ledger (Some report) false verdict entries holds is of own =
+    absurd (false_true holds)
+fits_of verdicts ends fares ledger (Some report) true None entries holds is of own = absurd is
+fits_of verdicts ends fares ledger (Some report) true (Some verdict) entries holds is of own =
     (verdicts ends entries report verdict (is entries of)).1 own
 
 -- columns that are right

@@ -13,7 +13,7 @@ ghost use Rattle.ledger_check.specs.Taps.{IsTapOfLine};
 ghost use Rattle.omny_audit.specs.Traced.{AreColumnsReported, IsFaultAfter, IsPositionFault};
 ghost use Rattle.omny_audit.specs.Traced.{NamesTapWithColumns, ReadLine, class_fault, class_text};
 ghost use Rattle.omny_audit.specs.Traced.{fault_by, fault_text, lines_read, places_text};
-ghost use Rattle.omny_audit.specs.Traced.{position_text};
+ghost use Rattle.omny_audit.specs.Traced.{place_text, position_text};
 ghost use Rattle.omny_audit.specs.Traced.{traced_by};
 ghost use Rattle.omny_audit.specs.declared.traced.PositionFault.{PositionFault as AFault};
 ghost use Rattle.omny_audit.specs.inside.Traced.{HasLines, HasLooked, HasPositions, HasReadAll};
@@ -65,6 +65,21 @@ pub(crate) enum PositionFault {
     },
 }
 
+/// An upload, from 0, and an index there, from 1.
+#[derive(Clone, Copy)]
+struct Place {
+    upload: u64,
+    position: u64,
+}
+
+impl fmt::Display for Place {
+    ghost output = { λ place. Some (place_text place.upload place.position) };
+
+    fn fmt<W: fmt::Write>(&self, f: &mut fmt::Formatter<W>) -> fmt::Result {
+        write!(f, "upload {} place {}", self.upload, self.position)
+    }
+}
+
 impl fmt::Display for PositionFault {
     ghost output = { λ fault. Some (fault_text fault) };
 
@@ -82,9 +97,19 @@ impl fmt::Display for PositionFault {
                 line,
                 upload,
                 position,
-            } => write!(f, "line {line} has upload {upload} place {position} again"),
+            } => {
+                let place = Place {
+                    upload: *upload as u64,
+                    position: *position,
+                };
+                write!(f, "line {line} has {place} again")
+            }
             PositionFault::NoLine { upload, position } => {
-                write!(f, "no line has upload {upload} place {position}")
+                let place = Place {
+                    upload: *upload,
+                    position: *position,
+                };
+                write!(f, "no line has {place}")
             }
         }
     }
@@ -112,7 +137,8 @@ fn put_other(text: &mut Vec<u8>, line: &[u8]) -> Result<(), AllocError>
     if are_same(line, traced_head_line()) {
         return text.extend_from_slice(head_line().as_bytes());
     }
-    text.push(b'\n')
+    text.push(b'\n')?;
+    Ok(())
 }
 
 /// Gives the tap that the fields name, if any. The line replaces what is in `line`, and the text in
@@ -137,7 +163,7 @@ fn put_fields(
 }
 
 fn placed<'a>(cut: CutLine<'a>, tap: Option<TapFields>) -> Option<PlacedLine<'a>>
-    ensures { option_map placed_of result ≡ option_map (traced_by (cut_of cut)) tap }
+    ensures { option_map placed_of result ≡ option_map (traced_by (cut_of cut.entry)) tap }
 {
     match tap {
         None => None,

@@ -4,6 +4,7 @@ use Rattle.std.proofs.Common.{append_assoc, refl, rules, subst, sym, tests}
 use Rattle.world.specs.Run.{Load}
 use Rattle.world.specs.declared.stream.Stream.{Stream}
 use Rattle.program_manners.proofs.Shown.{is_shown}
+use Rattle.program_manners.specs.Refusals.{IsShown}
 use Rattle.omny_audit.specs.declared.fault.Fault.TheVariants.{Ledger, NoMemory}
 use Rattle.omny_audit.specs.inside.Audits.{GoesOn, given_in}
 use Rattle.omny_audit.proofs.Audits.{Steps, all_found, cut_off, interrupted, nothing_written, went_on}
@@ -128,7 +129,8 @@ returns-in-Err-read-clause-ends g c = λ valid has.
     next.1 (before.so_far valid has) (rw c.deref.ensures.value at c.in-Ok.ensures)
     c.loop-piece.ledger name before.read before.whole none
     (rw c.as_slice.ensures.value at c.in_default-write.ensures.whole))
-    (rw (ap (λ (x : Load). x.name) read.0) (is_shown c.loop-piece.ledger.trace.run
+    (subst (λ (n : Option (List ℕ)). IsShown c.read.new.self.trace.run (n, c.in-Err-read.why))
+    (sym (ap (λ (x : Load). x.name) read.0)) (is_shown c.loop-piece.ledger.trace.run
     c.read.new.self.trace.run name c.in-Err-read.why read.1))
 
 pub returns-in-Err-read-clause-goes : goal.returns-in-Err-read-clause-goes

@@ -1,4 +1,4 @@
-use Rattle.std.proofs.Common.{◌≡◌, ◌∙◌, ◌++◌, Bool, List, ap, append_assoc, append-nil, false, map}
+use Rattle.std.proofs.Common.{[], None, Some, ◌≡◌, ◌∙◌, ◌++◌, Bool, List, ap, append_assoc, append-nil, false, map}
 use Rattle.std.proofs.Common.{refl, rules, string_bytes, sym, tests, true, ℕ}
 use Rattle.std.specs.Prelude.{◌&&◌, ◌||◌, not}
 use Rattle.std.proofs.lemmas.Bool.{false≢true}
@@ -26,7 +26,7 @@ returns-then-not-is_legal-clause-found c = λ fares text valid is right.
           second = rw none refl;
         };
         sound = wrong_right c.args.live fares text _ verdict is decide none;
-        legal = wrong_ledger c.args.live fares text _ verdict is decide none;
+        legal = wrong_ledger c.args.live fares text None verdict is decide none;
         sums = λ yes. absurd (false≢true yes);
       },
     )
@@ -49,11 +49,11 @@ returns-then-not-subtracts-clause-found c = λ fares text valid is right.
           shown = sym (append-nil (verdict_text verdict));
           second = rw some refl;
         };
-        sound = legal_right c.args.live fares text _ verdict is decide true c.is_either-in_order.result
-            some (c.is_either-in_order.ensures
+        sound = legal_right c.args.live fares text None verdict is decide true
+            c.is_either-in_order.result some (c.is_either-in_order.ensures
             ∙ ap (λ (b : Bool). c.args.live || not b) c.has_early.ensures)
             (λ entries of. (λ yes. tt, λ taps. refl));
-        legal = legal_ledger c.args.live fares text _ verdict is decide some;
+        legal = legal_ledger c.args.live fares text None verdict is decide some;
         sums = λ yes entries of. (right some entries of).1;
       },
     )
@@ -81,16 +81,19 @@ returns-clause-found c = λ fares text valid is right.
           second = rw legal (
             difference,
             wrote.1,
-            λ entries of. c.difference-difference.ensures valid _ (right legal entries of).0,
+            λ entries of. c.difference-difference.ensures valid (map tap_of_entry entries)
+                (right legal entries of).0,
           );
         };
-        sound = legal_right c.args.live fares text _ verdict is decide even c.are_both.result legal
+        sound = legal_right c.args.live fares text (Some valid) verdict is decide even
+            c.are_both.result legal
             (c.are_both.ensures ∙ ap (λ (b : Bool). even && b) (c.is_either-in_order.ensures
             ∙ ap (λ (b : Bool). c.args.live || not b) c.has_early.ensures))
             (λ entries of. rw c.is_even.ensures (even_is c.differences_are_real.ensures.apart valid
             (map tap_of_entry entries) difference
-            (c.difference-difference.ensures valid _ (right legal entries of).0)));
-        legal = legal_ledger c.args.live fares text _ verdict is decide legal;
+            (c.difference-difference.ensures valid (map tap_of_entry entries)
+            (right legal entries of).0)));
+        legal = legal_ledger c.args.live fares text (Some valid) verdict is decide legal;
         sums = λ yes entries of. (right legal entries of).1;
       },
     )

@@ -38,10 +38,11 @@ returns-in_default g c = (record { is_cause = tt; started = started_none _ _ }, 
 pub returns-in-Err-load_uploads : goal.returns-in-Err-load_uploads
 returns-in-Err-load_uploads g c =
     let request = audit_request_of c.args.options.now in
+    let run = g.W.Inputs.run c.args.world.now in
     let (name, one, is) = c.in-Err-load_uploads.ensures.fault in (
       record {
-        is_cause = load_cause request c.args.files.now.loads c.load_uploads.new.files.loads _ _ _
-            name c.in-Err-load_uploads.fault (among_uploads request name
+        is_cause = load_cause request c.args.files.now.loads c.load_uploads.new.files.loads
+            c.args.ledger.now.trace run run name c.in-Err-load_uploads.fault (among_uploads request name
             (subst (λ (ns : List (Bor (List ℕ))). Contains (map (λ n. n.now) ns) name)
             c.as_slice-names.ensures.value one)) is;
         started = started_none _ _;
@@ -52,10 +53,11 @@ returns-in-Err-load_uploads g c =
 pub returns-in-Err-load_report : goal.returns-in-Err-load_report
 returns-in-Err-load_report g c =
     let request = audit_request_of c.args.options.now in
+    let run = g.W.Inputs.run c.args.world.now in
     let (name, one, is) = c.in-Err-load_report.ensures.fault in (
       record {
-        is_cause = load_cause request c.args.files.now.loads c.load_report.new.files.loads _ _ _
-            name c.in-Err-load_report.fault (among_reports request name one) is;
+        is_cause = load_cause request c.args.files.now.loads c.load_report.new.files.loads
+            c.args.ledger.now.trace run run name c.in-Err-load_report.fault (among_reports request name one) is;
         started = started_none _ _;
       },
       refl,

@@ -13,11 +13,13 @@ pub returns-in-Err-clause-fault : goal.returns-in-Err-clause-fault
 returns-in-Err-clause-fault g c = rw c.in-Some.is (
   c.in-Some.name.now,
   Contains-push [] c.in-Some.name.now,
-  refl,
-  has_refused (Some (refusal_of c.load.new.self.loads.last.value)) (Some c.in-Some.name.now)
-      c.in-Err.fault c.in-Err.ensures.fault,
+  (
+    refl,
+    has_refused (Some (refusal_of c.load.new.self.loads.last.value)) (Some c.in-Some.name.now)
+        c.in-Err.fault c.in-Err.ensures.fault,
+  ),
 )
 
-pub returns-in_default-clause-fault : goal.returns-in_default-clause-fault
-returns-in_default-clause-fault g c =
+pub returns-in_default-new-clause-fault : goal.returns-in_default-new-clause-fault
+returns-in_default-new-clause-fault g c =
     rw c.in-Some.is (c.in-Some.name.now, Contains-push [] c.in-Some.name.now, tt)

@@ -13,7 +13,7 @@ use Rattle.program_manners.specs.TableViews.{names_of, wrong_of}
 use Rattle.program_manners.specs.TableWords.{wrong_word}
 use Rattle.omny_audit.specs.Ends.{EndsAnswer, IsPrinted, IsRefused, did_by}
 use Rattle.omny_audit.specs.inside.Options.{audit_request_of}
-use Rattle.omny_audit.specs.Options.{AsksForAuditText}
+use Rattle.omny_audit.specs.Options.{AsksForAuditText, AuditRequest}
 use Rattle.omny_audit.specs.declared.fault.Fault.TheVariants.{NoMemory}
 use Rattle.omny_audit.proofs.Causes.{started_none}
 use Rattle.omny_audit.proofs.program.main_over.Goals as goal
@@ -69,9 +69,9 @@ returns-in-Err-clause-ends g c = record {
 pub returns-in-Some-clause-ends : goal.returns-in-Some-clause-ends
 returns-in-Some-clause-ends g c = record {
   command = λ is.
-      let none = rw (sym c.in-Ok.ensures.request) at is.1 in
       let bad : Some (wrong_of c.in-Some.wrong) ≡ None =
-      sym (ap (option_map wrong_of) c.in-Some.is) ∙ c.wrong_word.ensures ∙ none in
+      sym (ap (option_map wrong_of) c.in-Some.is) ∙ c.wrong_word.ensures
+      ∙ ap (λ (r : AuditRequest). wrong_word r.table) c.in-Ok.ensures.request ∙ is.1 in
       absurd cc;
   answer = λ no. (
     refused_is (map string_bytes c.args.words.now) _ _ c.say.result c.say.ensures,
@@ -89,5 +89,8 @@ returns-clause-ends g c = record {
   answer = λ no.
       let none : wrong_word (names_of c.in-Ok.options.table) ≡ None =
       first_of (cc, search (rules, tests)) in
-      absurd (no (c.in-Ok.ensures.kinds, rw (sym c.in-Ok.ensures.request) none));
+      absurd (no (
+        c.in-Ok.ensures.kinds,
+        sym (ap (λ (r : AuditRequest). wrong_word r.table) c.in-Ok.ensures.request) ∙ none,
+      ));
 }

@@ -1,4 +1,4 @@
-use Rattle.std.proofs.Common.{List, None, Option, Some, ◌≡◌, rules, subst, tests, true}
+use Rattle.std.proofs.Common.{List, None, Option, Some, ◌≡◌, rules, subst, sym, tests, true}
 use Rattle.std.specs.Prelude.{IfSome}
 use Rattle.std.proofs.lemmas.Option.{same_Some}
 use Rattle.histories.specs.declared.entry.Entry.{Entry}

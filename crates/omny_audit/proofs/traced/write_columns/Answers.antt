@@ -22,13 +22,15 @@ returns c =
           let known = rw c.in-Some.is at (all looked) in
           rw (c.in-Some.is, looked) (
             known.0,
-            known.1,
-            positions.0,
-            positions.3 known.0 known.2.positions,
-            ap (λ (w : Option WrongClass). class_text (class_by so_far.names) w ++ second)
-                known.2.class,
-            c.are_both.ensures ∙ ap₂ (λ (a b : Bool). a && b)
-                (classes.right ∙ ap (λ (w : Option WrongClass). not (is_some w)) known.2.class)
-                positions.2,
+            (
+              known.1,
+              positions.0,
+              positions.3 known.0 known.2.positions,
+              ap (λ (w : Option WrongClass). class_text (class_by so_far.names) w ++ second)
+                  known.2.class,
+              c.are_both.ensures ∙ ap₂ (λ (a b : Bool). a && b)
+                  (classes.right ∙ ap (λ (w : Option WrongClass). not (is_some w)) known.2.class)
+                  positions.2,
+            ),
           ),
     )
