@@ -13,8 +13,8 @@ use Rattle.std.specs.declared.cmp.Ordering.TheVariants.{Less, Equal, Greater}
 use Rattle.std.proofs.lemmas.Bool.Decides.{nat_tests}
 use Rattle.std.proofs.lemmas.Cmp.{nat_cmp_total}
 use Rattle.std.proofs.lemmas.List.{length-map, map-append}
-use Rattle.std.proofs.lemmas.List.Elements.{All-head, All-tail, All-nil, All-cons}
-use Rattle.std.proofs.lemmas.List.Elements.{recursion_from_All}
+use Rattle.std.proofs.lemmas.List.Elements.{All-append, All-cons, All-head, All-nil, All-tail, All-weaker}
+use Rattle.std.proofs.lemmas.List.Elements.{All-from_recursion, recursion_from_All}
 use Rattle.std.proofs.lemmas.Map.Views.{All-insert_key}
 use Rattle.tap_views.specs.Token.{token_cmp}
 use Rattle.tap_views.specs.TokenOrder.{AreBelow}
@@ -133,13 +133,8 @@ pub below_increasing : (last : Option Token) (keys : List Token) → LastIsBelow
 below_increasing None keys below = tt
 below_increasing (Some last) keys below =
     recursion_from_All (λ t. token_cmp last t ≡ Less) (increasing token_cmp keys)
-    (all_ascending token_cmp (λ t. token_cmp last t ≡ Less) keys (from_recursion keys below))
-  where
-    from_recursion : (ks : List Token) → AllByRecursion (λ t. token_cmp last t ≡ Less) ks
-        → All (λ t. token_cmp last t ≡ Less) ks
-    from_recursion [] all = All-nil (λ t. token_cmp last t ≡ Less)
-    from_recursion (k ∷ ks) all =
-        All-cons (λ t. token_cmp last t ≡ Less) k ks all.0 (from_recursion ks all.1)
+    (all_ascending token_cmp (λ t. token_cmp last t ≡ Less) keys
+    (All-from_recursion (λ t. token_cmp last t ≡ Less) keys below))
 
 pub tokens_increase : (last : Option Token) (history : List Entry)
     → LastIsBelow last (map token_of history) → are_tokens_increasing last (sums_by_token history)
@@ -356,13 +351,6 @@ part_right p fits few =
     }
 
 -- ---- all parts
-below_append : (xs ys zs : List Token) → AreBelow xs zs → AreBelow ys zs → AreBelow (xs ++ ys) zs
-below_append [] ys zs front back = back
-below_append (x ∷ xs) ys zs front back =
-    All-cons (λ t. All (λ u. token_cmp t u ≡ Less) zs) x (xs ++ ys)
-    (All-head (λ t. All (λ u. token_cmp t u ≡ Less) zs) x xs front)
-    (below_append xs ys zs (All-tail (λ t. All (λ u. token_cmp t u ≡ Less) zs) x xs front) back)
-
 all_front : (P : Token → Type 0) (xs ys : List Token) → All P (xs ++ ys) → All P xs × All P ys
 all_front P [] ys all = (All-nil P, all)
 all_front P (x ∷ xs) ys all =
@@ -370,15 +358,12 @@ all_front P (x ∷ xs) ys all =
     (All-cons P x xs (All-head P x (xs ++ ys) all) front, back)
 
 below_both : (xs ys zs : List Token) → AreBelow xs (ys ++ zs) → AreBelow xs ys × AreBelow xs zs
-below_both [] ys zs below = (All-nil _, All-nil _)
-below_both (x ∷ xs) ys zs below =
-    let (front, back) = all_front (λ u. token_cmp x u ≡ Less) ys zs
-    (All-head (λ t. All (λ u. token_cmp t u ≡ Less) (ys ++ zs)) x xs below) in
-    let (fronts, backs) = below_both xs ys zs
-    (All-tail (λ t. All (λ u. token_cmp t u ≡ Less) (ys ++ zs)) x xs below) in (
-      All-cons (λ t. All (λ u. token_cmp t u ≡ Less) ys) x xs front fronts,
-      All-cons (λ t. All (λ u. token_cmp t u ≡ Less) zs) x xs back backs,
-    )
+below_both xs ys zs below = (
+  All-weaker (λ t. All (λ u. token_cmp t u ≡ Less) (ys ++ zs)) (λ t. All (λ u. token_cmp t u ≡ Less) ys)
+      (λ t all. (all_front (λ u. token_cmp t u ≡ Less) ys zs all).0) xs below,
+  All-weaker (λ t. All (λ u. token_cmp t u ≡ Less) (ys ++ zs)) (λ t. All (λ u. token_cmp t u ≡ Less) zs)
+      (λ t all. (all_front (λ u. token_cmp t u ≡ Less) ys zs all).1) xs below,
+)
 
 abbrev pub spans_of : List HistoryPart → List (List FileSpan)
 spans_of parts = map (λ (p : HistoryPart). p.spans) parts
@@ -446,8 +431,8 @@ module _ {files : ℕ} {taps : List ℕ} {history : List Entry} {last : Option T
     increase = goes.increase.1;
     above = subst (λ (ts : List Token). AreBelow ts (map token_of (whole_history ps)))
         (sym (tokens_both history p.history))
-        (below_append (map token_of history) (map token_of p.history)
-        (map token_of (whole_history ps)) aboves.1 goes.increase.0);
+        (All-append (λ t. All (λ u. token_cmp t u ≡ Less) (map token_of (whole_history ps)))
+        (map token_of history) (map token_of p.history) aboves.1 goes.increase.0);
     below = next_last last p.history (map token_of (whole_history ps)) belows.1 goes.increase.0;
     fit = goes.fit.1;
     few = subst (λ n. n < 2 ^ 64)

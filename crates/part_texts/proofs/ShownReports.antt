@@ -33,7 +33,7 @@ use Rattle.part_texts.proofs.ShownFronts.{FrontLeads, head_taken, last_key, post
 use Rattle.part_texts.proofs.ShownFronts.{spans_taken, tokens_head_taken, totals_taken}
 use Rattle.part_texts.proofs.ShownFronts.{uploads_taken, validators_head_taken, validators_taken}
 use Rattle.part_texts.proofs.ShownSections.{never, tokens_at, tokens_end, tokens_taken}
-use Rattle.part_texts.proofs.WholeTexts.{map_length}
+use Rattle.std.proofs.lemmas.List.{length-map}
 
 -- where the fold stands behind the parts so far, at this stage
 abbrev pub trailing : Bool → Bool → Stage → Sums → Sums → SoFar → FrontsView
@@ -63,16 +63,12 @@ front_lines p =
 text_parts : (p : PartReport) → length p.taps ≡ length p.spans
     → part_text p ≡ front_lines p ++ flat_map token_line p.tokens
 text_parts p same =
-    ap (λ n. (number_line (codes "part files ") (length p.spans) ++ span_lines 0 p.spans)
-    ++ ((number_line (codes "uploads ") n ++ upload_lines 0 (map Posted p.taps))
-    ++ (totals_line p.totals ++ ((number_line (codes "validators ") (length p.validators)
-    ++ flat_map validator_line p.validators) ++ (number_line (codes "tokens ") (length p.tokens)
-    ++ flat_map token_line p.tokens))))) (map_length Posted p.taps ∙ same)
-    ∙ joined (number_line (codes "part files ") (length p.spans) ++ span_lines 0 p.spans)
+    rw (length-map p.taps Posted, same)
+    (joined (number_line (codes "part files ") (length p.spans) ++ span_lines 0 p.spans)
     (number_line (codes "uploads ") (length p.spans) ++ upload_lines 0 (map Posted p.taps))
     (totals_line p.totals) (number_line (codes "validators ") (length p.validators)
     ++ flat_map validator_line p.validators) (number_line (codes "tokens ") (length p.tokens))
-    (flat_map token_line p.tokens)
+    (flat_map token_line p.tokens))
   where
     joined : (a b c d e t : List ℕ) → a ++ (b ++ (c ++ (d ++ (e ++ t)))) ≡ (a ++ (b ++ (c ++ (d ++ e)))) ++ t
     joined a b c d e t = simp append_assoc
