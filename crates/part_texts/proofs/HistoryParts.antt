@@ -1,8 +1,7 @@
 -- Reports of parts of a history follow each other, and are merged into the report of the whole.
-use Rattle.std.proofs.Common.{◌≡◌, ◌∙◌, ◌+◌, ◌<◌, ◌≤◌, ◌^◌, ◌||◌, ℕ, Bool, true, false, List}
-use Rattle.std.proofs.Common.{[], ◌∷◌, ◌++◌, length, map}
-use Rattle.std.proofs.Common.{Option, Some, None, Ok, refl, sym, ap, subst, arith}
-use Rattle.std.proofs.Common.{append_assoc, append-nil, length-append, All}
+use Rattle.std.proofs.Common.{◌≡◌, ◌∙◌, ◌+◌, ◌<◌, ◌≤◌, ◌^◌, ◌||◌, ℕ, Bool, true, false, List, []}
+use Rattle.std.proofs.Common.{◌∷◌, ◌++◌, length, map, Option, Some, None, Ok, refl, sym, ap, subst}
+use Rattle.std.proofs.Common.{arith, append_assoc, append-nil, length-append, All}
 use Rattle.std.specs.Prelude.{nat_eq, nat_lt}
 use Rattle.std.specs.BTreeSet.{insert_key}
 use Rattle.std.specs.List.{AllByRecursion}
@@ -38,10 +37,9 @@ use Rattle.part_texts.specs.Merged.{merge_of}
 use Rattle.sorted_taps.specs.Positions.{DoJoin, first_position}
 use Rattle.part_texts.specs.Sections.{is_token_above}
 use Rattle.part_texts.specs.Shown.{part_text, sum_up}
-use Rattle.part_texts.specs.inside.Shown.{are_joined, is_none_after}
-use Rattle.part_texts.specs.inside.Shown.{IsNextPart, IsRight, SoFar, adds_to, are_next}
-use Rattle.part_texts.specs.inside.Shown.{are_posted_to, are_increasing, are_tokens_increasing}
-use Rattle.part_texts.specs.inside.Shown.{last_of, nothing_so_far, tokens_of}
+use Rattle.part_texts.specs.inside.Shown.{are_joined, is_none_after, IsNextPart, IsRight, SoFar}
+use Rattle.part_texts.specs.inside.Shown.{adds_to, are_next, are_posted_to, are_increasing}
+use Rattle.part_texts.specs.inside.Shown.{are_tokens_increasing, last_of, nothing_so_far, tokens_of}
 use Rattle.sorted_taps.specs.declared.positions.Position.{Position}
 use Rattle.sorted_taps.specs.declared.positions.FileSpan.{FileSpan}
 use Rattle.part_texts.proofs.KeySums.{all_added, tokens_add, validators_add}

@@ -1,6 +1,5 @@
 -- What is merged of ledgers of parts of a history is the ledger of the whole history.
-use Rattle.std.proofs.Common.{◌≡◌, ◌∙◌, ◌<◌, ◌^◌, ℕ, true, false, List, [], ◌∷◌}
-use Rattle.std.proofs.Common.{◌++◌, length, map}
+use Rattle.std.proofs.Common.{◌≡◌, ◌∙◌, ◌<◌, ◌^◌, ℕ, true, false, List, [], ◌∷◌, ◌++◌, length, map}
 use Rattle.std.proofs.Common.{Option, None, Ok, refl, sym, ap, subst, arith, append_assoc}
 use Rattle.std.proofs.Common.{append-nil, All, Bool}
 use Rattle.std.specs.List.{AllByRecursion, AllZip}
@@ -29,8 +28,7 @@ use Rattle.part_texts.specs.LedgerParts.{DoJoinUp, IsPartLedger}
 use Rattle.part_texts.specs.Merged.{merge_of}
 use Rattle.part_texts.specs.Shown.{SpanFits}
 use Rattle.part_texts.specs.inside.Shown.{are_next, is_none_after}
-use Rattle.part_texts.specs.inside.ShownLedgers.{IsNextLedger, PartLedger, all_lines}
-use Rattle.part_texts.specs.inside.ShownLedgers.{ledger_text}
+use Rattle.part_texts.specs.inside.ShownLedgers.{IsNextLedger, PartLedger, all_lines, ledger_text}
 use Rattle.part_texts.proofs.HistoryParts.{all_ascending, ends_length, from_ends, joined_first}
 use Rattle.part_texts.proofs.HistoryParts.{joined_next, may_end_all, same_number, spans_of, to_ends}
 use Rattle.part_texts.proofs.ShownLedgers.{ledgers_merge}

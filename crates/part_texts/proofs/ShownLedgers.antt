@@ -1,8 +1,7 @@
 -- Ledgers of parts, as they are printed, are merged into the ledger of the whole.
-use Rattle.std.proofs.Common.{◌≡◌, ◌∙◌, ◌+◌, ℕ, Bool, true, false, List}
-use Rattle.std.proofs.Common.{[], ◌∷◌, ◌++◌, length, map}
-use Rattle.std.proofs.Common.{Option, None, Result, Ok, Err, refl, sym, ap, arith}
-use Rattle.std.proofs.Common.{append_assoc, codes, cond}
+use Rattle.std.proofs.Common.{◌≡◌, ◌∙◌, ◌+◌, ℕ, Bool, true, false, List, [], ◌∷◌, ◌++◌, length, map}
+use Rattle.std.proofs.Common.{Option, None, Result, Ok, Err, refl, sym, ap, arith, append_assoc}
+use Rattle.std.proofs.Common.{codes, cond}
 use Rattle.tap_views.specs.declared.token.Token.{Token}
 use Rattle.fare_texts.specs.LedgerLines.{head_text}
 use Rattle.fare_texts.specs.ReportLines.{number_line}
@@ -11,14 +10,11 @@ use Rattle.report_texts.specs.declared.wrong.Wrong.TheVariants.{Form}
 use Rattle.report_texts.proofs.OneLine.{IsOneLine, tested}
 use Rattle.part_texts.specs.Fronts.{FrontsView, no_fronts, no_sums}
 use Rattle.part_texts.specs.FrontSteps.{front_done, front_step}
-use Rattle.part_texts.specs.Merged.{OpenView, and_then, front_end, front_of}
-use Rattle.part_texts.specs.Merged.{lines_left, merge_of, merged}
-use Rattle.part_texts.specs.Merged.{report_front, sections_of}
+use Rattle.part_texts.specs.Merged.{OpenView, and_then, front_end, front_of, lines_left, merge_of}
+use Rattle.part_texts.specs.Merged.{merged, report_front, sections_of}
 use Rattle.part_texts.specs.Heads.{span_lines}
 use Rattle.part_texts.specs.inside.Shown.{are_next}
-use Rattle.part_texts.specs.inside.ShownLedgers.{PartLedger, all_lines}
-use Rattle.part_texts.specs.inside.ShownLedgers.{IsNextLedger}
-use Rattle.part_texts.specs.inside.ShownLedgers.{ledger_text}
+use Rattle.part_texts.specs.inside.ShownLedgers.{PartLedger, all_lines, IsNextLedger, ledger_text}
 use Rattle.sorted_taps.specs.declared.positions.Position.{Position}
 use Rattle.part_texts.specs.declared.fronts.Stage.{Stage}
 use Rattle.part_texts.specs.declared.fronts.Stage.TheVariants.{Head, Entries}

@@ -1,8 +1,7 @@
 -- Reports of parts, as they are printed, are merged into the report of the whole.
-use Rattle.std.proofs.Common.{◌≡◌, ◌∙◌, ◌+◌, ℕ, Bool, true, false, List, [], ◌∷◌}
-use Rattle.std.proofs.Common.{◌++◌, length, map}
-use Rattle.std.proofs.Common.{None, Ok, refl, sym, ap, arith}
-use Rattle.std.proofs.Common.{append_assoc, append-nil, length-append, codes}
+use Rattle.std.proofs.Common.{◌≡◌, ◌∙◌, ◌+◌, ℕ, Bool, true, false, List, [], ◌∷◌, ◌++◌, length, map}
+use Rattle.std.proofs.Common.{None, Ok, refl, sym, ap, arith, append_assoc, append-nil}
+use Rattle.std.proofs.Common.{length-append, codes}
 use Rattle.std.specs.Prelude.{flat_map}
 use Rattle.std.proofs.lemmas.List.Concat.{flat_map-append}
 use Rattle.histories.specs.Sums.{Sums}
@@ -22,12 +21,10 @@ use Rattle.part_texts.specs.Merged.{lines_left, merge_of, merged}
 use Rattle.part_texts.specs.Merged.{report_front, section_ended, section_of, sections_of}
 use Rattle.part_texts.specs.Heads.{span_lines}
 use Rattle.part_texts.specs.Shown.{PartReport, part_text}
-use Rattle.part_texts.specs.inside.Shown.{is_none_after}
-use Rattle.part_texts.specs.inside.Shown.{IsNextPart, SoFar, are_next, last_of}
+use Rattle.part_texts.specs.inside.Shown.{is_none_after, IsNextPart, SoFar, are_next, last_of}
 use Rattle.part_texts.specs.inside.Shown.{nothing_so_far, tokens_of, whole_text}
 use Rattle.part_texts.specs.declared.fronts.Stage.{Stage}
-use Rattle.part_texts.specs.declared.fronts.Stage.TheVariants.{Head}
-use Rattle.part_texts.specs.declared.fronts.Stage.TheVariants.{Tokens}
+use Rattle.part_texts.specs.declared.fronts.Stage.TheVariants.{Head, Tokens}
 use Rattle.part_texts.proofs.Leads.{by_both}
 use Rattle.part_texts.proofs.ShownFronts.{FrontLeads, head_taken, last_key, posted_taken}
 use Rattle.part_texts.proofs.ShownFronts.{spans_taken, tokens_head_taken, totals_taken}

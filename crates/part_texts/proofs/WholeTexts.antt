@@ -1,7 +1,6 @@
 -- The front of the whole's report, written line by line.
 use Rattle.std.proofs.Common.{◌≡◌, ◌∙◌, ◌+◌, ◌<◌, ℕ, List, [], ◌∷◌, ◌++◌, length, take, get_or}
-use Rattle.std.proofs.Common.{length-take}
-use Rattle.std.proofs.Common.{refl, sym, ap, append_assoc, append-nil, arith, codes, map}
+use Rattle.std.proofs.Common.{length-take, sym, ap, append_assoc, append-nil, arith, codes, map}
 use Rattle.std.proofs.lemmas.List.{length-map, map-append, take_more}
 use Rattle.std.specs.Prelude.{flat_map}
 use Rattle.std.specs.Fmt.{decimal}
