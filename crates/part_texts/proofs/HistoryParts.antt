@@ -12,13 +12,14 @@ use Rattle.std.specs.declared.cmp.Ordering.TheVariants.{Less, Equal, Greater}
 use Rattle.std.proofs.lemmas.Bool.Decides.{nat_tests}
 use Rattle.std.proofs.lemmas.Cmp.{nat_cmp_total}
 use Rattle.std.proofs.lemmas.List.{length-map, map-append}
-use Rattle.std.proofs.lemmas.List.Elements.{All-append, All-cons, All-head, All-nil, All-tail, All-weaker}
+use Rattle.std.proofs.lemmas.List.Elements.{All-append, All-head, All-nil, All-tail, All-weaker}
 use Rattle.std.proofs.lemmas.List.Elements.{All-from_recursion, recursion_from_All}
 use Rattle.std.proofs.lemmas.Map.Views.{All-insert_key}
 use Rattle.tap_views.specs.Token.{token_cmp}
 use Rattle.tap_views.specs.TokenOrder.{AreBelow}
 use Rattle.tap_views.specs.declared.token.Token.{Token}
 use Rattle.tap_views.specs.declared.upload_end.UploadEnd.TheVariants.{Posted}
+use Rattle.tap_views.proofs.Lists.{All-back, All-front, each-back, each-front}
 use Rattle.tap_views.proofs.TokenLemmas.{token_cmp-total, token_cmp-ties}
 use Rattle.histories.specs.Increasing.{increasing}
 use Rattle.histories.specs.Sums.{Sums, add_sums, sums, sums_of_replies}
@@ -121,9 +122,10 @@ all_ascending cmp P (key ∷ keys) all =
 pub below_front : (last : Option Token) (xs ys : List Token) → LastIsBelow last (xs ++ ys)
     → LastIsBelow last xs × LastIsBelow last ys
 below_front None xs ys below = (tt, tt)
-below_front (Some last) [] ys below = (tt, below)
-below_front (Some last) (x ∷ xs) ys below =
-    let (front, back) = below_front (Some last) xs ys below.1 in ((below.0, front), back)
+below_front (Some last) xs ys below = (
+  each-front (λ t. token_cmp last t ≡ Less) xs ys below,
+  each-back (λ t. token_cmp last t ≡ Less) xs ys below,
+)
 
 -- what is below all tokens is below them in their order
 pub below_increasing : (last : Option Token) (keys : List Token) → LastIsBelow last keys
@@ -349,18 +351,12 @@ part_right p fits few =
     }
 
 -- ---- all parts
-all_front : (P : Token → Type 0) (xs ys : List Token) → All P (xs ++ ys) → All P xs × All P ys
-all_front P [] ys all = (All-nil P, all)
-all_front P (x ∷ xs) ys all =
-    let (front, back) = all_front P xs ys (All-tail P x (xs ++ ys) all) in
-    (All-cons P x xs (All-head P x (xs ++ ys) all) front, back)
-
 below_both : (xs ys zs : List Token) → AreBelow xs (ys ++ zs) → AreBelow xs ys × AreBelow xs zs
 below_both xs ys zs below = (
   All-weaker (λ t. All (λ u. token_cmp t u ≡ Less) (ys ++ zs)) (λ t. All (λ u. token_cmp t u ≡ Less) ys)
-      (λ t all. (all_front (λ u. token_cmp t u ≡ Less) ys zs all).0) xs below,
+      (λ t all. All-front (λ u. token_cmp t u ≡ Less) ys zs all) xs below,
   All-weaker (λ t. All (λ u. token_cmp t u ≡ Less) (ys ++ zs)) (λ t. All (λ u. token_cmp t u ≡ Less) zs)
-      (λ t all. (all_front (λ u. token_cmp t u ≡ Less) ys zs all).1) xs below,
+      (λ t all. All-back (λ u. token_cmp t u ≡ Less) ys zs all) xs below,
 )
 
 abbrev pub spans_of : List HistoryPart → List (List FileSpan)

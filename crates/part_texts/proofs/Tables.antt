@@ -12,7 +12,7 @@ use Rattle.std.specs.Ordering.{eq_by_cmp, is_eq, match_ordering, nat_cmp}
 use Rattle.std.specs.Set.{is_member}
 use Rattle.std.specs.declared.cmp.Ordering.{Ordering}
 use Rattle.std.specs.declared.cmp.Ordering.TheVariants.{Less, Equal, Greater}
-use Rattle.std.proofs.Math.Bool.{or-false}
+use Rattle.std.proofs.Math.Bool.{or-false, or-true}
 use Rattle.std.proofs.lemmas.Bool.{false≢true}
 use Rattle.std.proofs.lemmas.Bool.Decides.{nat_tests}
 use Rattle.std.proofs.lemmas.Cmp.{nat_cmp_total}
@@ -100,10 +100,8 @@ done_has done (v ∷ vs) k =
     done_has (v ∷ done) vs k ∙ or_moved (eq_by_cmp nat_cmp k v) (has done k) (has vs k)
   where
     or_moved : (a b c : Bool) → ((a || b) || c) ≡ (b || (a || c))
-    or_moved true true c = refl
-    or_moved true false c = refl
-    or_moved false true c = refl
-    or_moved false false c = refl
+    or_moved true b c = sym (or-true b)
+    or_moved false b c = refl
 
 has_append : (xs ys : List ℕ) (q : ℕ) → has (xs ++ ys) q ≡ (has xs q || has ys q)
 has_append [] ys q = refl
