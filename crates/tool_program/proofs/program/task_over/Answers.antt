@@ -1,7 +1,4 @@
-use Rattle.std.proofs.Common.{Bor, List, inl, inr, map, refl, subst, ℕ}
-use Rattle.std.specs.Prelude.{codes}
-use Rattle.std.proofs.Common.{◌++◌}
-use Rattle.tool_words.specs.UsageErrors.{usage_error_text}
+use Rattle.std.proofs.Common.{Bor, List, inr, map, refl, subst, ℕ}
 use Rattle.tool_tasks.specs.EncodeRows.{EndsRows}
 use Rattle.tool_tasks.specs.Merge.{EndsMerging}
 use Rattle.tool_program.proofs.program.task_over.Goals as goal
@@ -24,22 +21,11 @@ returns-in-EncodeRows-clause-framed g c =
     )
 
 pub returns-in-UsageError-clause-framed : goal.returns-in-UsageError-clause-framed
-returns-in-UsageError-clause-framed g c =
-    rw c.in-UsageError.is (refl, c.report_usage_error.ensures)
+returns-in-UsageError-clause-framed g c = rw c.in-UsageError.is (refl, c.refuse.ensures)
 
 pub returns-in-Unshown-clause-framed : goal.returns-in-Unshown-clause-framed
 returns-in-Unshown-clause-framed g c =
-    rw c.in-Unshown.is (inr (elim c.report_usage_error-in-Unshown.ensures [
-      | inl said ↦ (
-        inl said.0,
-        record {
-          text = usage_error_text c.in-Unshown.usage_error ++ codes "\n";
-          only = said.1;
-        },
-      )
-      | inr memory ↦ (inr memory.0, memory.1)
-    ]))
+    rw c.in-Unshown.is (inr c.refuse-in-Unshown.ensures)
 
 pub returns-in-WrongDate-clause-framed : goal.returns-in-WrongDate-clause-framed
-returns-in-WrongDate-clause-framed g c =
-    rw c.in-WrongDate.is (inr c.report_wrong_date.ensures)
+returns-in-WrongDate-clause-framed g c = rw c.in-WrongDate.is (inr c.refuse_date.ensures)
