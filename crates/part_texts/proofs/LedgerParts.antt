@@ -22,7 +22,6 @@ use Rattle.fare_texts.specs.Ledger.{AreLinesOfEach, IsLedgerOver}
 use Rattle.fare_texts.specs.LedgerLines.{AreLedgerLines}
 use Rattle.sorted_taps.specs.Positions.{DoJoin}
 use Rattle.sorted_taps.specs.declared.positions.Position.{Position}
-use Rattle.part_texts.specs.Heads.{part_head}
 use Rattle.part_texts.specs.HistoryParts.{AreIncreasing, HistoryPart, histories_of, whole_history}
 use Rattle.part_texts.specs.LedgerParts.{DoJoinUp, IsPartLedger}
 use Rattle.part_texts.specs.Merged.{merge_of}
@@ -143,10 +142,7 @@ module _ (fares : Fares) where
   texts_are [] (t ∷ ts) are = absurd are
   texts_are (p ∷ ps) [] are = absurd are
   texts_are (p ∷ ps) (t ∷ ts) are =
-      ap (λ (x : List ℕ). (part_head p.spans ++ x) ∷ map ledger_text (ledgers_of ps ts are.1))
-      (sym are.0.over.whole)
-      ∙ ap (λ (x : List ℕ). x ∷ map ledger_text (ledgers_of ps ts are.1)) (sym are.0.shown)
-      ∙ ap (λ (l : List (List ℕ)). t ∷ l) (texts_are ps ts are.1)
+      rw (← are.0.over.whole, ← are.0.shown, texts_are ps ts are.1)
 
   none_after_too : (parts : List HistoryPart) (texts : List (List ℕ))
       (are : AllZip (IsPartLedger fares) parts texts)
