@@ -18,11 +18,10 @@ use Rattle.ledger_changes.specs.Changes.{AreCorrections, Pair, is_changed}
 use Rattle.ledger_fields.specs.Rows.{Key, Row}
 use Rattle.ledger_changes.specs.Rows.{AreInOrder, is_same_text, key_cmp, text_cmp}
 use Rattle.ledger_changes.specs.Texts.{cents_of, is_removed}
-use Rattle.ledger_changes.specs.Tokens.{Sums, is_added}
-use Rattle.ledger_changes.specs.Tokens.{is_kept, is_of_token, of_token, sums_of, token_line}
-use Rattle.ledger_changes.specs.Tokens.{tokens_lines}
-use Rattle.ledger_changes.specs.Tokens.{TokenSum, add_changes, add_sums, all_lines, last_sums}
-use Rattle.ledger_changes.specs.Tokens.{HasTokens, lines_of_changes, no_sums, sums_line}
+use Rattle.ledger_changes.specs.Tokens.{Sums, is_added, is_kept, is_of_token, of_token, sums_of}
+use Rattle.ledger_changes.specs.Tokens.{token_line, tokens_lines, TokenSum, add_changes, add_sums}
+use Rattle.ledger_changes.specs.Tokens.{all_lines, last_sums, HasTokens, lines_of_changes, no_sums}
+use Rattle.ledger_changes.specs.Tokens.{sums_line}
 use Rattle.ledger_changes.proofs.Keys.{tied}
 
 -- ---- tokens

@@ -15,9 +15,8 @@ use Rattle.part_texts.specs.Fronts.{FrontsView, no_fronts, no_sums}
 use Rattle.std.proofs.Math.Bool.{or-true}
 use Rattle.part_texts.proofs.ShownParts.{IsFrontRead, are_opened, fronts_shown, left_shown, stopped}
 use Rattle.part_texts.specs.FrontSteps.{front_done, front_step}
-use Rattle.part_texts.specs.Merged.{OpenView, front_end, front_of}
-use Rattle.part_texts.specs.Merged.{merge_of}
-use Rattle.part_texts.specs.Merged.{section_of, sections_of}
+use Rattle.part_texts.specs.Merged.{OpenView, front_end, front_of, merge_of, section_of}
+use Rattle.part_texts.specs.Merged.{sections_of}
 use Rattle.part_texts.specs.Heads.{span_lines}
 use Rattle.part_texts.specs.Shown.{PartReport, part_text}
 use Rattle.part_texts.specs.inside.Shown.{is_none_after, IsNextPart, SoFar, are_next, last_of}

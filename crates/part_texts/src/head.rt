@@ -85,7 +85,7 @@ fn is_to_end(text: &[u8]) -> bool
     text == b" to end\n".as_slice()
 }
 
-/// The place in ` to 14344 skip 25`, or the end in ` to end`, with the line feed.
+/// The position in ` to 14344 skip 25`, or the end in ` to end`, with the line feed.
 fn to_in(text: &[u8]) -> Option<Option<Position>>
     ensures { result ≡ to_in text.now }
 {
@@ -101,8 +101,8 @@ fn to_in(text: &[u8]) -> Option<Option<Position>>
 pub fn span_in(line: &[u8]) -> Option<(u64, FileSpan)>
     ensures { result ≡ span_in line.now }
 {
-    let place = Then(After(b" from ", Number64), After(b" skip ", Number64));
-    let form = Then(After(b"file ", Number64), place);
+    let position = Then(After(b" from ", Number64), After(b" skip ", Number64));
+    let form = Then(After(b"file ", Number64), position);
     let ((file, (offset, skip)), rest) = form.read(line)?;
     let to = to_in(rest)?;
     Some((

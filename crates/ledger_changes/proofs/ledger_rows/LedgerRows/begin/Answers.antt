@@ -1,6 +1,5 @@
-use Rattle.std.proofs.Common.{◌≡◌, refl, rules, subst, sym}
+use Rattle.std.proofs.Common.{◌≡◌, refl, rules, subst, sym, arith}
 use Rattle.std.proofs.lemmas.Grind.{common_steps}
-use Rattle.std.proofs.Common.{arith}
 use Rattle.fare_texts.specs.LedgerLines.{head_text}
 use Rattle.recorded_lines.specs.Texts.{calls_of, left}
 use Rattle.ledger_changes.specs.Given.{Said}
