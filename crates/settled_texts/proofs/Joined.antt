@@ -1,6 +1,6 @@
 -- Lists one behind the other, and what goes out at once.
 use Rattle.std.proofs.Common.{◌≡◌, ℕ, ◌+◌, ◌<◌, List, [], ◌∷◌, ◌++◌, All, Option, Some, None}
-use Rattle.std.proofs.Common.{length, take, drop, get_or, flat_map, refl, sym, ap, subst, ◌∙◌}
+use Rattle.std.proofs.Common.{length, take, drop, get_or, flat_map, sym, ap, subst, ◌∙◌}
 use Rattle.std.proofs.Common.{append-nil, add-one, drop-cons, Vec, Global, Bor}
 use Rattle.std.specs.Prelude.{IfSome, slice_get}
 use Rattle.std.specs.Slice.{IsItemAt}

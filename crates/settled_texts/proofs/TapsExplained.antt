@@ -13,7 +13,7 @@ use Rattle.fare_texts.specs.Explainers.{HasExplained, next_entry}
 use Rattle.fare_texts.specs.LedgerLines.{IsLedgerLineAfter}
 use Rattle.fare_texts.specs.declared.explainer.Explainer.{Explainer}
 use Rattle.histories.specs.Plain.{answered}
-use Rattle.fare_texts.specs.Lines.{AreLinesAlong, AreUpTo, HasConsumed}
+use Rattle.fare_texts.specs.Lines.{AreLinesAlong, HasConsumed}
 use Rattle.tap_views.specs.TokenOrder.{IsUpTo}
 use Rattle.fare_texts.specs.WrittenOut.{Begins}
 use Rattle.fare_texts.proofs.Beginnings.{begins_front}

@@ -1,6 +1,6 @@
 -- Taps that were explained, and more behind them.
 use Rattle.std.proofs.Common.{◌≡◌, ◌≤◌, ◌<◌, ◌+◌, ◌-◌, ℕ, Bool, true, false, List, [], ◌∷◌, ◌++◌}
-use Rattle.std.proofs.Common.{All, Option, Some, None, map, refl, sym, ap, subst, ◌∙◌, append-nil}
+use Rattle.std.proofs.Common.{All, Option, Some, None, refl, sym, ap, subst, ◌∙◌, append-nil}
 use Rattle.std.proofs.Common.{append_assoc, arith, length, length-append}
 use Rattle.std.specs.Prelude.{IfSome, slice_get}
 use Rattle.std.specs.Ordering.{is_lt}
@@ -17,8 +17,7 @@ use Rattle.tap_views.proofs.TokensUp.{up_chain, up_itself}
 use Rattle.fare_texts.specs.declared.explainer.Explainer.{Explainer}
 use Rattle.fare_texts.specs.WrittenOut.{Begins, GoesOut}
 use Rattle.settlement.specs.Posted.{HasName, token_of_tap}
-use Rattle.settlement.specs.Nondecreasing.{TapsNondecreasingFrom, last_token}
-use Rattle.settled_texts.specs.ExplainedTaps.{HaveLines}
+use Rattle.settlement.specs.Nondecreasing.{TapsNondecreasingFrom}
 use Rattle.settled_texts.proofs.TapsExplained.{explained_lines, explains_as, explains_later}
 use Rattle.settled_texts.proofs.TapsExplained.{explains_none, explains_then, lines_then}
 use Rattle.sorted_taps.specs.Spans.{HaveConsumed}
@@ -27,7 +26,7 @@ use Rattle.sorted_taps.specs.declared.reader.TapReader.{TapReader}
 use Rattle.sorted_taps.specs.declared.span.Span.{Span}
 use Rattle.sorted_taps.proofs.Spans.{are_self_aligned}
 use Rattle.sorted_bills.specs.declared.range.Range.{Range}
-use Rattle.sorted_bills.specs.inside.Explained.{GoOn, HasTaken, TakesLines}
+use Rattle.sorted_bills.specs.inside.Explained.{HasTaken, TakesLines}
 use Rattle.sorted_bills.specs.inside.Ranges.{AreLinesOf, IsAfter, IsFresh, IsRange}
 use Rattle.sorted_bills.proofs.Parts.{less_is_up}
 use Rattle.sorted_bills.proofs.Takings.{nondecreasing_both}
@@ -39,14 +38,14 @@ nondecreasing_lower low high [] up nondecreasing = tt
 nondecreasing_lower low high (tap ∷ taps) up (first, rest) =
     (up_chain low high (token_of_tap tap) up first, rest)
 
--- a lower token is another one
-less_apart : (a b : Token) → token_cmp a b ≡ Less → token_eq a b ≡ false
-less_apart a b less = by (token_eq a b) refl
+-- a token to which another does not come up is another one
+below_apart : (a b : Token) → (IsUpTo b a → ⊥) → token_eq a b ≡ false
+below_apart a b above = by (token_eq a b) refl
   where
     by : (t : Bool) → token_eq a b ≡ t → token_eq a b ≡ false
     by false is = is
-    by true is = absurd (false≢true (sym (subst (λ (t : Token). IsUpTo t a) (same_token a b is)
-        (up_itself a)) ∙ ap is_lt less))
+    by true is = absurd
+        (above (subst (λ (t : Token). IsUpTo t a) (same_token a b is) (up_itself a)))
 
 -- readers have come to where they are
 pub consumed_none : (files : List (List ℕ)) (readers : List TapReader)
@@ -55,9 +54,9 @@ consumed_none files readers =
     record { to = readers; taken = refl; aligned = are_self_aligned readers }
 
 -- a beginning of a text that goes out
-pub gone_begun : (a b : Option (List ℕ)) (old new x : List ℕ) → GoesOut a old b new x
+pub gone_begins : (a b : Option (List ℕ)) (old new x : List ℕ) → GoesOut a old b new x
     → Begins a b (old ++ x)
-gone_begun a b old new x gone =
+gone_begins a b old new x gone =
     record { front = gone.front; rest = new; whole = gone.whole; written = gone.written }
 
 module _ (fares : Fares) (known : List (Option (List ℕ))) where
@@ -174,7 +173,8 @@ module _ (fares : Fares) (known : List (Option (List ℕ))) where
         nondecreasing = nondecreasing_lower old.token fresh.token made.taps up made.nondecreasing;
         explains = explains_later fares old fresh range.explainer made.taps first
             (λ lines. range.lines.items ≡ lines) there (anew.explained fares) anew.none up
-            (less_apart old.token fresh.token less) made.explains;
+            (below_apart old.token fresh.token (λ back. false≢true (sym back ∙ ap is_lt less)))
+            made.explains;
         counted = omega (arith, count, fits);
       }
     where

@@ -180,7 +180,7 @@ known_started fares known all lists started explainer start after law are sorted
     let canonical = law lists taps (λ k d inside.
     subst (λ list. IsSorted tap_cmp list) (get_or_default lists k [] d inside)
     (sorted.each k (let number = sorted.number in omega (arith, inside, number))).sorted) merged in
-    let (lines, along, begun) = lines_front fares explainer taken.taps rest taps
+    let (lines, along, begins) = lines_front fares explainer taken.taps rest taps
     (λ lines. Begins start after (head_text ++ lines))
     (λ lines. Begins start after (head_text ++ lines)) refl taken.lines
     (λ l m. begins_longer start after head_text l m) [] (consumed_first fares explainer fresh) in (
@@ -197,7 +197,7 @@ known_started fares known all lists started explainer start after law are sorted
                 (posted_nondecreasing fares explainer.token taps
                 (canonical_nondecreasing explainer.token taps least named canonical.sorted)) along;
           }),
-      begun,
+      begins,
     )
 
 pub ledger_started : (fares : Fares) (known : List (Option (List ℕ))) (numbers : List ℕ)

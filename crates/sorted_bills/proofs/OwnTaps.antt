@@ -1,7 +1,7 @@
 -- The taps of one token, collected from sorted files.
 use Rattle.std.proofs.Common.{◌≡◌, ℕ, ◌+◌, Bool, true, false, List, [], ◌∷◌, ◌++◌, All, length, map}
 use Rattle.std.proofs.Common.{◌<◌, get_or, flat_map, cond, refl, sym, ap, subst, ◌∙◌, append-nil}
-use Rattle.std.proofs.Common.{option_map, Option, None, Some, append_assoc, arith}
+use Rattle.std.proofs.Common.{option_map, Option, None, Some, arith}
 use Rattle.std.specs.Prelude.{Err, IfErr, IfOk, IfSome, Ok, Result, slice_get}
 use Rattle.std.proofs.lemmas.List.Concat.{flat_map-append}
 use Rattle.std.proofs.lemmas.List.Elements.{All-append, All-cons, All-nil, filter-append}

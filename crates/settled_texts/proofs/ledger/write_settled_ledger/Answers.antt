@@ -1,5 +1,5 @@
 -- The lines of the taps stand behind the head line, and no token falls.
-use Rattle.std.proofs.Common.{◌≡◌, ℕ, List, [], ◌++◌, string_bytes, subst, ◌∙◌, arith, length}
+use Rattle.std.proofs.Common.{ℕ, List, [], ◌++◌, string_bytes, subst, ◌∙◌, arith}
 use Rattle.std.specs.Io.KnownBytes.{Appends}
 use Rattle.std.proofs.lemmas.Result.{err_from_is_err_and}
 use Rattle.fare_texts.specs.WrittenOut.{Begins, GoesOut}

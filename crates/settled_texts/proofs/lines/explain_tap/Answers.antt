@@ -1,5 +1,5 @@
 -- The explainer goes on to the tap's token, and posts the tap.
-use Rattle.std.proofs.Common.{List, [], ◌∷◌, ◌++◌, sym, subst, ◌∙◌, arith}
+use Rattle.std.proofs.Common.{sym, subst, ◌∙◌, arith}
 use Rattle.tap_views.specs.declared.token.Token.{Token}
 use Rattle.histories.specs.Entry.{own}
 use Rattle.tap_views.specs.TokenOrder.{IsUpTo}

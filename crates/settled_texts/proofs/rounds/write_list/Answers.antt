@@ -1,12 +1,9 @@
 -- The slot's lines are those of the list, since no earlier tap has its first token.
-use Rattle.std.proofs.Common.{◌≡◌, ℕ, ◌++◌, false, List, string_bytes, sym, ap, subst, ◌∙◌}
+use Rattle.std.proofs.Common.{◌≡◌, ◌++◌, string_bytes, sym, subst, ◌∙◌}
 use Rattle.std.specs.Io.KnownBytes.{Appends}
-use Rattle.tap_views.specs.Token.{token_eq}
 use Rattle.std.proofs.lemmas.Result.{err_from_is_err_and}
 use Rattle.fare_texts.specs.WrittenOut.{Begins, GoesOut}
 use Rattle.fare_texts.proofs.Beginnings.{begins_after, begins_front, goes_through}
-use Rattle.settled_texts.specs.ExplainedTaps.{Explains}
-use Rattle.settled_texts.specs.inside.WorkerSlots.{IsWhole}
 use Rattle.settled_texts.proofs.TapsExplained.{explained_lines, explains_as, lines_exist}
 use Rattle.settled_texts.proofs.rounds.write_list.Goals as goal
 

@@ -1,5 +1,5 @@
 -- Each round explains a stride more.
-use Rattle.std.proofs.Common.{◌≡◌, ℕ, ◌<◌, ◌++◌, ◌==◌, false, true, List, [], drop, length}
+use Rattle.std.proofs.Common.{◌≡◌, ◌<◌, ◌++◌, ◌==◌, false, true, List, [], drop, length}
 use Rattle.std.proofs.Common.{string_bytes, refl, sym, ap, subst, ◌∙◌, append_assoc, append-nil}
 use Rattle.std.proofs.Common.{arith}
 use Rattle.std.specs.Io.KnownBytes.{Appends}
@@ -193,6 +193,6 @@ returns-in_err-left-clause-started g c =
     (begins_front _ _ _ _
     (subst (λ t. Begins out after (with_columns t (columns_by classes left))) is
     c.in_err-left.ensures.started))))
-    (λ l m before begun. subst (Begins begin after)
+    (λ l m before begins. subst (Begins begin after)
     (sym (columns_on classes l m trace left before.0))
-    (begins_after _ _ _ _ _ before.1 begun)))
+    (begins_after _ _ _ _ _ before.1 begins)))

@@ -129,8 +129,8 @@ returns-in_err-write_lines-clause-started g c =
     (c.of-explainer.ensures.token ∙ c.least_token.ensures)
     (c.of-explainer.ensures.explained fares) c.requires.named c.requires.sorted
     c.in_err-write_lines.ensures.started
-    (λ l begun. subst (Begins begin after)
+    (λ l begins. subst (Begins begin after)
     (with_head c.as_bytes.result.now c.as_bytes-2.result.now l columns c.as_bytes.ensures.value
     c.as_bytes-2.ensures.value)
     (begins_after _ _ _ _ _ (Appends-trans _ _ _ _ _ c.in_ok-write_out.ensures.ok
-    c.in_ok-write_out-2.ensures.ok) begun)))
+    c.in_ok-write_out-2.ensures.ok) begins)))

@@ -1,6 +1,6 @@
 -- Each turn explains the taps that were taken last.
-use Rattle.std.proofs.Common.{◌≡◌, List, [], ◌++◌, All, length, map, ℕ, string_bytes}
-use Rattle.std.proofs.Common.{refl, sym, ap, subst, ◌∙◌, arith}
+use Rattle.std.proofs.Common.{◌≡◌, List, [], ◌++◌, All, length, map, string_bytes}
+use Rattle.std.proofs.Common.{sym, ap, subst, arith}
 use Rattle.std.proofs.lemmas.List.{nil_from_length}
 use Rattle.std.proofs.lemmas.Result.{err_from_is_err_and}
 use Rattle.tap_views.specs.declared.encoder.TapFields.{TapFields}
@@ -13,7 +13,7 @@ use Rattle.settled_texts.proofs.TapsExplained.{explains_none}
 use Rattle.sorted_taps.proofs.Spans.{consumed_further}
 use Rattle.sorted_bills.proofs.Counted.{late_is_late}
 use Rattle.sorted_bills.proofs.Takings.{Early}
-use Rattle.sorted_bills.proofs.Explained.{gone_begun, has_taken, taken_then, takes_none, takes_then}
+use Rattle.sorted_bills.proofs.Explained.{gone_begins, has_taken, taken_then, takes_none, takes_then}
 use Rattle.sorted_bills.proofs.lines_below.explain_below.Goals as goal
 
 pub loop-init : goal.loop-init
@@ -134,21 +134,21 @@ returns-in_err-take-clause-started g c =
     rw (p.1) (has_taken c.args.table.now (map g.F.Placed.bytes c.args.files.now)
     c.args.taker.now.merge.readers.items c.loop.taker.merge.readers.items c.args.explainer.now
     c.loop.explainer c.args.left.now c.loop.left _ _ c.loop.invariant.explained
-    (λ l gone. gone_begun _ _ _ _ l gone))
+    (λ l gone. gone_begins _ _ _ _ l gone))
 
 pub returns-then-number-left-clause-started : goal.returns-then-number-left-clause-started
 returns-then-number-left-clause-started g c =
     has_taken c.args.table.now (map g.F.Placed.bytes c.args.files.now)
     c.args.taker.now.merge.readers.items c.loop.taker.merge.readers.items c.args.explainer.now
     c.loop.explainer c.args.left.now c.loop.left _ _ c.loop.invariant.explained
-    (λ l gone. gone_begun _ _ _ _ l gone)
+    (λ l gone. gone_begins _ _ _ _ l gone)
 
 pub returns-clause-started : goal.returns-clause-started
 returns-clause-started g c =
     has_taken c.args.table.now (map g.F.Placed.bytes c.args.files.now)
     c.args.taker.now.merge.readers.items c.loop.taker.merge.readers.items c.args.explainer.now
     c.loop.explainer c.args.left.now c.loop.left _ _ c.loop.invariant.explained
-    (λ l gone. gone_begun _ _ _ _ l gone)
+    (λ l gone. gone_begins _ _ _ _ l gone)
 
 pub returns-in_err-write_taps-clause-started : goal.returns-in_err-write_taps-clause-started
 returns-in_err-write_taps-clause-started g c =

@@ -1,4 +1,4 @@
-use Rattle.std.proofs.Common.{◌≡◌, ℕ, List, arith, subst, map}
+use Rattle.std.proofs.Common.{ℕ, List, arith, subst}
 use Rattle.std.specs.Prelude.{IfErr, IfOk, IfSome, Option}
 use Rattle.std.proofs.lemmas.Result.{err_from_is_err_and}
 use Rattle.sorted_taps.specs.Sorted.{IsSortedFault}

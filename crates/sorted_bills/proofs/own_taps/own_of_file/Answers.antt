@@ -1,10 +1,9 @@
-use Rattle.std.proofs.Common.{◌≡◌, ℕ, [], ◌∷◌, arith, refl}
+use Rattle.std.proofs.Common.{◌≡◌, [], arith}
 use Rattle.std.proofs.lemmas.Result.{err_from_is_err_and}
 use Rattle.sorted_taps.specs.Readers.{ahead, IsAdvanced, IsAfterFault, IsStepFault, IsPositionedIn}
 use Rattle.sorted_taps.specs.Sorted.{IsSortedFault}
 use Rattle.sorted_taps.proofs.Known.{at_none, known_all, known_map, known_map2}
 use Rattle.sorted_taps.proofs.Standing.{opening_fault, step_fault}
-use Rattle.sorted_bills.specs.inside.OwnTaps.{IsOwnOf}
 use Rattle.sorted_bills.proofs.OwnTaps.{IsOwnRead, none_read, one_read, whole_read}
 use Rattle.sorted_bills.proofs.own_taps.own_of_file.Goals as goal
 

@@ -97,14 +97,14 @@ returns-in_err-explain_below-clause-started g c =
     let fares = c.args.table.now in
     let explainer = c.of-explainer.result in
     let taken = c.in_err-explain_below.ensures.started in
-    let (lines, along, begun) = taken.lines []
+    let (lines, along, begins) = taken.lines []
     (consumed_first fares explainer (c.of-explainer.ensures.explained fares)) in
     rw (p.1) (λ is_write. (
       taken.taps,
       lines,
       along,
       subst (λ (head : List ℕ). Begins (g.W.Write.contents c.args.out.now)
-          (g.W.Write.contents c.explain_below.new.out) (head ++ lines)) c.in_ok-text.ensures begun,
+          (g.W.Write.contents c.explain_below.new.out) (head ++ lines)) c.in_ok-text.ensures begins,
     ))
 
 pub returns-in_err-pass_on-clause-started : goal.returns-in_err-pass_on-clause-started

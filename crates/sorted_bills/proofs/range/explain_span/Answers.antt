@@ -1,5 +1,5 @@
 -- The lines are those of the taps between the readers' copies and the readers.
-use Rattle.std.proofs.Common.{ℕ, List, [], Some, Vec, Global, map, string_bytes, sym, subst, arith}
+use Rattle.std.proofs.Common.{List, [], Some, Vec, Global, string_bytes, sym, subst, arith}
 use Rattle.std.proofs.Common.{◌≡◌}
 use Rattle.fare_texts.specs.WrittenOut.{GoesOut}
 use Rattle.fare_texts.proofs.Beginnings.{goes_last}

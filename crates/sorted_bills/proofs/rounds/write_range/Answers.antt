@@ -1,5 +1,5 @@
 -- The lines of the range go out behind what waited.
-use Rattle.std.proofs.Common.{ℕ, List, ◌++◌, ◌∙◌, ◌≡◌, map, refl, string_bytes, subst}
+use Rattle.std.proofs.Common.{◌++◌, ◌∙◌, map, refl, string_bytes, subst}
 use Rattle.std.specs.Io.KnownBytes.{Appends}
 use Rattle.std.proofs.lemmas.Result.{err_from_is_err_and}
 use Rattle.fare_texts.specs.WrittenOut.{Begins, GoesOut}

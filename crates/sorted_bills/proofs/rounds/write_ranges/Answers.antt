@@ -1,11 +1,10 @@
 -- Each turn explains the taps of a range.
-use Rattle.std.proofs.Common.{◌≡◌, ◌++◌, ℕ, arith, map, string_bytes, subst}
+use Rattle.std.proofs.Common.{◌++◌, arith, map, string_bytes}
 use Rattle.std.proofs.lemmas.Result.{err_from_is_err_and}
 use Rattle.fare_texts.specs.WrittenOut.{Begins, GoesOut}
 use Rattle.fare_texts.proofs.Beginnings.{goes_begins, goes_nothing, goes_on}
 use Rattle.settlement.specs.Posted.{posted_after}
-use Rattle.sorted_bills.specs.inside.Explained.{TakesLines}
-use Rattle.sorted_bills.proofs.Explained.{gone_begun, has_taken, taken_then, takes_none, takes_then}
+use Rattle.sorted_bills.proofs.Explained.{gone_begins, has_taken, taken_then, takes_none, takes_then}
 use Rattle.sorted_bills.proofs.rounds.write_ranges.Goals as goal
 
 pub loop-position-init : goal.loop-position-init
@@ -98,4 +97,4 @@ returns-then-left-gt0-clause-started g c =
     has_taken c.args.table.now (map g.F.Placed.bytes c.args.files.now)
     c.args.taker.now.merge.readers.items c.loop-position.taker.merge.readers.items
     c.args.explainer.now c.loop-position.explainer c.args.counted c.loop-position.left _ _
-    c.loop-position.invariant.explained (λ l gone. gone_begun _ _ _ _ l gone)
+    c.loop-position.invariant.explained (λ l gone. gone_begins _ _ _ _ l gone)
