@@ -68,7 +68,6 @@ fn first_wrong_word<R: Env + AllocGlobal>(rt: &R) -> Result<String, AllocError> 
     Ok(String::new(rt.alloc()))
 }
 
-/// Printable ASCII is shown as it is, each other byte as `\xHH`.
 fn escaped(alloc: Global, bytes: &[u8]) -> Result<String, AllocError> {
     let mut shown = String::new(alloc);
     for byte in bytes {

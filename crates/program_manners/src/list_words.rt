@@ -89,7 +89,6 @@ impl<'a> ListWords<'a> {
         Ok(with_names(rt.alloc(), words, option, &names)?)
     }
 
-    /// The line of a fault of the list.
     fn line_of(&self, fault: ListFault) -> ListLine<'a> {
         let list = if self.is_input() {
             STANDARD_INPUT

@@ -14,7 +14,7 @@ use Rattle.clap.proofs.WalkLemmas.{find-map}
 use Rattle.clap.specs.Words.{Text}
 use Rattle.tap_rows.specs.declared.agency.choice.Condition.{Condition}
 use Rattle.tool_words.specs.Columns.{conditions_in, have_parts, is_equals, parts_of, value_of}
-use Rattle.tool_words.specs.Tasks.{condition_of, text_in, texts_of}
+use Rattle.tool_words.specs.Tasks.{condition_of, texts_of}
 
 -- the parts round the first `=` are those of the word
 pub parts_found : (word : Text) (found : Option (Bor Text × Bor Text))
