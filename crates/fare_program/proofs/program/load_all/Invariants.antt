@@ -1,6 +1,6 @@
 use Rattle.std.proofs.Common.{Some, map, take}
 use Rattle.fare_program.specs.FilesLoaded.{LoadsFiles}
-use Rattle.fare_program.proofs.program.load_files.Given as goal
+use Rattle.fare_program.proofs.program.load_all.Given as goal
 
 abbrev pub invariant-loop-name : goal.invariant-loop-name
 invariant-loop-name g l =
