@@ -7,9 +7,7 @@ use Rattle.tariffs.specs.Fares.{Fares}
 use Rattle.histories.specs.declared.entry.Entry.{Entry}
 use Rattle.tap_views.specs.declared.encoder.TapFields.{TapFields}
 use Rattle.ledger_check.specs.Ledger.{IsLedgerOf}
-use Rattle.omny_audit.specs.Findings.{FindingsDecide, FullFindingsDecide, IsFindingOf}
-use Rattle.omny_audit.specs.Findings.{IsRightLedger}
-use Rattle.omny_audit.specs.Reports.{AuditsDecide, HasOwnReport, IsReportLine, are_whole}
+use Rattle.omny_audit.specs.Reports.{AuditsDecide, HasOwnReport, IsVerdictOn, are_whole, fits}
 use Rattle.omny_audit.specs.Reports.{ledger_in}
 use Rattle.tap_views.specs.declared.upload_end.UploadEnd.{UploadEnd}
 use Rattle.omny_audit.specs.Traced.{AreColumnsReported, HasRightColumns, HasRightPositions}
@@ -20,43 +18,36 @@ use Rattle.omny_audit.specs.declared.traced.PositionFault.{PositionFault}
 use Rattle.omny_audit.specs.declared.traced.PositionFault.TheVariants.{NoLine, OtherTap, Repeated}
 use Rattle.omny_audit.specs.declared.traced.WrongClass.{WrongClass}
 use Rattle.report_check.specs.Reports.{ReportVerdictsDecide}
+use Rattle.report_check.specs.declared.verdict.ReportVerdict.{ReportVerdict}
 
 false_true : false ≡ true → ⊥
 false_true h = cc
 
--- of all lines, or up to the first wrong one
-sound_is : FindingsDecide → FullFindingsDecide → (all live : Bool) (fares : Fares)
-    (ledger : List ℕ) (valid : Option (List TapFields)) (found : List ℕ) (sound : Bool)
-    → IsFindingOf all live fares ledger valid found sound
-    → (sound ≡ true) ↔ IsRightLedger live fares ledger valid
-sound_is some full true live fares ledger valid found sound is =
-    full live fares ledger valid found sound is
-sound_is some full false live fares ledger valid found sound is =
-    some live fares ledger valid found sound is
+-- a report that fits is that of the ledger's entries
+own_of : ReportVerdictsDecide → (ends : Option (List UploadEnd)) (fares : Fares) (ledger : List ℕ)
+    (report : Option (List ℕ)) (right : Bool) (verdict : Option ReportVerdict)
+    (entries : List Entry) → IsVerdictOn ends fares ledger report right verdict
+    → fits report verdict ≡ true → IsLedgerOf fares entries ledger → HasOwnReport ends report entries
+own_of verdicts ends fares ledger None right verdict entries is holds of = tt
+own_of verdicts ends fares ledger (Some report) right None entries is holds of =
+    absurd (false_true holds)
+own_of verdicts ends fares ledger (Some report) false (Some verdict) entries is holds of =
+    let bad : ◌≡◌ {A = Option ReportVerdict} (Some verdict) None = is in absurd (cc)
+own_of verdicts ends fares ledger (Some report) true (Some verdict) entries is holds of =
+    (verdicts ends entries report verdict (is entries of)).0 holds
 
--- a report that is right is that of the ledger's entries
-own_of : ReportVerdictsDecide
-    → (ends : Option (List UploadEnd)) (fares : Fares) (ledger : List ℕ) (report : Option (List ℕ))
-    (legal : Bool) (rest : List ℕ) (fits : Bool) (entries : List Entry)
-    → IsReportLine ends fares ledger report legal rest fits → fits ≡ true
+-- and that of the ledger's entries fits
+fits_of : ReportVerdictsDecide → (ends : Option (List UploadEnd)) (fares : Fares) (ledger : List ℕ)
+    (report : Option (List ℕ)) (right : Bool) (verdict : Option ReportVerdict)
+    (entries : List Entry) → right ≡ true → IsVerdictOn ends fares ledger report right verdict
     → IsLedgerOf fares entries ledger → HasOwnReport ends report entries
-own_of verdicts ends fares ledger None legal rest fits entries line is of = tt
-own_of verdicts ends fares ledger (Some report) false rest fits entries line is of =
-    absurd (false_true (sym line.1 ∙ is))
-own_of verdicts ends fares ledger (Some report) true rest fits entries line is of =
-    (verdicts ends entries report line.verdict (line.true_of entries of)).0 (sym line.reported ∙ is)
-
--- and that of the ledger's entries is right
-fits_of : ReportVerdictsDecide
-    → (ends : Option (List UploadEnd)) (fares : Fares) (ledger : List ℕ) (report : Option (List ℕ))
-    (legal : Bool) (rest : List ℕ) (fits : Bool) (entries : List Entry) → legal ≡ true
-    → IsReportLine ends fares ledger report legal rest fits → IsLedgerOf fares entries ledger
-    → HasOwnReport ends report entries → fits ≡ true
-fits_of verdicts ends fares ledger None legal rest fits entries reported line of own = line.1
-fits_of verdicts ends fares ledger (Some report) false rest fits entries reported line of own =
-    absurd (false_true reported)
-fits_of verdicts ends fares ledger (Some report) true rest fits entries reported line of own =
-    line.reported ∙ (verdicts ends entries report line.verdict (line.true_of entries of)).1 own
+    → fits report verdict ≡ true
+fits_of verdicts ends fares ledger None right verdict entries holds is of own = refl
+fits_of verdicts ends fares ledger (Some report) false verdict entries holds is of own =
+    absurd (false_true holds)
+fits_of verdicts ends fares ledger (Some report) true None entries holds is of own = absurd is
+fits_of verdicts ends fares ledger (Some report) true (Some verdict) entries holds is of own =
+    (verdicts ends entries report verdict (is entries of)).1 own
 
 -- columns that are right
 none_of : {A : Type 0} (wrong : Option A) → not (is_some wrong) ≡ true → wrong ≡ None
@@ -123,17 +114,18 @@ looked_at : (all legal : Bool) → legal ≡ true → (all || legal) ≡ true
 looked_at true legal is = refl
 looked_at false legal is = is
 
-pub decides : FindingsDecide → FullFindingsDecide → ReportVerdictsDecide → AuditsDecide
-decides some full verdicts given file read text success audit =
+pub decides : ReportVerdictsDecide → AuditsDecide
+decides verdicts given file read text success audit =
     let ledger = ledger_in given file in
-    let sound = sound_is some full given.all given.live given.fares ledger given.valid audit.found
-    audit.sound audit.finding in
+    let sound = audit.is_sound in
     let looked = given.all || audit.legal in
-    let last = audit.last in (
+    let whole = audit.legal && audit.right in
+    let well = fits given.report audit.verdict in (
       λ is.
-          let parts = and_parts audit.sound (audit.right && audit.fits) (sym audit.both ∙ is) in
-          let ends = and_parts audit.right audit.fits parts.1 in
-          let lasts = and_parts last.fits (are_whole given.ends) (sym last.both ∙ ends.1) in
+          let parts = and_parts audit.sound (audit.right && (well && are_whole given.ends))
+          (sym audit.both ∙ is) in
+          let ends = and_parts audit.right (well && are_whole given.ends) parts.1 in
+          let lasts = and_parts well (are_whole given.ends) ends.1 in
           let right = sound.0 parts.0 in (
             right.0,
             right.1,
@@ -141,21 +133,20 @@ decides some full verdicts given file read text success audit =
             right.3,
             columns_right given.wanted looked file read audit.columns audit.right audit.are_columns
                 ends.0,
-            own_of verdicts given.ends given.fares ledger given.report (audit.legal && audit.right)
-                last.line last.fits right.0 last.report_line lasts.0 right.1,
+            own_of verdicts given.ends given.fares ledger given.report whole audit.verdict right.0
+                audit.is_verdict lasts.0 right.1,
             lasts.1,
           ),
       λ right.
           let legal = audit.is_legal.1 (right.0, right.1) in
           let columns = right_columns given.wanted looked file read audit.columns audit.right
           (looked_at given.all audit.legal legal) audit.are_columns right.4 in
-          let both : (audit.legal && audit.right) ≡ true = ap (λ (x : Bool). x && audit.right) legal
-          ∙ columns in
-          let fits = fits_of verdicts given.ends given.fares ledger given.report
-          (audit.legal && audit.right) last.line last.fits right.0 both last.report_line right.1
-          right.5 in
-          audit.both ∙ ap (λ (x : Bool). x && (audit.right && audit.fits))
+          let both : whole ≡ true = ap (λ (x : Bool). x && audit.right) legal ∙ columns in
+          let own = fits_of verdicts given.ends given.fares ledger given.report whole audit.verdict
+          right.0 both audit.is_verdict right.1 right.5 in
+          audit.both
+          ∙ ap (λ (x : Bool). x && (audit.right && (well && are_whole given.ends)))
           (sound.1 (right.0, right.1, right.2, right.3))
-          ∙ ap (λ (x : Bool). x && audit.fits) columns
-          ∙ last.both ∙ ap (λ (x : Bool). x && are_whole given.ends) fits ∙ right.6,
+          ∙ ap (λ (x : Bool). x && (well && are_whole given.ends)) columns
+          ∙ ap (λ (x : Bool). x && are_whole given.ends) own ∙ right.6,
     )

@@ -1,8 +1,7 @@
 -- What an audit has read, and what it may leave.
 use Rattle.std.proofs.Common.{◌≡◌, ◌∙◌, ◌++◌, ℕ, Bool, true, false, List, [], ◌∷◌, Option, None}
 use Rattle.std.proofs.Common.{Global, Some, Vec, ap, append-nil, append_assoc, inl, inr, refl}
-use Rattle.std.proofs.Common.{subst}
-use Rattle.std.proofs.Common.{◌==◌, length, sym, ⊎_elim}
+use Rattle.std.proofs.Common.{◌==◌, length, subst, sym, ⊎_elim}
 use Rattle.std.proofs.lemmas.Bool.{eqb-true, true≢false}
 use Rattle.std.proofs.lemmas.List.{nil_from_length}
 use Rattle.std.specs.Prelude.{◌⊎◌, ◌||◌, Err, Ok}
@@ -22,16 +21,17 @@ use Rattle.ledger_check.specs.declared.checker.Checker.{Checker}
 use Rattle.ledger_check.specs.declared.checker.Verdict.{Verdict}
 use Rattle.tap_views.specs.declared.encoder.TapFields.{TapFields}
 use Rattle.omny_audit.specs.Program.{HoldsOfRead}
-use Rattle.omny_audit.specs.Reports.{Given, IsAudit, IsAuditText}
+use Rattle.omny_audit.specs.Reports.{Given, IsAuditText}
 use Rattle.omny_audit.specs.declared.audit.Audit.{Audit}
 use Rattle.omny_audit.specs.declared.check.Check.{Check}
 use Rattle.omny_audit.specs.declared.check.Check.TheVariants.{First, All}
 use Rattle.omny_audit.specs.declared.fault.Fault.{Fault}
-use Rattle.omny_audit.specs.declared.fault.Fault.TheVariants.{Closed, Write}
-use Rattle.omny_audit.specs.inside.Audits.{EndsAs, HasAudited, HasEnded, IsNext, given_in}
-use Rattle.omny_audit.specs.inside.Fault.{IsStreamFault, IsWriteFault}
-use Rattle.omny_audit.specs.inside.Checks.{HasChecked, is_all, is_decided}
-use Rattle.omny_audit.specs.Traced.{ReadLine, Wanted}
+use Rattle.omny_audit.specs.declared.fault.Fault.TheVariants.{Unwritten}
+use Rattle.omny_audit.specs.inside.Audits.{EndsAs, HasAudited, HasEnded, Stands, given_in}
+use Rattle.omny_audit.specs.inside.Fault.{IsStreamFault}
+use Rattle.omny_audit.specs.declared.check.Found.{Found}
+use Rattle.omny_audit.specs.inside.Checks.{Finds, HasChecked, is_all, is_decided}
+use Rattle.omny_audit.specs.Traced.{Wanted}
 use Rattle.omny_audit.specs.declared.traced.TracedPieces.{TracedPieces}
 use Rattle.omny_audit.specs.inside.Traced.{wanted_by}
 use Rattle.omny_audit.proofs.TraceLemmas.{reads_more}
@@ -55,6 +55,17 @@ undecided (First checker balance None) legal wrong looked = refl
 undecided (First checker balance (Some verdict)) legal wrong looked =
     absurd (true≢false (sym looked ∙ wrong refl))
 undecided (All full_check full) legal wrong looked = refl
+
+-- what is not legal is not well
+pub unsound : (all live : Bool) (fares : Fares) (text : List ℕ) (valid : Option (List TapFields))
+    (reported : List ℕ) (found : Found) → Finds all live fares text valid reported found
+    → found.is_legal ≡ false → found.is_sound ≡ false
+unsound all live fares text valid reported found is wrong = by_sound found.is_sound refl
+  where
+    by_sound : (sound : Bool) → found.is_sound ≡ sound → sound ≡ false
+    by_sound false same = refl
+    by_sound true same = let right = is.sound.0 same in
+        sym (is.legal.1 (right.0, right.1)) ∙ wrong
 
 -- the first wrong line stays the first
 checked_more : (fares : Fares) (subtracts : Bool) (valid : List TapFields) (check : Check)
@@ -97,19 +108,29 @@ decided_ends audit valid file written more has is =
       all = λ no. absurd (true≢false (sym is ∙ no));
     }
 
--- what was reported so far are the remarks on the first lines, however the file goes on
-remarked : (audit : Audit) (valid : List TapFields) (file written more : List ℕ)
-    → HasAudited audit valid file written
-    → (written ≡ []) ⊎ IsAuditText (given_in audit valid) (file ++ more) written
-remarked audit valid file written more has = by_check audit.check refl has.taken.checked
+-- whether bytes are left
+pub drained : (head : List ℕ) (empty : Bool) → empty ≡ (length head == 0) → empty ≡ true
+    → head ≡ []
+drained head empty is none = nil_from_length head (eqb-true (length head) 0 (sym is ∙ none))
+
+-- ---- what may be left
+-- nothing was reported, or what may be, however the file goes on
+abbrev pub Begins : Given → List ℕ → List ℕ → Type 0
+Begins given file written =
+    (written ≡ []) ⊎ ((more : List ℕ) → IsAuditText given (file ++ more) written)
+
+-- the remarks on the first lines
+remarked : (audit : Audit) (valid : List TapFields) (file written : List ℕ)
+    → HasAudited audit valid file written → Begins (given_in audit valid) file written
+remarked audit valid file written has = by_check audit.check refl has.taken.checked
   where
     by_check : (check : Check) → audit.check ≡ check
         → HasChecked audit.table.now audit.subtracts valid check has.text written
-        → (written ≡ []) ⊎ IsAuditText (given_in audit valid) (file ++ more) written
+        → Begins (given_in audit valid) file written
     by_check (First checker balance None) same checked = inl checked.1
     by_check (First checker balance (Some verdict)) same checked = inl checked.2
-    by_check (All full_check full) same checked =
-        let left = reads_more audit.trace file has.text has.as_text more in inr (inr (
+    by_check (All full_check full) same checked = inr (λ more.
+        let left = reads_more audit.trace file has.text has.as_text more in inr (
           ap is_all same,
           checked.taken,
           record {
@@ -120,45 +141,28 @@ remarked audit valid file written more has = by_check audit.check refl has.taken
           checked.reported,
         ))
 
--- the same behind the next piece, or it is all that is found
-pub next_text : (before after : Audit) (valid : List TapFields) (file piece written : List ℕ)
-    (ended : Option Bool) (more : List ℕ) → (piece ≡ [] → more ≡ [])
-    → IsNext before after valid file piece written ended
-    → (written ≡ []) ⊎ IsAuditText (given_in before valid) ((file ++ piece) ++ more) written
-next_text before after valid file piece written None more end (same, has) =
-    subst (λ (g : Given). (written ≡ []) ⊎ IsAuditText g ((file ++ piece) ++ more) written) same
-    (remarked after valid (file ++ piece) written more has)
-next_text before after valid file piece written (Some success) more end is =
-    let found = is.0 more end in inr (inl (found.0, success, found.1))
+-- the same of what reads gave of the ledger
+abbrev pub MayBeLeft : Given → Calls → List ℕ → Type 0
+MayBeLeft given ledger text =
+    (text ≡ []) ⊎ HoldsOfRead ledger (λ file. IsAuditText given file text)
 
-pub audited_text : (audit : Audit) (given : Given) (valid : List TapFields)
-    (file written more : List ℕ) → given_in audit valid ≡ given
-    → HasAudited audit valid file written
-    → (written ≡ []) ⊎ IsAuditText given (file ++ more) written
-audited_text audit given valid file written more same has =
-    subst (λ (g : Given). (written ≡ []) ⊎ IsAuditText g (file ++ more) written) same
-    (remarked audit valid file written more has)
+left_of : (given : Given) (ledger : Calls) (file piece text : List ℕ)
+    → ledger.reading.bytes ≡ file ++ piece → Begins given file text → MayBeLeft given ledger text
+left_of given ledger file piece text same (inl none) = inl none
+left_of given ledger file piece text same (inr each) = inr (λ more end.
+    subst (λ (f : List ℕ). IsAuditText given f text)
+    (sym (append_assoc file piece more) ∙ ap (λ (f : List ℕ). f ++ more) (sym same))
+    (each (piece ++ more)))
 
--- whether bytes are left
-pub drained : (head : List ℕ) (empty : Bool) → empty ≡ (length head == 0) → empty ≡ true
-    → head ≡ []
-drained head empty is none = nil_from_length head (eqb-true (length head) 0 (sym is ∙ none))
-
--- a prefix of a right text was written, or of none
-pub started_of : (Right : List ℕ → Type 0) (out out' text front rest : List ℕ)
-    → (text ≡ []) ⊎ Right text → text ≡ front ++ rest → out' ≡ out ++ front
-    → HasStarted Right out out'
-started_of Right out out' text front rest right whole grown = record {
-  front = front;
-  grown = grown;
-  rest = rest;
-  right = ⊎_elim (λ none. inl (no_front front rest (sym whole ∙ none)))
-      (λ is. inr (subst Right whole is)) right;
-}
-  where
-    no_front : (front rest : List ℕ) → front ++ rest ≡ [] → front ≡ []
-    no_front [] rest is = refl
-    no_front (byte ∷ front) rest is = absurd cc
+left_standing : (given : Given) (audit : Audit) (valid : List TapFields) (ledger : Calls)
+    (text : List ℕ) (ended : Option Bool) → Stands given audit valid ledger text ended
+    → MayBeLeft given ledger text
+left_standing given audit valid ledger text None (same, has) =
+    left_of given ledger ledger.reading.bytes [] text (sym (append-nil ledger.reading.bytes))
+    (subst (λ (g : Given). Begins g ledger.reading.bytes text) same
+    (remarked audit valid ledger.reading.bytes text has))
+left_standing given audit valid ledger text (Some success) found =
+    inr (λ more end. let one = found.0 more end in inl (one.0, success, one.1))
 
 pub started_weaker : (Right Other : List ℕ → Type 0) (out out' : List ℕ)
     → ((text : List ℕ) → Right text → Other text) → HasStarted Right out out'
@@ -171,144 +175,109 @@ started_weaker Right Other out out' weaker started = record {
       started.right;
 }
 
--- a write that failed
-pub stream_of_write : (ledger : Calls) (cut : Option WriteFault) (fault : Fault)
-    → IsWriteFault cut fault → IsStreamFault ledger cut fault
-stream_of_write ledger cut Write is = is
-stream_of_write ledger cut Closed is = is
-stream_of_write ledger cut _ is = absurd is
+no_front : (front rest : List ℕ) → front ++ rest ≡ [] → front ≡ []
+no_front [] rest is = refl
+no_front (byte ∷ front) rest is = absurd cc
 
-pub nothing_written : (r : Run) (text : List ℕ) → text ≡ [] → r ≡ with_written r text
-nothing_written r text none =
-    sym (ap (λ xs. record r { written = r.written ++ xs }) none
-    ∙ ap (λ xs. record r { written = xs }) (append-nil r.written))
+-- a prefix of it was written
+failed : (given : Given) (ledger : Calls) (old new : Run) (text front rest : List ℕ) (fault : Fault)
+    → MayBeLeft given ledger text → text ≡ front ++ rest → new.written ≡ old.written ++ front
+    → new.said ≡ old.said → IsStreamFault ledger new.cut fault
+    → EndsAs given ledger old new (Err fault)
+failed given ledger old new text front rest fault left whole grown quiet is = (
+  is,
+  record {
+    front = front;
+    grown = grown;
+    rest = rest;
+    right = ⊎_elim (λ none. inl (no_front front rest (sym whole ∙ none)))
+        (λ right. inr (subst (λ (t : List ℕ). HoldsOfRead ledger (λ f. IsAuditText given f t)) whole
+        right)) left;
+  },
+  quiet,
+)
 
-pub written_after : (r now : Run) (xs ys : List ℕ) → now ≡ with_written r xs
+-- ---- the audit, piece by piece
+pub record SoFar (given : Given) (audit : Audit) (valid : List TapFields) (file : List ℕ)
+    (old new : Run) : Type 0 where
+  pub written : List ℕ
+  pub same : given_in audit valid ≡ given
+  pub has : HasAudited audit valid file written
+  pub wrote : new ≡ with_written old written
+
+pub nothing_written : (r : Run) → r ≡ with_written r []
+nothing_written r = sym (ap (λ xs. record r { written = xs }) (append-nil r.written))
+
+written_after : (r now : Run) (xs ys : List ℕ) → now ≡ with_written r xs
     → with_written now ys ≡ with_written r (xs ++ ys)
 written_after r now xs ys is =
     ap (λ (x : Run). with_written x ys) is
     ∙ ap (λ all. record r { written = all }) (append_assoc r.written xs ys)
 
--- what holds of each file that goes on so, of a text that there is
-pub for_each_file : (text : List ℕ) (Goes Holds : List ℕ → Type 0)
-    → ((more : List ℕ) → Goes more → (text ≡ []) ⊎ Holds more)
-    → (text ≡ []) ⊎ ((more : List ℕ) → Goes more → Holds more)
-for_each_file [] Goes Holds each = inl refl
-for_each_file (byte ∷ text) Goes Holds each =
-    inr (λ more goes. ⊎_elim (λ none. absurd cc) (λ is. is) (each more goes))
-
--- a text that may be left of a file may be left of what is read of the ledger
-pub of_read : (P : List ℕ → Type 0) (ledger : Calls) (file more : List ℕ)
-    → ledger.reading.bytes ≡ file → P (file ++ more) → P (ledger.reading.bytes ++ more)
-of_read P ledger file more same is = subst (λ (t : List ℕ). P (t ++ more)) (sym same) is
-
--- what was audited so far, and written
-abbrev pub SoFar : Audit → Audit → List ℕ → Run → Run → Type 0
-SoFar start audit file old new = (valid : List TapFields) → HasAudited start valid [] []
-    → (written : List ℕ) × (given_in audit valid ≡ given_in start valid)
-    × HasAudited audit valid file written × (new ≡ with_written old written)
-
 -- an audit that fails before a piece
-pub interrupted : (start audit : Audit) (file piece : List ℕ) (ledger : Calls) (old new : Run)
-    (fault : Fault) → ledger.reading.bytes ≡ file ++ piece → SoFar start audit file old new
-    → IsStreamFault ledger new.cut fault → (valid : List TapFields) → HasAudited start valid [] []
-    → EndsAs (given_in start valid) ledger old new (Err fault)
-interrupted start audit file piece ledger old new fault read so_far is valid has =
-    let now = so_far valid has in
-    let given = given_in start valid in (
-      is,
-      started_of (λ text. HoldsOfRead ledger (λ f. IsAuditText given f text)) old.written
-          new.written
-          now.0 now.0 []
-          (for_each_file now.0 (λ more. IsWhole ledger → more ≡ [])
-          (λ more. IsAuditText given (ledger.reading.bytes ++ more) now.0)
-          (λ more end. of_read (λ f. (now.0 ≡ []) ⊎ IsAuditText given f now.0) ledger
-          (file ++ piece)
-          more read
-          (subst (λ (f : List ℕ). (now.0 ≡ []) ⊎ IsAuditText given f now.0)
-          (sym (append_assoc file piece more))
-          (audited_text audit given valid file now.0 (piece ++ more) now.1 now.2))))
-          (sym (append-nil now.0)) (ap (λ r. r.written) now.3),
-      ap (λ r. r.said) now.3,
-    )
+pub interrupted : (given : Given) (audit : Audit) (valid : List TapFields) (file piece : List ℕ)
+    (ledger : Calls) (old new : Run) (fault : Fault) → ledger.reading.bytes ≡ file ++ piece
+    → SoFar given audit valid file old new → IsStreamFault ledger new.cut fault
+    → EndsAs given ledger old new (Err fault)
+interrupted given audit valid file piece ledger old new fault read was is =
+    failed given ledger old new was.written was.written [] fault
+    (left_of given ledger file piece was.written read
+    (subst (λ (g : Given). Begins g file was.written) was.same
+    (remarked audit valid file was.written was.has)))
+    (sym (append-nil was.written)) (ap (λ r. r.written) was.wrote) (ap (λ r. r.said) was.wrote) is
 
 -- the audit of a piece
 abbrev pub Steps : Audit → Audit → List ℕ → List ℕ → Option Bool → Type 0
 Steps before after piece text ended = (valid : List TapFields) (file written : List ℕ)
-    → HasAudited before valid file written
-    → IsNext before after valid file piece (written ++ text) ended
+    (ledger : Calls) → HasAudited before valid file written
+    → ledger.reading.bytes ≡ file ++ piece → (piece ≡ [] → IsWhole ledger)
+    → Stands (given_in before valid) after valid ledger (written ++ text) ended
 
-module _ (start before after : Audit) (file piece text : List ℕ) (old now new : Run)
-    (ended : Option Bool) (so_far : SoFar start before file old now)
-    (steps : Steps before after piece text ended) where
+module _ (given : Given) (before after : Audit) (valid : List TapFields)
+    (file piece text : List ℕ) (old now new : Run) (ended : Option Bool)
+    (was : SoFar given before valid file old now) (steps : Steps before after piece text ended)
+    (ledger : Stream) (name : Option (List ℕ)) (read : HasRead ledger name (file ++ piece))
+    (whole : piece ≡ [] → ledger.from ≡ None) where
+  bytes : ledger.trace.reading.bytes ≡ file ++ piece
+  bytes = ap (λ (x : Load). x.bytes) read.reading
+
+  stands : Stands given after valid ledger.trace (was.written ++ text) ended
+  stands = subst (λ (g : Given). Stands g after valid ledger.trace (was.written ++ text) ended)
+      was.same (steps valid file was.written ledger.trace was.has bytes
+      (λ none. whole_at_end ledger name (file ++ piece) read (whole none)))
+
   -- an audit that goes on after a piece
   pub went_on : ended ≡ None → new ≡ with_written now text
-      → SoFar start after (file ++ piece) old new
-  went_on none wrote = λ valid has.
-      let was = so_far valid has in
-      let is = subst (λ (e : Option Bool). IsNext before after valid file piece (was.0 ++ text) e)
-      none (steps valid file was.0 was.2) in (
-        was.0 ++ text,
-        is.0 ∙ was.1,
-        is.1,
-        wrote ∙ written_after old now was.0 text was.3,
-      )
+      → SoFar given after valid (file ++ piece) old new
+  went_on none wrote =
+      let is = subst (Stands given after valid ledger.trace (was.written ++ text)) none stands in
+      record {
+        written = was.written ++ text;
+        same = is.0;
+        has = subst (λ (f : List ℕ). HasAudited after valid f (was.written ++ text)) bytes is.1;
+        wrote = wrote ∙ written_after old now was.written text was.wrote;
+      }
 
-  module _ (ledger : Stream) (name : Option (List ℕ)) (read : HasRead ledger name (file ++ piece))
-      (whole : piece ≡ [] → ledger.from ≡ None) where
-    bytes : ledger.trace.reading.bytes ≡ file ++ piece
-    bytes = ap (λ (x : Load). x.bytes) read.reading
+  -- all that is found was written
+  pub all_found : (success : Bool) → ended ≡ Some success → new ≡ with_written now text
+      → EndsAs given ledger.trace old new (Ok success)
+  all_found success is wrote = (
+    was.written ++ text,
+    wrote ∙ written_after old now was.written text was.wrote,
+    subst (Stands given after valid ledger.trace (was.written ++ text)) is stands,
+  )
 
-    at_end : piece ≡ [] → IsWhole ledger.trace
-    at_end none = whole_at_end ledger name (file ++ piece) read (whole none)
-
-    -- all that is found was written
-    pub all_found : (success : Bool) → ended ≡ Some success → new ≡ with_written now text
-        → (valid : List TapFields) → HasAudited start valid [] []
-        → EndsAs (given_in start valid) ledger.trace old new (Ok success)
-    all_found success is wrote valid has =
-        let was = so_far valid has in
-        let given = given_in start valid in
-        let all = was.0 ++ text in
-        let found = subst (λ (e : Option Bool). IsNext before after valid file piece all e) is
-        (steps valid file was.0 was.2) in (
-          all,
-          wrote ∙ written_after old now was.0 text was.3,
-          λ more end.
-              let one = found.0 more (λ none. end (at_end none)) in
-              of_read (λ f. (read : List ReadLine) × IsAudit given f read all success) ledger.trace
-              (file ++ piece) more bytes (
-                one.0,
-                subst (λ (x : Given). IsAudit x ((file ++ piece) ++ more) one.0 all success) was.1
-                    one.1,
-              ),
-          λ right. at_end (found.1 right),
-        )
-
-    -- a write failed
-    pub cut_off : (why : WriteFault) (fault : Fault) → IsCut now new text why
-        → IsWriteFault (Some why) fault → (valid : List TapFields) → HasAudited start valid [] []
-        → EndsAs (given_in start valid) ledger.trace old new (Err fault)
-    cut_off why fault cut is valid has =
-        let was = so_far valid has in
-        let given = given_in start valid in
-        let all = was.0 ++ text in (
-          stream_of_write ledger.trace new.cut fault
-              (subst (λ (e : Option WriteFault). IsWriteFault e fault)
-              (sym (ap (λ (r : Run). r.cut) cut.prefix)) is),
-          started_of (λ text. HoldsOfRead ledger.trace (λ f. IsAuditText given f text)) old.written
-              new.written all (was.0 ++ cut.front) cut.rest
-              (for_each_file all (λ more. IsWhole ledger.trace → more ≡ [])
-              (λ more. IsAuditText given (ledger.trace.reading.bytes ++ more) all)
-              (λ more end. of_read (λ f. (all ≡ []) ⊎ IsAuditText given f all) ledger.trace
-              (file ++ piece) more bytes
-              (subst (λ (x : Given). (all ≡ []) ⊎ IsAuditText x ((file ++ piece) ++ more) all) was.1
-              (next_text before after valid file piece all ended more (λ none. end (at_end none))
-              (steps valid file was.0 was.2)))))
-              (ap (λ (t : List ℕ). was.0 ++ t) cut.whole
-              ∙ sym (append_assoc was.0 cut.front cut.rest))
-              (ap (λ (r : Run). r.written) cut.prefix
-              ∙ ap (λ (r : Run). r.written ++ cut.front) was.3
-              ∙ append_assoc old.written was.0 cut.front),
-          ap (λ (r : Run). r.said) cut.prefix ∙ ap (λ (r : Run). r.said) was.3,
-        )
+  -- a write failed
+  pub cut_off : (why : WriteFault) → IsCut now new text why
+      → EndsAs given ledger.trace old new (Err (Unwritten why))
+  cut_off why cut =
+      failed given ledger.trace old new (was.written ++ text) (was.written ++ cut.front) cut.rest
+      (Unwritten why)
+      (left_standing given after valid ledger.trace (was.written ++ text) ended stands)
+      (ap (λ (t : List ℕ). was.written ++ t) cut.whole
+      ∙ sym (append_assoc was.written cut.front cut.rest))
+      (ap (λ (r : Run). r.written) cut.prefix
+      ∙ ap (λ (r : Run). r.written ++ cut.front) was.wrote
+      ∙ append_assoc old.written was.written cut.front)
+      (ap (λ (r : Run). r.said) cut.prefix ∙ ap (λ (r : Run). r.said) was.wrote)
+      (ap (λ (r : Run). r.cut) cut.prefix)

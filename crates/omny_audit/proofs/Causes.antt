@@ -1,6 +1,6 @@
 -- The causes of faults.
 use Rattle.std.proofs.Common.{◌≡◌, ◌++◌, ◌∷◌, [], ℕ, Bool, List, Option, Some, Result, Ok}
-use Rattle.std.proofs.Common.{◌∙◌, Err, ap, append-nil, codes, inl, inr, refl, subst, sym, ⊎_elim}
+use Rattle.std.proofs.Common.{◌∙◌, Err, ap, append-nil, inl, inr, refl, subst, sym}
 use Rattle.std.specs.Prelude.{Contains, ◌⊎◌}
 use Rattle.std.proofs.lemmas.List.Elements.{Contains-append_left, Contains-append_right}
 use Rattle.std.proofs.lemmas.List.Elements.{Contains-push}
@@ -12,31 +12,30 @@ use Rattle.class_names.specs.declared.names.WrongNames.{WrongNames}
 use Rattle.frame.specs.Failing.{HasStarted, IsCause}
 use Rattle.program_manners.proofs.Refusals.{has_refused}
 use Rattle.program_manners.proofs.TablesRefused.{among, named_among}
-use Rattle.program_manners.specs.Refusals.{HasRefused, IsOneOf}
-use Rattle.program_manners.specs.declared.loading.FileFault.{FileFault}
+use Rattle.program_manners.specs.Refusals.{IsOneOf, IsShown}
 use Rattle.program_manners.specs.TableLoads.{LoadsTables}
 use Rattle.program_manners.specs.TableWords.{TableNames, file_named, table_files}
 use Rattle.program_manners.specs.TablesFaults.{IsTablesFault}
+use Rattle.program_manners.specs.declared.recorded_loads.RecordedLoads.{RecordedLoads}
 use Rattle.program_manners.specs.declared.table_loads.TablesFault.{TablesFault}
 use Rattle.program_manners.specs.declared.table_loads.TablesFault.TheVariants as unloaded
 use Rattle.tariffs.specs.Fares.{Fares}
 use Rattle.world.specs.declared.faults.LoadFault.{LoadFault}
 use Rattle.world.specs.declared.faults.WriteFault.{WriteFault}
-use Rattle.world.specs.Run.{Load, Run, with_cut, with_written}
+use Rattle.world.specs.Run.{Calls, Load, Run, with_cut, with_written}
 use Rattle.omny_audit.specs.inside.Ends.{EndsAudit}
-use Rattle.omny_audit.specs.Ends.{Did, FailsAudit, HasReported, IsWrongFile, NamesUnplainClass}
-use Rattle.omny_audit.specs.Ends.{remembered}
-use Rattle.omny_audit.specs.Fault.{audit_fault_text, cause_of, reported}
+use Rattle.omny_audit.specs.Ends.{Did, FailsAudit, IsWrongFile, LoadsUnplainClass, NamesUnplainClass}
+use Rattle.omny_audit.specs.Ends.{did_by, remembered}
+use Rattle.omny_audit.specs.Fault.{cause_of}
 use Rattle.omny_audit.specs.Options.{AuditRequest, files_of, ledger_name, named_file}
 use Rattle.omny_audit.specs.Program.{HasFound, HasLoaded, HoldsOfRead, IsTextOf, given_of}
 use Rattle.omny_audit.specs.Reports.{AuditsDecide, IsAudit, IsAuditText}
 use Rattle.omny_audit.specs.declared.fault.Fault.{Fault}
-use Rattle.omny_audit.specs.declared.fault.Fault.TheVariants.{ClassName, Closed, File, GivenLedger}
-use Rattle.omny_audit.specs.declared.fault.Fault.TheVariants.{Ledger, NamedClass, NoMemory, Write}
+use Rattle.omny_audit.specs.declared.fault.Fault.TheVariants.{ClassName, File, GivenLedger, Ledger}
+use Rattle.omny_audit.specs.declared.fault.Fault.TheVariants.{NamedClass, NoMemory, Tables, Unwritten}
 use Rattle.omny_audit.specs.inside.Audits.{EndsAs}
-use Rattle.omny_audit.specs.inside.Fault.{IsAnswerFault, IsClassFault, IsFileFault, IsLoadFault}
-use Rattle.omny_audit.specs.inside.Fault.{IsNamedClass, IsReported, IsStreamFault, IsUnopened}
-use Rattle.omny_audit.specs.inside.Fault.{IsWriteFault, unloaded_as}
+use Rattle.omny_audit.specs.inside.Fault.{IsClassFault, IsLoadFault, IsNamedClass, IsStreamFault}
+use Rattle.omny_audit.specs.inside.Fault.{IsUnopened}
 use Rattle.omny_audit.proofs.Audits.{started_weaker}
 
 -- one of some names
@@ -73,53 +72,39 @@ module _ (request : AuditRequest) where
   among_ledgers = Contains-append_right (table_files request.table) _ (ledger_name request)
       (Contains-push (request.uploads ++ named_file request.report) (ledger_name request))
 
+  -- the fault has a cause, of a run that did this
+  abbrev pub HasCause : Did → Fault → Type 0
+  HasCause did fault = IsCause (files_of request) (IsWrongFile request did.loaded did.loaded')
+      (remembered request did) (cause_of request fault)
+
+  pub load_cause : (start loads : RecordedLoads) (ledger : Calls) (old new : Run) (name : List ℕ)
+      (fault : Fault) → Contains (files_of request) name → IsLoadFault name loads fault
+      → HasCause (did_by start loads ledger old new) fault
+  load_cause start loads ledger old new name (File file) one (same, is) = rw same (one, inl is)
+  load_cause start loads ledger old new name (GivenLedger given) one (same, is) =
+      rw same (one, inr (inr is))
+  load_cause start loads ledger old new name NoMemory one is = tt
+  load_cause start loads ledger old new name _ one is = absurd is
+
   module _ (did : Did) where
-    -- the fault has a cause
-    abbrev pub Causes : Fault → Type 0
-    Causes fault = IsCause (files_of request) (IsWrongFile request did.loaded did.loaded')
-        (remembered request did) (cause_of request fault)
-
-    pub load_cause : (names : List (List ℕ)) (fault : Fault)
-        → ((name : List ℕ) → Contains names name → Contains (files_of request) name)
-        → IsLoadFault names did.loaded' did.refused fault → Causes fault
-    load_cause names (File file) all is = (all file.name.now is.0, inl is.1)
-    load_cause names (GivenLedger name) all is = (all name.now is.0, inr (inr is.1))
-    load_cause names NoMemory all is = tt
-    load_cause names _ all is = absurd is
-
-    pub write_cause : (fault : Fault) → IsWriteFault did.new.cut fault → Causes fault
-    write_cause Write is = is
-    write_cause Closed is = is
-    write_cause _ is = absurd is
-
-    pub answer_cause : (fault : Fault) → IsAnswerFault did.new.cut fault
-        → IsCause (files_of request)
-        (λ name at. ⊥) (remembered request did) (cause_of request fault)
-    answer_cause NoMemory is = tt
-    answer_cause Write is = is
-    answer_cause Closed is = is
-    answer_cause _ is = absurd is
-
     pub stream_cause : did.ledger.reading.name ≡ request.ledger → (fault : Fault)
-        → IsStreamFault did.ledger did.new.cut fault → Causes fault
-    stream_cause named Ledger is = (
+        → IsStreamFault did.ledger did.new.cut fault → HasCause did fault
+    stream_cause named (Ledger why) is = (
       among_ledgers,
-      inr (refl, subst (λ (n : Option (List ℕ)). Contains did.ledger.run.unread n) named is),
+      inr (refl, subst (λ (n : Option (List ℕ)). IsShown did.ledger.run (n, why)) named is),
     )
+    stream_cause named (Unwritten why) is = is
     stream_cause named NoMemory is = tt
-    stream_cause named Write is = is
-    stream_cause named Closed is = is
     stream_cause named _ is = absurd is
 
     pub unopened_cause : (fault : Fault) → IsUnopened request.ledger did.ledger.run fault
-        → Causes fault
-    unopened_cause (File file) is =
-        (subst (λ (n : List ℕ). Contains (files_of request) n) (sym is.0) among_ledgers, inr is)
+        → HasCause did fault
+    unopened_cause (File file) is = rw is.0 (among_ledgers, inr (refl, is.1))
     unopened_cause _ is = absurd is
 
     pub tables_cause : (fault : TablesFault)
         → IsTablesFault request.table (Some did.loaded) (Some did.loaded') (Some did.refused) fault
-        → Causes (unloaded_as fault)
+        → HasCause did (Tables fault)
     tables_cause (unloaded.File file) is = (
       among_tables file.name.now (one_of file.name.now (table_files request.table) is.0),
       inl (has_refused (Some did.refused) (Some file.name.now) file.fault is.1),
@@ -143,29 +128,23 @@ module _ (request : AuditRequest) where
 
     pub class_cause : (between : List Load) (texts : List (List ℕ)) (fares : Fares)
         (fault : Fault) → LoadsTables request.table (Some did.loaded) (Some between) texts fares
-        → IsClassFault request.table texts fault → Causes fault
-    class_cause between texts fares ClassName loads is = (
-      first_table,
-      inr (inl (record {
-        texts = texts;
-        fares = fares;
-        between = between;
-        loads = loads;
-        names = is;
-      })),
-    )
-    class_cause between texts fares (NamedClass line) loads is = (
-      among_tables line.0.now is.0,
-      inr (inl (record {
-        texts = texts;
-        fares = fares;
-        between = between;
-        loads = loads;
-        names = is.1;
-      })),
-    )
-    class_cause between texts fares NoMemory loads is = tt
-    class_cause between texts fares _ loads is = absurd is
+        → IsClassFault request.table texts fault → HasCause did fault
+    class_cause between texts fares fault loads = by_fault fault
+      where
+        loaded : NamesUnplainClass texts → LoadsUnplainClass request.table did.loaded
+        loaded names = record {
+          texts = texts;
+          fares = fares;
+          between = between;
+          loads = loads;
+          names = names;
+        }
+
+        by_fault : (fault : Fault) → IsClassFault request.table texts fault → HasCause did fault
+        by_fault ClassName is = (first_table, inr (inl (loaded is)))
+        by_fault (NamedClass line) is = (among_tables line.0.now is.0, inr (inl (loaded is.1)))
+        by_fault NoMemory is = tt
+        by_fault _ is = absurd is
 
 unplain : (texts : List (List ℕ)) (wrong : WrongNames) → IsWrongAt texts wrong
     → wrong.fault ≡ class.Name → NamesUnplainClass texts
@@ -181,15 +160,6 @@ unplain texts wrong at is =
       parsed = has.1;
       unplain = has.2;
     }
-
--- a file that was refused is one of these names
-pub file_fault : (refused : Option (List ℕ) × LoadFault) (name : List ℕ) (file : FileFault)
-    (names : List (List ℕ)) (loaded : List Load) → IsFileFault refused name file
-    → Contains names name → IsLoadFault names loaded refused (File file)
-file_fault refused name file names loaded is one = (
-  subst (λ (n : List ℕ). Contains names n) (sym is.0) one,
-  subst (λ (n : List ℕ). HasRefused (Some refused) n file.fault) (sym is.0) is.1,
-)
 
 -- a text that names a wrong class is one of the texts
 pub unplain_class : (tables : TableNames) (texts : List (List ℕ)) (wrong : WrongNames)
@@ -215,14 +185,14 @@ ends_audit request did (Ok success) decide files is = (
   record {
     files = files;
     found = λ more end.
-        let one = is.2 more end in record {
+        let one = is.2.0 more end in record {
           read = one.0;
           audit = one.1;
           right = decide (given_of request files) (did.ledger.reading.bytes ++ more) one.0 is.0
               success
               one.1;
         };
-    whole = is.3;
+    whole = is.2.1;
   },
   is.1,
 )
@@ -237,69 +207,16 @@ ends_audit request did (Err fault) decide files is = (
   is.2,
 )
 
-said_reported : (fault : Fault) (r s : Run) → s.said ≡ r.said
-    → (reported fault s).said ≡ (reported fault r).said
-said_reported Closed r s same = same
-said_reported fault r s same =
-    ap (λ (t : List ℕ). t ++ (audit_fault_text fault ++ codes "\n")) same
-
--- What holds of a fault holds when it is reported. That an allocation for its line failed may be
--- reported in its place.
-pub reported_as : (P : Run → Fault → Type 0)
-    → ((r : Run) (fault : Fault) → P r fault → P (reported fault r) fault)
-    → ((r : Run) (fault : Fault) → P r fault → P r NoMemory)
-    → (start before after : Run) (fault : Fault) → P before fault → before.said ≡ start.said
-    → IsReported fault before after
-    → (said : Fault) × P after said × (after.said ≡ (reported said start).said)
-reported_as P keeps memory start before after fault has same is =
-    ⊎_elim (by fault has) (by NoMemory (memory before fault has)) is
-  where
-    by : (said : Fault) → P before said → after ≡ reported said before
-        → (other : Fault) × P after other × (after.said ≡ (reported other start).said)
-    by said has e = (
-      said,
-      subst (λ (r : Run). P r said) (sym e) (keeps before said has),
-      ap (λ (r : Run). r.said) e ∙ said_reported said start before same,
-    )
-
-keeps_answer : (r : Run) (fault : Fault) → IsAnswerFault r.cut fault
-    → IsAnswerFault (reported fault r).cut fault
-keeps_answer r Closed is = is
-keeps_answer r _ is = is
-
-pub answers_as : (start before after : Run) (fault : Fault) → IsAnswerFault before.cut fault
-    → before.said ≡ start.said → IsReported fault before after
-    → (said : Fault) × IsAnswerFault after.cut said × (after.said ≡ (reported said start).said)
-answers_as = reported_as (λ r fault. IsAnswerFault r.cut fault) keeps_answer (λ r fault is. tt)
-
-module _ (request : AuditRequest) (did : Did) where
-  keeps_failure : (r : Run) (fault : Fault) → FailsAudit request (record did { new = r }) fault
-      → FailsAudit request (record did { new = reported fault r }) fault
-  keeps_failure r Closed fails = fails
-  keeps_failure r _ fails = fails
-
-  pub fails_as : (before after : Run) (fault : Fault)
-      → FailsAudit request (record did { new = before }) fault → before.said ≡ did.old.said
-      → IsReported fault before after
-      → (said : Fault) × FailsAudit request (record did { new = after }) said
-      × HasReported (record did { new = after }) said
-  fails_as = reported_as (λ r fault. FailsAudit request (record did { new = r }) fault)
-      keeps_failure (λ r fault fails. record { is_cause = tt; started = fails.started }) did.old
-
 -- the whole text was written, and the flush after it failed
-pub unflushed : (request : AuditRequest) (did : Did) (before after : Run) (text : List ℕ)
-    (success : Bool)
-    (why : WriteFault) (fault : Fault) → IsWriteFault (Some why) fault
-    → HasFound request did.loaded did.loaded' did.ledger text success
-    → before ≡ with_written did.old text → after ≡ with_cut before why
-    → FailsAudit request (record did { new = after }) fault
-unflushed request did before after text success why fault is found wrote cut = record {
-  is_cause = write_cause request (record did { new = after }) fault
-      (subst (λ (e : Option WriteFault). IsWriteFault e fault)
-      (sym (ap (λ (r : Run). r.cut) cut)) is);
+pub unflushed : (request : AuditRequest) (did : Did) (text : List ℕ) (success : Bool)
+    (before : Run) (why : WriteFault) → HasFound request did.loaded did.loaded' did.ledger text success
+    → before ≡ with_written did.old text
+    → FailsAudit request (record did { new = with_cut before why }) (Unwritten why)
+unflushed request did text success before why found wrote = record {
+  is_cause = refl;
   started = record {
     front = text;
-    grown = ap (λ (r : Run). r.written) cut ∙ ap (λ (r : Run). r.written) wrote;
+    grown = ap (λ (r : Run). r.written) wrote;
     rest = [];
     right = inr (record {
       files = found.files;

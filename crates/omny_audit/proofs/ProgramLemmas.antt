@@ -2,31 +2,24 @@
 use Rattle.std.proofs.Common.{◌≡◌, ◌∙◌, ℕ, Bool, true, false, not, List, [], ◌∷◌, ◌++◌, length, map}
 use Rattle.std.proofs.Common.{refl, sym, ap, subst, append-nil, append_assoc, nat_eq, Option, Some}
 use Rattle.std.proofs.Common.{None, if◌then◌else◌, Bor, ◌≤◌, ◌⊎◌, inl, inr, suc, arith, option_map}
-use Rattle.std.proofs.lemmas.List.Elements.{Contains-push}
 use Rattle.std.specs.Str.{bytes_eq}
-use Rattle.std.specs.Prelude.{Contains, unwrap_or, ◌≢◌}
+use Rattle.std.specs.Prelude.{unwrap_or}
 use Rattle.ledger_check.specs.Columns.{has_traced_head, traced_head}
 use Rattle.std.proofs.lemmas.Bool.Decides.{nat_tests}
-use Rattle.std.proofs.lemmas.List.{map-append, take-append-le}
+use Rattle.std.proofs.lemmas.List.{flat_map_more, map-append, take-append-le}
+use Rattle.tap_views.proofs.Lists.{AllZip-append}
 use Rattle.clap.specs.Words.{Text}
 use Rattle.ledger_check.specs.Balances.{AreValidFields}
-use Rattle.tap_views.specs.UploadEnds.{ArePlainEnds, IsPlainEnd}
 use Rattle.tap_views.specs.declared.upload_end.UploadEnd.{UploadEnd}
 use Rattle.tap_views.specs.declared.encoder.TapFields.{TapFields}
-use Rattle.omny_audit.specs.Program.{AreValidFieldsOfAll, AreValidFieldsOfEach, HoldsOfRead}
-use Rattle.omny_audit.specs.Program.{LoadsNamedFiles, compared}
+use Rattle.omny_audit.specs.Program.{AreValidFieldsOfAll, HoldsOfRead, LoadsNamedFiles, compared}
 use Rattle.ledger_check.specs.Positions.{HasUploads}
 use Rattle.ledger_check.specs.declared.positions.Positions.{Positions}
 use Rattle.omny_audit.specs.Reports.{Given}
 use Rattle.omny_audit.specs.inside.Traced.{HaveNamed}
 use Rattle.omny_audit.specs.inside.Audits.{GoesOn}
-use Rattle.omny_audit.specs.inside.Fault.{IsStreamFault, unread_as}
-use Rattle.world.specs.Loads.{IsRefused}
-use Rattle.world.specs.Run.{Calls, Load, Run}
+use Rattle.world.specs.Run.{Load}
 use Rattle.world.specs.Streams.{HasRead, IsWhole}
-use Rattle.world.specs.declared.faults.LoadFault.{LoadFault}
-use Rattle.world.specs.declared.faults.LoadFault.TheVariants as load
-use Rattle.world.specs.declared.faults.WriteFault.{WriteFault}
 use Rattle.world.specs.declared.stream.Stream.{Stream}
 use Rattle.world.proofs.Streams.{whole_at_end}
 
@@ -51,26 +44,11 @@ loads_push names name loaded loaded' loaded'' files bytes all one = record {
 pub posted_push : (uploads : List (List ℕ)) (valid : List TapFields) (upload : List ℕ)
     (taps : List TapFields) → AreValidFieldsOfAll uploads valid
     → AreValidFields upload taps → AreValidFieldsOfAll (uploads ++ upload ∷ []) (valid ++ taps)
-posted_push [] valid upload taps all one =
-    (taps, [], one, refl, ap (λ (xs : List TapFields). xs ++ taps) all ∙ sym (append-nil taps))
-posted_push (first ∷ uploads) valid upload taps all one = (
-  all.0,
-  all.1 ++ taps,
-  all.2,
-  posted_push uploads all.1 upload taps all.3 one,
-  ap (λ (xs : List TapFields). xs ++ taps) all.4 ∙ append_assoc all.0 all.1 taps,
+posted_push uploads valid upload taps (lists, each, all) one = (
+  lists ++ taps ∷ [],
+  AllZip-append AreValidFields uploads lists (upload ∷ []) (taps ∷ []) each (one, tt),
+  ap (λ (xs : List TapFields). xs ++ taps) all ∙ flat_map_more (λ list. list) [] lists taps,
 )
-
--- the taps of each upload, one more
-pub each_push : (uploads : List (List ℕ)) (lists : List (List TapFields)) (upload : List ℕ)
-    (taps : List TapFields) → AreValidFieldsOfEach uploads lists → AreValidFields upload taps
-    → AreValidFieldsOfEach (uploads ++ upload ∷ []) (lists ++ taps ∷ [])
-each_push [] [] upload taps all one = (one, refl)
-each_push [] (list ∷ lists) upload taps all one =
-    let bad : list ∷ lists ≡ [] = all in absurd (cc)
-each_push (first ∷ uploads) [] upload taps all one = absurd all
-each_push (first ∷ uploads) (list ∷ lists) upload taps all one =
-    (all.0, each_push uploads lists upload taps all.1 one)
 
 not_zero : (n : ℕ) → nat_eq (suc n) 0 ≡ false
 not_zero n = grind (arith, nat_tests)
@@ -122,24 +100,6 @@ pub read_named : (s : Stream) (name : Option Text) (bytes : List ℕ) → HasRea
 read_named s name bytes read =
     subst (λ (n : Option Text). HasRead s n bytes) (sym (ap (λ (x : Load). x.name) read.reading))
     read
-
--- a read of the ledger that was refused
-pub refused_stream : (before : Run) (ledger : Calls) (name : Option Text)
-    (cut : Option WriteFault) (why : LoadFault) → why ≢ load.TooLong → ledger.reading.name ≡ name
-    → IsRefused before ledger.run name why → IsStreamFault ledger cut (unread_as why)
-refused_stream before ledger name cut load.Unread short named is =
-    subst (λ (n : Option Text). Contains ledger.run.unread n) (sym named)
-    (subst (λ (r : Run). Contains r.unread name) (sym is) (Contains-push before.unread name))
-refused_stream before ledger name cut load.TooLong short named is = absurd (short refl)
-refused_stream before ledger name cut load.NoMemory short named is = tt
-
-pub ends_push : (files : List (List ℕ)) (ends : List UploadEnd) (file : List ℕ) (end : UploadEnd)
-    → ArePlainEnds files ends → IsPlainEnd file end
-    → ArePlainEnds (files ++ file ∷ []) (ends ++ end ∷ [])
-ends_push [] [] file end are is = (is, tt)
-ends_push [] (e ∷ ends) file end are is = absurd are
-ends_push (f ∷ files) [] file end are is = absurd are
-ends_push (f ∷ files) (e ∷ ends) file end are is = (are.0, ends_push files ends file end are.1 is)
 
 -- a name that is lent, or what stands for it
 pub provided_name : (name : Option (Bor Text)) (usual : Bor Text)

@@ -5,31 +5,23 @@ use Rattle.clap.specs.Words.{Text}
 use Rattle.toml.specs.Data.{Members}
 use Rattle.toml.specs.Parse.{parse_document}
 use Rattle.tariffs.specs.Fares.{Fares}
-use Rattle.fare_table.specs.declared.fault.TableFault.TheVariants as table
 use Rattle.class_names.specs.Classes.{has_plain_classes}
 use Rattle.ledger_check.specs.Columns.{has_ledger_head}
-use Rattle.frame.specs.Failing.{Fails, IsCause, Remembered}
+use Rattle.frame.specs.Failing.{Cause, Fails, Remembered, wrong}
 use Rattle.world.specs.declared.faults.LoadFault.{LoadFault}
 use Rattle.program_manners.specs.Refusals.{HasRefused, IsShown, refusal_of}
 use Rattle.program_manners.specs.TableLoads.{LoadsTables}
 use Rattle.program_manners.specs.TablesFaults.{IsTablesFault}
-use Rattle.program_manners.specs.TableWords.{TableNames, file_named}
+use Rattle.program_manners.specs.TableWords.{TableNames, wrong_word}
 use Rattle.program_manners.specs.declared.recorded_loads.RecordedLoads.{RecordedLoads}
 use Rattle.program_manners.specs.declared.table_loads.TablesFault.{TablesFault}
-use Rattle.program_manners.specs.declared.table_loads.TablesFault.TheVariants as tables
-use Rattle.omny_audit.specs.Fault.{cause_of, reported}
-use Rattle.omny_audit.specs.Options.{AsksForAuditText, AuditRequest, files_of, ledger_name}
+use Rattle.omny_audit.specs.Fault.{IsReported, cause_of, tables_cause}
+use Rattle.omny_audit.specs.Options.{AsksForAuditText, AuditRequest, ParsesForAudit}
+use Rattle.omny_audit.specs.Options.{audit_request_by, files_of, ledger_name}
 use Rattle.omny_audit.specs.Program.{HasFound, IsTextOf}
 use Rattle.omny_audit.specs.declared.fault.Fault.{Fault}
-use Rattle.world.specs.Run.{Calls, Load, Run, with_flushed, with_written}
-
--- the file that is wrong, if tables are not loaded for what a file has
-abbrev pub wrong_table : TableNames → TablesFault → Option Text
-wrong_table names (tables.Table table.NoMemory) = None
-wrong_table names (tables.Table fault) = Some names.first
-wrong_table names (tables.NamedTable line) = Some line.name.now
-wrong_table names (tables.Follow line) = Some (file_named line.word.now)
-wrong_table names _ = None
+use Rattle.world.specs.Run.{Calls, Load, Run, no_calls, with_flushed, with_written}
+use Rattle.world.specs.Writes.{IsSaid}
 
 -- one of the texts names a class that no ledger can have
 pub record NamesUnplainClass (texts : List (List ℕ)) : Type 0 where
@@ -58,7 +50,7 @@ pub record LoadsGivenLedger (loaded' : List Load) (name : List ℕ) : Type 0 whe
 -- name a class that no ledger can have, or an upload that is a ledger.
 abbrev pub IsWrongFile : AuditRequest → List Load → List Load → List ℕ → Option ℕ → Type 0
 IsWrongFile request loaded loaded' name at =
-    ((fault : TablesFault) × (wrong_table request.table fault ≡ Some name)
+    ((fault : TablesFault) × (tables_cause request.table fault ≡ wrong name at)
     × IsTablesFault request.table (Some loaded) (Some loaded') None fault)
     ⊎ (LoadsUnplainClass request.table loaded ⊎ LoadsGivenLedger loaded' name)
 
@@ -93,12 +85,20 @@ remembered request did = record {
   unwritten = λ why. did.new.cut ≡ Some why;
 }
 
--- THE outcome of a run that fails
+-- THE outcome of a run that fails: its cause, and a prefix of a right text that was written
 abbrev pub FailsAudit : AuditRequest → Did → Fault → Type 0
 FailsAudit request did fault =
     Fails (files_of request) (IsWrongFile request did.loaded did.loaded')
     (IsTextOf request did.loaded did.loaded' did.ledger) (remembered request did) did.old.written
     did.new.written (cause_of request fault)
+
+-- The run failed, and said nothing but what is said of the fault.
+pub record HasFailed (request : AuditRequest) (did : Did) : Type 0 where
+  pub fault : Fault
+  pub before : Run
+  pub fails : FailsAudit request (record did { new = before }) fault
+  pub quiet : before.said ≡ did.old.said
+  pub reported : IsReported fault before did.new
 
 -- a finding was written and flushed, and nothing else was written or said
 abbrev pub HasFinished : AuditRequest → Did → Bool → Type 0
@@ -106,23 +106,38 @@ HasFinished request did success = (text : List ℕ)
     × HasFound request did.loaded did.loaded' did.ledger text success
     × (did.new ≡ with_flushed (with_written did.old text))
 
--- This fault was reported, and nothing else was said.
-abbrev pub HasReported : Did → Fault → Type 0
-HasReported did fault = did.new.said ≡ (reported fault did.old).said
-
 -- How a run ends with this status: with 0 all is well. With 1 it is not, or the run failed.
 abbrev pub EndsRun : AuditRequest → Did → ℕ → Type 0
 EndsRun request did zero = HasFinished request did true
-EndsRun request did (suc zero) = HasFinished request did false
-    ⊎ ((fault : Fault) × FailsAudit request did fault × HasReported did fault)
+EndsRun request did (suc zero) = HasFinished request did false ⊎ HasFailed request did
 EndsRun request did _ = ⊥
 
--- Words that are no command line: with 0 they ask for help or the version, with 2 nothing was
--- written, and with 1 help or the version was not written, or memory was refused.
-abbrev pub EndsAnswer : List Text → AuditRequest → Did → ℕ → Type 0
-EndsAnswer words request did zero = AsksForAuditText words × (did.new.said ≡ did.old.said)
-EndsAnswer words request did (suc zero) = (fault : Fault)
-    × IsCause (files_of request) (λ name at. ⊥) (remembered request did) (cause_of request fault)
-    × HasReported did fault
-EndsAnswer words request did (suc (suc zero)) = did.new.written ≡ did.old.written
-EndsAnswer words request did _ = ⊥
+-- a text was written and flushed, and nothing else was done
+abbrev pub IsPrinted : Run → Run → Type 0
+IsPrinted old new = (text : List ℕ) × (new ≡ with_flushed (with_written old text))
+
+-- something was said, with status 2, or 1 if an allocation failed, and nothing else was done
+abbrev pub IsRefused : Run → Run → ℕ → Type 0
+IsRefused old new status = ((status ≡ 2) ⊎ (status ≡ 1)) × IsSaid old new
+
+-- How words end that are no command line: with 0 they ask for help or the version, which was
+-- printed, and with 2 something was said, and nothing else was done.
+abbrev pub EndsAnswer : List Text → Run → Run → ℕ → Type 0
+EndsAnswer words old new zero = AsksForAuditText words × IsPrinted old new
+EndsAnswer words old new (suc zero) = Unit {0}
+EndsAnswer words old new (suc (suc zero)) = IsSaid old new
+EndsAnswer words old new _ = ⊥
+
+-- the words are a command line, in which each fare table but the first has a date
+abbrev pub IsCommand : List Text → Type 0
+IsCommand words = ParsesForAudit words × (wrong_word (audit_request_by words).table ≡ None)
+
+-- nothing was loaded, and nothing read of a ledger
+pub record HasReadNothing (did : Did) : Type 0 where
+  pub unloaded : did.loaded' ≡ did.loaded
+  pub unread : did.ledger ≡ no_calls
+
+-- THE outcome of a run of these words.
+pub record Ends (words : List Text) (did : Did) (status : ℕ) : Type 0 where
+  pub command : IsCommand words → EndsRun (audit_request_by words) did status
+  pub answer : ¬ (IsCommand words) → EndsAnswer words did.old did.new status × HasReadNothing did

@@ -1,6 +1,7 @@
 -- What a run of the program finds.
 use Rattle.std.specs.Prelude.{◌≡◌, ◌↔◌, ℕ, Bool, true, false, List, [], ◌∷◌, ◌++◌, map}
 use Rattle.std.specs.Prelude.{Option, None, Some}
+use Rattle.std.specs.List.{AllZip, flat_map}
 use Rattle.clap.specs.Words.{Text}
 use Rattle.tariffs.specs.Fares.{Fares}
 use Rattle.ledger_check.specs.Balances.{AreValidFields}
@@ -25,19 +26,14 @@ pub record LoadsNamedFiles (names : List Text) (loaded loaded' : List Load)
   pub bytes : map (λ load. load.bytes) loads ≡ files
   pub is_loaded : loaded' ≡ loaded ++ loads
 
--- the fields of the valid taps of the uploads, one upload after another
-abbrev pub AreValidFieldsOfAll : List (List ℕ) → List TapFields → Type 0
-AreValidFieldsOfAll [] taps = taps ≡ []
-AreValidFieldsOfAll (upload ∷ uploads) taps =
-    (first : List TapFields) × (rest : List TapFields) × AreValidFields upload first
-    × AreValidFieldsOfAll uploads rest × (taps ≡ first ++ rest)
-
 -- the fields of the valid taps of each upload
 abbrev pub AreValidFieldsOfEach : List (List ℕ) → List (List TapFields) → Type 0
-AreValidFieldsOfEach [] lists = lists ≡ []
-AreValidFieldsOfEach (upload ∷ uploads) [] = ⊥
-AreValidFieldsOfEach (upload ∷ uploads) (taps ∷ lists) =
-    AreValidFields upload taps × AreValidFieldsOfEach uploads lists
+AreValidFieldsOfEach uploads lists = AllZip AreValidFields uploads lists
+
+-- the fields of the valid taps of the uploads, one upload after another
+abbrev pub AreValidFieldsOfAll : List (List ℕ) → List TapFields → Type 0
+AreValidFieldsOfAll uploads taps = (lists : List (List TapFields))
+    × AreValidFieldsOfEach uploads lists × (taps ≡ flat_map (λ list. list) lists)
 
 -- what a ledger is compared with, if uploads are named
 abbrev pub compared : {A : Type 0} → List Text → A → Option A

@@ -1,13 +1,14 @@
 -- What is found of a ledger and of the report that is held beside it.
 use Rattle.std.specs.Prelude.{◌≡◌, ◌↔◌, ◌⊎◌, ◌&&◌, ◌||◌, ℕ, Bool, true, false, List, [], ◌++◌, codes}
-use Rattle.std.specs.Prelude.{◌+◌, ◌∷◌, if◌then◌else◌, is_some, Option, None, Some}
+use Rattle.std.specs.Prelude.{◌+◌, ◌∷◌, if◌then◌else◌, is_some, map, Option, None, Some}
 use Rattle.std.specs.Fmt.{decimal}
 use Rattle.tariffs.specs.Fares.{Fares}
 use Rattle.ledger_check.specs.Columns.{read_as}
 use Rattle.ledger_check.specs.FirstLines.{AreFirstTaken}
 use Rattle.ledger_check.specs.FullChecks.{TakenLine, remark_lines}
 use Rattle.ledger_check.specs.Ledger.{IsLedger, IsLedgerOf}
-use Rattle.omny_audit.specs.Findings.{HasValidTaps, HasOrder, IsFindingOf}
+use Rattle.ledger_check.specs.Orders.{tap_of_entry}
+use Rattle.omny_audit.specs.Findings.{HasOrder, HasValidTaps, IsFindingOf, IsRightLedger}
 use Rattle.omny_audit.specs.Traced.{AreColumnsReported, HasRightColumns, ReadLine, Wanted}
 use Rattle.report_check.specs.Reports.{IsReportBeside, IsReportVerdictBeside, is_of_ledger}
 use Rattle.report_texts.specs.Report.{upload_line}
@@ -74,33 +75,26 @@ unfoldable pub uncompared_text : Option (List UploadEnd) → List ℕ
 uncompared_text None = codes "upload lines not compared\n"
 uncompared_text (Some ends) = []
 
--- what is found of the report: a verdict that is true beside whatever entries the ledger has
-pub record IsReportFinding (ends : Option (List UploadEnd)) (fares : Fares)
-    (ledger report rest : List ℕ) (fits : Bool) : Type 0 where
-  pub verdict : ReportVerdict
-  pub shown : rest ≡ report_text verdict ++ uncompared_text ends
-  pub reported : fits ≡ is_of_ledger verdict
-  pub true_of : (entries : List Entry) → IsLedgerOf fares entries ledger
-      → IsReportVerdictBeside ends entries report verdict
+-- what is said of the report, if there is a verdict on it
+abbrev pub verdict_lines : Option (List UploadEnd) → Option ReportVerdict → List ℕ
+verdict_lines ends None = []
+verdict_lines ends (Some verdict) = report_text verdict ++ uncompared_text ends
 
--- What follows the finding on the ledger, which is legal or not: nothing without a report, or
--- after a ledger that is not legal; else the line of the verdict on the report.
-abbrev pub IsReportLine : Option (List UploadEnd) → Fares → List ℕ → Option (List ℕ) → Bool
-    → List ℕ → Bool → Type 0
-IsReportLine ends fares ledger None legal rest fits = (rest ≡ []) × (fits ≡ true)
-IsReportLine ends fares ledger (Some report) false rest fits = (rest ≡ []) × (fits ≡ false)
-IsReportLine ends fares ledger (Some report) true rest fits =
-    IsReportFinding ends fares ledger report rest fits
+-- The verdict on the report beside a ledger that is right or not. There is none without a report, or
+-- on one beside a ledger that is not; else it is true beside whatever entries the ledger has.
+abbrev pub IsVerdictOn : Option (List UploadEnd) → Fares → List ℕ → Option (List ℕ) → Bool
+    → Option ReportVerdict → Type 0
+IsVerdictOn ends fares ledger None right verdict = verdict ≡ None
+IsVerdictOn ends fares ledger (Some report) false verdict = verdict ≡ None
+IsVerdictOn ends fares ledger (Some report) true None = ⊥
+IsVerdictOn ends fares ledger (Some report) true (Some verdict) = (entries : List Entry)
+    → IsLedgerOf fares entries ledger → IsReportVerdictBeside ends entries report verdict
 
--- what is found of the report, if there is one, and after it the lines of uploads that have a
--- layout fault
-pub record AreLastLines (ends : Option (List UploadEnd)) (fares : Fares) (ledger : List ℕ)
-    (report : Option (List ℕ)) (legal : Bool) (rest : List ℕ) (success : Bool) : Type 0 where
-  pub line : List ℕ
-  pub fits : Bool
-  pub report_line : IsReportLine ends fares ledger report legal line fits
-  pub shown : rest ≡ line ++ damage_text ends
-  pub both : success ≡ (fits && are_whole ends)
+-- whether the verdict is that the report is the ledger's, if there is a report
+abbrev pub fits : Option (List ℕ) → Option ReportVerdict → Bool
+fits None verdict = true
+fits (Some report) None = false
+fits (Some report) (Some verdict) = is_of_ledger verdict
 
 -- What is found of a ledger's file, of which these lines were read, if it is traced: what is found
 -- of the ledger that is read of it, beside the valid taps of the uploads, if there are uploads;
@@ -110,20 +104,22 @@ pub record AreLastLines (ends : Option (List UploadEnd)) (fares : Fares) (ledger
 pub record IsAudit (given : Given) (file : List ℕ) (read : List ReadLine) (text : List ℕ)
     (success : Bool) : Type 0 where
   pub found : List ℕ
+  pub finding : IsFindingOf given.all given.fares (ledger_in given file) given.valid found
   pub sound : Bool
-  pub finding : IsFindingOf given.all given.live given.fares (ledger_in given file) given.valid found
-      sound
+  pub is_sound : (sound ≡ true)
+      ↔ IsRightLedger given.live given.fares (ledger_in given file) given.valid
   pub legal : Bool
   pub is_legal : (legal ≡ true) ↔ IsLedger given.fares (ledger_in given file)
   pub columns : List ℕ
   pub right : Bool
   pub are_columns : AreColumnsReported given.wanted (given.all || legal) file read columns right
-  pub rest : List ℕ
-  pub fits : Bool
-  pub last : AreLastLines given.ends given.fares (ledger_in given file) given.report
-      (legal && right) rest fits
-  pub shown : text ≡ found ++ (columns ++ rest)
-  pub both : success ≡ (sound && (right && fits))
+  pub verdict : Option ReportVerdict
+  pub is_verdict : IsVerdictOn given.ends given.fares (ledger_in given file) given.report
+      (legal && right) verdict
+  pub shown : text
+      ≡ found ++ (columns ++ (verdict_lines given.ends verdict ++ damage_text given.ends))
+  pub both : success
+      ≡ (sound && (right && (fits given.report verdict && are_whole given.ends)))
 
 -- What an audit that fails may leave: a prefix of what is found of the file, or of the remarks on
 -- its first lines, which are a prefix of it if all wrong lines are asked for
@@ -146,7 +142,8 @@ HasOwnReport ends (Some report) entries = IsReportBeside ends entries report
 abbrev pub IsRightAudit : Given → List ℕ → List ReadLine → Type 0
 IsRightAudit given file read =
     (entries : List Entry) × IsLedgerOf given.fares entries (ledger_in given file)
-    × HasValidTaps given.valid entries × HasOrder given.live entries
+    × HasValidTaps given.valid (map tap_of_entry entries)
+    × HasOrder given.live (map tap_of_entry entries)
     × HasRightColumns given.wanted file read
     × HasOwnReport given.ends given.report entries × (are_whole given.ends ≡ true)
 

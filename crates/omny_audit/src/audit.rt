@@ -5,13 +5,14 @@ ghost use Rattle.tap_views.specs.declared.encoder.TapFields.{TapFields};
 ghost use Rattle.omny_audit.specs.Reports.{IsAudit};
 ghost use Rattle.omny_audit.specs.Traced.{ReadLine};
 ghost use Rattle.omny_audit.specs.inside.Audits.{EndsAs, GoesOn, HasAudited, HasEnded, HasTaken};
-ghost use Rattle.omny_audit.specs.inside.Audits.{IsNext, given_in};
+ghost use Rattle.omny_audit.specs.inside.Audits.{Stands, given_in};
 ghost use Rattle.omny_audit.specs.inside.Checks.{is_decided};
-ghost use Rattle.world.specs.Streams.{HasRead};
+ghost use Rattle.world.specs.Run.{Calls};
+ghost use Rattle.world.specs.Streams.{HasRead, IsWhole};
 
 use crate::check::{Check, are_both, is_either};
 use crate::fault::Fault;
-use crate::report::{HeldReport, write_last_lines};
+use crate::report::{HeldReport, are_whole, fits, verdict_on, write_last_lines};
 use crate::traced::{TracedPieces, read_end, read_piece, write_columns};
 use fare_table::{Clock, FareTable};
 use std::alloc::Global;
@@ -107,15 +108,10 @@ impl Audit<'_> {
         let is_looked_at = is_either(all, found.is_legal);
         let is_right = write_columns(alloc, &mut text, is_looked_at, &self.trace)?;
         let is_whole = are_both(found.is_legal, is_right);
-        let fits = write_last_lines(
-            alloc,
-            &mut text,
-            is_whole,
-            &self.report,
-            &found.sums,
-            self.ends,
-        )?;
-        let is_after = are_both(is_right, fits);
+        let verdict = verdict_on(alloc, is_whole, &self.report, &found.sums, self.ends)?;
+        write_last_lines(alloc, &mut text, &verdict, self.ends)?;
+        let is_last = are_both(fits(&self.report, &verdict), are_whole(self.ends));
+        let is_after = are_both(is_right, is_last);
         Ok((text, are_both(found.is_sound, is_after)))
     }
 
@@ -125,8 +121,10 @@ impl Audit<'_> {
         requires { (valid : List TapFields) × (file written : List ℕ)
             × HasAudited self.old valid file written }
         ensures { IfOk result (λ next. (valid : List TapFields) (file written : List ℕ)
-            → HasAudited self.old valid file written
-            → IsNext self.old self.new valid file piece.now (written ++ next.0.items) next.1) }
+            (ledger : Calls) → HasAudited self.old valid file written
+            → ledger.reading.bytes ≡ file ++ piece.now → (piece.now ≡ [] → IsWhole ledger)
+            → Stands (given_in self.old valid) self.new valid ledger (written ++ next.0.items)
+            next.1) }
     {
         let mut reported = String::new(alloc);
         if piece.is_empty() {
@@ -166,13 +164,13 @@ pub(crate) fn audit_over<'a, W: World>(
             return Err(Fault::NoMemory);
         };
         if let Err(why) = world.write(next.0.as_slice()) {
-            return Err(Fault::of_write(why));
+            return Err(Fault::Unwritten(why));
         }
         if let Some(succeeded) = next.1 {
             return Ok(succeeded);
         }
         if let Err(why) = ledger.read(&mut piece) {
-            return Err(Fault::of_ledger(why));
+            return Err(Fault::Ledger(why));
         }
     }
     // no run makes so many reads

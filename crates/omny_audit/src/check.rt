@@ -1,25 +1,25 @@
 //! The lines of a ledger, checked up to the first wrong one, or all of them.
 
 ghost use Rattle.std.specs.Prelude.{◌≡◌, ◌++◌, ◌↔◌, ◌&&◌, ◌||◌, ℕ, List, [], IfOk, IfSome, IsTrue};
-ghost use Rattle.std.specs.Prelude.{None, OnOk, Bool, Some, if◌then◌else◌, is_some, map};
+ghost use Rattle.std.specs.Prelude.{None, OnOk, Bool, Some, if◌then◌else◌, is_some, map, not};
 ghost use Rattle.std.specs.Prelude.{string_bytes, true, false};
 ghost use Rattle.tariffs.specs.Fares.{Fares};
 ghost use Rattle.histories.specs.declared.entry.Entry.{Entry};
 ghost use Rattle.ledger_check.specs.Balances.{IsBalance};
 ghost use Rattle.ledger_check.specs.FullBalances.{IsFullBalance};
-ghost use Rattle.ledger_check.specs.Ledger.{IsLedger, IsLedgerOf};
+ghost use Rattle.ledger_check.specs.Ledger.{IsLedgerOf};
 ghost use Rattle.ledger_check.specs.Orders.{tap_of_entry};
 ghost use Rattle.ledger_check.specs.FullCheckStates.{HasFullyChecked};
 ghost use Rattle.ledger_check.specs.Sums.{AreSumsOf};
 ghost use Rattle.ledger_check.specs.Verdicts.{IsVerdict, early_in, is_legal};
 ghost use Rattle.tap_views.specs.declared.encoder.TapFields.{TapFields as ATap};
-ghost use Rattle.omny_audit.specs.Findings.{IsDifferencesEnd, IsFinding, IsFindingOf, IsFullFinding};
-ghost use Rattle.omny_audit.specs.Findings.{agrees};
-ghost use Rattle.omny_audit.specs.inside.Checks.{HasChecked, is_all, is_decided};
+ghost use Rattle.omny_audit.specs.Findings.{HasValidTaps, IsDifferencesEnd};
+ghost use Rattle.omny_audit.specs.inside.Checks.{Finds, HasChecked, is_all, is_decided};
 
 use crate::text::{are_none, write_difference, write_differences, write_verdict};
 use fare_table::{Clock, FareTable};
 use histories::HashSeed;
+use ledger_check::balance_laws::{differences_are_real, even_sides_lack_nothing};
 use ledger_check::laws::{full_checks_decide, verdicts_decide};
 use ledger_check::{Balance, Checker, Difference, EntrySums, FullBalance, FullCheck, Verdict};
 use std::alloc::{AllocError, Global};
@@ -124,17 +124,10 @@ impl Check {
         ensures found { IfOk result (λ found. (fares : Fares) (valid : List ATap)
             (text written : List ℕ) → HasChecked fares subtracts valid self.old text written
             → (more : List ℕ) × (string_bytes reported.new ≡ string_bytes reported.old ++ more)
-            × IsFindingOf (is_all self.old) live fares text (if subtracts then Some valid else None)
-            (written ++ more) found.is_sound
-            × ((found.is_legal ≡ true) ↔ IsLedger fares text)) }
-        ensures sums { IfOk result (λ found. (fares : Fares) (valid : List ATap)
-            (text written : List ℕ) → HasChecked fares subtracts valid self.old text written
-            → found.is_legal ≡ true → (entries : List Entry) → IsLedgerOf fares entries text
-            → IfSome found.sums (AreSumsOf entries)) }
+            × Finds (is_all self.old) live fares text (if subtracts then Some valid else None)
+            (written ++ more) found) }
         ensures decided { IfOk result
             (λ found. is_decided self.old ≡ true → found.is_legal ≡ false) }
-        ensures unsound { IfOk result
-            (λ found. is_decided self.old ≡ true → found.is_sound ≡ false) }
     {
         match self {
             Check::First(checker, balance, verdict) => {
@@ -179,7 +172,7 @@ pub(crate) fn are_both(is_sound: bool, fits: bool) -> bool
 }
 
 fn is_even(difference: &Option<Difference>) -> bool
-    ensures { result ≡ agrees difference.now }
+    ensures { result ≡ not (is_some difference.now) }
 {
     difference.is_none()
 }
@@ -195,13 +188,15 @@ fn finding(
     ensures found { IfOk result (λ found. (fares : Fares) (text : List ℕ) (valid : List ATap)
         → IsVerdict fares text verdict.now
         → (IsTrue (is_legal verdict.now) → (entries : List Entry) → IsLedgerOf fares entries text
-        → IsBalance balance.now valid (map tap_of_entry entries))
+        → IsBalance balance.now valid (map tap_of_entry entries)
+        × IfSome sums (AreSumsOf entries))
         → (more : List ℕ) × (string_bytes reported.new ≡ string_bytes reported.old ++ more)
-        × IsFinding live fares text (if subtracts then Some valid else None) more found.is_sound) }
+        × Finds false live fares text (if subtracts then Some valid else None) more found) }
     ensures legal { IfOk result (λ found. found.is_legal ≡ is_legal verdict.now) }
-    ensures sums { IfOk result (λ found. found.sums ≡ sums) }
-    ensures unsound { IfOk result (λ found. found.is_legal ≡ false → found.is_sound ≡ false) }
 {
+    // proof: the verdict is `legal` exactly if the text is a ledger, and a difference is one
+    verdicts_decide();
+    differences_are_real();
     write_verdict(reported, verdict)?;
     if !is_legal(verdict) {
         return Ok(Found {
@@ -244,21 +239,13 @@ fn first_found(
         → HasChecked fares subtracts valid (Check.First checker.old balance.now verdict.now) text
         written → (more : List ℕ)
         × (string_bytes reported.new ≡ string_bytes reported.old ++ more)
-        × IsFinding live fares text (if subtracts then Some valid else None) (written ++ more)
-        found.is_sound × ((found.is_legal ≡ true) ↔ IsLedger fares text)) }
-    ensures sums { IfOk result (λ found. (fares : Fares) (valid : List ATap)
-        (text written : List ℕ)
-        → HasChecked fares subtracts valid (Check.First checker.old balance.now verdict.now) text
-        written → found.is_legal ≡ true → (entries : List Entry) → IsLedgerOf fares entries text
-        → IfSome found.sums (AreSumsOf entries)) }
+        × Finds false live fares text (if subtracts then Some valid else None) (written ++ more)
+        found) }
     ensures decided { IfOk result (λ found. is_some verdict.now ≡ true
         → ((fares : Fares) × (valid : List ATap) × (text written : List ℕ)
         × HasChecked fares subtracts valid (Check.First checker.old balance.now verdict.now) text
         written) → found.is_legal ≡ false) }
-    ensures unsound { IfOk result (λ found. found.is_legal ≡ false → found.is_sound ≡ false) }
 {
-    // proof: the verdict is `legal` exactly if the text is a ledger
-    verdicts_decide();
     match verdict {
         Some(verdict) => {
             let found = finding(verdict, balance, None, subtracts, live, reported)?;
@@ -281,10 +268,12 @@ fn write_lacking(
 ) -> Result<bool, AllocError>
     ensures { IfOk result (λ even. (rest : List ℕ)
         × (string_bytes reported.new ≡ string_bytes reported.old ++ rest)
-        × ((valid taps : List ATap) (legal : Bool)
-        → (subtracts ≡ true → IsFullBalance full.now valid taps)
-        → IsDifferencesEnd (if subtracts then Some valid else None) taps legal rest (legal && even))) }
+        × ((valid taps : List ATap) → (subtracts ≡ true → IsFullBalance full.now valid taps)
+        → IsDifferencesEnd (if subtracts then Some valid else None) taps rest
+        × ((even ≡ true) ↔ HasValidTaps (if subtracts then Some valid else None) taps))) }
 {
+    // proof: neither side lacks a tap exactly if both have the same taps
+    even_sides_lack_nothing();
     if !subtracts {
         return Ok(true);
     }
@@ -306,17 +295,11 @@ fn full_finding(
 ) -> Result<Found, AllocError>
     requires { (fares : Fares) × (valid : List ATap) × (text written : List ℕ)
         × HasFullyChecked fares full_check.old subtracts full.now text written valid }
-    ensures found { IfOk result (λ found. (fares : Fares) (valid : List ATap)
-        (text written : List ℕ)
+    ensures { IfOk result (λ found. (fares : Fares) (valid : List ATap) (text written : List ℕ)
         → HasFullyChecked fares full_check.old subtracts full.now text written valid
         → (more : List ℕ) × (string_bytes reported.new ≡ string_bytes reported.old ++ more)
-        × IsFullFinding live fares text (if subtracts then Some valid else None) (written ++ more)
-        found.is_sound × ((found.is_legal ≡ true) ↔ IsLedger fares text)) }
-    ensures sums { IfOk result (λ found. (fares : Fares) (valid : List ATap)
-        (text written : List ℕ)
-        → HasFullyChecked fares full_check.old subtracts full.now text written valid
-        → found.is_legal ≡ true → (entries : List Entry) → IsLedgerOf fares entries text
-        → IfSome found.sums (AreSumsOf entries)) }
+        × Finds true live fares text (if subtracts then Some valid else None) (written ++ more)
+        found) }
 {
     // proof: no line is wrong exactly if the text is a ledger
     full_checks_decide();

@@ -1,14 +1,10 @@
 //! Why the program fails, with the line that says so.
-ghost use Rattle.std.specs.Prelude.{◌≡◌, Some};
-ghost use Rattle.omny_audit.specs.Fault.{audit_fault_text, is_quiet};
-ghost use Rattle.omny_audit.specs.inside.Fault.{IsWriteFault, unloaded_as, unread_as};
+ghost use Rattle.std.specs.Prelude.{◌≡◌};
+ghost use Rattle.omny_audit.specs.Fault.{IsReported, is_quiet};
 
-use fare_table::TableFault;
-use program_manners::{
-    FileFault, FollowLine, NamedClassLine, NamedTableLine, TableLine, TablesFault, WrongWord,
-};
+use program_manners::{FileFault, NamedClassLine, TableLine, TablesFault, WrongWord};
 use std::fmt;
-use world::{LoadFault, WriteFault};
+use world::{LoadFault, World, WriteFault};
 
 /// The line, with its line feed, of a word of a fare table that has a wrong date, or lacks one.
 #[derive(Clone, Copy, Debug)]
@@ -25,78 +21,67 @@ impl fmt::Display for DateLine<'_> {
 pub(crate) enum Fault<'a> {
     /// A file was not loaded, or the ledger not opened.
     File(FileFault<'a>),
-    /// A read of the ledger failed.
-    Ledger,
-    /// The fare table's text is not a fare table.
-    Table(TableFault),
-    /// The text of one of several fare tables is not a fare table.
-    NamedTable(NamedTableLine<'a>),
-    /// A fare table cannot follow those before it.
-    Follow(FollowLine<'a>),
+    /// The ledger was opened, and a read of it failed.
+    Ledger(LoadFault),
+    /// The fare tables were not loaded.
+    Tables(TablesFault<'a>),
     /// A ledger was named as an upload.
     GivenLedger(&'a str),
     /// The fare table's text names a class that no traced ledger can have.
     ClassName,
     /// The text of one of several fare tables names a class that no traced ledger can have.
     NamedClass(NamedClassLine<'a>),
-    Write,
-    /// The reader of the text is gone.
-    Closed,
+    /// The text was not written. Nothing is reported if its reader is gone.
+    Unwritten(WriteFault),
     /// An allocation failed.
     NoMemory,
 }
 
-impl<'a> Fault<'a> {
-    /// Nothing is reported of it exactly if the reader of the text is gone.
-    pub(crate) fn of_write(why: WriteFault) -> Fault<'a>
-        ensures { IsWriteFault (Some why) result }
-    {
-        match why {
-            WriteFault::Closed => Fault::Closed,
-            WriteFault::Refused => Fault::Write,
-        }
-    }
-
-    /// Why the ledger was not read.
-    pub(crate) fn of_ledger(why: LoadFault) -> Fault<'a>
-        ensures { result ≡ unread_as why }
-    {
-        match why {
-            LoadFault::NoMemory => Fault::NoMemory,
-            LoadFault::Unread | LoadFault::TooLong => Fault::Ledger,
-        }
-    }
-
-    pub(crate) fn of_tables(fault: TablesFault<'a>) -> Fault<'a>
-        ensures { result ≡ unloaded_as fault.entry }
-    {
-        match fault {
-            TablesFault::File(file) => Fault::File(file),
-            TablesFault::Table(TableFault::NoMemory) | TablesFault::NoMemory => Fault::NoMemory,
-            TablesFault::Table(fault) => Fault::Table(fault),
-            TablesFault::NamedTable(line) => Fault::NamedTable(line),
-            TablesFault::Follow(line) => Fault::Follow(line),
-        }
-    }
-
-    /// Whether the reader of the text is gone, so that nothing is reported.
-    pub(crate) fn is_quiet(&self) -> bool
+impl Fault<'_> {
+    fn is_quiet(&self) -> bool
         ensures { result ≡ is_quiet self.now }
     {
-        matches!(self, Fault::Closed)
+        matches!(self, Fault::Unwritten(WriteFault::Closed))
+    }
+}
+
+/// Reports the fault, unless the reader of the text is gone, and gives the status.
+pub(crate) fn fail<W: World>(fault: &Fault<'_>, world: &mut W) -> u8
+    ensures status { result ≡ 1 }
+    ensures reported { IsReported fault.now (W.run world.old) (W.run world.new) }
+{
+    if fault.is_quiet() {
+        return 1;
+    }
+    let _ = world.report_line(*fault);
+    1
+}
+
+/// The line of why fare tables were not loaded.
+#[derive(Clone, Copy)]
+struct TablesLine<'a>(TablesFault<'a>);
+
+impl fmt::Display for TablesLine<'_> {
+    fn fmt<W: fmt::Write>(&self, f: &mut fmt::Formatter<W>) -> fmt::Result {
+        match self.0 {
+            TablesFault::File(fault) => fault.fmt(f),
+            TablesFault::Table(fault) => TableLine(fault).fmt(f),
+            TablesFault::NamedTable(line) => line.fmt(f),
+            TablesFault::Follow(line) => line.fmt(f),
+            TablesFault::NoMemory => f.write_str("fault: out of memory"),
+        }
     }
 }
 
 impl fmt::Display for Fault<'_> {
-    ghost output = { λ fault. Some (audit_fault_text fault) };
-
     fn fmt<W: fmt::Write>(&self, f: &mut fmt::Formatter<W>) -> fmt::Result {
         match self {
             Fault::File(fault) => fault.fmt(f),
-            Fault::Ledger => f.write_str("fault: cannot read the ledger"),
-            Fault::Table(fault) => TableLine(*fault).fmt(f),
-            Fault::NamedTable(line) => line.fmt(f),
-            Fault::Follow(line) => line.fmt(f),
+            Fault::Ledger(LoadFault::NoMemory) | Fault::NoMemory => {
+                f.write_str("fault: out of memory")
+            }
+            Fault::Ledger(_) => f.write_str("fault: cannot read the ledger"),
+            Fault::Tables(fault) => TablesLine(*fault).fmt(f),
             Fault::GivenLedger(name) => write!(
                 f,
                 "fault: {name} is a ledger and no upload: write it before --uploads, or after --"
@@ -105,8 +90,7 @@ impl fmt::Display for Fault<'_> {
             Fault::ClassName => {
                 f.write_str("fault: table has a class name that no ledger can have")
             }
-            Fault::Write | Fault::Closed => f.write_str("fault: cannot write"),
-            Fault::NoMemory => f.write_str("fault: out of memory"),
+            Fault::Unwritten(_) => f.write_str("fault: cannot write"),
         }
     }
 }

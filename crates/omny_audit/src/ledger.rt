@@ -28,7 +28,7 @@ pub(crate) fn read_head(alloc: Global, ledger: &mut Stream) -> Result<Vec<u8>, F
     let mut piece = Vec::new(alloc);
     for _piece in 0..u64::MAX {
         if let Err(why) = ledger.read(&mut piece) {
-            return Err(Fault::of_ledger(why));
+            return Err(Fault::Ledger(why));
         }
         let Ok(()) = head.extend_from_slice(&piece) else {
             return Err(Fault::NoMemory);

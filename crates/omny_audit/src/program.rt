@@ -1,21 +1,17 @@
 //! The whole program.
-ghost use Rattle.std.specs.Prelude.{◌≡◌, ◌≢◌, ◌≤◌, ◌⊎◌, ◌++◌, ◌∷◌, [], List, ℕ, IfErr, IfOk, IfSome};
-ghost use Rattle.std.specs.Prelude.{Contains, None, OnOk, Option, Some, false, if◌then◌else◌, is_some};
-ghost use Rattle.std.specs.Prelude.{codes, length, map, option_map, string_bytes, true};
+ghost use Rattle.std.specs.Prelude.{◌≡◌, ◌≤◌, ◌++◌, ◌∷◌, [], List, ℕ, Contains, IfErr, IfOk, None};
+ghost use Rattle.std.specs.Prelude.{OnOk, Option, Some, if◌then◌else◌, length, map, option_map};
+ghost use Rattle.std.specs.Prelude.{string_bytes};
 ghost use Rattle.clap.specs.Words.{kind_of};
-ghost use Rattle.tariffs.specs.Fares.{Fares};
 ghost use Rattle.ledger_check.specs.Columns.{has_traced_head};
 ghost use Rattle.tap_views.specs.declared.encoder.TapFields.{TapFields};
-ghost use Rattle.omny_audit.specs.Ends.{Did, EndsAnswer, EndsRun, did_by};
-ghost use Rattle.omny_audit.specs.Fault.{audit_fault_text, reported};
+ghost use Rattle.omny_audit.specs.Ends.{Did, Ends, EndsRun, IsPrinted, IsRefused, did_by};
 ghost use Rattle.omny_audit.specs.inside.Ends.{EndsAudit};
-ghost use Rattle.omny_audit.specs.Options.{AuditRequest, ParsesForAudit, audit_request_by, ledger_name};
-ghost use Rattle.omny_audit.specs.Options.{named_file};
+ghost use Rattle.omny_audit.specs.Options.{AuditRequest, named_file};
 ghost use Rattle.omny_audit.specs.inside.Options.{audit_request_of};
 ghost use Rattle.omny_audit.specs.inside.Reports.{text_of};
 ghost use Rattle.omny_audit.specs.Program.{AreWanted, LoadsNamedFiles, LoadsReport};
-ghost use Rattle.omny_audit.specs.inside.Fault.{IsAnswerFault, IsClassFault, IsFileFault};
-ghost use Rattle.omny_audit.specs.inside.Fault.{IsLoadFault, IsNamedClass, IsReported, IsUnopened};
+ghost use Rattle.omny_audit.specs.inside.Fault.{IsClassFault, IsLoadFault, IsNamedClass, IsUnopened};
 ghost use Rattle.omny_audit.specs.inside.Traced.{HasReadAs, HaveNamed, uploads_in, wanted_by};
 ghost use Rattle.omny_audit.specs.inside.Uploads.{AreUploads};
 ghost use Rattle.program_manners.specs.Refusals.{IsShown, refusal_of};
@@ -23,12 +19,13 @@ ghost use Rattle.program_manners.specs.TableLoads.{LoadsTables};
 ghost use Rattle.program_manners.specs.TableViews.{names_of};
 ghost use Rattle.program_manners.specs.TableWords.{wrong_word};
 ghost use Rattle.program_manners.specs.Words.{IsRequest};
-ghost use Rattle.world.specs.Run.{Load, Run, no_calls, with_load, with_said};
+ghost use Rattle.world.specs.Run.{Load, no_calls};
 ghost use Rattle.world.specs.Streams.{HasRead};
+ghost use Rattle.world.specs.Writes.{IsSaid};
 
 use crate::audit::{Audit, audit_over};
 use crate::check::Check;
-use crate::fault::{DateLine, Fault};
+use crate::fault::{DateLine, Fault, fail};
 use crate::laws::audits_decide;
 use crate::ledger::read_head;
 use crate::options::Options;
@@ -44,41 +41,25 @@ use program_manners::{
     FileFault, FileSource, NamedClassLine, STANDARD_INPUT, TableWord, TableWords, Tables,
     load_tables,
 };
-use std::alloc::{AllocError, Global};
+use std::alloc::Global;
 use std::fmt::Display;
 use std::random::RandomSource;
 use tap_views::{NoMemory, UploadEnd, facts_of};
-use world::{Stream, World};
+use world::{Stream, World, WriteFault};
 
 /// The files of the system.
 pub type Files<'r> = Host<'r, HostRuntime>;
-
-fn load_named<'a>(files: &mut Files<'_>, name: &'a str) -> Result<Vec<u8>, FileFault<'a>>
-    ensures ok { IfOk result (λ bytes. files.new.loads.trace.run.loads
-        ≡ files.old.loads.trace.run.loads
-        ++ record { name = Some name.entry.now; bytes = bytes.items } ∷ []) }
-    ensures fault { IfErr result
-        (IsFileFault (refusal_of files.new.loads.last.value) name.entry.now) }
-{
-    match files.load(name) {
-        Ok(bytes) => Ok(bytes),
-        Err(fault) => Err(FileFault { name, fault }),
-    }
-}
 
 /// A ledger is refused as an upload.
 fn load_upload<'a>(files: &mut Files<'_>, name: &'a str) -> Result<Vec<u8>, Fault<'a>>
     ensures ok { IfOk result (λ bytes. files.new.loads.trace.run.loads
         ≡ files.old.loads.trace.run.loads
         ++ record { name = Some name.entry.now; bytes = bytes.items } ∷ []) }
-    ensures fault { IfErr result (λ fault. (names : List (List ℕ))
-        → Contains names name.entry.now
-        → IsLoadFault names files.new.loads.trace.run.loads
-        (refusal_of files.new.loads.last.value) fault) }
+    ensures fault { IfErr result (IsLoadFault name.entry.now files.new.loads) }
 {
-    let upload = match load_named(files, name) {
+    let upload = match files.load(name) {
         Ok(upload) => upload,
-        Err(file) => return Err(Fault::File(file)),
+        Err(fault) => return Err(Fault::File(FileFault { name, fault })),
     };
     if has_ledger_head(&upload) {
         return Err(Fault::GivenLedger(name));
@@ -120,8 +101,8 @@ fn load_uploads<'a>(
         × (lists : List (List TapFields)) × LoadsNamedFiles (map (λ n. n.now) names.now)
         files.old.loads.trace.run.loads files.new.loads.trace.run.loads bytes
         × AreUploads bytes valid lists uploads) }
-    ensures fault { IfErr result (IsLoadFault (map (λ n. n.now) names.now)
-        files.new.loads.trace.run.loads (refusal_of files.new.loads.last.value)) }
+    ensures fault { IfErr result (λ fault. (name : List ℕ)
+        × Contains (map (λ n. n.now) names.now) name × IsLoadFault name files.new.loads fault) }
 {
     let mut uploads = Uploads {
         balance: Balance::new(alloc),
@@ -153,15 +134,16 @@ fn load_report<'a, R: RandomSource>(
 ) -> Result<Option<HeldReport>, Fault<'a>>
     ensures ok { IfOk result (λ report. LoadsReport (option_map (λ n. n.now) name.entry)
         files.old.loads.trace.run.loads files.new.loads.trace.run.loads (text_of report)) }
-    ensures fault { IfErr result (IsLoadFault (named_file (option_map (λ n. n.now) name.entry))
-        files.new.loads.trace.run.loads (refusal_of files.new.loads.last.value)) }
+    ensures fault { IfErr result (λ fault. (file : List ℕ)
+        × Contains (named_file (option_map (λ n. n.now) name.entry)) file
+        × IsLoadFault file files.new.loads fault) }
 {
     let Some(name) = name else {
         return Ok(None);
     };
-    let text = match load_named(files, name) {
+    let text = match files.load(name) {
         Ok(text) => text,
-        Err(file) => return Err(Fault::File(file)),
+        Err(fault) => return Err(Fault::File(FileFault { name, fault })),
     };
     let Ok(seed) = HashSeed::new(rt) else {
         return Err(Fault::NoMemory);
@@ -250,7 +232,7 @@ fn audit<'a, W: World>(
     let alloc = rt.alloc();
     let tables = match load_tables(alloc, &options.table, files) {
         Ok(tables) => tables,
-        Err(fault) => return Err(Fault::of_tables(fault)),
+        Err(fault) => return Err(Fault::Tables(fault)),
     };
     let Ok(clock) = tables.fares.clock(alloc) else {
         return Err(Fault::NoMemory);
@@ -298,98 +280,65 @@ fn audit<'a, W: World>(
     audit_over(alloc, head, ledger, &mut audit, world)
 }
 
-/// If an allocation for the text fails, that is reported, and the status is 1.
-fn say<W: World, D: Display + Drop>(alloc: Global, text: D, status: u8, world: &mut W) -> u8
-    ensures said { (result ≡ 1) × (W.run world.new ≡ reported Fault.NoMemory (W.run world.old))
-        ⊎ (result ≡ status) × IfSome (D.output text)
-        (λ text. W.run world.new ≡ with_said (W.run world.old) text) }
-    ensures kept { (W.run world.new).written ≡ (W.run world.old).written }
+/// Says it, with status 2; else that an allocation failed, with status 1.
+fn say<W: World, D: Display + Drop>(alloc: Global, text: D, world: &mut W) -> u8
+    ensures { IsRefused (W.run world.old) (W.run world.new) result }
 {
     let Ok(text) = format!(in alloc; "{text}") else {
-        world.report(world::Fault::NoMemory);
-        return 1;
+        return fail(&Fault::NoMemory, world);
     };
     world.say(text.as_bytes());
-    status
+    2
 }
 
-fn line_of(alloc: Global, fault: &Fault<'_>) -> Result<String, AllocError>
-    ensures { IfOk result (λ line. string_bytes line ≡ audit_fault_text fault.now ++ codes "\n") }
+/// Writes the text and flushes the output.
+fn print<W: World>(text: &[u8], world: &mut W) -> Result<(), WriteFault>
+    ensures { OnOk result (IsPrinted (W.run world.old) (W.run world.new)) }
 {
-    format!(in alloc; "{}\n", *fault)
-}
-
-/// Nothing is reported if the reader is gone. If an allocation for the line fails, that is reported.
-fn report_fault<W: World>(alloc: Global, fault: &Fault<'_>, world: &mut W) -> u8
-    ensures status { result ≡ 1 }
-    ensures reported { IsReported fault.now (W.run world.old) (W.run world.new) }
-{
-    if fault.is_quiet() {
-        return 1;
+    match world.write(text) {
+        Ok(()) => world.flush(),
+        Err(why) => Err(why),
     }
-    match line_of(alloc, fault) {
-        Ok(line) => world.say(line.as_bytes()),
-        Err(_) => world.report(world::Fault::NoMemory),
-    }
-    1
-}
-
-/// Help or the version, flushed.
-fn show_text<W: World>(alloc: Global, text: &Error, world: &mut W) -> Result<(), Fault<'static>>
-    ensures said { (W.run world.new).said ≡ (W.run world.old).said }
-    ensures fault { IfErr result (IsAnswerFault (W.run world.new).cut) }
-{
-    let Ok(text) = format!(in alloc; "{text}") else {
-        return Err(Fault::NoMemory);
-    };
-    if let Err(why) = world.write(text.as_bytes()) {
-        return Err(Fault::of_write(why));
-    }
-    if let Err(why) = world.flush() {
-        return Err(Fault::of_write(why));
-    }
-    Ok(())
 }
 
 /// Help and version go to the output, else the usage error to the standard error.
 fn show<W: World>(alloc: Global, error: &Error, world: &mut W) -> u8
     ensures help { result ≡ 0 → IsRequest (kind_of error.now)
-        × ((W.run world.new).said ≡ (W.run world.old).said) }
+        × IsPrinted (W.run world.old) (W.run world.new) }
     ensures memory { kind_of error.now ≡ ErrorKind.OutOfMemory → (result ≡ 1)
-        × (W.run world.new ≡ reported Fault.NoMemory (W.run world.old)) }
-    ensures usage_error { result ≡ 2 → (¬ IsRequest (kind_of error.now))
-        × ((W.run world.new).written ≡ (W.run world.old).written) }
-    ensures fault { result ≡ 1 → (fault : Fault) × IsAnswerFault (W.run world.new).cut fault
-        × ((W.run world.new).said ≡ (reported fault (W.run world.old)).said) }
+        × IsSaid (W.run world.old) (W.run world.new) }
+    ensures refused { result ≡ 2 → IsSaid (W.run world.old) (W.run world.new) }
     ensures status { result ≤ 2 }
 {
     match error.kind() {
-        ErrorKind::OutOfMemory => report_fault(alloc, &Fault::NoMemory, world),
+        ErrorKind::OutOfMemory => fail(&Fault::NoMemory, world),
         ErrorKind::DisplayHelp | ErrorKind::DisplayVersion => {
-            match show_text(alloc, error, world) {
+            let Ok(text) = format!(in alloc; "{error}") else {
+                return fail(&Fault::NoMemory, world);
+            };
+            match print(text.as_bytes(), world) {
                 Ok(()) => 0,
-                Err(fault) => report_fault(alloc, &fault, world),
+                Err(why) => fail(&Fault::Unwritten(why), world),
             }
         }
-        _ => say(alloc, error, 2, world),
+        _ => say(alloc, error, world),
     }
 }
 
 /// Flushes the output after the finding. A flush that fails is reported as a write is.
-fn end_run<W: World>(alloc: Global, ended: Result<bool, Fault<'_>>, world: &mut W) -> u8
-    ensures ends { (request : AuditRequest) (did : Did)
+fn end_run<W: World>(ended: Result<bool, Fault<'_>>, world: &mut W) -> u8
+    ensures { (request : AuditRequest) (did : Did)
         → EndsAudit request (record did { new = W.run world.old }) ended.entry
         → EndsRun request (record did { new = W.run world.new }) result }
-    ensures status { result ≤ 1 }
 {
     let succeeded = match ended {
         Ok(succeeded) => succeeded,
-        Err(fault) => return report_fault(alloc, &fault, world),
+        Err(fault) => return fail(&fault, world),
     };
     match world.flush() {
         Ok(()) if succeeded => 0,
         Ok(()) => 1,
-        Err(unflushed) => report_fault(alloc, &Fault::of_write(unflushed), world),
+        Err(unflushed) => fail(&Fault::Unwritten(unflushed), world),
     }
 }
 
@@ -404,33 +353,12 @@ pub fn main_over<W: World>(
     world: &mut W,
 ) -> u8
     requires { ledger.old.trace ≡ no_calls }
-    // A command line ends with a finding that was written and flushed, or fails.
-    ensures ends { ParsesForAudit (map string_bytes words.now)
-        → wrong_word (audit_request_by (map string_bytes words.now)).table ≡ None
-        → EndsRun (audit_request_by (map string_bytes words.now)) (did_by files.old.loads
-        files.new.loads ledger.new.trace (W.run world.old) (W.run world.new)) result }
-
-    // Words that are not a command line succeed only if they request help or the version.
-    ensures answers { (¬ ParsesForAudit (map string_bytes words.now))
-        → EndsAnswer (map string_bytes words.now) (audit_request_by (map string_bytes words.now))
-        (did_by files.old.loads files.new.loads ledger.new.trace (W.run world.old)
-        (W.run world.new)) result }
-
-    // Nor does one in which a fare table has a wrong date, or lacks one.
-    ensures dated { ParsesForAudit (map string_bytes words.now)
-        → is_some (wrong_word (audit_request_by (map string_bytes words.now)).table) ≡ true
-        → result ≢ 0 }
-
-    // Only such words have status 2, which reads nothing and writes nothing to the output.
-    ensures misused { result ≡ 2 → ((¬ ParsesForAudit (map string_bytes words.now))
-        ⊎ (is_some (wrong_word (audit_request_by (map string_bytes words.now)).table) ≡ true))
-        × (files.new ≡ files.old) × (ledger.new ≡ ledger.old)
-        × ((W.run world.new).written ≡ (W.run world.old).written) }
+    ensures ends { Ends (map string_bytes words.now) (did_by files.old.loads files.new.loads
+        ledger.new.trace (W.run world.old) (W.run world.new)) result }
 
     // The last load that was refused is one that a call of this run refused.
     ensures refused { ∥ IsShown files.new.loads.trace.run
         (refusal_of files.new.loads.last.value) ∥₁ }
-    ensures status { result ≤ 2 }
 {
     let alloc = rt.alloc();
     let options = match Options::read(alloc, words) {
@@ -438,8 +366,8 @@ pub fn main_over<W: World>(
         Err(error) => return show(alloc, &error, world),
     };
     if let Some(wrong) = options.table.wrong_word() {
-        return say(alloc, DateLine(wrong), 2, world);
+        return say(alloc, DateLine(wrong), world);
     }
     let ended = audit(rt, &options, files, ledger, world);
-    end_run(alloc, ended, world)
+    end_run(ended, world)
 }

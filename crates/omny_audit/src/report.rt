@@ -7,14 +7,13 @@ ghost use Rattle.tariffs.specs.Fares.{Fares};
 ghost use Rattle.histories.specs.declared.entry.Entry.{Entry};
 ghost use Rattle.ledger_check.specs.Ledger.{IsLedgerOf};
 ghost use Rattle.ledger_check.specs.Sums.{AreSumsOf};
-ghost use Rattle.omny_audit.specs.Reports.{AreLastLines, IsReportFinding, IsReportLine, are_whole};
-ghost use Rattle.omny_audit.specs.Reports.{damage_line, damage_lines, damage_text, report_text};
-ghost use Rattle.omny_audit.specs.Reports.{uncompared_text};
+ghost use Rattle.omny_audit.specs.Reports.{IsVerdictOn, are_whole, damage_line, damage_lines};
+ghost use Rattle.omny_audit.specs.Reports.{damage_text, fits, report_text, uncompared_text};
+ghost use Rattle.omny_audit.specs.Reports.{verdict_lines};
 ghost use Rattle.tap_views.specs.UploadEnds.{are_posted};
 ghost use Rattle.omny_audit.specs.inside.Reports.{text_of};
 ghost use Rattle.report_check.specs.Reports.{is_of_ledger};
 
-use crate::check::are_both;
 use histories::HashSeed;
 use ledger_check::EntrySums;
 use report_check::{ReportVerdict, check_report};
@@ -115,55 +114,61 @@ fn write_uncompared(text: &mut Vec<u8>, ends: Option<&[UploadEnd]>) -> Result<()
     }
 }
 
-/// Returns whether the report is that of the ledger with these sums.
-fn write_finding(
+/// If there is a verdict.
+fn write_verdict_lines(
     alloc: Global,
     text: &mut Vec<u8>,
-    report: &[u8],
+    verdict: &Option<ReportVerdict>,
+    ends: Option<&[UploadEnd]>,
+) -> Result<(), AllocError>
+    ensures { OnOk result (text.new.items
+        ≡ text.old.items ++ verdict_lines (option_map (λ e. e.now) ends.entry) verdict.now) }
+{
+    let Some(verdict) = verdict else {
+        return Ok(());
+    };
+    write_verdict(alloc, text, verdict)?;
+    write_uncompared(text, ends)
+}
+
+/// The verdict on the report, if there is one, beside a ledger that is right and has these sums.
+pub(crate) fn verdict_on(
+    alloc: Global,
+    is_right: bool,
+    report: &Option<HeldReport>,
     sums: &Option<EntrySums>,
     ends: Option<&[UploadEnd]>,
-) -> Result<bool, NoMemory>
-    ensures { IfOk result (λ fits. (rest : List ℕ) × (text.new.items ≡ text.old.items ++ rest)
-        × ((fares : Fares) (ledger : List ℕ)
-        → ((entries : List Entry) → IsLedgerOf fares entries ledger
+) -> Result<Option<ReportVerdict>, NoMemory>
+    ensures { IfOk result (λ verdict. (fares : Fares) (ledger : List ℕ)
+        → (is_right ≡ true → (entries : List Entry) → IsLedgerOf fares entries ledger
         → IfSome sums.now (AreSumsOf entries))
-        → IsReportFinding (option_map (λ e. e.now) ends.entry) fares ledger report.now rest fits)) }
+        → IsVerdictOn (option_map (λ e. e.now) ends.entry) fares ledger (text_of report.now) is_right
+        verdict) }
 {
+    let Some(report) = report else {
+        return Ok(None);
+    };
+    if !is_right {
+        return Ok(None);
+    }
     let Some(sums) = sums else {
         // the entries of a legal ledger are summed wherever there is a report
         return Err(NoMemory);
     };
-    let verdict = check_report(alloc, ends, sums, report)?;
-    write_verdict(alloc, text, &verdict)?;
-    write_uncompared(text, ends)?;
-    Ok(is_of_ledger(&verdict))
+    let verdict = check_report(alloc, ends, sums, report.text.as_slice())?;
+    Ok(Some(verdict))
 }
 
-/// Returns whether the report is the ledger's: without a report it is, and beside a ledger that is
-/// not legal it is not.
-fn write_report_line(
-    alloc: Global,
-    text: &mut Vec<u8>,
-    is_legal: bool,
-    report: &Option<HeldReport>,
-    sums: &Option<EntrySums>,
-    ends: Option<&[UploadEnd]>,
-) -> Result<bool, NoMemory>
-    ensures { IfOk result (λ fits. (rest : List ℕ) × (text.new.items ≡ text.old.items ++ rest)
-        × ((fares : Fares) (ledger : List ℕ)
-        → (is_legal ≡ true → (entries : List Entry) → IsLedgerOf fares entries ledger
-        → IfSome sums.now (AreSumsOf entries))
-        → IsReportLine (option_map (λ e. e.now) ends.entry) fares ledger
-        (text_of report.now) is_legal rest fits)) }
+/// Whether the report is the ledger's: without a report it is, and beside a ledger that is not right
+/// it is not.
+pub(crate) fn fits(report: &Option<HeldReport>, verdict: &Option<ReportVerdict>) -> bool
+    ensures { result ≡ fits (text_of report.now) verdict.now }
 {
-    let Some(report) = report else {
-        return Ok(true);
-    };
-    if !is_legal {
-        return Ok(false);
+    match (report, verdict) {
+        (None, _) => true,
+        (Some(_), None) => false,
+        (Some(_), Some(verdict)) => is_of_ledger(verdict),
     }
-    let fits = write_finding(alloc, text, report.text.as_slice(), sums, ends)?;
-    Ok(fits)
 }
 
 fn write_damaged(text: &mut String, upload: u64, end: &UploadEnd) -> Result<(), AllocError>
@@ -193,41 +198,42 @@ fn are_posted(ends: &[UploadEnd]) -> bool
     ends.iter().all(|end| end.is_posted())
 }
 
-/// Returns whether no upload has a layout fault.
+/// Whether no upload has a layout fault.
+pub(crate) fn are_whole(ends: Option<&[UploadEnd]>) -> bool
+    ensures { result ≡ are_whole (option_map (λ e. e.now) ends.entry) }
+{
+    match ends {
+        None => true,
+        Some(ends) => are_posted(ends),
+    }
+}
+
 fn write_damage(
     alloc: Global,
     text: &mut Vec<u8>,
     ends: Option<&[UploadEnd]>,
-) -> Result<bool, AllocError>
-    ensures text { OnOk result (text.new.items ≡ text.old.items
-        ++ damage_text (option_map (λ e. e.now) ends.entry)) }
-    ensures whole { IfOk result (λ whole. whole ≡ are_whole (option_map (λ e. e.now) ends.entry)) }
+) -> Result<(), AllocError>
+    ensures { OnOk result
+        (text.new.items ≡ text.old.items ++ damage_text (option_map (λ e. e.now) ends.entry)) }
 {
     let Some(ends) = ends else {
-        return Ok(true);
+        return Ok(());
     };
     let lines = damage_lines(alloc, ends)?;
-    text.extend_from_slice(lines.as_bytes())?;
-    Ok(are_posted(ends))
+    text.extend_from_slice(lines.as_bytes())
 }
 
-/// Returns whether the report is right and no upload has a layout fault.
+/// What is said of the report, and the lines of damaged uploads.
 pub(crate) fn write_last_lines(
     alloc: Global,
     text: &mut Vec<u8>,
-    is_legal: bool,
-    report: &Option<HeldReport>,
-    sums: &Option<EntrySums>,
+    verdict: &Option<ReportVerdict>,
     ends: Option<&[UploadEnd]>,
-) -> Result<bool, NoMemory>
-    ensures { IfOk result (λ success. (rest : List ℕ) × (text.new.items ≡ text.old.items ++ rest)
-        × ((fares : Fares) (ledger : List ℕ)
-        → (is_legal ≡ true → (entries : List Entry) → IsLedgerOf fares entries ledger
-        → IfSome sums.now (AreSumsOf entries))
-        → AreLastLines (option_map (λ e. e.now) ends.entry) fares ledger
-        (text_of report.now) is_legal rest success)) }
+) -> Result<(), AllocError>
+    ensures { OnOk result (text.new.items ≡ text.old.items
+        ++ (verdict_lines (option_map (λ e. e.now) ends.entry) verdict.now
+        ++ damage_text (option_map (λ e. e.now) ends.entry))) }
 {
-    let fits = write_report_line(alloc, text, is_legal, report, sums, ends)?;
-    let is_whole = write_damage(alloc, text, ends)?;
-    Ok(are_both(fits, is_whole))
+    write_verdict_lines(alloc, text, verdict, ends)?;
+    write_damage(alloc, text, ends)
 }

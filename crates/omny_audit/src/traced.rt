@@ -3,25 +3,22 @@
 ghost use Rattle.std.specs.Prelude.{◌≡◌, ◌+◌, ◌&&◌, ◌<◌, ◌++◌, ◌∷◌, [], ℕ, List, IfOk, IfSome};
 ghost use Rattle.std.specs.Prelude.{None, OnOk, Option, Some, false, is_some, length, not};
 ghost use Rattle.std.specs.Prelude.{option_map, string_bytes, true};
-ghost use Rattle.std.specs.Option.{option_or};
+ghost use Rattle.std.specs.Str.{bytes_eq};
 ghost use Rattle.tap_views.specs.declared.encoder.TapFields.{TapFields as ATap};
 ghost use Rattle.class_names.specs.Names.{class_by};
-ghost use Rattle.ledger_check.specs.Columns.{TracedLine, cut_of, read_as, untraced_by};
-ghost use Rattle.ledger_check.specs.Columns.{untraced_line};
-ghost use Rattle.ledger_check.specs.Columns.{untraced_lines};
+ghost use Rattle.ledger_check.specs.Columns.{cut_line, cut_of, read_as, untraced_by, untraced_line};
 ghost use Rattle.ledger_check.specs.Lines.{IsLine, lines_of};
 ghost use Rattle.ledger_check.specs.Positions.{HasUploads, is_named, uploads_of};
 ghost use Rattle.ledger_check.specs.Taps.{IsTapOfLine};
-ghost use Rattle.omny_audit.specs.Traced.{AreColumnsReported, AreLinesOf, IsFaultAfter};
-ghost use Rattle.omny_audit.specs.Traced.{IsPositionFault};
-ghost use Rattle.omny_audit.specs.Traced.{ReadLine, Wanted, class_fault, class_text, fault_by};
-ghost use Rattle.omny_audit.specs.Traced.{position_fault_text, position_text, traced_by};
+ghost use Rattle.omny_audit.specs.Traced.{AreColumnsReported, IsFaultAfter, IsPositionFault};
+ghost use Rattle.omny_audit.specs.Traced.{NamesTapWithColumns, ReadLine, class_fault, class_text};
+ghost use Rattle.omny_audit.specs.Traced.{fault_by, fault_text, lines_read, places_text};
+ghost use Rattle.omny_audit.specs.Traced.{place_text, position_text};
+ghost use Rattle.omny_audit.specs.Traced.{traced_by};
 ghost use Rattle.omny_audit.specs.declared.traced.PositionFault.{PositionFault as AFault};
-ghost use Rattle.omny_audit.specs.declared.traced.PositionFault.TheVariants.{NoLine, OtherTap};
-ghost use Rattle.omny_audit.specs.declared.traced.PositionFault.TheVariants.{Repeated};
-ghost use Rattle.omny_audit.specs.inside.Traced.{HasColumns, HasLines, HasPositions, HasReadAll};
-ghost use Rattle.omny_audit.specs.inside.Traced.{HasReadAs, HasTraced, HaveNamed, IsKeptOf};
-ghost use Rattle.omny_audit.specs.inside.Traced.{uploads_in, wanted_by, wanted_of, wrong_position_in};
+ghost use Rattle.omny_audit.specs.inside.Traced.{HasLines, HasLooked, HasPositions, HasReadAll};
+ghost use Rattle.omny_audit.specs.inside.Traced.{HasReadAs, HasTraced, HaveNamed, IsKeptOf, placed_of};
+ghost use Rattle.omny_audit.specs.inside.Traced.{uploads_in, wanted_by, wanted_of};
 
 use crate::check::are_both;
 use class_names::ClassNames;
@@ -31,6 +28,7 @@ use ledger_check::{
     traced_head_line,
 };
 use std::alloc::{AllocError, Global};
+use std::fmt;
 use tap_views::TapFields;
 
 /// The most bytes of a traced ledger's line, with its line feed.
@@ -67,13 +65,77 @@ pub(crate) enum PositionFault {
     },
 }
 
+/// An upload, from 0, and an index there, from 1.
+#[derive(Clone, Copy)]
+struct Place {
+    upload: u64,
+    position: u64,
+}
+
+impl fmt::Display for Place {
+    ghost output = { λ place. Some (place_text place.upload place.position) };
+
+    fn fmt<W: fmt::Write>(&self, f: &mut fmt::Formatter<W>) -> fmt::Result {
+        write!(f, "upload {} place {}", self.upload, self.position)
+    }
+}
+
+impl fmt::Display for PositionFault {
+    ghost output = { λ fault. Some (fault_text fault) };
+
+    fn fmt<W: fmt::Write>(&self, f: &mut fmt::Formatter<W>) -> fmt::Result {
+        match self {
+            PositionFault::OtherTap {
+                line,
+                upload,
+                position,
+            } => write!(
+                f,
+                "line {line} has another tap than upload {upload} has at place {position}"
+            ),
+            PositionFault::Repeated {
+                line,
+                upload,
+                position,
+            } => {
+                let place = Place {
+                    upload: *upload as u64,
+                    position: *position,
+                };
+                write!(f, "line {line} has {place} again")
+            }
+            PositionFault::NoLine { upload, position } => {
+                let place = Place {
+                    upload: *upload,
+                    position: *position,
+                };
+                write!(f, "no line has {place}")
+            }
+        }
+    }
+}
+
+/// The tap of a line, and its columns.
+#[derive(Clone, Copy)]
+struct PlacedLine<'a> {
+    tap: TapFields,
+    class: &'a [u8],
+    upload: u32,
+    position: u64,
+}
+
+fn are_same(a: &[u8], b: &[u8]) -> bool
+    ensures { result ≡ bytes_eq a.now b.now }
+{
+    same_bytes(a, b)
+}
+
 /// In place of a line that does not have the form of a traced one.
 fn put_other(text: &mut Vec<u8>, line: &[u8]) -> Result<(), AllocError>
     ensures { OnOk result (text.new.items ≡ text.old.items ++ untraced_by line.now None) }
 {
-    if same_bytes(line, traced_head_line()) {
-        text.extend_from_slice(head_line().as_bytes())?;
-        return Ok(());
+    if are_same(line, traced_head_line()) {
+        return text.extend_from_slice(head_line().as_bytes());
     }
     text.push(b'\n')?;
     Ok(())
@@ -100,19 +162,55 @@ fn put_fields(
     Ok(tap)
 }
 
-fn class_fault(
-    names: &ClassNames,
-    line: u64,
-    cut: &CutLine<'_>,
-    tap: &Option<TapFields>,
-) -> Option<WrongClass>
-    ensures { result ≡ class_fault (class_by names.now) line
-        (option_map (traced_by (cut_of cut.now)) tap.now) }
+fn placed<'a>(cut: CutLine<'a>, tap: Option<TapFields>) -> Option<PlacedLine<'a>>
+    ensures { option_map placed_of result ≡ option_map (traced_by (cut_of cut.entry)) tap }
 {
-    let Some(tap) = tap else {
+    match tap {
+        None => None,
+        Some(tap) => Some(PlacedLine {
+            tap,
+            class: cut.class,
+            upload: cut.upload,
+            position: cut.position,
+        }),
+    }
+}
+
+/// Appends what is read in place of the line, and gives what the line names. What is in `fields` and
+/// in `again` is replaced.
+fn untrace<'a>(
+    text: &mut Vec<u8>,
+    line: &'a [u8],
+    fields: &mut Vec<u8>,
+    again: &mut String,
+) -> Result<Option<PlacedLine<'a>>, AllocError>
+    ensures text { OnOk result (text.new.items ≡ text.old.items ++ untraced_line line.now) }
+    ensures names { IfOk result
+        (λ named. NamesTapWithColumns (cut_line line.now) (option_map placed_of named)) }
+{
+    match cut_line(line) {
+        None => {
+            put_other(text, line)?;
+            Ok(None)
+        }
+        Some(cut) => {
+            let tap = put_fields(text, cut.fields, fields, again)?;
+            Ok(placed(cut, tap))
+        }
+    }
+}
+
+fn class_fault(names: &ClassNames, line: u64, named: &Option<PlacedLine<'_>>) -> Option<WrongClass>
+    ensures { result ≡ class_fault (class_by names.now) line (option_map placed_of named.now) }
+{
+    let Some(named) = named else {
         return None;
     };
-    if same_bytes(names.class_of(tap.moment, &tap.token).as_bytes(), cut.class) {
+    let tap = named.tap;
+    if are_same(
+        names.class_of(tap.moment, &tap.token).as_bytes(),
+        named.class,
+    ) {
         return None;
     }
     Some(WrongClass {
@@ -149,26 +247,42 @@ fn fault_by(
 fn name_position(
     positions: &mut Option<Positions>,
     number: u64,
-    cut: &CutLine<'_>,
-    tap: &Option<TapFields>,
+    named: &Option<PlacedLine<'_>>,
 ) -> Option<PositionFault>
     ensures uploads { uploads_in positions.new ≡ uploads_in positions.old }
 
     // After lines of which none is wrong.
     ensures position { (read : List ReadLine) (line : List ℕ) → HasPositions positions.old None read
-        → number ≡ length read + 1 → HasPositions positions.new result (record {
-          line = line;
-          traced = option_map (traced_by (cut_of cut.now)) tap.now;
-        } ∷ read) }
+        → number ≡ length read + 1 → HasPositions positions.new result
+        (record { line = line; traced = option_map placed_of named.now } ∷ read) }
 {
-    let Some(tap) = tap else {
+    let Some(named) = named else {
         return None;
     };
     let Some(positions) = positions else {
         return None;
     };
-    let finding = positions.name(cut.upload, cut.position, tap);
-    fault_by(number, cut.upload, cut.position, finding)
+    let finding = positions.name(named.upload, named.position, &named.tap);
+    fault_by(number, named.upload, named.position, finding)
+}
+
+/// If no earlier line has a wrong place.
+fn look_at_position(
+    positions: &mut Option<Positions>,
+    wrong: &mut Option<PositionFault>,
+    number: u64,
+    named: &Option<PlacedLine<'_>>,
+)
+    ensures uploads { uploads_in positions.new ≡ uploads_in positions.old }
+    ensures positions { (read : List ReadLine) (line : List ℕ)
+        → HasPositions positions.old wrong.old read → number ≡ length read + 1
+        → HasPositions positions.new wrong.new
+        (record { line = line; traced = option_map placed_of named.now } ∷ read) }
+{
+    if wrong.is_some() {
+        return;
+    }
+    *wrong = name_position(positions, number, named);
 }
 
 /// The fault of the lines, or else the first place that no line has.
@@ -201,61 +315,33 @@ pub(crate) struct LinesRead {
 }
 
 impl LinesRead {
-    fn look_at_class(&mut self, number: u64, cut: &CutLine<'_>, tap: &Option<TapFields>)
-        ensures class { self.new.wrong_class ≡ option_or self.old.wrong_class
-            (class_fault (class_by self.old.names) number
-            (option_map (traced_by (cut_of cut.now)) tap.now)) }
-        ensures names { self.new.names ≡ self.old.names }
-        ensures positions { self.new.positions ≡ self.old.positions }
-        ensures position { self.new.wrong_position ≡ self.old.wrong_position }
-        ensures lines { self.new.lines ≡ self.old.lines }
-    {
-        let fault = class_fault(&self.names, number, cut, tap);
-        self.wrong_class = self.wrong_class.or(fault);
-    }
-
-    /// If no earlier line has a wrong place.
-    fn look_at_position(&mut self, number: u64, cut: &CutLine<'_>, tap: &Option<TapFields>)
-        ensures positions { (read : List ReadLine) (line : List ℕ)
-            → HasPositions self.old.positions self.old.wrong_position read → number ≡ length read + 1
-            → HasPositions self.new.positions self.new.wrong_position (record {
-              line = line;
-              traced = option_map (traced_by (cut_of cut.now)) tap.now;
-            } ∷ read) }
-        ensures uploads { uploads_in self.new.positions ≡ uploads_in self.old.positions }
-        ensures class { self.new.wrong_class ≡ self.old.wrong_class }
-        ensures names { self.new.names ≡ self.old.names }
-        ensures lines { self.new.lines ≡ self.old.lines }
-    {
-        if self.wrong_position.is_some() {
-            return;
-        }
-        let fault = name_position(&mut self.positions, number, cut, tap);
-        self.wrong_position = fault;
-    }
-
-    /// Reads the next line, of which enough was kept to show its form. 2^64 lines are an allocation
-    /// failure.
-    fn take(&mut self, line: &[u8], text: &mut Vec<u8>) -> Result<(), AllocError>
+    /// Looks at the columns of the next line. 2^64 lines are an allocation failure.
+    fn look(&mut self, named: &Option<PlacedLine<'_>>) -> Result<(), AllocError>
         ensures wanted { wanted_of self.new ≡ wanted_of self.old }
-        ensures read { OnOk result ((whole : List ℕ) (read : List ReadLine)
-            → IsKeptOf line.now whole → HasLines self.old read → (next : ReadLine)
-            × (next.line ≡ whole) × HasLines self.new (next ∷ read)) }
-        ensures text { OnOk result ((whole : List ℕ) → IsKeptOf line.now whole
-            → text.new.items ≡ text.old.items ++ untraced_line whole) }
+        ensures looked { OnOk result ((read : List ReadLine) (line : List ℕ)
+            → HasLooked self.old read → HasLooked self.new
+            (record { line = line; traced = option_map placed_of named.now } ∷ read)) }
     {
         let Some(number) = self.lines.checked_add(1) else {
             return Err(AllocError);
         };
-        let Some(cut) = cut_line(line) else {
-            put_other(text, line)?;
-            self.lines = number;
-            return Ok(());
-        };
-        let tap = put_fields(text, cut.fields, &mut self.line, &mut self.again)?;
-        self.look_at_class(number, &cut, &tap);
-        self.look_at_position(number, &cut, &tap);
+        let fault = class_fault(&self.names, number, named);
+        self.wrong_class = self.wrong_class.or(fault);
+        look_at_position(&mut self.positions, &mut self.wrong_position, number, named);
         self.lines = number;
+        Ok(())
+    }
+
+    /// Reads the next line, of which enough was kept to show its form.
+    fn take(&mut self, line: &[u8], text: &mut Vec<u8>) -> Result<(), AllocError>
+        ensures wanted { wanted_of self.new ≡ wanted_of self.old }
+        ensures read { OnOk result ((whole before : List ℕ) (read : List ReadLine)
+            → IsKeptOf line.now whole → HasLines self.old (before ++ text.old.items) read
+            → (next : ReadLine) × (next.line ≡ whole)
+            × HasLines self.new (before ++ text.new.items) (next ∷ read)) }
+    {
+        let named = untrace(text, line, &mut self.line, &mut self.again)?;
+        self.look(&named)?;
         Ok(())
     }
 }
@@ -315,10 +401,9 @@ impl TracedPieces {
         ensures wanted { wanted_of self.new.so_far ≡ wanted_of self.old.so_far }
 
         // After all that was read so far.
-        ensures read { OnOk result ((file reported : List ℕ) (read : List ReadLine)
-            → HasTraced self.old file reported read → (more : List ℕ) × (read' : List ReadLine)
-            × (text.new.items ≡ text.old.items ++ more)
-            × HasTraced self.new (file ++ piece.now) (reported ++ more) read') }
+        ensures read { OnOk result ((file before : List ℕ) (read : List ReadLine)
+            → HasTraced self.old file (before ++ text.old.items) read → (read' : List ReadLine)
+            × HasTraced self.new (file ++ piece.now) (before ++ text.new.items) read') }
     {
         let mut rest = piece;
         while !rest.is_empty() {
@@ -335,10 +420,9 @@ impl TracedPieces {
     fn end_line(&mut self, line: &[u8], text: &mut Vec<u8>) -> Result<(), AllocError>
         requires line { IsLine line.now }
         ensures wanted { wanted_of self.new.so_far ≡ wanted_of self.old.so_far }
-        ensures read { OnOk result ((file reported : List ℕ) (read : List ReadLine)
-            → HasTraced self.old file reported read → (more : List ℕ) × (read' : List ReadLine)
-            × (text.new.items ≡ text.old.items ++ more)
-            × HasTraced self.new (file ++ line.now) (reported ++ more) read') }
+        ensures read { OnOk result ((file before : List ℕ) (read : List ReadLine)
+            → HasTraced self.old file (before ++ text.old.items) read → (read' : List ReadLine)
+            × HasTraced self.new (file ++ line.now) (before ++ text.new.items) read') }
     {
         if self.started.is_empty() {
             self.so_far.take(line, text)?;
@@ -353,11 +437,10 @@ impl TracedPieces {
     /// Appends what is read in place of the line that its end cuts.
     fn finish(&mut self, text: &mut Vec<u8>) -> Result<(), AllocError>
         ensures wanted { wanted_of self.new.so_far ≡ wanted_of self.old.so_far }
-        ensures read { OnOk result ((file reported : List ℕ) (read : List ReadLine)
-            → HasTraced self.old file reported read → (more : List ℕ) × (read' : List ReadLine)
-            × (text.new.items ≡ text.old.items ++ more)
-            × (reported ++ more ≡ untraced_lines (lines_of file)) × AreLinesOf file read'
-            × HasColumns self.new.so_far read') }
+        ensures read { OnOk result ((file before : List ℕ) (read : List ReadLine)
+            → HasTraced self.old file (before ++ text.old.items) read → (read' : List ReadLine)
+            × (lines_read read' ≡ lines_of file)
+            × HasLines self.new.so_far (before ++ text.new.items) read') }
     {
         if self.started.is_empty() {
             return Ok(());
@@ -416,56 +499,12 @@ fn class_line(
     }
 }
 
-#[tactic(auto, unfolding(crate::specs::Traced::position_fault_text))]
-fn other_tap_line(
-    alloc: Global,
-    line: u64,
-    upload: u32,
-    position: u64,
-) -> Result<String, AllocError>
-    ensures { IfOk result (λ reported. string_bytes reported
-        ≡ position_fault_text (Some (OtherTap line upload position))) }
-{
-    format!(in alloc; "line {line} has another tap than upload {upload} has at place {position}\n")
-}
-
-#[tactic(auto, unfolding(crate::specs::Traced::position_fault_text))]
-fn repeated_line(alloc: Global, line: u64, upload: u32, position: u64) -> Result<String, AllocError>
-    ensures { IfOk result (λ reported. string_bytes reported
-        ≡ position_fault_text (Some (Repeated line upload position))) }
-{
-    format!(in alloc; "line {line} has upload {upload} place {position} again\n")
-}
-
-#[tactic(auto, unfolding(crate::specs::Traced::position_fault_text))]
-fn no_line_line(alloc: Global, upload: u64, position: u64) -> Result<String, AllocError>
-    ensures { IfOk result (λ reported. string_bytes reported
-        ≡ position_fault_text (Some (NoLine upload position))) }
-{
-    format!(in alloc; "no line has upload {upload} place {position}\n")
-}
-
-#[tactic(auto, unfolding(crate::specs::Traced::position_fault_text))]
 fn position_line(alloc: Global, fault: &Option<PositionFault>) -> Result<String, AllocError>
-    ensures { IfOk result (λ reported. string_bytes reported ≡ position_fault_text fault.now) }
+    ensures { IfOk result (λ reported. string_bytes reported ≡ places_text fault.now) }
 {
-    match *fault {
+    match fault {
         None => format!(in alloc; "all places of the uploads\n"),
-        Some(
-            PositionFault::OtherTap {
-                line,
-                upload,
-                position,
-            },
-        ) => other_tap_line(alloc, line, upload, position),
-        Some(
-            PositionFault::Repeated {
-                line,
-                upload,
-                position,
-            },
-        ) => repeated_line(alloc, line, upload, position),
-        Some(PositionFault::NoLine { upload, position }) => no_line_line(alloc, upload, position),
+        Some(fault) => format!(in alloc; "{fault}\n"),
     }
 }
 

@@ -45,22 +45,24 @@ pub record HasEnded (audit : Audit) (valid : List TapFields) (file written : Lis
       (ledger_in (given_in audit valid) file) written
   pub all : is_decided audit.check ≡ false → HasReadAll audit.trace file
 
--- The next piece of the file was read, and this was reported so far. An audit that has ended has
--- reported all that is found of the file, however it goes on after a piece.
-abbrev pub IsNext : Audit → Audit → List TapFields → List ℕ → List ℕ → List ℕ → Option Bool → Type 0
-IsNext before after valid file piece written None = (given_in after valid ≡ given_in before valid)
-    × HasAudited after valid (file ++ piece) written
-IsNext before after valid file piece written (Some success) = ((more : List ℕ)
-    → (piece ≡ [] → more ≡ []) → (read : List ReadLine)
-    × IsAudit (given_in before valid) ((file ++ piece) ++ more) read written success)
-    × (success ≡ true → piece ≡ [])
-
--- What is found of the ledger was written, which was read to its end if it is well; or the run
--- failed, and what was written is a prefix of it. Nothing was said.
-abbrev pub EndsAs : Given → Calls → Run → Run → Result Bool Fault → Type 0
-EndsAs given ledger old new (Ok success) = (text : List ℕ) × (new ≡ with_written old text)
-    × HoldsOfRead ledger (λ file. (read : List ReadLine) × IsAudit given file read text success)
+-- This is what is found of the ledger, however it goes on after what reads gave. It was read to its
+-- end if it is well.
+abbrev pub IsFound : Given → Calls → List ℕ → Bool → Type 0
+IsFound given ledger text success =
+    HoldsOfRead ledger (λ file. (read : List ReadLine) × IsAudit given file read text success)
     × (success ≡ true → IsWhole ledger)
+
+-- This was reported of what reads gave of the ledger. The audit goes on, or all is found.
+abbrev pub Stands : Given → Audit → List TapFields → Calls → List ℕ → Option Bool → Type 0
+Stands given audit valid ledger written None = (given_in audit valid ≡ given)
+    × HasAudited audit valid ledger.reading.bytes written
+Stands given audit valid ledger written (Some success) = IsFound given ledger written success
+
+-- What is found of the ledger was written; or the run failed, and what was written is a prefix of
+-- it. Nothing was said.
+abbrev pub EndsAs : Given → Calls → Run → Run → Result Bool Fault → Type 0
+EndsAs given ledger old new (Ok success) =
+    (text : List ℕ) × (new ≡ with_written old text) × IsFound given ledger text success
 EndsAs given ledger old new (Err fault) = IsStreamFault ledger new.cut fault
     × HasStarted (λ text. HoldsOfRead ledger (λ file. IsAuditText given file text)) old.written
     new.written × (new.said ≡ old.said)

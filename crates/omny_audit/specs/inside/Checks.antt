@@ -1,9 +1,15 @@
 -- What a check of lines has read: what private functions alone cite.
-use Rattle.std.specs.Prelude.{◌≡◌, ◌++◌, ℕ, Bool, true, false, List, [], None, Some, is_some}
+use Rattle.std.specs.Prelude.{◌≡◌, ◌++◌, ◌↔◌, ℕ, Bool, true, false, List, [], IfSome, None, Option}
+use Rattle.std.specs.Prelude.{Some, is_some}
 use Rattle.tariffs.specs.Fares.{Fares}
+use Rattle.histories.specs.declared.entry.Entry.{Entry}
+use Rattle.ledger_check.specs.Ledger.{IsLedger, IsLedgerOf}
+use Rattle.ledger_check.specs.Sums.{AreSumsOf}
 use Rattle.ledger_check.specs.FullCheckStates.{HasFullyChecked, IsRightSoFar}
 use Rattle.ledger_check.specs.Verdicts.{IsVerdict, is_legal}
 use Rattle.tap_views.specs.declared.encoder.TapFields.{TapFields}
+use Rattle.omny_audit.specs.Findings.{IsFindingOf, IsRightLedger}
+use Rattle.omny_audit.specs.declared.check.Found.{Found}
 use Rattle.omny_audit.specs.declared.check.Check.{Check}
 use Rattle.omny_audit.specs.declared.check.Check.TheVariants.{First, All}
 
@@ -27,3 +33,13 @@ HasChecked fares subtracts valid (First checker balance (Some verdict)) text wri
     × (written ≡ [])
 HasChecked fares subtracts valid (All full_check full) text written =
     HasFullyChecked fares full_check subtracts full text written valid
+
+-- This is what was found of the text, and reported, beside the valid taps of the uploads, if there
+-- are uploads. Sums are those of a ledger's entries.
+pub record Finds (all live : Bool) (fares : Fares) (text : List ℕ)
+    (valid : Option (List TapFields)) (reported : List ℕ) (found : Found) : Type 0 where
+  pub finding : IsFindingOf all fares text valid reported
+  pub sound : (found.is_sound ≡ true) ↔ IsRightLedger live fares text valid
+  pub legal : (found.is_legal ≡ true) ↔ IsLedger fares text
+  pub sums : found.is_legal ≡ true → (entries : List Entry) → IsLedgerOf fares entries text
+      → IfSome found.sums (AreSumsOf entries)

@@ -6,11 +6,21 @@ use Rattle.ledger_check.specs.Columns.{untraced_lines}
 use Rattle.ledger_check.specs.Lines.{Lacks, lines_of}
 use Rattle.ledger_check.specs.Positions.{is_named, uploads_of}
 use Rattle.ledger_check.specs.declared.positions.Positions.{Positions}
-use Rattle.omny_audit.specs.Traced.{AreLinesOf, AreRead, ReadLine, Wanted, have_position, lines_read}
-use Rattle.omny_audit.specs.Traced.{wrong_class, wrong_position}
+use Rattle.omny_audit.specs.Traced.{AreLinesOf, AreRead, ReadLine, TapWithColumns, Wanted}
+use Rattle.omny_audit.specs.Traced.{have_position, lines_read, wrong_class, wrong_position}
 use Rattle.omny_audit.specs.declared.traced.LinesRead.{LinesRead}
+use Rattle.omny_audit.specs.declared.traced.PlacedLine.{PlacedLine}
 use Rattle.omny_audit.specs.declared.traced.PositionFault.{PositionFault}
 use Rattle.omny_audit.specs.declared.traced.TracedPieces.{TracedPieces}
+
+-- what a line names
+abbrev pub placed_of : PlacedLine → TapWithColumns
+placed_of named = record {
+  tap = named.tap;
+  class = named.class.now;
+  upload = named.upload;
+  position = named.position;
+}
 
 -- the valid taps of the uploads whose places are kept
 abbrev pub uploads_in : Option Positions → Option (List (List TapFields))
@@ -34,31 +44,31 @@ pub record HasPositions (positions : Option Positions) (wrong : Option PositionF
   pub named : wrong ≡ None → HaveNamed positions read
 
 -- the columns of the lines were looked at
-pub record HasColumns (so_far : LinesRead) (read : List ReadLine) : Type 0 where
+pub record HasLooked (so_far : LinesRead) (read : List ReadLine) : Type 0 where
+  pub count : so_far.lines ≡ length read
   pub class : so_far.wrong_class ≡ wrong_class (class_by so_far.names) read
   pub positions : HasPositions so_far.positions so_far.wrong_position read
 
--- these lines were read
-pub record HasLines (so_far : LinesRead) (read : List ReadLine) : Type 0 where
+-- these lines were read, and this text in their place
+pub record HasLines (so_far : LinesRead) (text : List ℕ) (read : List ReadLine) : Type 0 where
   pub are : AreRead read
-  pub count : so_far.lines ≡ length read
-  pub columns : HasColumns so_far read
+  pub looked : HasLooked so_far read
+  pub shown : text ≡ untraced_lines (lines_read read)
 
 -- of the text all is kept, or more than the longest line has
 abbrev pub IsKeptOf : List ℕ → List ℕ → Type 0
 IsKeptOf kept text = (kept ≡ text) ⊎ ((352 < length kept) × (352 < length text))
 
--- the trace has read this file: these whole lines, and some of the next one; and this was read in
--- their place
+-- the trace has read this file: these whole lines, this text in their place, and some of the next
+-- one
 pub record HasTraced (trace : TracedPieces) (file text : List ℕ) (read : List ReadLine)
     : Type 0 where
-  pub lines : HasLines trace.so_far read
+  pub lines : HasLines trace.so_far text read
   pub started : List ℕ
   pub kept : IsKeptOf trace.started.items started
   pub lacks : Lacks 10 started
   pub split : (more : List ℕ)
       → lines_of (file ++ more) ≡ lines_read read ++ lines_of (started ++ more)
-  pub reported : text ≡ untraced_lines (lines_read read)
 
 -- the file was read so far, and this in its place
 abbrev pub HasReadAs : Option TracedPieces → List ℕ → List ℕ → Type 0
@@ -69,7 +79,7 @@ HasReadAs (Some trace) file text = (read : List ReadLine) × HasTraced trace fil
 abbrev pub HasReadAll : Option TracedPieces → List ℕ → Type 0
 HasReadAll None file = Unit {0}
 HasReadAll (Some trace) file =
-    (read : List ReadLine) × AreLinesOf file read × HasColumns trace.so_far read
+    (read : List ReadLine) × AreLinesOf file read × HasLooked trace.so_far read
 
 -- what the columns are compared with
 abbrev pub wanted_of : LinesRead → Wanted

@@ -1,6 +1,7 @@
 use Rattle.std.proofs.Common.{◌≡◌, ◌++◌, [], None, List, ℕ}
+use Rattle.tap_views.specs.declared.encoder.TapFields.{TapFields}
 use Rattle.world.specs.Streams.{HasRead}
-use Rattle.omny_audit.specs.inside.Audits.{GoesOn}
+use Rattle.omny_audit.specs.inside.Audits.{GoesOn, HasAudited, given_in}
 use Rattle.omny_audit.proofs.Audits.{SoFar}
 use Rattle.omny_audit.proofs.audit.audit_over.Given as goal
 
@@ -11,5 +12,7 @@ invariant-loop-piece g l = record {
   read : HasRead l.ledger l.fn.ledger.trace.reading.name (file ++ l.piece.items);
   whole : l.piece.items ≡ [] → l.ledger.from ≡ None;
   goes : GoesOn l.fn.ledger l.ledger l.fn.head.items;
-  so_far : SoFar l.fn.audit l.audit file (g.W.Inputs.run l.fn.world) (g.W.Inputs.run l.world);
+  so_far : (valid : List TapFields) → HasAudited l.fn.audit valid [] []
+      → SoFar (given_in l.fn.audit valid) l.audit valid file (g.W.Inputs.run l.fn.world)
+      (g.W.Inputs.run l.world);
 }

@@ -1,7 +1,8 @@
-use Rattle.std.proofs.Common.{◌∙◌, ◌++◌, List, ap, subst, sym, ℕ}
+use Rattle.program_manners.specs.Refusals.{IsShown}
+use Rattle.std.proofs.Common.{◌∙◌, ◌++◌, List, Option, ap, subst, sym, ℕ}
 use Rattle.world.specs.Run.{Load}
 use Rattle.world.specs.Streams.{HasRead}
-use Rattle.omny_audit.proofs.ProgramLemmas.{refused_stream}
+use Rattle.program_manners.proofs.Shown.{is_shown}
 use Rattle.omny_audit.proofs.ledger.read_head.Goals as goal
 
 pub loop-piece-init : goal.loop-piece-init
@@ -20,5 +21,6 @@ pub returns-in-Err-clause-fault : goal.returns-in-Err-clause-fault
 returns-in-Err-clause-fault c = λ cut.
     let name = c.args.ledger.now.trace.reading.name in
     let read = c.in-Err.ensures.unread name c.loop-piece.head.items c.loop-piece.invariant in
-    rw c.of_ledger.ensures (refused_stream c.loop-piece.ledger.trace.run c.read.new.self.trace name
-    cut c.in-Err.why c.in-Err.ensures.short (ap (λ (x : Load). x.name) read.0) read.1)
+    subst (λ (n : Option (List ℕ)). IsShown c.read.new.self.trace.run (n, c.in-Err.why))
+    (sym (ap (λ (x : Load). x.name) read.0)) (is_shown c.loop-piece.ledger.trace.run
+    c.read.new.self.trace.run name c.in-Err.why read.1)

@@ -1,6 +1,8 @@
 use Rattle.std.proofs.Common.{◌++◌, ◌∙◌, ◌∷◌, [], ap, subst, sym, ℕ}
-use Rattle.tap_views.specs.UploadEnds.{ArePlainEnds, end_by}
-use Rattle.omny_audit.proofs.ProgramLemmas.{each_push, ends_push, posted_push}
+use Rattle.tap_views.specs.UploadEnds.{ArePlainEnds, IsPlainEnd, end_by}
+use Rattle.tap_views.proofs.Lists.{AllZip-append}
+use Rattle.ledger_check.specs.Balances.{AreValidFields}
+use Rattle.omny_audit.proofs.ProgramLemmas.{posted_push}
 use Rattle.omny_audit.proofs.program.add_upload.Goals as goal
 
 pub returns : goal.returns
@@ -15,17 +17,21 @@ returns c = λ files valid lists are.
       record {
         are_valid = posted_push files valid upload added.0 are.are_valid added.1;
         balance = added.2 valid are.balance;
-        are_lists = each_push files lists upload placed.0 are.are_lists placed.1;
+        are_lists = AllZip-append AreValidFields files lists (upload ∷ []) (placed.0 ∷ [])
+            are.are_lists (placed.1, tt);
         positions = placed.2 lists are.positions;
         ends = subst (ArePlainEnds (files ++ upload ∷ [])) (sym c.in_ok-push.ensures.items)
-            (ends_push files c.args.uploads.now.ends.items upload c.by_fault.result are.ends
-            (record {
-              batches = facts.read_batches;
-              rest = facts.read.rest;
-              fault = fault;
-              is_file = facts.read.is_file;
-              is_fault = facts.read.is_end;
-              ended = c.by_fault.ensures ∙ ap (λ (n : ℕ). end_by n fault) facts.tap_number;
-            }));
+            (AllZip-append IsPlainEnd files c.args.uploads.now.ends.items (upload ∷ [])
+            (c.by_fault.result ∷ []) are.ends (
+              record {
+                batches = facts.read_batches;
+                rest = facts.read.rest;
+                fault = fault;
+                is_file = facts.read.is_file;
+                is_fault = facts.read.is_end;
+                ended = c.by_fault.ensures ∙ ap (λ (n : ℕ). end_by n fault) facts.tap_number;
+              },
+              tt,
+            ));
       },
     )

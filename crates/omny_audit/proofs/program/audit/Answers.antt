@@ -1,17 +1,15 @@
 use Rattle.std.proofs.Common.{◌∙◌, ℕ, Bor, List, None, Option, Some, [], ap, if◌then◌else◌}
 use Rattle.std.proofs.Common.{map, not, option_map, refl, subst}
+use Rattle.std.specs.Prelude.{Contains}
 use Rattle.ledger_check.specs.Columns.{has_traced_head}
 use Rattle.ledger_check.specs.Positions.{uploads_of}
-use Rattle.program_manners.specs.Refusals.{refusal_of}
 use Rattle.tap_views.specs.declared.encoder.TapFields.{TapFields}
 use Rattle.tap_views.specs.declared.upload_end.UploadEnd.{UploadEnd}
 use Rattle.world.specs.Run.{Load}
-use Rattle.omny_audit.specs.Options.{named_file}
 use Rattle.omny_audit.specs.Ends.{did_by}
 use Rattle.omny_audit.specs.Program.{AreWanted, HasLoaded, compared}
 use Rattle.omny_audit.specs.Reports.{Given}
 use Rattle.omny_audit.specs.inside.Audits.{EndsAs}
-use Rattle.omny_audit.specs.inside.Fault.{IsLoadFault}
 use Rattle.omny_audit.specs.inside.Options.{audit_request_of}
 use Rattle.omny_audit.specs.inside.Reports.{text_of}
 use Rattle.omny_audit.specs.inside.Traced.{uploads_in, wanted_by}
@@ -24,12 +22,11 @@ use Rattle.omny_audit.proofs.program.audit.Goals as goal
 
 pub returns-in-Err : goal.returns-in-Err
 returns-in-Err g c =
-    let request = audit_request_of c.args.options.now in
     let run = g.W.Inputs.run c.args.world.now in (
       record {
-        is_cause = rw c.of_tables.ensures (tables_cause request (did_by c.args.files.now.loads
-            c.load_tables.new.source.loads c.args.ledger.now.trace run run) c.in-Err.fault
-            c.in-Err.ensures.right);
+        is_cause = tables_cause (audit_request_of c.args.options.now)
+            (did_by c.args.files.now.loads c.load_tables.new.source.loads c.args.ledger.now.trace
+            run run) c.in-Err.fault c.in-Err.ensures.right;
         started = started_none _ _;
       },
       refl,
@@ -41,15 +38,13 @@ returns-in_default g c = (record { is_cause = tt; started = started_none _ _ }, 
 pub returns-in-Err-load_uploads : goal.returns-in-Err-load_uploads
 returns-in-Err-load_uploads g c =
     let request = audit_request_of c.args.options.now in
-    let files = c.load_uploads.new.files.loads in
-    let run = g.W.Inputs.run c.args.world.now in (
+    let run = g.W.Inputs.run c.args.world.now in
+    let (name, one, is) = c.in-Err-load_uploads.ensures.fault in (
       record {
-        is_cause = load_cause request
-            (did_by c.args.files.now.loads files c.args.ledger.now.trace run
-            run) request.uploads c.in-Err-load_uploads.fault (among_uploads request)
-            (subst (λ (ns : List (Bor (List ℕ))). IsLoadFault (map (λ n. n.now) ns)
-            files.trace.run.loads (refusal_of files.last.value) c.in-Err-load_uploads.fault)
-            c.as_slice-names.ensures.value c.in-Err-load_uploads.ensures.fault);
+        is_cause = load_cause request c.args.files.now.loads c.load_uploads.new.files.loads
+            c.args.ledger.now.trace run run name c.in-Err-load_uploads.fault (among_uploads request name
+            (subst (λ (ns : List (Bor (List ℕ))). Contains (map (λ n. n.now) ns) name)
+            c.as_slice-names.ensures.value one)) is;
         started = started_none _ _;
       },
       refl,
@@ -58,11 +53,11 @@ returns-in-Err-load_uploads g c =
 pub returns-in-Err-load_report : goal.returns-in-Err-load_report
 returns-in-Err-load_report g c =
     let request = audit_request_of c.args.options.now in
-    let run = g.W.Inputs.run c.args.world.now in (
+    let run = g.W.Inputs.run c.args.world.now in
+    let (name, one, is) = c.in-Err-load_report.ensures.fault in (
       record {
-        is_cause = load_cause request (did_by c.args.files.now.loads c.load_report.new.files.loads
-            c.args.ledger.now.trace run run) (named_file request.report) c.in-Err-load_report.fault
-            (among_reports request) c.in-Err-load_report.ensures.fault;
+        is_cause = load_cause request c.args.files.now.loads c.load_report.new.files.loads
+            c.args.ledger.now.trace run run name c.in-Err-load_report.fault (among_reports request name one) is;
         started = started_none _ _;
       },
       refl,

@@ -1,21 +1,23 @@
-use Rattle.std.proofs.Common.{◌∙◌, ap, sym}
-use Rattle.ledger_check.specs.Columns.{has_ledger_head}
+use Rattle.std.proofs.Common.{◌∙◌, Some, ap, refl, sym}
+use Rattle.program_manners.proofs.Refusals.{has_refused}
 use Rattle.program_manners.specs.Refusals.{refusal_of}
-use Rattle.omny_audit.proofs.Causes.{file_fault}
+use Rattle.ledger_check.specs.Columns.{has_ledger_head}
 use Rattle.omny_audit.proofs.program.load_upload.Goals as goal
 
 pub returns-in-Err-clause-fault : goal.returns-in-Err-clause-fault
-returns-in-Err-clause-fault c = λ names one.
-    file_fault (refusal_of c.load_named.new.files.loads.last.value) c.args.name.now c.in-Err.file
-    names c.load_named.new.files.loads.trace.run.loads c.in-Err.ensures.fault one
+returns-in-Err-clause-fault c = (
+  refl,
+  has_refused (Some (refusal_of c.load.new.self.loads.last.value)) (Some c.args.name.now)
+      c.in-Err.fault c.in-Err.ensures.fault,
+)
 
 pub returns-then-has_ledger_head-clause-fault : goal.returns-then-has_ledger_head-clause-fault
-returns-then-has_ledger_head-clause-fault c = λ names one. (
-  one,
+returns-then-has_ledger_head-clause-fault c = (
+  refl,
   record {
-    loaded = _;
+    loaded = c.args.files.now.loads.trace.run.loads;
     text = c.in-Ok.upload.items;
-    loads = c.in-Ok.ensures.ok;
+    loads = c.in-Ok.ensures.reported;
     begins = ap has_ledger_head (sym c.deref.ensures.value) ∙ sym c.has_ledger_head.ensures
         ∙ c.if-has_ledger_head.true;
   },

@@ -23,9 +23,9 @@ loop-name-init c = (
     is_loaded = sym (append-nil c.args.files.now.loads.trace.run.loads);
   },
   record {
-    are_valid = refl;
+    are_valid = ([], tt, refl);
     balance = c.new.ensures;
-    are_lists = refl;
+    are_lists = tt;
     positions = c.new-2.ensures;
     ends = subst (ArePlainEnds []) (sym c.new-3.ensures.items) tt;
   },
@@ -59,6 +59,18 @@ pub returns-in-Err-clause-fault : goal.returns-in-Err-clause-fault
 returns-in-Err-clause-fault c =
     let names = c.args.names.now in
     let k = c.loop-name.name-index in
-    c.in-Err.ensures.fault (map (λ n. n.now) names)
-    (one_of (get_or names k no_name).now (map (λ n. n.now) names)
-    (is_one_at names k no_name _ c.loop-name-test.true refl))
+    let name = (get_or names k no_name).now in (
+      name,
+      one_of name (map (λ n. n.now) names) (is_one_at names k no_name _ c.loop-name-test.true refl),
+      c.in-Err.ensures.fault,
+    )
+
+pub returns-in_default-clause-fault : goal.returns-in_default-clause-fault
+returns-in_default-clause-fault c =
+    let names = c.args.names.now in
+    let k = c.loop-name.name-index in
+    let name = (get_or names k no_name).now in (
+      name,
+      one_of name (map (λ n. n.now) names) (is_one_at names k no_name _ c.loop-name-test.true refl),
+      tt,
+    )

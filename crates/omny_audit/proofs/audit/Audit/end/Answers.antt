@@ -1,13 +1,13 @@
-use Rattle.std.proofs.Common.{◌++◌, ◌∙◌, ℕ, Bool, List, ap, append_assoc}
+use Rattle.std.proofs.Common.{◌++◌, ◌∙◌, ℕ, Bool, List, ap, ap₂, append_assoc}
 use Rattle.std.proofs.Common.{Global, Vec, string_bytes, subst, sym, true}
 use Rattle.std.specs.Prelude.{◌&&◌, ◌||◌}
 use Rattle.std.proofs.lemmas.Bool.{and_parts}
-use Rattle.omny_audit.specs.Reports.{AreLastLines, ledger_in}
+use Rattle.omny_audit.specs.Reports.{IsVerdictOn, damage_text, ledger_in, verdict_lines}
 use Rattle.omny_audit.specs.Traced.{AreColumnsReported}
 use Rattle.omny_audit.specs.inside.Audits.{given_in}
 use Rattle.omny_audit.specs.inside.Reports.{text_of}
 use Rattle.omny_audit.specs.inside.Traced.{wanted_by}
-use Rattle.omny_audit.proofs.Audits.{undecided}
+use Rattle.omny_audit.proofs.Audits.{undecided, unsound}
 use Rattle.omny_audit.proofs.audit.Audit.end.Goals as goal
 
 pub finish-requires : goal.finish-requires
@@ -18,8 +18,11 @@ finish-requires c =
 
 pub returns-clause-decided : goal.returns-clause-decided
 returns-clause-decided c = λ is.
-    c.are_both.ensures
-    ∙ ap (λ (b : Bool). b && c.are_both-is_after.result) (c.in_ok-found.ensures.unsound is)
+    let has = c.requires.3 in
+    let found = c.in_ok-found.ensures.found c.args.self.now.table.now c.requires.0 _ c.requires.2
+    has.checked in
+    c.are_both.ensures ∙ ap (λ (b : Bool). b && c.are_both-is_after.result)
+    (unsound _ _ _ _ _ _ _ found.2 (c.in_ok-found.ensures.decided is))
 
 pub returns-clause-ended : goal.returns-clause-ended
 returns-clause-ended c = λ valid file before has.
@@ -28,44 +31,45 @@ returns-clause-ended c = λ valid file before has.
     let given = given_in audit valid in
     let legal = c.in_ok-found.found.is_legal in
     let right = c.in_ok-is_right.is_right in
-    let fits = c.in_ok-fits.fits in
+    let verdict = c.in_ok-verdict.verdict in
     let found = c.in_ok-found.ensures.found audit.table.now valid (ledger_in given file) written
     has.checked in
     let columns = c.in_ok-is_right.ensures in
-    let wrote = c.in_ok-fits.ensures in
+    let last = verdict_lines given.ends verdict ++ damage_text given.ends in
     let looked = c.is_either-is_looked_at.ensures ∙ ap (λ (b : Bool). b || legal) c.is_all-all.ensures
     in
     let whole = c.are_both-is_whole.ensures in
     let reported = columns.2 file (λ look. has.all (undecided audit.check legal
-    c.in_ok-found.ensures.decided (sym looked ∙ look))) in
-    let last = wrote.2 audit.table.now (ledger_in given file) (λ yes entries of.
-    c.in_ok-found.ensures.sums audit.table.now valid (ledger_in given file) written has.checked
-    (and_parts legal right (sym whole ∙ yes)).0 entries of) in (
+    c.in_ok-found.ensures.decided (sym looked ∙ look))) in (
       reported.0,
       record {
         found = written ++ found.0;
+        finding = found.2.finding;
         sound = c.in_ok-found.found.is_sound;
-        finding = found.2;
+        is_sound = found.2.sound;
         legal = legal;
-        is_legal = found.3;
+        is_legal = found.2.legal;
         columns = columns.0;
         right = right;
         are_columns = subst (λ (b : Bool). AreColumnsReported (wanted_by audit.trace) b file
             reported.0 columns.0 right) looked reported.1;
-        rest = wrote.0;
-        fits = fits;
-        last = subst (λ (b : Bool). AreLastLines given.ends audit.table.now (ledger_in given file)
-            (text_of audit.report) b wrote.0 fits) whole last;
+        verdict = verdict;
+        is_verdict = subst (λ (b : Bool). IsVerdictOn given.ends audit.table.now
+            (ledger_in given file) (text_of audit.report) b verdict) whole
+            (c.in_ok-verdict.ensures audit.table.now (ledger_in given file) (λ yes entries of.
+            found.2.sums (and_parts legal right (sym whole ∙ yes)).0 entries of));
         shown = ap (λ (t : List ℕ). before ++ t)
-            (wrote.1 ∙ ap (λ (t : List ℕ). t ++ wrote.0)
+            (c.in_ok-write_last_lines.ensures ∙ ap (λ (t : List ℕ). t ++ last)
             (columns.1 ∙ ap (λ (t : List ℕ). t ++ columns.0)
             (ap (λ (v : Vec ℕ Global). v.items) c.into_bytes-text.ensures.value ∙ found.1))
-            ∙ append_assoc (string_bytes c.args.reported ++ found.0) columns.0 wrote.0
-            ∙ append_assoc (string_bytes c.args.reported) found.0 (columns.0 ++ wrote.0))
+            ∙ append_assoc (string_bytes c.args.reported ++ found.0) columns.0 last
+            ∙ append_assoc (string_bytes c.args.reported) found.0 (columns.0 ++ last))
             ∙ sym (append_assoc before (string_bytes c.args.reported)
-            (found.0 ++ (columns.0 ++ wrote.0)))
-            ∙ sym (append_assoc written found.0 (columns.0 ++ wrote.0));
+            (found.0 ++ (columns.0 ++ last)))
+            ∙ sym (append_assoc written found.0 (columns.0 ++ last));
         both = c.are_both.ensures ∙ ap (λ (b : Bool). c.in_ok-found.found.is_sound && b)
-            c.are_both-is_after.ensures;
+            (c.are_both-is_after.ensures ∙ ap (λ (b : Bool). right && b)
+            (c.are_both-is_last.ensures ∙ ap₂ (λ (a b : Bool). a && b) c.fits.ensures
+            c.are_whole.ensures));
       },
     )

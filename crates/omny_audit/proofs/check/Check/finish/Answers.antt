@@ -17,21 +17,8 @@ returns-in_ok-found-in-First-clause-decided c = λ is.
 
 pub returns-in_ok-found-in-All-clause-found : goal.returns-in_ok-found-in-All-clause-found
 returns-in_ok-found-in-All-clause-found c = λ fares valid text written has.
-    rw c.in-All.is (c.in_ok-found-in-All.ensures.found fares valid text written (rw c.in-All.is at has))
-
-pub returns-in_ok-found-in-First-clause-unsound : goal.returns-in_ok-found-in-First-clause-unsound
-returns-in_ok-found-in-First-clause-unsound c = λ is.
-    c.in_ok-found-in-First.ensures.unsound
-    (returns-in_ok-found-in-First-clause-decided c is)
+    rw c.in-All.is (c.in_ok-found-in-All.ensures fares valid text written (rw c.in-All.is at has))
 
 pub full_finding-requires : goal.full_finding-requires
 full_finding-requires c = let given = c.requires.fed in
     (given.0, given.1, given.2, given.3, rw c.in-All.is at given.4)
-
-pub returns-in_ok-found-in-First-clause-sums : goal.returns-in_ok-found-in-First-clause-sums
-returns-in_ok-found-in-First-clause-sums c = λ fares valid text written has.
-    c.in_ok-found-in-First.ensures.sums fares valid text written (rw c.in-First.is at has)
-
-pub returns-in_ok-found-in-All-clause-sums : goal.returns-in_ok-found-in-All-clause-sums
-returns-in_ok-found-in-All-clause-sums c = λ fares valid text written has.
-    c.in_ok-found-in-All.ensures.sums fares valid text written (rw c.in-All.is at has)

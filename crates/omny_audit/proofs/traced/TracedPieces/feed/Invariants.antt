@@ -1,7 +1,6 @@
 use Rattle.std.proofs.Common.{◌≡◌, List, ℕ, ◌++◌, length}
 use Rattle.omny_audit.specs.Traced.{ReadLine}
 use Rattle.omny_audit.specs.inside.Traced.{HasTraced, wanted_of}
-use Rattle.omny_audit.proofs.TraceLemmas.{Traced}
 use Rattle.omny_audit.proofs.traced.TracedPieces.feed.Given as goal
 
 -- a front of the piece was read
@@ -10,8 +9,9 @@ invariant-loop-rest l = record {
   consumed : List ℕ;
   whole : l.piece ≡ consumed ++ l.rest;
   wanted : wanted_of l.self.so_far ≡ wanted_of l.fn.self.so_far;
-  read : (file reported : List ℕ) (read : List ReadLine) → HasTraced l.fn.self file reported read
-      → Traced l.self (file ++ consumed) reported l.fn.text.items l.text.items;
+  read : (file before : List ℕ) (read : List ReadLine)
+      → HasTraced l.fn.self file (before ++ l.fn.text.items) read → (read' : List ReadLine)
+      × HasTraced l.self (file ++ consumed) (before ++ l.text.items) read';
 }
 
 abbrev pub decreases-loop-rest : goal.decreases-loop-rest

@@ -7,18 +7,18 @@ pub returns-clause-read : goal.returns-clause-read
 returns-clause-read c = record {
   lines = record {
     are = tt;
-    count = refl;
-    columns = record {
+    looked = record {
+      count = refl;
       class = refl;
       positions = record {
         wrong_is = none_wrong (uploads_in c.args.positions);
         named = λ none. c.requires;
       };
     };
+    shown = refl;
   };
   started = [];
   kept = inl c.new-3.ensures.items;
   lacks = tt;
   split = λ more. refl;
-  reported = refl;
 }
