@@ -27,7 +27,7 @@ use Rattle.omny_audit.specs.declared.check.Check.{Check}
 use Rattle.omny_audit.specs.declared.check.Check.TheVariants.{First, All}
 use Rattle.omny_audit.specs.declared.fault.Fault.{Fault}
 use Rattle.omny_audit.specs.declared.fault.Fault.TheVariants.{Unwritten}
-use Rattle.omny_audit.specs.inside.Audits.{EndsAs, HasAudited, HasEnded, Stands, given_in}
+use Rattle.omny_audit.specs.inside.Audits.{EndsAs, HasAudited, HasEnded, HoldsNow, given_in}
 use Rattle.omny_audit.specs.inside.Fault.{IsStreamFault}
 use Rattle.omny_audit.specs.declared.check.Found.{Found}
 use Rattle.omny_audit.specs.inside.Checks.{Finds, HasChecked, is_all, is_decided}
@@ -154,14 +154,14 @@ left_of given ledger file piece text same (inr each) = inr (λ more end.
     (sym (append_assoc file piece more) ∙ ap (λ (f : List ℕ). f ++ more) (sym same))
     (each (piece ++ more)))
 
-left_standing : (given : Given) (audit : Audit) (valid : List TapFields) (ledger : Calls)
-    (text : List ℕ) (ended : Option Bool) → Stands given audit valid ledger text ended
+left_now : (given : Given) (audit : Audit) (valid : List TapFields) (ledger : Calls)
+    (text : List ℕ) (ended : Option Bool) → HoldsNow given audit valid ledger text ended
     → MayBeLeft given ledger text
-left_standing given audit valid ledger text None (same, has) =
+left_now given audit valid ledger text None (same, has) =
     left_of given ledger ledger.reading.bytes [] text (sym (append-nil ledger.reading.bytes))
     (subst (λ (g : Given). Begins g ledger.reading.bytes text) same
     (remarked audit valid ledger.reading.bytes text has))
-left_standing given audit valid ledger text (Some success) found =
+left_now given audit valid ledger text (Some success) found =
     inr (λ more end. let one = found.0 more end in inl (one.0, success, one.1))
 
 pub started_weaker : (Right Other : List ℕ → Type 0) (out out' : List ℕ)
@@ -205,9 +205,6 @@ pub record SoFar (given : Given) (audit : Audit) (valid : List TapFields) (file 
   pub has : HasAudited audit valid file written
   pub wrote : new ≡ with_written old written
 
-pub nothing_written : (r : Run) → r ≡ with_written r []
-nothing_written r = sym (ap (λ xs. record r { written = xs }) (append-nil r.written))
-
 written_after : (r now : Run) (xs ys : List ℕ) → now ≡ with_written r xs
     → with_written now ys ≡ with_written r (xs ++ ys)
 written_after r now xs ys is =
@@ -231,7 +228,7 @@ abbrev pub Steps : Audit → Audit → List ℕ → List ℕ → Option Bool →
 Steps before after piece text ended = (valid : List TapFields) (file written : List ℕ)
     (ledger : Calls) → HasAudited before valid file written
     → ledger.reading.bytes ≡ file ++ piece → (piece ≡ [] → IsWhole ledger)
-    → Stands (given_in before valid) after valid ledger (written ++ text) ended
+    → HoldsNow (given_in before valid) after valid ledger (written ++ text) ended
 
 module _ (given : Given) (before after : Audit) (valid : List TapFields)
     (file piece text : List ℕ) (old now new : Run) (ended : Option Bool)
@@ -241,8 +238,8 @@ module _ (given : Given) (before after : Audit) (valid : List TapFields)
   bytes : ledger.trace.reading.bytes ≡ file ++ piece
   bytes = ap (λ (x : Load). x.bytes) read.reading
 
-  stands : Stands given after valid ledger.trace (was.written ++ text) ended
-  stands = subst (λ (g : Given). Stands g after valid ledger.trace (was.written ++ text) ended)
+  holds_now : HoldsNow given after valid ledger.trace (was.written ++ text) ended
+  holds_now = subst (λ (g : Given). HoldsNow g after valid ledger.trace (was.written ++ text) ended)
       was.same (steps valid file was.written ledger.trace was.has bytes
       (λ none. whole_at_end ledger name (file ++ piece) read (whole none)))
 
@@ -250,7 +247,7 @@ module _ (given : Given) (before after : Audit) (valid : List TapFields)
   pub went_on : ended ≡ None → new ≡ with_written now text
       → SoFar given after valid (file ++ piece) old new
   went_on none wrote =
-      let is = subst (Stands given after valid ledger.trace (was.written ++ text)) none stands in
+      let is = subst (HoldsNow given after valid ledger.trace (was.written ++ text)) none holds_now in
       record {
         written = was.written ++ text;
         same = is.0;
@@ -264,7 +261,7 @@ module _ (given : Given) (before after : Audit) (valid : List TapFields)
   all_found success is wrote = (
     was.written ++ text,
     wrote ∙ written_after old now was.written text was.wrote,
-    subst (Stands given after valid ledger.trace (was.written ++ text)) is stands,
+    subst (HoldsNow given after valid ledger.trace (was.written ++ text)) is holds_now,
   )
 
   -- a write failed
@@ -273,7 +270,7 @@ module _ (given : Given) (before after : Audit) (valid : List TapFields)
   cut_off why cut =
       failed given ledger.trace old new (was.written ++ text) (was.written ++ cut.front) cut.rest
       (Unwritten why)
-      (left_standing given after valid ledger.trace (was.written ++ text) ended stands)
+      (left_now given after valid ledger.trace (was.written ++ text) ended holds_now)
       (ap (λ (t : List ℕ). was.written ++ t) cut.whole
       ∙ sym (append_assoc was.written cut.front cut.rest))
       (ap (λ (r : Run). r.written) cut.prefix

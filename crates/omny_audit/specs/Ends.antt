@@ -116,10 +116,6 @@ EndsRun request did _ = ⊥
 abbrev pub IsPrinted : Run → Run → Type 0
 IsPrinted old new = (text : List ℕ) × (new ≡ with_flushed (with_written old text))
 
--- something was said, with status 2, or 1 if an allocation failed, and nothing else was done
-abbrev pub IsRefused : Run → Run → ℕ → Type 0
-IsRefused old new status = ((status ≡ 2) ⊎ (status ≡ 1)) × IsSaid old new
-
 -- How words end that are no command line: with 0 they ask for help or the version, which was
 -- printed, and with 2 something was said, and nothing else was done.
 abbrev pub EndsAnswer : List Text → Run → Run → ℕ → Type 0

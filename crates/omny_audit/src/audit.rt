@@ -5,7 +5,7 @@ ghost use Rattle.tap_views.specs.declared.encoder.TapFields.{TapFields};
 ghost use Rattle.omny_audit.specs.Reports.{IsAudit};
 ghost use Rattle.omny_audit.specs.Traced.{ReadLine};
 ghost use Rattle.omny_audit.specs.inside.Audits.{EndsAs, GoesOn, HasAudited, HasEnded, HasTaken};
-ghost use Rattle.omny_audit.specs.inside.Audits.{Stands, given_in};
+ghost use Rattle.omny_audit.specs.inside.Audits.{HoldsNow, given_in};
 ghost use Rattle.omny_audit.specs.inside.Checks.{is_decided};
 ghost use Rattle.world.specs.Run.{Calls};
 ghost use Rattle.world.specs.Streams.{HasRead, IsWhole};
@@ -123,7 +123,7 @@ impl Audit<'_> {
         ensures { IfOk result (λ next. (valid : List TapFields) (file written : List ℕ)
             (ledger : Calls) → HasAudited self.old valid file written
             → ledger.reading.bytes ≡ file ++ piece.now → (piece.now ≡ [] → IsWhole ledger)
-            → Stands (given_in self.old valid) self.new valid ledger (written ++ next.0.items)
+            → HoldsNow (given_in self.old valid) self.new valid ledger (written ++ next.0.items)
             next.1) }
     {
         let mut reported = String::new(alloc);

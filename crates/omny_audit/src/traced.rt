@@ -12,8 +12,8 @@ ghost use Rattle.ledger_check.specs.Positions.{HasUploads, is_named, uploads_of}
 ghost use Rattle.ledger_check.specs.Taps.{IsTapOfLine};
 ghost use Rattle.omny_audit.specs.Traced.{AreColumnsReported, IsFaultAfter, IsPositionFault};
 ghost use Rattle.omny_audit.specs.Traced.{NamesTapWithColumns, ReadLine, class_fault, class_text};
-ghost use Rattle.omny_audit.specs.Traced.{fault_by, fault_text, lines_read, places_text};
-ghost use Rattle.omny_audit.specs.Traced.{place_text, position_text};
+ghost use Rattle.omny_audit.specs.Traced.{fault_by, fault_text, lines_read, positions_text};
+ghost use Rattle.omny_audit.specs.Traced.{upload_position_text, position_text};
 ghost use Rattle.omny_audit.specs.Traced.{traced_by};
 ghost use Rattle.omny_audit.specs.declared.traced.PositionFault.{PositionFault as AFault};
 ghost use Rattle.omny_audit.specs.inside.Traced.{HasLines, HasLooked, HasPositions, HasReadAll};
@@ -67,13 +67,13 @@ pub(crate) enum PositionFault {
 
 /// An upload, from 0, and an index there, from 1.
 #[derive(Clone, Copy)]
-struct Place {
+struct UploadPosition {
     upload: u64,
     position: u64,
 }
 
-impl fmt::Display for Place {
-    ghost output = { λ place. Some (place_text place.upload place.position) };
+impl fmt::Display for UploadPosition {
+    ghost output = { λ at. Some (upload_position_text at.upload at.position) };
 
     fn fmt<W: fmt::Write>(&self, f: &mut fmt::Formatter<W>) -> fmt::Result {
         write!(f, "upload {} place {}", self.upload, self.position)
@@ -98,18 +98,18 @@ impl fmt::Display for PositionFault {
                 upload,
                 position,
             } => {
-                let place = Place {
+                let at = UploadPosition {
                     upload: *upload as u64,
                     position: *position,
                 };
-                write!(f, "line {line} has {place} again")
+                write!(f, "line {line} has {at} again")
             }
             PositionFault::NoLine { upload, position } => {
-                let place = Place {
+                let at = UploadPosition {
                     upload: *upload,
                     position: *position,
                 };
-                write!(f, "no line has {place}")
+                write!(f, "no line has {at}")
             }
         }
     }
@@ -500,7 +500,7 @@ fn class_line(
 }
 
 fn position_line(alloc: Global, fault: &Option<PositionFault>) -> Result<String, AllocError>
-    ensures { IfOk result (λ reported. string_bytes reported ≡ places_text fault.now) }
+    ensures { IfOk result (λ reported. string_bytes reported ≡ positions_text fault.now) }
 {
     match fault {
         None => format!(in alloc; "all places of the uploads\n"),

@@ -53,10 +53,10 @@ IsFound given ledger text success =
     × (success ≡ true → IsWhole ledger)
 
 -- This was reported of what reads gave of the ledger. The audit goes on, or all is found.
-abbrev pub Stands : Given → Audit → List TapFields → Calls → List ℕ → Option Bool → Type 0
-Stands given audit valid ledger written None = (given_in audit valid ≡ given)
+abbrev pub HoldsNow : Given → Audit → List TapFields → Calls → List ℕ → Option Bool → Type 0
+HoldsNow given audit valid ledger written None = (given_in audit valid ≡ given)
     × HasAudited audit valid ledger.reading.bytes written
-Stands given audit valid ledger written (Some success) = IsFound given ledger written success
+HoldsNow given audit valid ledger written (Some success) = IsFound given ledger written success
 
 -- What is found of the ledger was written; or the run failed, and what was written is a prefix of
 -- it. Nothing was said.

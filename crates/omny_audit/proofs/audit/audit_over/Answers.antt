@@ -7,7 +7,7 @@ use Rattle.program_manners.proofs.Shown.{is_shown}
 use Rattle.program_manners.specs.Refusals.{IsShown}
 use Rattle.omny_audit.specs.declared.fault.Fault.TheVariants.{Ledger, NoMemory}
 use Rattle.omny_audit.specs.inside.Audits.{GoesOn, given_in}
-use Rattle.omny_audit.proofs.Audits.{Steps, all_found, cut_off, interrupted, nothing_written, went_on}
+use Rattle.omny_audit.proofs.Audits.{Steps, all_found, cut_off, interrupted, went_on}
 use Rattle.omny_audit.proofs.audit.audit_over.Goals as goal
 
 pub loop-piece-init : goal.loop-piece-init
@@ -25,7 +25,8 @@ loop-piece-init g c = record {
     written = [];
     same = refl;
     has = has;
-    wrote = nothing_written (g.W.Inputs.run c.args.world.now);
+    wrote = let run = g.W.Inputs.run c.args.world.now in
+        sym (ap (λ xs. record run { written = xs }) (append-nil run.written));
   };
 }
 

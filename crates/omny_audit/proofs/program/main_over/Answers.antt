@@ -11,7 +11,8 @@ use Rattle.world.specs.Run.{Run}
 use Rattle.world.specs.Writes.{IsSaid}
 use Rattle.program_manners.specs.TableViews.{names_of, wrong_of}
 use Rattle.program_manners.specs.TableWords.{wrong_word}
-use Rattle.omny_audit.specs.Ends.{EndsAnswer, IsPrinted, IsRefused, did_by}
+use Rattle.omny_audit.specs.Ends.{EndsAnswer, IsPrinted, did_by}
+use Rattle.omny_audit.specs.inside.Ends.{IsRefused}
 use Rattle.omny_audit.specs.inside.Options.{audit_request_of}
 use Rattle.omny_audit.specs.Options.{AsksForAuditText, AuditRequest}
 use Rattle.omny_audit.specs.declared.fault.Fault.TheVariants.{NoMemory}
