@@ -1,6 +1,6 @@
 //! A run with a line beside it that says what it does.
 ghost use Rattle.std.specs.Prelude.{map, string_bytes};
-ghost use Rattle.fare_program.specs.Ends.{Ends};
+ghost use Rattle.omny_cli.specs.Beside.{EndsBeside};
 
 use fare_program::{Complaints, Disk, Output, Source, main_over};
 use run_progress::Ticker;
@@ -27,7 +27,7 @@ fn run<
     out: &mut Output<W>,
     err: &mut Complaints<E>,
 ) -> u8
-    ensures { Ends (map string_bytes words.now) (record {
+    ensures { EndsBeside (map string_bytes words.now) (record {
       under = D.bytes_under disk.now;
       origin = D.origin disk.now;
       loaded = S.loaded source.old;
@@ -64,7 +64,7 @@ pub fn run_beside_line<
     out: &mut Output<W>,
     err: &mut Complaints<E>,
 ) -> u8
-    ensures { Ends (map string_bytes words.now) (record {
+    ensures { EndsBeside (map string_bytes words.now) (record {
       under = D.bytes_under disk.now;
       origin = D.origin disk.now;
       loaded = S.loaded source.old;

@@ -24,7 +24,7 @@ returns-clause-ends g c =
     }) c.run_beside_line.result)
     c.args.source.now.from.loads.trace c.args.out.now.writer.to.trace
     c.args.err.now.writer.to.trace c.requires.unread c.requires.unwritten c.requires.unsaid
-    c.run_beside_line.ensures
+    c.run_beside_line.ensures.ends
 
 pub returns-clause-refused : goal.returns-clause-refused
 returns-clause-refused g c = c.run_beside_line.new.source.from.loads.shown
