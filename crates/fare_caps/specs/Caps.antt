@@ -1,6 +1,8 @@
 -- Caps beside `window`: when their windows end, what they count, and what they leave.
-use Rattle.std.specs.Prelude.{ℕ, ◌+◌, ◌-◌, Bool, true, if◌then◌else◌, List, [], ◌∷◌, nat_lt, Option}
-use Rattle.std.specs.Prelude.{Some, None}
+use Rattle.std.specs.Prelude.{ℕ, ◌+◌, ◌-◌, ◌==◌, ◌||◌, Bool, true, not, if◌then◌else◌, List, [], ◌∷◌}
+use Rattle.std.specs.Prelude.{length, nat_lt, Option, Some, None, is_some}
+use Rattle.tariffs.specs.declared.mode.Mode.{Mode}
+use Rattle.tariffs.specs.declared.price.Pays.{Pays}
 use Rattle.account_rule.specs.TokenRules.{TokenRules}
 use Rattle.account_rule.specs.Taps.{LiveTap}
 use Rattle.fare_caps.specs.declared.cap_window.CapWindow.{CapWindow}
@@ -15,10 +17,16 @@ pub record CapRules : Type 0 where
   -- the most that the rides which it counts may cost in a window, by the last of them
   pub ceiling : LiveTap → ℕ
 
--- the rules of a token, and the caps beside `window` in the order of their names
+-- the rules of a token, the caps beside `window` in the order of their names, and, if any transfer
+-- costs something, what a transfer from a mode to a tap pays if it is not free
 pub record CappedRules : Type 0 where
   pub rules : TokenRules
   pub caps : List CapRules
+  pub pays : Option (Mode → LiveTap → Option Pays)
+
+-- whether there are caps, or prices of transfers
+abbrev pub has_more : CappedRules → Bool
+has_more capped = not (length capped.caps == 0) || is_some capped.pays
 
 -- `window` as a cap: it counts all rides
 unfoldable pub window_cap : TokenRules → CapRules

@@ -9,14 +9,14 @@ ghost use Rattle.fare_caps.specs.inside.Further as spec;
 use crate::ride_cap::RideCap;
 use tariffs::{Clock, WindowSpan};
 
-/// A window of a cap. Any ride opens it, and the cap counts the rides of its modes.
+/// A window of a cap. Any ride opens it, and the cap counts the taps of its modes.
 #[derive(Clone, Copy, Debug, PartialEq, Eq)]
 pub struct CapWindow {
     /// The moment of its first ride.
     pub start: u64,
     /// The moment from which on a ride opens the next window.
     pub until: u64,
-    /// What the rides that the cap counts have cost, in cents.
+    /// What the taps that the cap counts have cost, in cents.
     pub cents: u32,
 }
 
