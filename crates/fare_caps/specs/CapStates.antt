@@ -8,7 +8,7 @@ use Rattle.account_rule.specs.Taps.{LiveTap}
 use Rattle.account_rule.specs.Windows.{charge}
 use Rattle.fare_caps.specs.Caps.{CappedRules, counted, each_window, no_window, opened, window_cap}
 use Rattle.fare_caps.specs.Charges.{cap_cents, cap_paid, is_freed, least_from, lowered}
-use Rattle.fare_caps.specs.Prices.{Due, of_ride, of_rise, dues}
+use Rattle.fare_caps.specs.Prices.{Due, of_ride, of_transfer, dues}
 use Rattle.fare_caps.specs.declared.cap_charge.CapCharge.{CapCharge}
 use Rattle.fare_caps.specs.declared.cap_window.CapWindow.{CapWindow}
 
@@ -40,7 +40,7 @@ at_ride capped ride states = record {
   paid = if nat_lt ride.moment states.window.until then states.paid else 0;
   window = opened ride (window_cap capped.rules) states.window;
   caps = each_window (opened ride) capped.caps states.caps;
-  freed = states.freed;
+  freed = false;
 }
 
 -- what decides the cents of the ride in these states
@@ -69,39 +69,39 @@ after_ride capped states ride =
     with_charge capped ride (ride_charge capped states ride) (at_ride capped ride states)
 
 -- the terms of a transfer of this fare: no limit of rides frees it
-abbrev pub rise_terms : Terms → ℕ → Terms
-rise_terms terms cents = record { fare = cents; rides = 1; ceiling = terms.ceiling }
+abbrev pub extra_terms : Terms → ℕ → Terms
+extra_terms terms cents = record { fare = cents; rides = 1; ceiling = terms.ceiling }
 
 -- What decides the cents of a transfer that raises the price of its trip by so many, in the windows
 -- of the last ride. If the limit of rides freed its ride it is free.
-unfoldable pub rise_charge : CappedRules → CapStates → LiveTap → ℕ → Option CapCharge
-rise_charge capped states tap cents =
+unfoldable pub extra_charge : CappedRules → CapStates → LiveTap → ℕ → Option CapCharge
+extra_charge capped states tap cents =
     if states.freed then None
     else Some (lowered (least_from 0 None tap capped.caps states.caps)
-    (charge (rise_terms (capped.rules.terms tap) cents) 0 states.window.cents))
+    (charge (extra_terms (capped.rules.terms tap) cents) 0 states.window.cents))
 
 -- the states with the transfer, whose cents this decides
-unfoldable pub with_rise : CappedRules → LiveTap → CapCharge → CapStates → CapStates
-with_rise capped tap charge states = record states {
+unfoldable pub with_extra : CappedRules → LiveTap → CapCharge → CapStates → CapStates
+with_extra capped tap charge states = record states {
   window = counted tap (cap_cents charge) (window_cap capped.rules) states.window;
   caps = each_window (counted tap (cap_cents charge)) capped.caps states.caps;
 }
 
 -- the states with the transfer, if something is charged
-abbrev pub with_some_rise : CappedRules → LiveTap → Option CapCharge → CapStates → CapStates
-with_some_rise capped tap None states = states
-with_some_rise capped tap (Some charge) states = with_rise capped tap charge states
+abbrev pub with_some_extra : CappedRules → LiveTap → Option CapCharge → CapStates → CapStates
+with_some_extra capped tap None states = states
+with_some_extra capped tap (Some charge) states = with_extra capped tap charge states
 
 -- what decides the cents of the tap after those that made the states, if something does
 unfoldable pub due_charge : CappedRules → CapStates → Due → Option CapCharge
 due_charge capped states (of_ride tap) = Some (ride_charge capped states tap)
-due_charge capped states (of_rise tap cents) = rise_charge capped states tap cents
+due_charge capped states (of_transfer tap cents) = extra_charge capped states tap cents
 
 -- the states after one more tap
 unfoldable pub after_due : CappedRules → CapStates → Due → CapStates
 after_due capped states (of_ride tap) = after_ride capped states tap
-after_due capped states (of_rise tap cents) =
-    with_some_rise capped tap (rise_charge capped states tap cents) states
+after_due capped states (of_transfer tap cents) =
+    with_some_extra capped tap (extra_charge capped states tap cents) states
 
 -- the states after more taps
 unfoldable pub after_dues : CappedRules → CapStates → List Due → CapStates

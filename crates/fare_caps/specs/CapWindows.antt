@@ -6,7 +6,7 @@ use Rattle.account_rule.specs.Blocks.{blocks_by}
 use Rattle.fare_caps.specs.Caps.{CapRules, CappedRules, window_cap}
 use Rattle.fare_caps.specs.CapStates.{CapStates, after_due, due_charge, no_rides}
 use Rattle.fare_caps.specs.Charges.{cap_cents}
-use Rattle.fare_caps.specs.Prices.{Due, due_tap, dues, of_ride, of_rise}
+use Rattle.fare_caps.specs.Prices.{Due, due_tap, dues, of_ride, of_transfer}
 use Rattle.fare_caps.specs.declared.cap_charge.CapCharge.{CapCharge}
 
 -- a ride or a transfer, and what it costs
@@ -37,13 +37,13 @@ all_caps capped = window_cap capped.rules ∷ capped.caps
 -- the end of a window that the tap begins: a transfer begins none
 abbrev pub end_by : CapRules → Due → ℕ
 end_by cap (of_ride tap) = cap.until tap.moment
-end_by cap (of_rise tap cents) = 0
+end_by cap (of_transfer tap cents) = 0
 
 -- whether the tap is of the window that ends at the moment: a ride before it, or a transfer of a
 -- ride of the window
 abbrev pub is_before : ℕ → Due → Bool
 is_before end (of_ride tap) = nat_lt tap.moment end
-is_before end (of_rise tap cents) = true
+is_before end (of_transfer tap cents) = true
 
 -- whether the tap is of the window, whose end its first ride sets
 unfoldable pub is_in : CapRules → List Charged → Charged → Bool

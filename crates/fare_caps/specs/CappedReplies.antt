@@ -16,9 +16,9 @@ use Rattle.account_rule.specs.Taps.{LiveTap, live_at}
 use Rattle.account_rule.specs.Trips.{trips}
 use Rattle.account_rule.specs.Windows.{last_window}
 use Rattle.fare_caps.specs.Caps.{CappedRules}
-use Rattle.fare_caps.specs.CapStates.{CapStates, ride_charge, rise_charge, states}
+use Rattle.fare_caps.specs.CapStates.{CapStates, ride_charge, extra_charge, states}
 use Rattle.fare_caps.specs.Charges.{cap_cents, cap_paid}
-use Rattle.fare_caps.specs.Prices.{rise}
+use Rattle.fare_caps.specs.Prices.{extra}
 use Rattle.fare_caps.specs.declared.cap_charge.CapCharge.{CapCharge}
 use Rattle.fare_caps.specs.declared.capped_reason.CappedReason.{CappedReason}
 use Rattle.fare_caps.specs.declared.capped_reason.CappedReason.TheVariants.{PaidTransfer, Ride}
@@ -33,8 +33,8 @@ ride_on capped states start until moment (Some mode) =
 -- what decides the cents of the tap as the next transfer of the trip, if it costs something
 abbrev pub transfer_charge : CappedRules → CapStates → List LiveTap → LiveTap → Option CapCharge
 transfer_charge capped states trip tap =
-    if rise capped trip tap == 0 then None
-    else rise_charge capped states tap (rise capped trip tap)
+    if extra capped trip tap == 0 then None
+    else extra_charge capped states tap (extra capped trip tap)
 
 -- a transfer that the ride at the moment gives, in the last window if it costs something
 abbrev pub transfer_by : CapStates → ℕ → Mode → Option CapCharge → CappedReason

@@ -39,24 +39,24 @@ price capped [] = 0
 price capped (ride ∷ given) = price_after capped ride ride (fare capped ride) given
 
 -- what the tap raises the price of the trip by as its next transfer
-unfoldable pub rise : CappedRules → List LiveTap → LiveTap → ℕ
-rise capped trip tap = price capped (trip ++ tap ∷ []) - price capped trip
+unfoldable pub extra : CappedRules → List LiveTap → LiveTap → ℕ
+extra capped trip tap = price capped (trip ++ tap ∷ []) - price capped trip
 
 -- a live tap that may cost something: a ride, or a transfer that raises the price of its trip by
 -- these cents
 pub data Due : Type 0 where
   of_ride : LiveTap → Due
-  of_rise : LiveTap → ℕ → Due
+  of_transfer : LiveTap → ℕ → Due
 
 -- the tap
 abbrev pub due_tap : Due → LiveTap
 due_tap (of_ride tap) = tap
-due_tap (of_rise tap cents) = tap
+due_tap (of_transfer tap cents) = tap
 
 -- the next transfer of the trip, if it raises its price
 unfoldable pub transfer_due : CappedRules → List LiveTap → LiveTap → List Due
 transfer_due capped trip tap =
-    if rise capped trip tap == 0 then [] else of_rise tap (rise capped trip tap) ∷ []
+    if extra capped trip tap == 0 then [] else of_transfer tap (extra capped trip tap) ∷ []
 
 -- the transfers that follow those of the trip and raise its price
 unfoldable pub dues_after : CappedRules → List LiveTap → List LiveTap → List Due

@@ -8,7 +8,7 @@ ghost use Rattle.fare_caps.specs.CapMeanings.{capped_rules_of};
 ghost use Rattle.fare_caps.specs.CappedReplies.{capped_reason, capped_reply, capped_window};
 ghost use Rattle.fare_caps.specs.CappedReplies.{replied_by};
 ghost use Rattle.fare_caps.specs.Represents.{Represents, RepresentsSome, no_further};
-ghost use Rattle.fare_caps.specs.inside.Seen.{seen, uncapped};
+ghost use Rattle.fare_caps.specs.inside.Seen.{live_kind, uncapped};
 
 use crate::cap_charge::CapCharge;
 use crate::capped_reason::CappedReason;
@@ -129,9 +129,9 @@ impl CappedAccount {
         if !table.has_caps_or_prices() {
             return uncapped(reason);
         }
-        match seen(reason, tap.mode) {
-            Seen::Free => uncapped(reason),
-            Seen::Ride { start, until, mode } => {
+        match live_kind(reason, tap.mode) {
+            LiveKind::Free => uncapped(reason),
+            LiveKind::Ride { start, until, mode } => {
                 let tariff = table.at(tap.moment);
                 let class = tariff.class_of(token);
                 CappedReason::Ride {
@@ -142,7 +142,7 @@ impl CappedAccount {
                         .charge_ride(tariff, table.caps(), clock, class, mode, tap.moment),
                 }
             }
-            Seen::Transfer {
+            LiveKind::Transfer {
                 moment,
                 ride_mode,
                 mode,
@@ -180,7 +180,7 @@ impl CappedAccount {
 
 /// A live tap, by the reason without caps.
 #[derive(Clone, Copy)]
-enum Seen {
+enum LiveKind {
     /// The tap is not live.
     Free,
     /// A ride on the mode, of the window from `start` to `until`.
@@ -198,19 +198,19 @@ enum Seen {
 }
 
 /// The live tap whose reason this is, at a validator of the mode.
-fn seen(reason: Reason, mode: Option<Mode>) -> Seen
-    ensures { result ≡ seen reason mode }
+fn live_kind(reason: Reason, mode: Option<Mode>) -> LiveKind
+    ensures { result ≡ live_kind reason mode }
 {
     let Some(mode) = mode else {
-        return Seen::Free;
+        return LiveKind::Free;
     };
     match reason {
-        Reason::Unknown => Seen::Free,
-        Reason::Stale { latest: _ } => Seen::Free,
+        Reason::Unknown => LiveKind::Free,
+        Reason::Stale { latest: _ } => LiveKind::Free,
         Reason::Transfer {
             moment,
             mode: ride_mode,
-        } => Seen::Transfer {
+        } => LiveKind::Transfer {
             moment,
             ride_mode,
             mode,
@@ -219,7 +219,7 @@ fn seen(reason: Reason, mode: Option<Mode>) -> Seen
             start,
             until,
             charge: _,
-        } => Seen::Ride { start, until, mode },
+        } => LiveKind::Ride { start, until, mode },
     }
 }
 

@@ -91,7 +91,7 @@ impl Further {
             (spec.opened_all clock.now moment
             (window_end_in clock.now tariff.now.meaning.window moment)
             (spec.said_by caps.now tariff.now.meaning mode.position class) self.old) }
-        ensures state { self.new ≡ spec.begun
+        ensures state { self.new ≡ spec.with_new_trip
             (ride_terms tariff.now.meaning class mode.position).fare mode
             (spec.counted_all result
             (spec.said_by caps.now tariff.now.meaning mode.position class)
@@ -131,21 +131,21 @@ impl Further {
         ensures bounds { AreBoundedTerms (ride_terms tariff.now.meaning class mode.position) }
         ensures charge { let pays = price_of tariff.now.meaning self.old.mode.position mode.position in
             let terms = ride_terms tariff.now.meaning class mode.position in
-            result ≡ spec.rise_of terms
+            result ≡ spec.extra_of terms
             (spec.said_by caps.now tariff.now.meaning mode.position class)
             (spec.raised pays terms.fare self.old - self.old.price)
             (spec.transferred pays terms.fare mode self.old) }
         ensures state { let pays = price_of tariff.now.meaning self.old.mode.position mode.position in
             let terms = ride_terms tariff.now.meaning class mode.position in
-            self.new ≡ spec.with_rise result
+            self.new ≡ spec.with_extra result
             (spec.said_by caps.now tariff.now.meaning mode.position class)
             (spec.transferred pays terms.fare mode self.old) }
         ensures few { IfSome result (λ charge. cap_cents charge ≤ 100_000) }
         ensures room { HasRoom self.new }
     {
         let terms = tariff.ride_terms(class, mode);
-        let rise = self.transfer(tariff.price_of(self.mode, mode), terms.fare, mode);
-        if rise == 0 || self.freed {
+        let extra = self.transfer(tariff.price_of(self.mode, mode), terms.fare, mode);
+        if extra == 0 || self.freed {
             return None;
         }
         let said = RideCaps {
@@ -154,7 +154,7 @@ impl Further {
             third: RideCap::said(caps, 2, tariff, class, mode),
         };
         let terms = Terms {
-            fare: rise,
+            fare: extra,
             rides: 1,
             ceiling: terms.ceiling,
         };
@@ -189,7 +189,7 @@ impl Further {
         requires room { HasRoom self.old }
         requires own { own ≤ 100_000 }
         requires pays { IfSome pays IsBoundedPays }
-        ensures rise { result ≡ spec.raised pays own self.old - self.old.price }
+        ensures extra { result ≡ spec.raised pays own self.old - self.old.price }
         ensures few { result ≤ 100_000 }
         ensures state { self.new ≡ spec.transferred pays own mode self.old }
         ensures room { HasRoom self.new }

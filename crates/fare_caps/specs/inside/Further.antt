@@ -11,7 +11,7 @@ use Rattle.tariffs.specs.TableMeaning.{TableMeaning}
 use Rattle.tariffs.specs.declared.cap_terms.CapTerms.{CapTerms}
 use Rattle.fare_caps.specs.CapMeanings.{said_of}
 use Rattle.fare_caps.specs.Caps.{opened_until}
-use Rattle.fare_caps.specs.CapStates.{rise_terms}
+use Rattle.fare_caps.specs.CapStates.{extra_terms}
 use Rattle.fare_caps.specs.Charges.{cap_cents, cap_paid, is_freed, lesser, lowered}
 use Rattle.fare_caps.specs.Prices.{wanted}
 use Rattle.fare_caps.specs.declared.ride_cap.RideCap.{RideCap}
@@ -93,8 +93,8 @@ counted_all charge caps further = record (counted_cents (cap_cents charge) caps 
 }
 
 -- the numbers with a trip that the ride of this fare on the mode begins
-abbrev pub begun : ℕ → Mode → Further → Further
-begun fare mode further = record further { fare = fare; price = fare; mode = mode }
+abbrev pub with_new_trip : ℕ → Mode → Further → Further
+with_new_trip fare mode further = record further { fare = fare; price = fare; mode = mode }
 
 -- the price of the trip with a transfer of this fare that pays this
 abbrev pub raised : Option Pays → ℕ → Further → ℕ
@@ -105,16 +105,16 @@ abbrev pub transferred : Option Pays → ℕ → Mode → Further → Further
 transferred pays own mode further = record further { price = raised pays own further; mode = mode }
 
 -- what decides the cents of a transfer that raises the price by so many, if it costs something
-unfoldable pub rise_of : Terms → RideCaps → ℕ → Further → Option CapCharge
-rise_of terms caps cents further =
+unfoldable pub extra_of : Terms → RideCaps → ℕ → Further → Option CapCharge
+extra_of terms caps cents further =
     if cents == 0 || further.freed then None
     else Some (lowered (least_of caps further)
-    (charge (rise_terms terms cents) 0 further.window.cents))
+    (charge (extra_terms terms cents) 0 further.window.cents))
 
 -- the numbers with the transfer's cents, if it costs something
-abbrev pub with_rise : Option CapCharge → RideCaps → Further → Further
-with_rise None caps further = further
-with_rise (Some charge) caps further = counted_cents (cap_cents charge) caps further
+abbrev pub with_extra : Option CapCharge → RideCaps → Further → Further
+with_extra None caps further = further
+with_extra (Some charge) caps further = counted_cents (cap_cents charge) caps further
 
 -- the reason of a transfer that the ride at the moment gives
 abbrev pub transfer_reason : Further → ℕ → Mode → Option CapCharge → CappedReason
