@@ -40,6 +40,29 @@ unfolding price
 price-push capped ride given tap =
     price_after-push capped ride ride (fare capped ride) given tap
 
+price_after-low : (capped : CappedRules) (ride last : LiveTap) (now : ℕ) (given : List LiveTap)
+    → now ≤ price_after capped ride last now given
+unfolding price_after
+price_after-low capped ride last now [] = omega arith
+price_after-low capped ride last now (tap ∷ more) =
+    omega (
+      arith,
+      price_after-low capped ride tap
+          (max now (wanted (fare capped ride) (fare capped tap) (pays_to capped last.mode tap))) more,
+    )
+
+-- no trip has a price below the fare of its ride
+pub price-low : (capped : CappedRules) (ride : LiveTap) (given : List LiveTap)
+    → fare capped ride ≤ price capped (ride ∷ given)
+unfolding price
+price-low capped ride given = price_after-low capped ride ride (fare capped ride) given
+
+pub last-push : (last : LiveTap) (given : List LiveTap) (tap : LiveTap)
+    → last_tap last (given ++ tap ∷ []) ≡ tap
+unfolding last_tap
+last-push last [] tap = refl
+last-push last (next ∷ given) tap = last-push next given tap
+
 -- what the transfer raises it by
 pub extra-is : (capped : CappedRules) (ride : LiveTap) (given : List LiveTap) (tap : LiveTap)
     → extra capped (ride ∷ given) tap
@@ -78,6 +101,13 @@ abbrev due_after : CappedRules → Bool → List LiveTap → LiveTap → List Du
 due_after capped joined trip tap =
     cond joined (transfer_due capped trip tap) (of_ride tap ∷ [])
 
+joined : (capped : CappedRules) (ride : LiveTap) (given : List LiveTap) (tap : LiveTap)
+    → trip_dues capped (ride ∷ given ++ tap ∷ []) ++ []
+    ≡ (trip_dues capped (ride ∷ given) ++ []) ++ transfer_due capped (ride ∷ given) tap
+joined capped ride given tap =
+    append-nil _ ∙ trip_dues-push capped ride given tap
+    ∙ ap (λ ds. ds ++ transfer_due capped (ride ∷ given) tap) (sym (append-nil _))
+
 one-trip : (capped : CappedRules) (joins : List LiveTap → LiveTap → Bool) (trip : List LiveTap)
     (tap : LiveTap) → Continues joins
     → flat_map (trip_dues capped) (cond (joins trip tap) ((trip ++ tap ∷ []) ∷ [])
@@ -90,10 +120,7 @@ one-trip capped joins (ride ∷ given) tap none =
     flat_map (trip_dues capped) (cond v ((ride ∷ given ++ tap ∷ []) ∷ [])
     ((ride ∷ given) ∷ (tap ∷ []) ∷ []))
     ≡ (trip_dues capped (ride ∷ given) ++ []) ++ due_after capped v (ride ∷ given) tap) [
-      | true ↦ rw (
-        append-nil (trip_dues capped (ride ∷ given ++ tap ∷ [])),
-        append-nil (trip_dues capped (ride ∷ given)),
-      ) (trip_dues-push capped ride given tap)
+      | true ↦ joined capped ride given tap
       | false ↦ sym (append_assoc (trip_dues capped (ride ∷ given)) [] (of_ride tap ∷ []))
     ]
 
@@ -152,7 +179,7 @@ price_after-free rules caps ride last now (tap ∷ more) =
     let same : max now 0 ≡ now = omega arith in
     rw same (price_after-free rules caps ride tap now more)
 
-extra-free : (rules : TokenRules) (caps : List CapRules) (trip : List LiveTap) (ride tap : LiveTap)
+pub extra-free : (rules : TokenRules) (caps : List CapRules) (trip : List LiveTap) (ride tap : LiveTap)
     → extra (record { rules = rules; caps = caps; pays = None }) (ride ∷ trip) tap ≡ 0
 unfolding extra price
 extra-free rules caps trip ride tap =
@@ -187,3 +214,49 @@ pub dues-free : (rules : TokenRules) (caps : List CapRules) (taps : List TapIn)
     → dues (record { rules = rules; caps = caps; pays = None }) taps ≡ map of_ride (rides rules taps)
 unfolding dues rides
 dues-free rules caps taps = dues-of rules caps (trips rules taps)
+
+-- ---- one more cap changes no price
+
+price_after-caps : (capped : CappedRules) (caps : List CapRules) (ride last : LiveTap) (now : ℕ)
+    (given : List LiveTap)
+    → price_after (record capped { caps = caps }) ride last now given
+    ≡ price_after capped ride last now given
+unfolding price_after
+price_after-caps capped caps ride last now [] = refl
+price_after-caps capped caps ride last now (tap ∷ more) =
+    price_after-caps capped caps ride tap
+    (max now (wanted (fare capped ride) (fare capped tap) (pays_to capped last.mode tap))) more
+
+price-caps : (capped : CappedRules) (caps : List CapRules) (trip : List LiveTap)
+    → price (record capped { caps = caps }) trip ≡ price capped trip
+unfolding price
+price-caps capped caps [] = refl
+price-caps capped caps (ride ∷ given) =
+    price_after-caps capped caps ride ride (fare capped ride) given
+
+dues_after-caps : (capped : CappedRules) (caps : List CapRules) (trip given : List LiveTap)
+    → dues_after (record capped { caps = caps }) trip given ≡ dues_after capped trip given
+unfolding dues_after transfer_due extra
+dues_after-caps capped caps trip [] = refl
+dues_after-caps capped caps trip (tap ∷ more) =
+    rw (
+      price-caps capped caps (trip ++ tap ∷ []),
+      price-caps capped caps trip,
+      dues_after-caps capped caps (trip ++ tap ∷ []) more,
+    ) refl
+
+trip_dues-caps : (capped : CappedRules) (caps : List CapRules) (trips : List (List LiveTap))
+    → flat_map (trip_dues (record capped { caps = caps })) trips
+    ≡ flat_map (trip_dues capped) trips
+unfolding trip_dues
+trip_dues-caps capped caps [] = refl
+trip_dues-caps capped caps ([] ∷ more) = trip_dues-caps capped caps more
+trip_dues-caps capped caps ((ride ∷ given) ∷ more) =
+    rw (dues_after-caps capped caps (ride ∷ []) given)
+    (ap (λ ds. of_ride ride ∷ dues_after capped (ride ∷ []) given ++ ds)
+    (trip_dues-caps capped caps more))
+
+pub same-dues : (capped : CappedRules) (caps : List CapRules) (taps : List TapIn)
+    → dues (record capped { caps = caps }) taps ≡ dues capped taps
+unfolding dues
+same-dues capped caps taps = trip_dues-caps capped caps (trips capped.rules taps)

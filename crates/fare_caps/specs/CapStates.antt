@@ -40,7 +40,7 @@ at_ride capped ride states = record {
   paid = if nat_lt ride.moment states.window.until then states.paid else 0;
   window = opened ride (window_cap capped.rules) states.window;
   caps = each_window (opened ride) capped.caps states.caps;
-  freed = false;
+  freed = states.freed;
 }
 
 -- what decides the cents of the ride in these states

@@ -137,7 +137,7 @@ impl Further {
             (spec.transferred pays terms.fare mode self.old) }
         ensures state { let pays = price_of tariff.now.meaning self.old.mode.position mode.position in
             let terms = ride_terms tariff.now.meaning class mode.position in
-            self.new ≡ spec.with_extra result
+            self.new ≡ spec.with_some_cents result
             (spec.said_by caps.now tariff.now.meaning mode.position class)
             (spec.transferred pays terms.fare mode self.old) }
         ensures few { IfSome result (λ charge. cap_cents charge ≤ 100_000) }
@@ -145,22 +145,32 @@ impl Further {
     {
         let terms = tariff.ride_terms(class, mode);
         let extra = self.transfer(tariff.price_of(self.mode, mode), terms.fare, mode);
-        if extra == 0 || self.freed {
-            return None;
-        }
         let said = RideCaps {
             first: RideCap::said(caps, 0, tariff, class, mode),
             second: RideCap::said(caps, 1, tariff, class, mode),
             third: RideCap::said(caps, 2, tariff, class, mode),
         };
+        let charge = self.charge_extra(said, terms, extra)?;
+        self.count_cents(said, charge.cents());
+        Some(charge)
+    }
+
+    #[tactic(auto, unfolding(crate::specs::inside::Further::extra_of))]
+    fn charge_extra(&self, caps: RideCaps, terms: Terms, extra: u32) -> Option<CapCharge>
+        requires bounds { AreBoundedTerms terms }
+        requires extra { extra ≤ 100_000 }
+        requires room { self.now.window.cents ≤ 100_000_000 }
+        ensures { result ≡ spec.extra_of terms caps extra self.now }
+    {
+        if extra == 0 || self.freed {
+            return None;
+        }
         let terms = Terms {
             fare: extra,
             rides: 1,
             ceiling: terms.ceiling,
         };
-        let charge = lowered(self.least(said), charge(terms, 0, self.window.cents));
-        self.count_cents(said, charge.cents());
-        Some(charge)
+        Some(lowered(self.least(caps), charge(terms, 0, self.window.cents)))
     }
 
     /// The reason of a transfer that the ride at the moment gives, after its charge.

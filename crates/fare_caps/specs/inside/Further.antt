@@ -112,9 +112,9 @@ extra_of terms caps cents further =
     (charge (extra_terms terms cents) 0 further.window.cents))
 
 -- the numbers with the transfer's cents, if it costs something
-abbrev pub with_extra : Option CapCharge → RideCaps → Further → Further
-with_extra None caps further = further
-with_extra (Some charge) caps further = counted_cents (cap_cents charge) caps further
+abbrev pub with_some_cents : Option CapCharge → RideCaps → Further → Further
+with_some_cents None caps further = further
+with_some_cents (Some charge) caps further = counted_cents (cap_cents charge) caps further
 
 -- the reason of a transfer that the ride at the moment gives
 abbrev pub transfer_reason : Further → ℕ → Mode → Option CapCharge → CappedReason
