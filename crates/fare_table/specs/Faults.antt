@@ -299,8 +299,8 @@ abbrev pub names_no_mode : Where → Members → Bool
 names_no_mode top tree = false
 names_no_mode (pair index) tree = false
 names_no_mode (pair_modes index) tree =
-    holds_of_some (λ pair. is_unknown_mode tree pair.0.0 || is_unknown_mode tree pair.0.1)
-    (pair_at tree index)
+    holds_of_some (λ pair. not (is_mode (mode_names tree) pair.0.0
+    && is_mode (mode_names tree) pair.0.1)) (pair_at tree index)
 names_no_mode (class index) tree = false
 names_no_mode (mode_fare index key) tree =
     holds_of_some (λ one. is_unknown_mode tree one.0) (fare_at tree index key)
@@ -513,18 +513,19 @@ pair_rows index no_items = []
 pair_rows index (item value more) =
     (if is_some (name_pair value) then [] else rows_of_pair index) ++ pair_rows (suc index) more
 
--- element by element: its modes, and whether an earlier one has another price
-abbrev pub mode_rows : ℕ → Items → List FaultRow
-mode_rows index no_items = []
-mode_rows index (item value more) =
+-- pair by pair: its modes, and whether an earlier one has another price
+abbrev pub mode_rows : ℕ → List NamedPair → List FaultRow
+mode_rows index [] = []
+mode_rows index (pair ∷ more) =
     a_row (pair_modes index) Mode ∷ a_row (pair_modes index) (Range the_key.Transfers)
     ∷ mode_rows (suc index) more
 
 -- the step `transfers`
 abbrev pub transfers_step : Members → List FaultRow
 transfers_step tree =
-    (a_row top (Missing the_key.Transfers) ∷ a_row top (Kind the_key.Transfers) ∷ [])
-    ++ (pair_rows 0 (listed_in tree) ++ mode_rows 0 (listed_in tree))
+    (a_row top (Missing the_key.Transfers) ∷ a_row top (Kind the_key.Transfers)
+    ∷ pair_rows 0 (listed_in tree))
+    ++ mode_rows 0 (pairs (listed_in tree))
 
 -- the step `caps`
 abbrev pub caps_step : Members → List FaultRow

@@ -190,7 +190,7 @@ impl Accounts {
         ensures positions { KeepPositions (tokens_of self.old) (tokens_of self.new) }
         ensures err { OnErr result ((other : Token) → StillKept self.old self.new other) }
     {
-        if table.has_caps_at(tap.moment) {
+        if table.has_caps_or_prices_at(tap.moment) {
             return self.step_under_caps(table, clock, token, bytes, tap.mode, tap.moment, known);
         }
         let position = self.position(token, known)?;
