@@ -20,7 +20,7 @@ use Rattle.fare_table.proofs.ReadLemmas.{is_number, text-read}
 use Rattle.fare_table.specs.Faults.{Where, a_row, first_row, has_two_prices, holds_of_some, is_from}
 use Rattle.fare_table.specs.Faults.{is_in_bounds, is_kind, is_mode, is_priced_otherwise, is_wrong}
 use Rattle.fare_table.specs.Faults.{items_of, listed_in, members_at, members_of, mode_names}
-use Rattle.fare_table.specs.Faults.{mode_rows, needed_rows, pair, pair_at, pair_modes, pair_names}
+use Rattle.fare_table.specs.Faults.{mode_rows, needed_rows, pair_at, pair_names, transfer, transfer_modes}
 use Rattle.fare_table.specs.Faults.{pair_rows, pairs, placed, price_in, priced_names, rows_of_pair}
 use Rattle.fare_table.specs.Faults.{string_of, top, transfers_step, value_at}
 use Rattle.fare_table.specs.Members.{needed, number_in, of_kind, text_at}
@@ -76,10 +76,10 @@ pays_reports (Some (string s)) from to = word_if (same_name s (codes "difference
 pays_reports (Some _) from to = refl
 
 priced-reported : (tree : Members) (n : ℕ)
-    → fault_in (priced_pair (members_at (pair n) tree)) ≡ first_row tree (rows_of_pair n)
+    → fault_in (priced_pair (members_at (transfer n) tree)) ≡ first_row tree (rows_of_pair n)
 unfolding priced_pair
 priced-reported tree n =
-    let at = pair n in
+    let at = transfer n in
     let inner = members_at at tree in
     let pays_rows = needed_rows at the_key.Pays in
     let to_rows = a_row at (Missing the_key.To) ∷ a_row at (Kind the_key.To) ∷ [] in
@@ -150,7 +150,7 @@ pair-reported : (tree : Members) (n : ℕ) (value : Data)
     → fault_in (pair_in value)
     ≡ first_row tree (if is_some (name_pair value) then [] else rows_of_pair n)
 pair-reported tree n (table inner) at is =
-    let here : members_at (pair n) tree ≡ inner = ap members_of at in
+    let here : members_at (transfer n) tree ≡ inner = ap members_of at in
     ap (λ (m : Members). fault_in (priced_pair m)) (sym here) ∙ priced-reported tree n
 pair-reported tree n (array ds) at is = names-reported tree n ds (two_strings ds) is
 pair-reported tree n _ at is = absurd (false≢true is)
@@ -392,10 +392,10 @@ modes-reported tree modes found before (one ∷ more) known whole are =
     (pairs (listed_in tree)) back) (sym is_at)
     ∙ ap (λ (names : List (List ℕ)). reports names (take n (pairs (listed_in tree))) (pair_at tree n)
     (pairs (listed_in tree)) back) (sym known)
-    ∙ sym (reported tree (pair_modes n) Mode (a_row (pair_modes n) (Range the_key.Transfers)
+    ∙ sym (reported tree (transfer_modes n) Mode (a_row (transfer_modes n) (Range the_key.Transfers)
     ∷ mode_rows (suc n) more)
-    ∙ ap (λ (x : Option TableFault). cond (is_wrong tree (pair_modes n) Mode) (Some Mode) x)
-    (reported tree (pair_modes n) (Range the_key.Transfers) (mode_rows (suc n) more)))
+    ∙ ap (λ (x : Option TableFault). cond (is_wrong tree (transfer_modes n) Mode) (Some Mode) x)
+    (reported tree (transfer_modes n) (Range the_key.Transfers) (mode_rows (suc n) more)))
 
 pub transfers-reported : (tree : Members) (modes : List (List ℕ)) → mode_names tree ≡ modes
     → fault_in (transfers_of modes tree) ≡ first_row tree (transfers_step tree)

@@ -39,8 +39,8 @@ use Rattle.fare_table.specs.declared.fault.TableFault.TheVariants.{Cap}
 -- (`laws::keys_come_in_byte_order`).
 pub data Where : Type 0 where
   top : Where
-  pair : ℕ → Where
-  pair_modes : ℕ → Where
+  transfer : ℕ → Where
+  transfer_modes : ℕ → Where
   class : ℕ → Where
   mode_fare : ℕ → ℕ → Where
   cap : ℕ → Where
@@ -136,8 +136,8 @@ riders_in tree = members_of (get_member (codes "riders") tree)
 -- the keys and values where a row looks
 abbrev pub members_at : Where → Members → Members
 members_at top tree = tree
-members_at (pair index) tree = members_of (get_item index (listed_in tree))
-members_at (pair_modes index) tree = no_members
+members_at (transfer index) tree = members_of (get_item index (listed_in tree))
+members_at (transfer_modes index) tree = no_members
 members_at (class index) tree =
     members_of (option_map (λ one. one.1) (member_at index (classes_in tree)))
 members_at (mode_fare index key) tree = no_members
@@ -289,7 +289,7 @@ is_priced_otherwise tree index pair =
 
 -- the pair has another price than an earlier one of its modes
 abbrev pub has_two_prices : Where → Members → Bool
-has_two_prices (pair_modes index) tree =
+has_two_prices (transfer_modes index) tree =
     holds_of_some (is_priced_otherwise tree index) (pair_at tree index)
 has_two_prices at tree = false
 
@@ -297,8 +297,8 @@ has_two_prices at tree = false
 -- one of the modes
 abbrev pub names_no_mode : Where → Members → Bool
 names_no_mode top tree = false
-names_no_mode (pair index) tree = false
-names_no_mode (pair_modes index) tree =
+names_no_mode (transfer index) tree = false
+names_no_mode (transfer_modes index) tree =
     holds_of_some (λ pair. not (is_mode (mode_names tree) pair.0.0
     && is_mode (mode_names tree) pair.0.1)) (pair_at tree index)
 names_no_mode (class index) tree = false
@@ -333,8 +333,8 @@ last_at tree index = amount_of (value_at (range index) the_key.Last tree)
 -- the element shares a validator with an earlier one
 abbrev pub shares_validator : Where → Members → Bool
 shares_validator top tree = false
-shares_validator (pair index) tree = false
-shares_validator (pair_modes index) tree = false
+shares_validator (transfer index) tree = false
+shares_validator (transfer_modes index) tree = false
 shares_validator (class index) tree = false
 shares_validator (mode_fare index key) tree = false
 shares_validator (cap index) tree = false
@@ -367,8 +367,8 @@ is_no_class tree name = is_none (get_member name (classes_in tree))
 -- a token, or is the token of an earlier key
 abbrev pub names_no_rider : Where → Members → Bool
 names_no_rider top tree = is_no_class tree (string_of (get_member (codes "default_class") tree))
-names_no_rider (pair index) tree = false
-names_no_rider (pair_modes index) tree = false
+names_no_rider (transfer index) tree = false
+names_no_rider (transfer_modes index) tree = false
 names_no_rider (class index) tree = false
 names_no_rider (mode_fare index key) tree = false
 names_no_rider (cap index) tree = false
@@ -503,9 +503,9 @@ rider_rows index (member key value more) = a_row (rider index) Rider ∷ rider_r
 -- of one element of `transfers` that is a table: `from`, `to`, `pays`
 abbrev pub rows_of_pair : ℕ → List FaultRow
 rows_of_pair index =
-    a_row (pair index) (Missing the_key.From) ∷ a_row (pair index) (Kind the_key.From)
-    ∷ a_row (pair index) (Missing the_key.To) ∷ a_row (pair index) (Kind the_key.To)
-    ∷ needed_rows (pair index) the_key.Pays
+    a_row (transfer index) (Missing the_key.From) ∷ a_row (transfer index) (Kind the_key.From)
+    ∷ a_row (transfer index) (Missing the_key.To) ∷ a_row (transfer index) (Kind the_key.To)
+    ∷ needed_rows (transfer index) the_key.Pays
 
 -- table by table in `transfers`
 abbrev pub pair_rows : ℕ → Items → List FaultRow
@@ -517,7 +517,7 @@ pair_rows index (item value more) =
 abbrev pub mode_rows : ℕ → List NamedPair → List FaultRow
 mode_rows index [] = []
 mode_rows index (pair ∷ more) =
-    a_row (pair_modes index) Mode ∷ a_row (pair_modes index) (Range the_key.Transfers)
+    a_row (transfer_modes index) Mode ∷ a_row (transfer_modes index) (Range the_key.Transfers)
     ∷ mode_rows (suc index) more
 
 -- the step `transfers`
