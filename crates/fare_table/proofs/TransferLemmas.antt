@@ -113,6 +113,11 @@ difference_if false value pays is read =
 pays_known : (value : Data) (pays : Pays) → pays_of value ≡ Ok pays → price_in value ≡ pays
 pays_known value pays read = difference_if (is_difference value) value pays refl read
 
+same_priced : (from to value : Option Data) (f t : List ℕ) (v : Data) (pays : Pays)
+    → from ≡ Some (string f) → to ≡ Some (string t) → value ≡ Some v → price_in v ≡ pays
+    → named_pair (string_of from) (string_of to) (option_map price_in value) ≡ paid f t pays
+same_priced from to value f t v pays a b c d = rw (a, b, c, d) refl
+
 priced-known : (inner : Members) (one : NamedPair) → priced_pair inner ≡ Ok one
     → priced_names inner ≡ one
 unfolding priced_pair
@@ -127,11 +132,15 @@ priced-known inner one is =
     let value = bind_ok (needed (codes "pays") the_key.Pays inner) (λ value.
     pays_of value >>= (λ pays. Ok (paid from.0 to.0 pays))) one to.2 in
     let pays = bind_ok (pays_of value.0) (λ pays. Ok (paid from.0 to.0 pays)) one value.2 in
-    let from_is = text-read (codes "from") the_key.From inner from.0 from.1 in
-    let to_is = text-read (codes "to") the_key.To inner to.0 to.1 in
-    let value_is = value_known (get_member (codes "pays") inner) the_key.Pays value.0 value.1 in
-    let price_is = pays_known value.0 pays.0 pays.1 in
-    rw (from_is, to_is, value_is, price_is) (cc)
+    let read : Ok (paid from.0 to.0 pays.0) ≡ Ok one = pays.2 in
+    let same : paid from.0 to.0 pays.0 ≡ one = cc in
+    same_priced (get_member (codes "from") inner) (get_member (codes "to") inner)
+    (get_member (codes "pays") inner) from.0 to.0 value.0 pays.0
+    (text-read (codes "from") the_key.From inner from.0 from.1)
+    (text-read (codes "to") the_key.To inner to.0 to.1)
+    (value_known (get_member (codes "pays") inner) the_key.Pays value.0 value.1)
+    (pays_known value.0 pays.0 pays.1)
+    ∙ same
 
 -- ---- one element
 -- some items are those of a whole from a place on
