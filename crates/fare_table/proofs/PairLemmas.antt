@@ -111,7 +111,9 @@ pairs-there pairs (one ∷ more) from to is =
 same_modes_of : (a b from to : ℕ) → pair_by a b ≡ pair_by from to
     → ((from == a) && (to == b)) ≡ true
 same_modes_of a b from to same =
-    and_from (from == a) (to == b) (eq-eqb from a (cc)) (eq-eqb to b (cc))
+    let f : a ≡ from = ap (λ (p : ℕ × ℕ). p.0) same in
+    let t : b ≡ to = ap (λ (p : ℕ × ℕ). p.1) same in
+    and_from (from == a) (to == b) (eq-eqb from a (sym f)) (eq-eqb to b (sym t))
 
 pairs-came : (pairs : List (ℕ × ℕ)) (found : List TextTransfer) (from to : ℕ)
     → has_pair (pairs_with pairs found) from to ≡ true
@@ -136,14 +138,17 @@ added-keeps None found one from to is =
     list_any-append (between from to) found (one ∷ []) ∙ or_left _ _ is
 added-keeps (Some earlier) found one from to is = is
 
+find_if : (b : Bool) (first one : TextTransfer) (o : Option TextTransfer) (rest : Bool)
+    → (if b then Some first else o) ≡ Some one → (o ≡ Some one → rest ≡ true) → (b || rest) ≡ true
+find_if true first one o rest is later = refl
+find_if false first one o rest is later = later is
+
 find_any : (test : TextTransfer → Bool) (found : List TextTransfer) (one : TextTransfer)
     → find test found ≡ Some one → list_any test found ≡ true
 find_any test [] one is = absurd (cc)
-find_any test (first ∷ more) one is = by (test first) refl
-  where
-    by : (b : Bool) → test first ≡ b → list_any test (first ∷ more) ≡ true
-    by true same = or_left (test first) (list_any test more) same
-    by false same = or_right (test first) (list_any test more) (find_any test more one (rw same at is))
+find_any test (first ∷ more) one is =
+    find_if (test first) first one (find test more) (list_any test more) is
+    (λ later. find_any test more one later)
 
 added-adds : (earlier : Option TextTransfer) (found : List TextTransfer) (one : TextTransfer)
     → find (same_modes one) found ≡ earlier
