@@ -426,7 +426,7 @@ cheaper-charged : (capped : CappedRules) (more : CapRules) (taps : List TapIn)
 unfolding charged no_rides
 cheaper-charged capped more taps all =
     rw (same-dues capped (with_cap capped more) taps
-      (record { fares = λ tap. refl; pays = refl }) refl)
+    (record { fares = λ tap. refl; pays = refl }) refl)
     (omega (
       arith,
       cheaper-taps capped more 0 0 (no_rides capped) 0 0 no_window no_window
