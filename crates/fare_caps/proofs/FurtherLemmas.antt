@@ -19,7 +19,7 @@ use Rattle.tariffs.specs.declared.cap_terms.CapTerms.{CapTerms}
 use Rattle.tariffs.specs.declared.mode.Mode.{Mode}
 use Rattle.tariffs.specs.declared.terms.Terms.{Terms}
 use Rattle.account_rule.specs.Blocks.{blocks_by, last_block}
-use Rattle.account_rule.specs.TokenRules.{TokenRules, rules_of, token_class}
+use Rattle.account_rule.specs.TokenRules.{rules_of, token_class}
 use Rattle.account_rule.specs.Taps.{LiveTap, live, live_after, live_at}
 use Rattle.account_rule.specs.Trips as taken
 use Rattle.account_rule.specs.Trips.{last_tap}

@@ -1,12 +1,9 @@
 -- What one more tap makes of the price of a trip, and of the taps that may cost something.
-use Rattle.std.proofs.Common.{◌≡◌, ℕ, ◌+◌, ◌-◌, ◌≤◌, ◌==◌, Bool, true, false, cond, List, [], ◌∷◌}
-use Rattle.std.proofs.Common.{◌++◌, max, map, take, Option, Some, None, refl, sym, ap, ◌∙◌, arith}
+use Rattle.std.proofs.Common.{◌≡◌, ℕ, ◌-◌, ◌≤◌, Bool, true, false, cond, List, [], ◌∷◌}
+use Rattle.std.proofs.Common.{◌++◌, max, map, take, Some, None, refl, sym, ap, ◌∙◌, arith}
 use Rattle.std.proofs.Common.{append-nil, append_assoc}
 use Rattle.std.specs.List.{flat_map}
-use Rattle.std.specs.Option.{option_and_then}
-use Rattle.tariffs.specs.declared.mode.Mode.{Mode}
-use Rattle.tariffs.specs.declared.price.Pays.{Pays}
-use Rattle.account_rule.specs.Blocks.{blocks_by, last_block}
+use Rattle.account_rule.specs.Blocks.{last_block}
 use Rattle.account_rule.specs.TokenRules.{TokenRules}
 use Rattle.account_rule.specs.Taps.{LiveTap, live_tap}
 use Rattle.account_rule.specs.Trips.{continues, last_tap, rides, trips}
@@ -14,7 +11,7 @@ use Rattle.account_rule.specs.declared.tap.TapIn.{TapIn}
 use Rattle.account_rule.proofs.BlockLemmas.{blocks_by-push, extend}
 use Rattle.account_rule.proofs.TapLemmas.{live-push}
 use Rattle.fare_caps.specs.Caps.{CapRules, CappedRules}
-use Rattle.fare_caps.specs.Prices.{Due, dues, dues_after, extra, fare, of_ride, of_transfer, pays_to}
+use Rattle.fare_caps.specs.Prices.{Due, dues, dues_after, extra, fare, of_ride, pays_to}
 use Rattle.fare_caps.specs.Prices.{price, price_after, transfer_due, trip_dues, wanted}
 
 -- ---- the price of a trip
