@@ -17,11 +17,11 @@ use Rattle.account_rule.specs.declared.tap.TapIn.{TapIn}
 use Rattle.account_rule.specs.Reasons as rule
 use Rattle.account_rule.specs.Represents as kept
 use Rattle.account_rule.specs.Replies.{reply, reply_with}
-use Rattle.account_rule.specs.Taps.{LiveTap, live_at}
+use Rattle.account_rule.specs.Taps.{live_at}
 use Rattle.account_rule.specs.TokenRules.{TokenRules, rules_of, token_class}
 use Rattle.account_rule.specs.Windows.{last_window}
 use Rattle.fare_caps.specs.CapMeanings.{cap_positions, cap_rules, capped_rules_of, pays_of}
-use Rattle.fare_caps.specs.CapStates.{CapStates, states}
+use Rattle.fare_caps.specs.CapStates.{states}
 use Rattle.fare_caps.specs.CappedReplies.{capped_reason, capped_reply, capped_window, replied_by}
 use Rattle.fare_caps.specs.CappedReplies.{transfer_by}
 use Rattle.fare_caps.specs.Charges.{cap_cents}

@@ -19,7 +19,7 @@ use Rattle.tariffs.specs.declared.cap_terms.CapTerms.{CapTerms}
 use Rattle.tariffs.specs.declared.mode.Mode.{Mode}
 use Rattle.tariffs.specs.declared.terms.Terms.{Terms}
 use Rattle.account_rule.specs.Blocks.{blocks_by, last_block}
-use Rattle.account_rule.specs.TokenRules.{TokenRules, rules_of, token_class}
+use Rattle.account_rule.specs.TokenRules.{rules_of, token_class}
 use Rattle.account_rule.specs.Taps.{LiveTap, live, live_after, live_at}
 use Rattle.account_rule.specs.Trips as taken
 use Rattle.account_rule.specs.Trips.{last_tap}
@@ -43,7 +43,8 @@ use Rattle.fare_caps.specs.declared.cap_charge.CapLeft.{CapLeft}
 use Rattle.fare_caps.specs.declared.cap_window.CapWindow.{CapWindow}
 use Rattle.fare_caps.specs.declared.further.Further.{Further}
 use Rattle.fare_caps.specs.declared.further.RideCaps.{RideCaps}
-use Rattle.fare_caps.specs.inside.Further.{charge_of, counted_all, counted_by, counted_cents}
+use Rattle.fare_caps.specs.inside.Further.{AreBoundedCaps, IsBoundedCap, charge_of, counted_all}
+use Rattle.fare_caps.specs.inside.Further.{counted_by, counted_cents}
 use Rattle.fare_caps.specs.inside.Further.{extra_of, least_of, left_by, opened_all, opened_by}
 use Rattle.fare_caps.specs.inside.Further.{raised, said_by, transfer_reason, transferred}
 use Rattle.fare_caps.specs.inside.Further.{with_new_trip, with_some_cents}
@@ -218,10 +219,6 @@ counted-alike : (fares : Fares) (token : List ℕ) (moment : ℕ) (mode : Mode) 
 unfolding counted cap_rules live_at
 counted-alike fares token moment mode cents = λ index window. refl
 
--- the ceiling of the cap is within its bound, if there is one
-abbrev pub IsLow : Option RideCap → Type 0
-IsLow cap = IfSome cap (λ c. c.ceiling ≤ 100_000_000)
-
 -- what is left bounds what is paid
 abbrev Leaves : Option CapLeft → Option ℕ → Type 0
 Leaves least None = Unit {0}
@@ -229,13 +226,13 @@ Leaves least (Some cents) = IsAtMost least cents
 
 room-counted : (least : Option CapLeft) (cents : ℕ) (cap : Option RideCap) (window : CapWindow)
     → ((left : ℕ) → IsAtMost least left → cents ≤ left)
-    → IsLow cap → Leaves least (left_by cap window) → window.cents ≤ 100_000_000
+    → IfSome cap IsBoundedCap → Leaves least (left_by cap window) → window.cents ≤ 100_000_000
     → (counted_by cents cap window).cents ≤ 100_000_000
 room-counted least cents None window most low leaves room = room
 room-counted least cents (Some cap) window most low leaves room =
     elim cap.counts as (λ v. Leaves least (cond v (Some (cap.ceiling - window.cents)) None)
     → window.cents + cond v cents 0 ≤ 100_000_000) [
-      | true ↦ λ leaves. omega (arith, most (cap.ceiling - window.cents) leaves, low, room)
+      | true ↦ λ leaves. omega (arith, most (cap.ceiling - window.cents) leaves, low.1, room)
       | false ↦ λ _. omega (arith, room)
     ] leaves
 
@@ -252,11 +249,11 @@ leaves-keeps least index left (Some cents) leaves = lesser-keeps least index lef
 -- the numbers with the cents of a tap leave room
 pub cents-room : (terms : Terms) (rides : ℕ) (caps : RideCaps) (further : Further)
     → AreBoundedTerms terms → HasRoom further
-    → IsLow caps.first → IsLow caps.second → IsLow caps.third
+    → AreBoundedCaps caps
     → HasRoom (counted_cents (cap_cents (lowered (least_of caps further)
     (charge terms rides further.window.cents))) caps further)
 unfolding least_of
-cents-room terms rides caps further bounds room low low-2 low-3 =
+cents-room terms rides caps further bounds room said =
     let one = charge terms rides further.window.cents in
     let first = left_by caps.first further.first in
     let second = left_by caps.second further.second in
@@ -273,12 +270,12 @@ cents-room terms rides caps further bounds room low low-2 low-3 =
         lowered-le least one,
         charge-within terms rides further.window.cents bounds room.window,
       );
-      first = room-counted least cents caps.first further.first most low
+      first = room-counted least cents caps.first further.first most said.first
           (leaves-keeps _ 2 third first (leaves-keeps _ 1 second first (leaves-here None 0 first)))
           room.first;
-      second = room-counted least cents caps.second further.second most low-2
+      second = room-counted least cents caps.second further.second most said.second
           (leaves-keeps _ 2 third second (leaves-here _ 1 second)) room.second;
-      third = room-counted least cents caps.third further.third most low-3
+      third = room-counted least cents caps.third further.third most said.third
           (leaves-here _ 2 third) room.third;
       fare = room.fare;
       price_low = room.price_low;
@@ -287,13 +284,13 @@ cents-room terms rides caps further bounds room low low-2 low-3 =
 
 pub charge-room : (terms : Terms) (caps : RideCaps) (further : Further)
     → AreBoundedTerms terms → HasRoom further
-    → IsLow caps.first → IsLow caps.second → IsLow caps.third
+    → AreBoundedCaps caps
     → HasRoom (counted_all (charge_of terms caps further) caps further)
 unfolding counted_all charge_of
-charge-room terms caps further bounds room low low-2 low-3 =
+charge-room terms caps further bounds room said =
     let least = least_of caps further in
     let one = charge terms further.rides further.window.cents in
-    let now = cents-room terms further.rides caps further bounds room low low-2 low-3 in
+    let now = cents-room terms further.rides caps further bounds room said in
     record {
       paid = elim (cases_Bool (is_some (cap_paid (lowered least one)))) [
         | inl paid ↦ rw paid (omega (
@@ -332,23 +329,23 @@ pub record IsSmall (caps : RideCaps) (further : Further) (charge : CapCharge) : 
 
 extra-small : (terms : Terms) (caps : RideCaps) (further : Further) (cents : ℕ)
     → AreBoundedTerms terms → cents ≤ 100_000 → HasRoom further
-    → IsLow caps.first → IsLow caps.second → IsLow caps.third
+    → AreBoundedCaps caps
     → IsSmall caps further (lowered (least_of caps further)
     (charge (extra_terms terms cents) 0 further.window.cents))
-extra-small terms caps further cents bounds few room low low-2 low-3 = record {
+extra-small terms caps further cents bounds few room said = record {
   few = lowered-few (least_of caps further) (extra_terms terms cents) 0 further.window.cents
       (extra-bounds terms cents bounds few);
   room = cents-room (extra_terms terms cents) 0 caps further
-      (extra-bounds terms cents bounds few) room low low-2 low-3;
+      (extra-bounds terms cents bounds few) room said;
 }
 
 pub extra-room : (terms : Terms) (caps : RideCaps) (further : Further) (cents : ℕ)
     (charge : CapCharge)
     → AreBoundedTerms terms → cents ≤ 100_000 → HasRoom further
-    → IsLow caps.first → IsLow caps.second → IsLow caps.third
+    → AreBoundedCaps caps
     → Some charge ≡ extra_of terms caps cents further → IsSmall caps further charge
 unfolding extra_of
-extra-room terms caps further cents charge bounds few room low low-2 low-3 is =
+extra-room terms caps further cents charge bounds few room said is =
     elim (cases_Bool (cents == 0 || further.freed)) [
       | inl none ↦
           let no : Some charge ≡ None = rw none at is in
@@ -358,7 +355,7 @@ extra-room terms caps further cents charge bounds few room low low-2 low-3 is =
           (rule.charge (extra_terms terms cents) 0 further.window.cents)) = rw some at is in
           let one : charge ≡ lowered (least_of caps further)
           (rule.charge (extra_terms terms cents) 0 further.window.cents) = cc (same) in
-          rw one (extra-small terms caps further cents bounds few room low low-2 low-3)
+          rw one (extra-small terms caps further cents bounds few room said)
     ]
 
 -- the numbers with a trip that a ride of this fare begins

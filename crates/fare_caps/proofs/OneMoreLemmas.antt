@@ -425,7 +425,8 @@ cheaper-charged : (capped : CappedRules) (more : CapRules) (taps : List TapIn)
     → cents_of (charged (with_cap capped more) taps) ≤ cents_of (charged capped taps)
 unfolding charged no_rides
 cheaper-charged capped more taps all =
-    rw (same-dues capped (more ∷ capped.caps) taps)
+    rw (same-dues capped (with_cap capped more) taps
+    (record { fares = λ tap. refl; pays = refl }) refl)
     (omega (
       arith,
       cheaper-taps capped more 0 0 (no_rides capped) 0 0 no_window no_window

@@ -1,12 +1,9 @@
 -- What one more tap makes of the price of a trip, and of the taps that may cost something.
-use Rattle.std.proofs.Common.{◌≡◌, ℕ, ◌+◌, ◌-◌, ◌≤◌, ◌==◌, Bool, true, false, cond, List, [], ◌∷◌}
-use Rattle.std.proofs.Common.{◌++◌, max, map, take, Option, Some, None, refl, sym, ap, ◌∙◌, arith}
+use Rattle.std.proofs.Common.{◌≡◌, ℕ, ◌-◌, ◌≤◌, Bool, true, false, cond, List, [], ◌∷◌}
+use Rattle.std.proofs.Common.{◌++◌, max, map, take, Some, None, refl, sym, ap, ◌∙◌, arith}
 use Rattle.std.proofs.Common.{append-nil, append_assoc}
 use Rattle.std.specs.List.{flat_map}
-use Rattle.std.specs.Option.{option_and_then}
-use Rattle.tariffs.specs.declared.mode.Mode.{Mode}
-use Rattle.tariffs.specs.declared.price.Pays.{Pays}
-use Rattle.account_rule.specs.Blocks.{blocks_by, last_block}
+use Rattle.account_rule.specs.Blocks.{last_block}
 use Rattle.account_rule.specs.TokenRules.{TokenRules}
 use Rattle.account_rule.specs.Taps.{LiveTap, live_tap}
 use Rattle.account_rule.specs.Trips.{continues, last_tap, rides, trips}
@@ -14,7 +11,7 @@ use Rattle.account_rule.specs.declared.tap.TapIn.{TapIn}
 use Rattle.account_rule.proofs.BlockLemmas.{blocks_by-push, extend}
 use Rattle.account_rule.proofs.TapLemmas.{live-push}
 use Rattle.fare_caps.specs.Caps.{CapRules, CappedRules}
-use Rattle.fare_caps.specs.Prices.{Due, dues, dues_after, extra, fare, of_ride, of_transfer, pays_to}
+use Rattle.fare_caps.specs.Prices.{Due, dues, dues_after, extra, fare, of_ride, pays_to}
 use Rattle.fare_caps.specs.Prices.{price, price_after, transfer_due, trip_dues, wanted}
 
 -- ---- the price of a trip
@@ -215,48 +212,59 @@ pub dues-free : (rules : TokenRules) (caps : List CapRules) (taps : List TapIn)
 unfolding dues rides
 dues-free rules caps taps = dues-of rules caps (trips rules taps)
 
--- ---- one more cap changes no price
+-- ---- rules of the same fares and prices
 
-price_after-caps : (capped : CappedRules) (caps : List CapRules) (ride last : LiveTap) (now : ℕ)
-    (given : List LiveTap)
-    → price_after (record capped { caps = caps }) ride last now given
-    ≡ price_after capped ride last now given
+-- a tap has the same fare, and pairs pay the same
+pub record ArePriced (one other : CappedRules) : Type 0 where
+  pub fares : (tap : LiveTap) → fare other tap ≡ fare one tap
+  pub pays : other.pays ≡ one.pays
+
+price_after-same : (one other : CappedRules) (ride last : LiveTap) (now : ℕ) (given : List LiveTap)
+    → ArePriced one other
+    → price_after other ride last now given ≡ price_after one ride last now given
 unfolding price_after
-price_after-caps capped caps ride last now [] = refl
-price_after-caps capped caps ride last now (tap ∷ more) =
-    price_after-caps capped caps ride tap
-    (max now (wanted (fare capped ride) (fare capped tap) (pays_to capped last.mode tap))) more
+price_after-same one other ride last now [] same = refl
+price_after-same one other ride last now (tap ∷ more) same =
+    rw (same.fares ride, same.fares tap, same.pays)
+    (price_after-same one other ride tap
+    (max now (wanted (fare one ride) (fare one tap) (pays_to one last.mode tap))) more same)
 
-price-caps : (capped : CappedRules) (caps : List CapRules) (trip : List LiveTap)
-    → price (record capped { caps = caps }) trip ≡ price capped trip
+price-same : (one other : CappedRules) (trip : List LiveTap) → ArePriced one other
+    → price other trip ≡ price one trip
 unfolding price
-price-caps capped caps [] = refl
-price-caps capped caps (ride ∷ given) =
-    price_after-caps capped caps ride ride (fare capped ride) given
+price-same one other [] same = refl
+price-same one other (ride ∷ given) same =
+    rw (same.fares ride) (price_after-same one other ride ride (fare one ride) given same)
 
-dues_after-caps : (capped : CappedRules) (caps : List CapRules) (trip given : List LiveTap)
-    → dues_after (record capped { caps = caps }) trip given ≡ dues_after capped trip given
-unfolding dues_after transfer_due extra
-dues_after-caps capped caps trip [] = refl
-dues_after-caps capped caps trip (tap ∷ more) =
+pub extra-same : (one other : CappedRules) (trip : List LiveTap) (tap : LiveTap)
+    → ArePriced one other → extra other trip tap ≡ extra one trip tap
+unfolding extra
+extra-same one other trip tap same =
+    rw (price-same one other (trip ++ tap ∷ []) same, price-same one other trip same) refl
+
+dues_after-same : (one other : CappedRules) (trip given : List LiveTap) → ArePriced one other
+    → dues_after other trip given ≡ dues_after one trip given
+unfolding dues_after transfer_due
+dues_after-same one other trip [] same = refl
+dues_after-same one other trip (tap ∷ more) same =
     rw (
-      price-caps capped caps (trip ++ tap ∷ []),
-      price-caps capped caps trip,
-      dues_after-caps capped caps (trip ++ tap ∷ []) more,
+      extra-same one other trip tap same,
+      dues_after-same one other (trip ++ tap ∷ []) more same,
     ) refl
 
-trip_dues-caps : (capped : CappedRules) (caps : List CapRules) (trips : List (List LiveTap))
-    → flat_map (trip_dues (record capped { caps = caps })) trips
-    ≡ flat_map (trip_dues capped) trips
+trip_dues-same : (one other : CappedRules) (trips : List (List LiveTap)) → ArePriced one other
+    → flat_map (trip_dues other) trips ≡ flat_map (trip_dues one) trips
 unfolding trip_dues
-trip_dues-caps capped caps [] = refl
-trip_dues-caps capped caps ([] ∷ more) = trip_dues-caps capped caps more
-trip_dues-caps capped caps ((ride ∷ given) ∷ more) =
-    rw (dues_after-caps capped caps (ride ∷ []) given)
-    (ap (λ ds. of_ride ride ∷ dues_after capped (ride ∷ []) given ++ ds)
-    (trip_dues-caps capped caps more))
+trip_dues-same one other [] same = refl
+trip_dues-same one other ([] ∷ more) same = trip_dues-same one other more same
+trip_dues-same one other ((ride ∷ given) ∷ more) same =
+    rw (dues_after-same one other (ride ∷ []) given same)
+    (ap (λ ds. of_ride ride ∷ dues_after one (ride ∷ []) given ++ ds)
+    (trip_dues-same one other more same))
 
-pub same-dues : (capped : CappedRules) (caps : List CapRules) (taps : List TapIn)
-    → dues (record capped { caps = caps }) taps ≡ dues capped taps
+-- they have the same taps that may cost something, if they have the same trips
+pub same-dues : (one other : CappedRules) (taps : List TapIn) → ArePriced one other
+    → trips other.rules taps ≡ trips one.rules taps → dues other taps ≡ dues one taps
 unfolding dues
-same-dues capped caps taps = trip_dues-caps capped caps (trips capped.rules taps)
+same-dues one other taps same trips-are =
+    rw trips-are (trip_dues-same one other (trips one.rules taps) same)

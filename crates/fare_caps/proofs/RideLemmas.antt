@@ -1,5 +1,5 @@
 -- What one more tap makes of the trips, by why it is answered as it is.
-use Rattle.std.proofs.Common.{◌≡◌, suc, Bool, true, false, cond, List, [], ◌∷◌, ◌++◌, Option, Some}
+use Rattle.std.proofs.Common.{◌≡◌, suc, Bool, true, false, cond, List, [], ◌∷◌, ◌++◌, Some}
 use Rattle.std.proofs.Common.{None, length, nat_lt, arith}
 use Rattle.std.proofs.Common.{refl, sym, ap, ◌∙◌, ⊎_elim}
 use Rattle.std.proofs.lemmas.Bool.{cases_Bool, lt-ltb, true≢false}
@@ -11,7 +11,7 @@ use Rattle.account_rule.specs.Blocks.{last_block}
 use Rattle.account_rule.specs.Reasons.{given_by, latest, live_reason, reason, ride_of}
 use Rattle.account_rule.specs.TokenRules.{TokenRules}
 use Rattle.account_rule.specs.Taps.{LiveTap, is_later, live_at, live_tap}
-use Rattle.account_rule.specs.Trips.{continues, ends_in_transfer, last_tap, last_trip, trip_of}
+use Rattle.account_rule.specs.Trips.{continues, ends_in_transfer, last_trip, trip_of}
 use Rattle.account_rule.specs.Trips.{trips}
 use Rattle.account_rule.specs.Windows.{windows}
 use Rattle.account_rule.proofs.BlockLemmas.{last_block-extend, length-push}

@@ -1,6 +1,6 @@
 -- What one more tap makes of the states.
 use Rattle.std.proofs.Common.{◌≡◌, ◌==◌, ℕ, true, false, List, [], ◌∷◌, ◌++◌, Option, Some, None, refl}
-use Rattle.std.proofs.Common.{append-nil, ap, ◌∙◌, inl, inr}
+use Rattle.std.proofs.Common.{ap, ◌∙◌, inl, inr}
 use Rattle.std.proofs.lemmas.Bool.{cases_Bool}
 use Rattle.tariffs.specs.declared.mode.Mode.{Mode}
 use Rattle.account_rule.specs.declared.reason.Charge.{Charge}
@@ -17,7 +17,7 @@ use Rattle.fare_caps.specs.Caps.{CappedRules}
 use Rattle.fare_caps.specs.CapStates.{CapStates, after_due, after_dues, after_ride, at_ride}
 use Rattle.fare_caps.specs.CapStates.{no_rides, ride_charge, states, with_some_extra}
 use Rattle.fare_caps.specs.Laws.{without_caps}
-use Rattle.fare_caps.specs.CappedReplies.{capped_reason, capped_window, ride_on, transfer_by}
+use Rattle.fare_caps.specs.CappedReplies.{capped_reason, capped_window, transfer_by}
 use Rattle.fare_caps.specs.CappedReplies.{transfer_charge, under_caps}
 use Rattle.fare_caps.specs.Prices.{dues, extra, transfer_due}
 use Rattle.fare_caps.specs.declared.capped_account.LiveKind.TheVariants as live

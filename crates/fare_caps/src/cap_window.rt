@@ -49,7 +49,7 @@ impl CapWindow {
     }
 
     pub(crate) fn opened_by(self, cap: Option<RideCap>, clock: &Clock, moment: u64) -> Self
-        requires span { IfSome cap (λ cap. IsBoundedSpan cap.span) }
+        requires bounds { IfSome cap spec.IsBoundedCap }
         requires moment { moment < 4_102_444_800_000 }
         ensures { result ≡ spec.opened_by clock.now moment cap self }
     {

@@ -43,12 +43,26 @@ pub struct Further {
     pub(crate) freed: bool,
 }
 
-/// What the caps say of one ride.
+/// What the caps say of one ride or transfer.
 #[derive(Clone, Copy)]
 struct RideCaps {
     first: Option<RideCap>,
     second: Option<RideCap>,
     third: Option<RideCap>,
+}
+
+impl RideCaps {
+    fn said(caps: &[CapTerms], tariff: &Tariff, class: u32, mode: Mode) -> RideCaps
+        requires { class < length tariff.now.meaning.classes }
+        ensures said { result ≡ spec.said_by caps.now tariff.now.meaning mode.position class }
+        ensures bounds { spec.AreBoundedCaps result }
+    {
+        RideCaps {
+            first: RideCap::said(caps, 0, tariff, class, mode),
+            second: RideCap::said(caps, 1, tariff, class, mode),
+            third: RideCap::said(caps, 2, tariff, class, mode),
+        }
+    }
 }
 
 impl Further {
@@ -101,11 +115,7 @@ impl Further {
         ensures few { cap_cents result ≤ 100_000 }
         ensures room { HasRoom self.new }
     {
-        let said = RideCaps {
-            first: RideCap::said(caps, 0, tariff, class, mode),
-            second: RideCap::said(caps, 1, tariff, class, mode),
-            third: RideCap::said(caps, 2, tariff, class, mode),
-        };
+        let said = RideCaps::said(caps, tariff, class, mode);
         let terms = tariff.ride_terms(class, mode);
         self.open(said, tariff.window_span(), clock, moment);
         let charge = self.charge(said, terms);
@@ -145,11 +155,7 @@ impl Further {
     {
         let terms = tariff.ride_terms(class, mode);
         let extra = self.transfer(tariff.price_of(self.mode, mode), terms.fare, mode);
-        let said = RideCaps {
-            first: RideCap::said(caps, 0, tariff, class, mode),
-            second: RideCap::said(caps, 1, tariff, class, mode),
-            third: RideCap::said(caps, 2, tariff, class, mode),
-        };
+        let said = RideCaps::said(caps, tariff, class, mode);
         let charge = self.charge_extra(said, terms, extra)?;
         self.count_cents(said, charge.cents());
         Some(charge)
@@ -216,9 +222,7 @@ impl Further {
     #[tactic(auto, unfolding(crate::specs::inside::Further::opened_all))]
     fn open(&mut self, caps: RideCaps, span: WindowSpan, clock: &Clock, moment: u64)
         requires span { IsBoundedSpan span }
-        requires first { IfSome caps.first (λ cap. IsBoundedSpan cap.span) }
-        requires second { IfSome caps.second (λ cap. IsBoundedSpan cap.span) }
-        requires third { IfSome caps.third (λ cap. IsBoundedSpan cap.span) }
+        requires bounds { spec.AreBoundedCaps caps }
         requires early { moment < 4_102_444_800_000 }
         ensures { self.new ≡ spec.opened_all clock.now moment
             (window_end_in clock.now span moment) caps self.old }

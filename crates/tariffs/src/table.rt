@@ -1,7 +1,7 @@
 //! The fare table and its look-ups.
-ghost use Rattle.std.specs.Prelude.{◌≡◌, ◌≢◌, ℕ, ◌<◌, ◌≤◌, [], length, option_map, IfSome, IfErr};
-ghost use Rattle.std.specs.Prelude.{IfOk, IsTrue, IsOk, None, Some, All, false, map, slice_get};
-ghost use Rattle.std.specs.Prelude.{string_bytes, true};
+ghost use Rattle.std.specs.Prelude.{◌≡◌, ℕ, ◌<◌, ◌≤◌, [], length, option_map, IfSome, IfErr};
+ghost use Rattle.std.specs.Prelude.{IfOk, IsTrue, IsOk, None, Some, All, map, slice_get};
+ghost use Rattle.std.specs.Prelude.{string_bytes};
 ghost use Rattle.tariffs.specs.Fares.{has_caps_or_prices, meaning_at, mode_at, terms_at};
 ghost use Rattle.tariffs.specs.Following.{CanFollow, IsFollowFault, with_next};
 ghost use Rattle.tariffs.specs.Following as spec;

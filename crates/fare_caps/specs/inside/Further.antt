@@ -1,8 +1,9 @@
 -- What private functions make of the numbers that are kept, by what the caps say of one ride.
 use Rattle.std.specs.Prelude.{ℕ, ◌+◌, ◌-◌, ◌==◌, ◌||◌, if◌then◌else◌, List, is_some, max, min}
-use Rattle.std.specs.Prelude.{nat_lt, Option, Some, None, option_map, slice_get}
+use Rattle.std.specs.Prelude.{◌≤◌, IfSome, nat_lt, Option, Some, None, option_map, slice_get}
 use Rattle.tariffs.specs.ClockView.{ClockView}
 use Rattle.tariffs.specs.Until.{window_end_in}
+use Rattle.tariffs.specs.WindowSpan.{IsBoundedSpan}
 use Rattle.tariffs.specs.declared.mode.Mode.{Mode}
 use Rattle.tariffs.specs.declared.price.Pays.{Pays}
 use Rattle.tariffs.specs.declared.terms.Terms.{Terms}
@@ -35,6 +36,16 @@ said_by caps meaning mode class = record {
   second = said_at caps meaning mode class 1;
   third = said_at caps meaning mode class 2;
 }
+
+-- the span and the ceiling of a cap are within their bounds
+abbrev pub IsBoundedCap : RideCap → Type 0
+IsBoundedCap cap = IsBoundedSpan cap.span × (cap.ceiling ≤ 100_000_000)
+
+-- so are those of all caps
+pub record AreBoundedCaps (caps : RideCaps) : Type 0 where
+  pub first : IfSome caps.first IsBoundedCap
+  pub second : IfSome caps.second IsBoundedCap
+  pub third : IfSome caps.third IsBoundedCap
 
 -- the window of the ride
 abbrev pub opened_by : ClockView → ℕ → Option RideCap → CapWindow → CapWindow
