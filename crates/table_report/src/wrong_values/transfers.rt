@@ -41,8 +41,7 @@ fn pays_of(value: &Value) -> Option<i64> {
 fn check_pays(wrongs: &mut Wrongs, path: &str, entry: &Table) -> Result<(), AllocError> {
     let wanted = format!(in wrongs.alloc;
         "a number from 1 to {}, in cents, or \"{}\"",
-        MAX_PAYS_CENTS,
-        DIFFERENCE
+        MAX_PAYS_CENTS, DIFFERENCE
     )?;
     let key = Key::Pays.word();
     let Some(value) = entry.get(key) else {
