@@ -1,4 +1,4 @@
--- The reason of each tap of a token under caps, and the reply, after the taps before it.
+-- The reason of each tap of a token under caps and prices, and the reply, after the taps before it.
 use Rattle.std.specs.Prelude.{ℕ, ◌==◌, if◌then◌else◌, List, [], ◌∷◌, ◌++◌, Option, Some, None}
 use Rattle.std.specs.Prelude.{option_map}
 use Rattle.std.specs.Option.{option_and_then}

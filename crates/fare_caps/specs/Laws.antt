@@ -1,4 +1,4 @@
--- What holds of every list of taps under caps.
+-- What holds of every list of taps under caps and prices.
 use Rattle.std.specs.Prelude.{◌≡◌, ℕ, ◌≤◌, true, List, [], ◌∷◌, ◌++◌, All, None, sum_by}
 use Rattle.account_rule.specs.Taps.{LiveTap}
 use Rattle.account_rule.specs.declared.tap.TapIn.{TapIn}

@@ -1,4 +1,4 @@
-//! What a cap says of one ride.
+//! What a cap says of one ride or transfer.
 
 ghost use Rattle.std.specs.Prelude.{◌≡◌, ◌<◌, IfSome, length};
 ghost use Rattle.fare_caps.specs.CapMeanings.{said_of};
@@ -6,7 +6,7 @@ ghost use Rattle.fare_caps.specs.inside.Further.{IsBoundedCap, said_at};
 
 use tariffs::{CapTerms, Mode, Tariff, WindowLength, WindowSpan};
 
-/// What a cap says of one ride.
+/// What a cap says of one ride or transfer.
 #[derive(Clone, Copy)]
 pub(crate) struct RideCap {
     pub(crate) span: WindowSpan,
