@@ -1,1 +1,3 @@
+pub mod Giving
 pub mod Laws
+pub mod Outcomes
