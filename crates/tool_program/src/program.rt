@@ -1,5 +1,5 @@
 //! The whole program, from the words to the status.
-ghost use Rattle.std.specs.Prelude.{◌≡◌, ◌⊎◌, ◌≤◌, map, string_bytes};
+ghost use Rattle.std.specs.Prelude.{◌≡◌, ◌⊎◌, map, string_bytes};
 ghost use Rattle.tool_program.specs.Program.{IsFramed, IsMisused, IsPrinted, IsRefused};
 ghost use Rattle.tool_words.specs.Request.{request_by};
 ghost use Rattle.tool_words.specs.Tasks.{request_of};
@@ -65,7 +65,6 @@ fn task_over<R: Threads + Sync, D: PlacedFiles, F: Streams, W: World + Counted>(
     ensures framed { IsFramed (F.readings streams.old) (F.readings streams.new)
         (D.bytes_under files.now) (request_of task.entry) (W.run world.old) (W.run world.new)
         result }
-    ensures status { result ≤ 3 }
 {
     match task {
         Task::Encode(word) => encode_over(alloc, word, world),
@@ -119,7 +118,6 @@ pub fn main_over<R: Threads + Sync, D: PlacedFiles, F: Streams, W: World + Count
         → (¬ AsksForText (map string_bytes words.now))
         → IsRefused (W.run world.old) (W.run world.new) result
         × (F.readings streams.new ≡ F.readings streams.old) }
-    ensures status { result ≤ 3 }
 {
     match read(alloc, words) {
         Ok(task) => task_over(threads, alloc, seed, moment, task, files, streams, world),

@@ -19,7 +19,7 @@ use Rattle.recorded_lines.specs.declared.text.Lines.{Lines}
 use Rattle.world.specs.Run.{Calls, Run, with_cut, with_flushed, with_said, with_written}
 use Rattle.world.specs.declared.faults.WriteFault.{WriteFault}
 use Rattle.tool_tasks.specs.Corrections.{AreRead, IsCalled, IsPart, IsStopped}
-use Rattle.tool_tasks.specs.Names.{file_named}
+use Rattle.frame.specs.Names.{file_named}
 use Rattle.tool_tasks.specs.inside.Corrections.{IsHalt, IsStopBy, IsUnopenedAt, Stopped, halt_of}
 use Rattle.tool_words.specs.Request.{CorrectionsRequest}
 

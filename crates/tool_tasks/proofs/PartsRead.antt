@@ -23,7 +23,7 @@ use Rattle.world.specs.declared.faults.LoadFault.TheVariants as load
 use Rattle.world.specs.declared.faults.WriteFault.{WriteFault}
 use Rattle.tool_tasks.specs.Corrections.{IsCalled}
 use Rattle.tool_tasks.specs.Merge.{AreOf, EndsMerging, IsLeft, IsPrefix, part_note}
-use Rattle.tool_tasks.specs.Names.{file_named}
+use Rattle.frame.specs.Names.{file_named}
 use Rattle.tool_tasks.specs.inside.Merge.{HasStopped, IsEnded, IsEvent, IsStoppedBy}
 use Rattle.tool_tasks.specs.inside.Merge.{IsUnopened, MergesWords, names_of}
 use Rattle.tool_tasks.proofs.Corrected.{all_read}

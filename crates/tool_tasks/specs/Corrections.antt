@@ -12,7 +12,8 @@ use Rattle.ledger_changes.specs.declared.fault.Bill.TheVariants.{New, Old}
 use Rattle.ledger_changes.specs.declared.fault.WrongLine.{WrongLine}
 use Rattle.ledger_changes.specs.declared.fault.WrongLine.TheVariants.{Form, Order}
 use Rattle.recorded_lines.specs.Texts.{CanBe}
-use Rattle.tool_tasks.specs.Names.{called, file_named}
+use Rattle.frame.specs.Names.{file_named}
+use Rattle.tool_tasks.specs.Names.{called}
 use Rattle.tool_words.specs.Request.{CorrectionsRequest}
 use Rattle.world.specs.Run.{Calls, Run, with_cut, with_flushed}
 

@@ -5,7 +5,6 @@ pub mod EncodeRows
 pub mod EncodeTables
 pub mod Fault
 pub mod ValidPrefix
-pub mod Informs
 pub mod Layout
 pub mod Merge
 pub mod MergeSorted

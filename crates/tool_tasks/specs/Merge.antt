@@ -11,7 +11,8 @@ use Rattle.recorded_lines.specs.Texts.{CanBe}
 use Rattle.report_texts.specs.declared.wrong.Wrong.{Wrong}
 use Rattle.tool_tasks.specs.Corrections.{IsCalled}
 use Rattle.tool_tasks.specs.Fault.{wrong_text}
-use Rattle.tool_tasks.specs.Names.{called, file_named}
+use Rattle.frame.specs.Names.{file_named}
+use Rattle.tool_tasks.specs.Names.{called}
 use Rattle.world.specs.Run.{Calls, Run, with_cut, with_flushed, with_said, with_written}
 use Rattle.world.specs.Streams.{IsWhole}
 

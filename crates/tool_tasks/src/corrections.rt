@@ -4,17 +4,17 @@ ghost use Rattle.ledger_changes.specs.Given.{HasStarted, IsAllGiven, IsUnbegun, 
 ghost use Rattle.recorded_lines.specs.Texts.{Follows, IsFresh, calls_of};
 ghost use Rattle.tool_tasks.specs.Corrections.{EndsCorrecting, of_bill, removed_note, wrong_note};
 ghost use Rattle.tool_tasks.specs.Corrections.{wrong_text};
-ghost use Rattle.tool_tasks.specs.Names.{file_named};
+ghost use Rattle.frame.specs.Names.{file_named};
 ghost use Rattle.tool_tasks.specs.inside.Corrections.{Ended, IsHalt, IsUnopenedAt, Stopped, halt_of};
 ghost use Rattle.tool_words.specs.Tasks.{corrections_of};
 ghost use Rattle.frame.specs.declared.stop.Stop.TheVariants.{Unwritten};
 ghost use Rattle.world.specs.declared.faults.WriteFault.{WriteFault as AWriteFault};
 ghost use Rattle.world.specs.Run.{Calls, with_cut, with_flushed, with_said, with_written};
 
-use crate::names::{Name, file_of};
+use crate::names::Name;
 use crate::stops::fault_of;
 use crate::streams::Streams;
-use frame::{Stop, report};
+use frame::{Stop, file_of, report};
 use ledger_changes::{Bill, Corrections, CorrectionsFault, WrongLine, corrections_head};
 use recorded_lines::Lines;
 use std::alloc::{AllocError, Global};

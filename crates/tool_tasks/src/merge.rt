@@ -3,17 +3,17 @@ ghost use Rattle.std.specs.Prelude.{◌≡◌, ◌≤◌, ◌++◌, [], List, If
 ghost use Rattle.std.specs.Prelude.{ℕ, slice_get};
 ghost use Rattle.recorded_lines.specs.Texts.{IsFresh, calls_of};
 ghost use Rattle.tool_tasks.specs.Merge.{EndsMerging, part_note};
-ghost use Rattle.tool_tasks.specs.Names.{file_named};
+ghost use Rattle.frame.specs.Names.{file_named};
 ghost use Rattle.tool_tasks.specs.inside.Merge.{HasStopped, IsEnded, IsStoppedBy, IsUnopened};
 ghost use Rattle.tool_tasks.specs.inside.Merge.{MergesWords, names_of};
 ghost use Rattle.world.specs.Run.{Calls};
 
 use crate::corrections::finish;
 use crate::fault::wrong_text;
-use crate::names::{Name, file_of, word_at};
+use crate::names::{Name, word_at};
 use crate::stops::fault_of;
 use crate::streams::Streams;
-use frame::{Stop, report};
+use frame::{Stop, file_of, report};
 use part_texts::MergeFault;
 use recorded_lines::Lines;
 use report_texts::Wrong;

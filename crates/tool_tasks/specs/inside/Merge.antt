@@ -10,7 +10,7 @@ use Rattle.part_texts.specs.declared.fault.MergeFault.{MergeFault}
 use Rattle.part_texts.specs.declared.fault.MergeFault.TheVariants.{Line, Unread, Write, NoMemory}
 use Rattle.recorded_lines.specs.Texts.{CanBe}
 use Rattle.tool_tasks.specs.Merge.{AreOf, IsPrefix, part_note}
-use Rattle.tool_tasks.specs.Names.{file_named}
+use Rattle.frame.specs.Names.{file_named}
 use Rattle.world.specs.Run.{Calls, Run, with_cut, with_flushed, with_said, with_written}
 use Rattle.world.specs.Streams.{IsWhole}
 use Rattle.world.specs.declared.faults.LoadFault.TheVariants as load

@@ -5,7 +5,7 @@ use Rattle.recorded_lines.specs.Texts.{IsFresh, calls_of}
 use Rattle.world.specs.Loads.{IsRefused}
 use Rattle.world.specs.Run.{Run, nothing_yet}
 use Rattle.world.specs.declared.faults.LoadFault.{LoadFault}
-use Rattle.tool_tasks.specs.Names.{file_named}
+use Rattle.frame.specs.Names.{file_named}
 use Rattle.tool_tasks.specs.inside.Merge.{names_of}
 use Rattle.tool_tasks.proofs.PartsRead.{opened_more, word_at}
 use Rattle.tool_tasks.proofs.merge.open_all.Goals as goal

@@ -1,7 +1,7 @@
 use Rattle.std.proofs.Common.{◌≡◌, map, take}
 use Rattle.std.specs.Prelude.{All}
 use Rattle.recorded_lines.specs.Texts.{IsFresh, calls_of}
-use Rattle.tool_tasks.specs.Names.{file_named}
+use Rattle.frame.specs.Names.{file_named}
 use Rattle.tool_tasks.specs.inside.Merge.{names_of}
 use Rattle.tool_tasks.proofs.merge.open_all.Given as goal
 
