@@ -1,10 +1,5 @@
-pub mod Ends
 pub mod Failing
 pub mod Given
-pub mod Making
 pub mod Names
 pub mod Outcome
 pub mod Outsides
-pub mod Stops
-pub mod Tasks
-pub mod inside

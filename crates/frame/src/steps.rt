@@ -85,7 +85,7 @@ pub fn make<W: World>(
 }
 
 /// Reports the line of what stopped a run, unless the reader of the output is gone.
-pub fn report_outside<W: World, D: Display + Drop>(why: Outside, line: D, world: &mut W)
+pub fn report<W: World, D: Display + Drop>(why: Outside, line: D, world: &mut W)
     ensures { IsReported why (W.run world.old) (W.run world.new) }
 {
     if why.is_quiet() {

@@ -3,11 +3,11 @@ use Rattle.std.specs.Prelude.{◌≡◌, ◌⊎◌, ⊤, ℕ, MatchBool, List, �
 use Rattle.frame.specs.Outcome.{Ends}
 use Rattle.world.specs.Run.{Calls, Run, with_flushed, with_said, with_written}
 use Rattle.world.specs.Writes.{IsSaid}
-use Rattle.tool_tasks.specs.Corrections.{EndsCorrecting}
+use Rattle.tool_tasks.specs.Corrections.{corrections_rule}
 use Rattle.tool_tasks.specs.Decode.{decode_rule}
 use Rattle.tool_tasks.specs.Encode.{encode_rule}
 use Rattle.tool_tasks.specs.EncodeRows.{EndsRows}
-use Rattle.tool_tasks.specs.Merge.{EndsMerging}
+use Rattle.tool_tasks.specs.Merge.{merge_rule}
 use Rattle.tool_tasks.specs.ValidPrefix.{valid_prefix_rule}
 use Rattle.tool_tasks.specs.MergeSorted.{merge_sorted_rule}
 use Rattle.tool_tasks.specs.Sort.{sort_rule}
@@ -38,9 +38,9 @@ IsMisused why old new status =
 abbrev pub IsFramed : (before after : List Calls) → (placed : List ℕ → Option (List ℕ)) → Request
     → Run → Run → ℕ → Type 0
 IsFramed before after placed (corrections ledgers) old new status =
-    EndsCorrecting ledgers before after old new status
+    Ends (corrections_rule ledgers before after) old new status
 IsFramed before after placed (merge parts) old new status =
-    EndsMerging parts before after old new status
+    Ends (merge_rule parts before after) old new status
 IsFramed before after placed (encode word) old new status = Ends (encode_rule word) old new status
 IsFramed before after placed (encode_rows csvs request) old new status = (words : RowsWords)
     × (rows_words_of words ≡ request) × EndsRows words csvs old new status

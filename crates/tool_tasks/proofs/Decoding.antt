@@ -1,17 +1,20 @@
 -- One upload more is decoded.
 use Rattle.std.proofs.Common.{◌≡◌, ◌∙◌, ◌+◌, ◌<◌, ℕ, Bool, Bor, true, false, List, [], ◌∷◌, ◌++◌, Option}
 use Rattle.std.proofs.Common.{Some, ap, append-nil, append_assoc, drop, flat_map, get_or, length, map}
-use Rattle.std.proofs.Common.{inl, inr, refl, subst, sym, take, take_append_drop}
-use Rattle.std.specs.Prelude.{◌&&◌, is_none}
+use Rattle.std.proofs.Common.{inl, inr, refl, subst, sym, take, take-append-drop}
+use Rattle.std.specs.Prelude.{◌&&◌, None, is_none}
 use Rattle.std.proofs.lemmas.List.{map-append, take_more}
 use Rattle.std.proofs.lemmas.List.Concat.{flat_map-append}
-use Rattle.frame.specs.Given.{Given, IsPart, gave, load_of}
+use Rattle.frame.specs.Given.{Adds, Given, IsPart, gave, load_of, with_loads, with_note, with_text}
+use Rattle.frame.specs.Names.{file_named}
 use Rattle.frame.specs.Outcome.{IsHalted}
-use Rattle.frame.specs.Outsides.{Leaves}
+use Rattle.frame.specs.Outsides.{IsStoppedIn, Leaves, StopsIn}
 use Rattle.frame.specs.declared.outside.Outside.{Outside}
-use Rattle.frame.proofs.Giving.{part_self}
+use Rattle.frame.specs.declared.outside.Outside.TheVariants.{NoMemory}
+use Rattle.frame.proofs.Giving.{gave_load, part_note, part_self, part_text, stopped_at}
+use Rattle.frame.proofs.Outcomes.{stopped_early}
 use Rattle.tap_rows.specs.TapTables.{head}
-use Rattle.world.specs.Run.{Load, Run}
+use Rattle.world.specs.Run.{Run, with_load}
 use Rattle.tool_tasks.specs.Decode.{Decoded, are_whole, decode_rule, decoding_of, layout_line, words_of}
 use Rattle.tool_tasks.specs.inside.Decode.{StopsDecoding, with_decoded}
 
@@ -58,11 +61,65 @@ pub words_rest : (words : List (Bor (List ℕ))) (n : ℕ) (decoded : List Decod
     → words_of decoded ≡ map (λ w. w.now) (take n words)
     → map (λ w. w.now) words ≡ words_of decoded ++ map (λ w. w.now) (drop n words)
 words_rest words n decoded are =
-    ap (map (λ w. w.now)) (sym (take_append_drop n words))
+    ap (map (λ w. w.now)) (sym (take-append-drop n words))
     ∙ map-append (λ (w : Bor (List ℕ)). w.now) (take n words) (drop n words)
     ∙ ap (λ ws. ws ++ map (λ w. w.now) (drop n words)) (sym are)
 
 -- ---- stops
+-- it was loaded, and an allocation failed
+pub stopped_loaded : (words : List (List ℕ)) (old new : Run) (one : Decoded)
+    → new ≡ with_load old (file_named one.word) one.upload
+    → StopsIn words old new (λ g. with_decoded g one) NoMemory
+stopped_loaded words old new one loaded start g is =
+    stopped_early words start new (with_loads g (load_of one.word one.upload ∷ []))
+    (λ g. with_note (with_text g one.rows) (layout_line one.word one.fault)) NoMemory
+    (λ part g is_part. part_note part (with_text g one.rows) (layout_line one.word one.fault)
+    (part_text part g one.rows is_part))
+    (stopped_at words start new new (with_loads g (load_of one.word one.upload ∷ [])) NoMemory
+    (gave_load old new start g (file_named one.word) one.upload loaded is) refl)
+
+-- its rows were not written
+pub stopped_rows : (words : List (List ℕ)) (old mid new : Run) (one : Decoded) (piece : List ℕ)
+    (why : Outside) → mid ≡ with_load old (file_named one.word) one.upload → piece ≡ one.rows
+    → StopsIn words mid new (λ g. with_text g piece) why
+    → StopsIn words old new (λ g. with_decoded g one) why
+stopped_rows words old mid new one piece why loaded rows stops start g is =
+    let g' = with_loads g (load_of one.word one.upload ∷ []) in
+    stopped_early words start new (with_text g' one.rows)
+    (λ g. with_note g (layout_line one.word one.fault)) why
+    (λ part g is_part. part_note part g (layout_line one.word one.fault) is_part)
+    (subst (λ t. IsStoppedIn words start new (with_text g' t) why) rows
+    (stops start g' (gave_load old mid start g (file_named one.word) one.upload loaded is)))
+
+-- they were written
+pub gave_rows : (old mid new : Run) (one : Decoded) (piece : List ℕ)
+    → mid ≡ with_load old (file_named one.word) one.upload → piece ≡ one.rows
+    → Adds mid new (λ g. with_text g piece) → Adds old new
+    (λ g. with_text (with_loads g (load_of one.word one.upload ∷ [])) one.rows)
+gave_rows old mid new one piece loaded rows adds start g is =
+    let g' = with_loads g (load_of one.word one.upload ∷ []) in
+    adds start g' (gave_load old mid start g (file_named one.word) one.upload loaded is)
+    ∙ ap (λ t. gave start (with_text g' t)) rows
+
+-- and an allocation failed for its line
+pub stopped_line : (words : List (List ℕ)) (old new : Run) (one : Decoded) → Adds old new
+    (λ g. with_text (with_loads g (load_of one.word one.upload ∷ [])) one.rows)
+    → StopsIn words old new (λ g. with_decoded g one) NoMemory
+stopped_line words old new one adds start g is =
+    let g' = with_text (with_loads g (load_of one.word one.upload ∷ [])) one.rows in
+    stopped_early words start new g' (λ g. with_note g (layout_line one.word one.fault)) NoMemory
+    (λ part g is_part. part_note part g (layout_line one.word one.fault) is_part)
+    (stopped_at words start new new g' NoMemory (adds start g is) refl)
+
+-- and it has no line
+pub gave_whole : (old new : Run) (one : Decoded) → one.fault ≡ None → Adds old new
+    (λ g. with_text (with_loads g (load_of one.word one.upload ∷ [])) one.rows)
+    → Adds old new (λ g. with_decoded g one)
+gave_whole old new one none adds start g is =
+    let g' = with_text (with_loads g (load_of one.word one.upload ∷ [])) one.rows in
+    adds start g is ∙ ap (λ n. gave start (record g' { note = n })) (sym (append-nil g.note)
+    ∙ ap (λ f. g.note ++ layout_line one.word f) (sym none))
+
 -- nothing more was given
 pub halted_at : (words : List (List ℕ)) (start mid new : Run) (decoded : List Decoded)
     (rest : List (List ℕ)) (why : Outside) → words ≡ words_of decoded ++ rest

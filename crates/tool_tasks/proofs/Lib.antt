@@ -8,3 +8,4 @@ pub mod PartsRead
 pub mod Preparing
 pub mod Sorting
 pub mod EncodingRows
+pub mod Streaming

@@ -10,6 +10,7 @@ pub mod Merge
 pub mod MergeSorted
 pub mod Names
 pub mod Sort
+pub mod Streams
 pub mod Uploads
 pub mod WrongTables
 pub mod inside

@@ -7,3 +7,4 @@ pub mod Loads
 pub mod Merge
 pub mod Prepared
 pub mod Sort
+pub mod Streams

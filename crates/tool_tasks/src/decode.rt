@@ -55,23 +55,17 @@ fn decode_one<'a, W: World>(alloc: Global, word: &'a str, world: &mut W) -> Resu
         Err(halt) => return Err(halt),
     };
     let mut rows = Vec::new(alloc);
-    let fault = match tap_rows::decode(&upload, &mut rows) {
-        Ok(fault) => fault,
-        Err(AllocError) => {
-            return Err(Halt {
-                why: Outside::NoMemory,
-                line: Fault::NoMemory,
-            });
-        }
+    let Ok(fault) = tap_rows::decode(&upload, &mut rows) else {
+        return Err(Halt {
+            why: Outside::NoMemory,
+            line: Fault::NoMemory,
+        });
     };
-    match write(&rows, world) {
-        Ok(()) => {}
-        Err(why) => {
-            return Err(Halt {
-                why,
-                line: line_of(why, word, Fault::Write),
-            });
-        }
+    if let Err(why) = write(&rows, world) {
+        return Err(Halt {
+            why,
+            line: line_of(why, word, Fault::Write),
+        });
     }
     match fault {
         None => Ok(true),
@@ -97,23 +91,17 @@ fn decode<'a, W: World + Counted>(
         result }
 {
     let mut head = Vec::new(alloc);
-    match tap_rows::push_head(&mut head) {
-        Ok(()) => {}
-        Err(AllocError) => {
-            return Err(Halt {
-                why: Outside::NoMemory,
-                line: Fault::NoMemory,
-            });
-        }
-    }
-    match write(&head, world) {
-        Ok(()) => {}
-        Err(why) => {
-            return Err(Halt {
-                why,
-                line: line_of(why, "", Fault::Write),
-            });
-        }
+    let Ok(()) = tap_rows::push_head(&mut head) else {
+        return Err(Halt {
+            why: Outside::NoMemory,
+            line: Fault::NoMemory,
+        });
+    };
+    if let Err(why) = write(&head, world) {
+        return Err(Halt {
+            why,
+            line: line_of(why, "", Fault::Write),
+        });
     }
     let mut succeeded = true;
     for number in 0..words.len() {

@@ -11,7 +11,7 @@ use crate::encode_tables::prepare;
 use crate::fault::Fault;
 use crate::prepared::carry_out;
 use crate::stops::{Halt, ended};
-use frame::{Outside, report_outside};
+use frame::{Outside, report};
 use std::alloc::{AllocError, Global};
 use std::hash::RandomState;
 use tool_words::RowsWords;
@@ -63,7 +63,7 @@ pub fn encode_rows_over<W: World + Counted>(
 {
     match load_devices(alloc, words, world) {
         Err(halt) => {
-            report_outside(halt.why, halt.line, world);
+            report(halt.why, halt.line, world);
             1
         }
         Ok((is_there, devices)) => {

@@ -5,7 +5,7 @@ use crate::counted::Counted;
 use crate::fault::Fault;
 use crate::loads::load;
 use crate::stops::{Halt, line_of};
-use frame::{Outside, report_outside};
+use frame::{Outside, report};
 use std::alloc::{AllocError, Global};
 use std::fmt::Display;
 use world::{World, WriteFault};
@@ -151,7 +151,7 @@ pub(crate) fn inform<'a, T: Informs<'a> + Drop, W: World + Counted>(
         Ok(true) => 0,
         Ok(false) => 1,
         Err(halt) => {
-            report_outside(halt.why, halt.line, world);
+            report(halt.why, halt.line, world);
             1
         }
     }

@@ -1,5 +1,5 @@
 //! What a subcommand prepared, before any of it is done.
-ghost use Rattle.std.specs.Prelude.{◌≡◌, [], ℕ, List, IfErr, IfOk, OnOk, string_bytes};
+ghost use Rattle.std.specs.Prelude.{◌≡◌, [], ℕ, List, IfErr, IfOk, OnOk};
 ghost use Rattle.frame.specs.Given.{Adds, with_files};
 ghost use Rattle.frame.specs.Outsides.{Leaves, StopsIn};
 ghost use Rattle.tool_tasks.specs.Fault.{fault_text};
@@ -114,7 +114,7 @@ fn finish_begun<'a, W: World>(
     begun: Option<Begun<'a, W::File>>,
     world: &mut W,
 ) -> Result<(), Halt<'a>>
-    requires { IsKnown W.File.contents begun.entry }
+    requires { IsKnown W.File.contents begun }
     ensures made { OnOk result (Adds (W.run world.old) (W.run world.new)
         (λ g. with_files g (begun_files W.File.contents begun.entry))) }
     ensures stopped { (words : List (List ℕ)) → IsBegunIn words begun.entry → IfErr result
@@ -139,7 +139,10 @@ fn discard<'a, W: World>(begun: Option<Begun<'a, W::File>>, world: &mut W)
     ensures { W.run world.new ≡ W.run world.old }
 {
     if let Some(begun) = begun {
-        world.discard(begun.file);
+        let Begun { name, file, unmade } = begun;
+        let _ = name;
+        let _ = unmade;
+        world.discard(file);
     }
 }
 
@@ -150,7 +153,7 @@ pub(crate) fn carry<'a, W: World>(
     begun: Option<Begun<'a, W::File>>,
     world: &mut W,
 ) -> Result<u8, Halt<'a>>
-    requires { IsKnown W.File.contents begun.entry }
+    requires { IsKnown W.File.contents begun }
     ensures { (words : List (List ℕ)) (start : Run) (loads : List Load)
         → W.run world.old ≡ with_loads start loads → AreNamed words prepared.now
         → IsBegunIn words begun.entry → Carries words start

@@ -1,5 +1,5 @@
 //! `uploads`: what each upload has.
-ghost use Rattle.std.specs.Prelude.{◌≡◌, ◌≤◌, ◌++◌, ℕ, IfErr, List, OnOk, string_bytes};
+ghost use Rattle.std.specs.Prelude.{◌≡◌, ◌≤◌, ◌++◌, ℕ, List, OnOk, string_bytes};
 ghost use Rattle.tool_tasks.specs.Uploads.{IsMomentOrDash};
 
 use crate::counted::Counted;

@@ -21,7 +21,7 @@ returns-in-Err g c =
         halted = halted_loading (EncodesRows words csvs true) names old old _ [] c.in-Err.halt.why
             (sym (no_loads old)) (c.in-Err.ensures.stopped names
             (is_in names (word_in words.devices) (0, omega arith, refl)));
-        reported = c.report_outside.ensures;
+        reported = c.report.ensures;
         failed = refl;
       });
     }
