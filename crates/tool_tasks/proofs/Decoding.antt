@@ -120,6 +120,15 @@ gave_whole old new one none adds start g is =
     adds start g is ∙ ap (λ n. gave start (record g' { note = n })) (sym (append-nil g.note)
     ∙ ap (λ f. g.note ++ layout_line one.word f) (sym none))
 
+-- and its line was given
+pub gave_line : (old mid new : Run) (one : Decoded) (line : List ℕ) → Adds old mid
+    (λ g. with_text (with_loads g (load_of one.word one.upload ∷ [])) one.rows)
+    → line ≡ layout_line one.word one.fault → Adds mid new (λ g. with_note g line)
+    → Adds old new (λ g. with_decoded g one)
+gave_line old mid new one line adds is more start g was =
+    let g' = with_text (with_loads g (load_of one.word one.upload ∷ [])) one.rows in
+    more start g' (adds start g was) ∙ ap (λ n. gave start (with_note g' n)) is
+
 -- nothing more was given
 pub halted_at : (words : List (List ℕ)) (start mid new : Run) (decoded : List Decoded)
     (rest : List (List ℕ)) (why : Outside) → words ≡ words_of decoded ++ rest

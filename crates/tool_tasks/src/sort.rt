@@ -139,6 +139,12 @@ fn ends_file<'a>(name: Option<&'a str>, lines: String) -> Option<NewFile<'a>>
     }
 }
 
+fn status_of(ends: &[UploadEnd]) -> u8
+    ensures { result ≡ (if are_posted ends.now then 0 else 3) }
+{
+    if are_posted(ends) { 0 } else { 3 }
+}
+
 /// The file of a line for each upload, if it has a name, and the note.
 pub(crate) fn prepare<'a>(
     alloc: Global,
@@ -171,8 +177,7 @@ fn prepare_sorted<'a>(
         (if are_posted ends.now then 0 else 3)) }
 {
     let note = note_of(alloc, &words.uploads, ends)?;
-    let status = if are_posted(ends) { 0 } else { 3 };
-    prepare(alloc, words, ends, note, status)
+    prepare(alloc, words, ends, note, status_of(ends))
 }
 
 /// The file was begun, and is not made.

@@ -12,7 +12,7 @@ returns g c =
     let mid = read c.args.files.now in (
       old_calls done,
       new_calls done,
-      c.close-2.ensures ∙ ap (λ (l : List Calls). l ++ _ ∷ []) c.close.ensures
+      c.close-2.ensures ∙ ap (λ (l : List Calls). l ++ calls_of c.into_texts-old.result.1 ∷ []) c.close.ensures
           ∙ append_assoc mid (calls_of c.into_texts-old.result.0 ∷ [])
           (calls_of c.into_texts-old.result.1 ∷ [])
           ∙ ap (λ (t : Lines × Lines). mid ++ calls_of t.0 ∷ calls_of t.1 ∷ []) c.into_texts-old.ensures,

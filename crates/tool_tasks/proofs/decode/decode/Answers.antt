@@ -1,7 +1,7 @@
 use Rattle.std.proofs.Common.{◌≡◌, ◌∙◌, ◌++◌, ◌∷◌, [], Bool, Bor, List, ap, append-nil, drop, if◌then◌else◌, map, refl, subst, sym, take_all, ℕ}
 use Rattle.std.specs.Prelude.{◌&&◌, is_none}
 use Rattle.frame.proofs.Giving.{gave_nothing}
-use Rattle.frame.specs.Given.{IsPart, gave, nothing, with_text}
+use Rattle.frame.specs.Given.{Given, IsPart, gave, nothing, with_text}
 use Rattle.frame.specs.Outsides.{IsStoppedIn}
 use Rattle.tool_tasks.proofs.Decoding.{decoding_push, halted_at, halted_one, whole_push, words_push}
 use Rattle.tool_tasks.proofs.Loading.{word_contained}
@@ -9,10 +9,10 @@ use Rattle.tool_tasks.specs.Decode.{Decoded, decoding_of, words_of}
 use Rattle.world.specs.Run.{Run, with_cut, with_flushed}
 use Rattle.tool_tasks.proofs.decode.decode.Goals as goal
 
-no_part : (part : _) → part ≡ nothing → IsPart part (decoding_of [])
+no_part : (part : Given) → part ≡ nothing → IsPart part (decoding_of [])
 no_part part is = subst (λ p. IsPart p (decoding_of [])) (sym is) (record {
   loads = refl;
-  text = (_, refl);
+  text = ((decoding_of []).text, refl);
   note = ([], refl);
   files = ([], refl);
 })
@@ -33,7 +33,8 @@ pub returns-in-Err : goal.returns-in-Err
 returns-in-Err g c =
     let words = map (λ w. w.now) c.args.words.now in
     let old = g.W.Inputs.run c.args.world.now in
-    let stopped = subst (λ (t : List ℕ). IsStoppedIn words old _ (with_text nothing t) c.in-Err.why)
+    let stopped = subst (λ (t : List ℕ). IsStoppedIn words old (g.W.Inputs.run c.write.new.world)
+    (with_text nothing t) c.in-Err.why)
     (c.deref.ensures.value ∙ c.in-Ok.ensures) (c.in-Err.ensures.stopped words old nothing (gave_nothing old)) in
     record {
       part = stopped.part;

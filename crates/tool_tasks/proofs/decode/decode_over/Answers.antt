@@ -9,5 +9,5 @@ returns g c =
     let words = c.args.words.items in
     does_end (decode_rule (map (λ w. w.now) words)) (g.W.Inputs.run c.args.world.now) _ _
     c.decode-done.result c.ended.result (subst (λ (ws : List (Bor (List ℕ))).
-    Does (decode_rule (map (λ w. w.now) ws)) (g.W.Inputs.run c.args.world.now) _
-    c.decode-done.result) c.deref.ensures.value c.decode-done.ensures) c.ended.ensures
+    Does (decode_rule (map (λ w. w.now) ws)) (g.W.Inputs.run c.args.world.now)
+    (g.W.Inputs.run c.decode-done.new.world) c.decode-done.result) c.deref.ensures.value c.decode-done.ensures) c.ended.ensures

@@ -24,6 +24,6 @@ returns-in-Err-push-clause-stopped g c = λ names all.
     let one = load_of _ c.in-Ok.text.items ∷ [] in (
       before ++ one,
       c.in-Ok.ensures.loaded
-          ∙ ap (λ (r : Run). with_load r (file_named _) c.in-Ok.text.items) c.loop-number.invariant.1
+          ∙ ap (λ (r : Run). with_load r (file_named c.index-words-number.result.now) c.in-Ok.text.items) c.loop-number.invariant.1
           ∙ more_loads (run c.args.world.now) before one,
     )

@@ -17,7 +17,8 @@ returns-in-Err-load_named-clause-stopped g c =
     let words = c.args.words.now in
     let names = names_of words (map (λ w. w.now) c.args.csvs.now) in (
       [],
-      subst (λ (r : Run). Leaves names (Unread c.in-Err-load_named.why) r _) (sym (no_loads old))
+      subst (λ (r : Run). Leaves names (Unread c.in-Err-load_named.why) r
+          (g.W.Inputs.run c.load_named.new.world)) (sym (no_loads old))
           (c.in-Err-load_named.ensures.refused names
           (is_in names (word_in words.key) (2, omega arith, refl))),
     )
@@ -27,7 +28,8 @@ returns-in-Err-load_named-2-clause-stopped g c =
     let words = c.args.words.now in
     let names = names_of words (map (λ w. w.now) c.args.csvs.now) in (
       loads_in (word_in words.key) c.in-Ok-load_named.key.items,
-      subst (λ (r : Run). Leaves names (Unread c.in-Err-load_named-2.why) r _)
+      subst (λ (r : Run). Leaves names (Unread c.in-Err-load_named-2.why) r
+          (g.W.Inputs.run c.load_named-2.new.world))
           c.in-Ok-load_named.ensures.loaded (c.in-Err-load_named-2.ensures.refused names
           (zone_in names (word_in words.zone) (word_in c.name_in.result)
           (c.name_in.ensures ∙ c.in-Ok.ensures) (3, omega arith, refl))),
@@ -45,6 +47,7 @@ returns-clause-stopped g c =
     let was = c.in-Ok-load_named-2.ensures.loaded
     ∙ ap (λ r. with_loads r zone) c.in-Ok-load_named.ensures.loaded ∙ more_loads old key zone in (
       (key ++ zone) ++ more,
-      subst (λ (r : Run). Leaves names c.in-Err-load_csvs.halt.why r _)
+      subst (λ (r : Run). Leaves names c.in-Err-load_csvs.halt.why r
+          (g.W.Inputs.run c.load_csvs.new.world))
           (ap (λ r. with_loads r more) was ∙ more_loads old (key ++ zone) more) leaves,
     )

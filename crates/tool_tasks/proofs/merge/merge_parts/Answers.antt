@@ -12,19 +12,18 @@ use Rattle.tool_tasks.proofs.merge.merge_parts.Goals as goal
 pub returns-in-Ok : goal.returns-in-Ok
 returns-in-Ok g c =
     let words = map (λ w. w.now) c.args.words.now in
-    let before = g.F.Streams.readings c.args.files.now in
+    let mid = g.F.Streams.readings c.open_all.new.files in
     let opened = c.deref_mut.result.now in
     let now = c.merge-merged.new.parts in
     let calls = map calls_of now in (
       calls,
-      c.close_all.ensures ∙ ap (λ (l : List Calls). l ++ map calls_of _) c.in-Ok.ensures.unchanged
-          ∙ ap (λ (l : List Lines). before ++ map calls_of l) (take_at now
+      c.close_all.ensures ∙ ap (λ (l : List Lines). mid ++ map calls_of l) (take_at now
           (drop (length now) c.open_all.new.parts.items) c.open_all.new.parts.len (omega (
             arith,
             follow_length opened now c.merge-merged.ensures.follow,
             ap length c.deref_mut.ensures.value,
             c.open_all.new.parts.ok.0,
-          ))),
+          ))) ∙ ap (λ (l : List Calls). l ++ calls) c.in-Ok.ensures.unchanged,
       merged words calls (names_kept opened now c.merge-merged.ensures.follow
           ∙ ap (λ (l : List Lines). names_of (map calls_of l)) c.deref_mut.ensures.value
           ∙ c.in-Ok.ensures.named) _ _ c.merge-merged.result c.noted.result

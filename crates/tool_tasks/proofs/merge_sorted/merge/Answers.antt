@@ -46,7 +46,8 @@ returns-in-Ok-prepare g c =
     (ap contents c.new-known.ensures ∙ c.in-Ok.ensures.empty)
     (sym (ap contents c.into_file-file.ensures.file) ∙ some.1) in
     let of = subst (λ (es : List UploadEnd). IsOfEnds request es [] 0 prepared)
-    c.deref-in-Ok-merged.ensures.value (subst (λ (n : List ℕ). IsOfEnds request _ n 0 prepared)
+    c.deref-in-Ok-merged.ensures.value
+    (subst (λ (n : List ℕ). IsOfEnds request c.deref-in-Ok-merged.result.now n 0 prepared)
     c.new.ensures.bytes c.in-Ok-prepare.ensures) in
     carried (MergesOrRefuses request known) (names_of request) old _
     (given_of [] prepared (known_file request.out (contents c.into_file-file.result)))
@@ -77,7 +78,8 @@ pub returns-in-None : goal.returns-in-None
 returns-in-None g c =
     let request = sorting_of c.args.words.now in let old = g.W.Inputs.run c.args.world.now in
     halted_loading (MergesOrRefuses request _) (names_of request) old old _ [] c.failed.result.why
-    (sym (no_loads old)) (subst (λ (r : Run). Leaves (names_of request) c.failed.result.why r _)
+    (sym (no_loads old)) (subst (λ (r : Run). Leaves (names_of request) c.failed.result.why r
+    (g.W.Inputs.run c.failed.new.world))
     c.in-Ok.ensures.unchanged (c.failed.ensures (names_of request) (0, omega arith, refl)))
 
 pub returns-in-Some-NoMemory : goal.returns-in-Some-NoMemory
@@ -97,5 +99,6 @@ returns g c =
     (map under (map (λ w. w.now) ws)) fault) c.deref.ensures.value
     (subst (λ o. IfSome o (IsRightFileFault (map (λ w. w.now) words)
     (map under (map (λ w. w.now) words)))) c.in-Some.is c.in-Err-merged.ensures.fault) in
-    subst (λ (r : Run). Does (merge_sorted_rule request known) r _ c.refuse.result)
+    subst (λ (r : Run). Does (merge_sorted_rule request known) r
+    (g.W.Inputs.run c.refuse.new.world) c.refuse.result)
     (c.discard-in-Some.ensures ∙ c.in-Ok.ensures.unchanged) (c.refuse.ensures request known right)

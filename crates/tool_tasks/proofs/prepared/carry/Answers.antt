@@ -1,9 +1,9 @@
-use Rattle.std.proofs.Common.{◌≡◌, ◌∙◌, [], ap, refl, string_bytes, subst, sym}
+use Rattle.std.proofs.Common.{◌≡◌, ◌∙◌, [], List, ap, refl, string_bytes, subst, sym, ℕ}
 use Rattle.frame.proofs.Giving.{gave_flushed, part_files, part_note, stopped_at}
 use Rattle.frame.proofs.Outcomes.{gave_loads, stopped_early, stopped_flush}
 use Rattle.frame.specs.Given.{Given, with_files, with_note}
 use Rattle.frame.specs.Outsides.{IsStoppedIn}
-use Rattle.world.specs.Run.{Run}
+use Rattle.world.specs.Run.{Run, with_said}
 use Rattle.tool_tasks.specs.inside.Prepared.{begun_files, with_prepared}
 use Rattle.tool_tasks.proofs.prepared.carry.Goals as goal
 
@@ -51,6 +51,8 @@ returns-in-Ok-flush g c = λ words start loads was named begun.
     let files = begun_files g.W.File.Write.contents c.args.begun in
     let none : Given = record { loads = loads; text = []; note = []; files = [] } in
     (refl, gave_flushed _ _ _ start (with_files (with_prepared none p) files) (string_bytes p.note)
-    c.in-Ok-flush.ensures.flushed c.say.ensures
+    c.in-Ok-flush.ensures.flushed
+    (c.say.ensures ∙ ap (λ (n : List ℕ). with_said (g.W.Inputs.run c.flush.new.self) n)
+    c.as_bytes.ensures.value)
     (c.in-Ok-finish_begun.ensures.made start (with_prepared none p)
     (c.in-Ok.ensures.given start none (was ∙ gave_loads start loads))))

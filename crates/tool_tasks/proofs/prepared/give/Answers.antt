@@ -19,7 +19,8 @@ returns-in-Err-write-clause-stopped g c = λ words named start given is.
     stopped_early words start _ (with_text before p.text.items)
     (λ g'. with_files g' (files_in p.upload)) c.in-Err-write.why
     (λ part g' is_part. part_files part g' (files_in p.upload) is_part)
-    (subst (λ (t : List ℕ). IsStoppedIn words start _ (with_text before t) c.in-Err-write.why)
+    (subst (λ (t : List ℕ). IsStoppedIn words start
+    (g.W.Inputs.run c.write.new.world) (with_text before t) c.in-Err-write.why)
     c.deref.ensures.value (c.in-Err-write.ensures.stopped words start before
     (c.in-Ok.ensures.made start given is)))
 
