@@ -67,12 +67,7 @@ pub fn finish<W: World>(name: &str, file: W::File, world: &mut W) -> Result<(), 
 }
 
 /// Makes a file of these bytes. If it is to be new, no file has its name.
-pub fn make<W: World>(
-    name: &str,
-    bytes: &[u8],
-    is_new: bool,
-    world: &mut W,
-) -> Result<(), Outside>
+pub fn make<W: World>(name: &str, bytes: &[u8], is_new: bool, world: &mut W) -> Result<(), Outside>
     ensures made { OnOk result (Adds (W.run world.old) (W.run world.new)
         (λ g. with_files g (file_of name.now bytes.now ∷ []))) }
     ensures stopped { (words : List (List ℕ)) → Contains words name.now → IfErr result (λ why.

@@ -120,16 +120,16 @@ module _ (request : CorrectionsRequest) (calls : List Calls) (old new : Calls)
   )
   corrected run run' (Err (Fault (Line bill number why))) (Ok noted) (text, part, (same, first))
       (note, status) = (
-    text,
-    same,
-    part_by text part,
-    (
-      old,
-      new,
-      read,
-      inr ((bill, number, why, first_wrong bill number why first, note, status), part_by text part),
-    ),
-  )
+        text,
+        same,
+        part_by text part,
+        (
+          old,
+          new,
+          read,
+          inr ((bill, number, why, first_wrong bill number why first, note, status), part_by text part),
+        ),
+      )
   corrected run run' (Err (Fault (Line bill number why))) (Err halt) (text, part, (same, first)) none =
       (text, part_by text part, left_by run run' text _ halt.why none (inl same))
   corrected run run' (Err (Fault (Unread bill))) (Ok noted) w bad = absurd bad

@@ -23,11 +23,14 @@ pub decoding_push : (decoded : List Decoded) (one : Decoded)
     → with_decoded (decoding_of decoded) one ≡ decoding_of (decoded ++ one ∷ [])
 decoding_push decoded one =
     let line = λ (d : Decoded). layout_line d.word d.fault in
-    rw (map-append (λ (d : Decoded). load_of d.word d.upload) decoded (one ∷ []),
-    flat_map-append (λ (d : Decoded). d.rows) decoded (one ∷ []),
-    flat_map-append line decoded (one ∷ []),
-    append-nil one.rows, append-nil (layout_line one.word one.fault),
-    append_assoc (head ++ 10 ∷ []) (flat_map (λ (d : Decoded). d.rows) decoded) one.rows) refl
+    rw (
+      map-append (λ (d : Decoded). load_of d.word d.upload) decoded (one ∷ []),
+      flat_map-append (λ (d : Decoded). d.rows) decoded (one ∷ []),
+      flat_map-append line decoded (one ∷ []),
+      append-nil one.rows,
+      append-nil (layout_line one.word one.fault),
+      append_assoc (head ++ 10 ∷ []) (flat_map (λ (d : Decoded). d.rows) decoded) one.rows,
+    ) refl
 
 pub whole_push : (decoded : List Decoded) (one : Decoded)
     → are_whole (decoded ++ one ∷ []) ≡ (are_whole decoded && is_none one.fault)

@@ -112,11 +112,11 @@ module _ (words : List (List ℕ)) (calls : List Calls) (are : AreOf words calls
   merged run run' (Ok done) (Err halt) m bad = absurd bad
   merged run run' (Err (Line part number why)) (Ok noted) (text, started, same, said)
       (word, at, note, status) = (
-    text,
-    same,
-    inr (are, started),
-    (are, inr (part, number, why, word, said, at, note, status)),
-  )
+        text,
+        same,
+        inr (are, started),
+        (are, inr (part, number, why, word, said, at, note, status)),
+      )
   merged run run' (Err (Line part number why)) (Err halt) (text, started, same, said) none =
       (text, inr (are, started), left_by run run' text _ halt.why none (inl same))
   merged run run' (Err (Unread part)) (Ok noted) m bad = absurd bad

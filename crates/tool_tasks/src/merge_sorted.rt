@@ -95,11 +95,7 @@ fn merge_all<'a, D: PlacedFiles, W: Write>(
 }
 
 /// The fault of an upload is noted.
-fn refuse<'a, W: World>(
-    alloc: Global,
-    fault: Fault<'_>,
-    world: &mut W,
-) -> Result<u8, Halt<'a>>
+fn refuse<'a, W: World>(alloc: Global, fault: Fault<'_>, world: &mut W) -> Result<u8, Halt<'a>>
     ensures { (request : SortRequest) (known : List (Option (List ℕ)))
         → IsRightFileFault request.uploads known fault.entry
         → Does (merge_sorted_rule request known) (W.run world.old) (W.run world.new) result }

@@ -13,10 +13,7 @@ pub(crate) fn no_tokens(alloc: Global, is_counted: bool) -> Option<CommonTokens>
 }
 
 /// Adds the tokens of taps before the first layout fault, if tokens are counted.
-pub(crate) fn add_tokens(
-    tokens: &mut Option<CommonTokens>,
-    upload: &[u8],
-) -> Result<(), NoMemory> {
+pub(crate) fn add_tokens(tokens: &mut Option<CommonTokens>, upload: &[u8]) -> Result<(), NoMemory> {
     if let Some(tokens) = tokens {
         tokens.add(upload)?;
     }

@@ -33,9 +33,13 @@ returns-in-Err-write-clause-stopped g c = λ words has.
       is_decoded = subst (λ (b : List ℕ). IsDecoded b rows c.in-Ok-decode.fault)
           c.deref.ensures.value decoded;
     } in
-    inr (one, refl, stopped_rows words _ _ _ one c.deref-2.result.now c.in-Err-write.why
-    c.in-Ok.ensures.loaded (c.deref-2.ensures.value ∙ appended)
-    (c.in-Err-write.ensures.stopped words))
+    inr (
+      one,
+      refl,
+      stopped_rows words _ _ _ one c.deref-2.result.now c.in-Err-write.why
+          c.in-Ok.ensures.loaded (c.deref-2.ensures.value ∙ appended)
+          (c.in-Err-write.ensures.stopped words),
+    )
 
 pub returns-in-None-clause-decoded : goal.returns-in-None-clause-decoded
 returns-in-None-clause-decoded g c =
@@ -87,5 +91,9 @@ returns-clause-stopped g c = λ words has.
       is_decoded = subst (λ (b : List ℕ). IsDecoded b rows c.in-Ok-decode.fault)
           c.deref.ensures.value decoded;
     } in
-    inr (one, refl, stopped_line words _ _ one (gave_rows _ _ _ one c.deref-2.result.now
-    c.in-Ok.ensures.loaded (c.deref-2.ensures.value ∙ appended) c.in_default-2.ensures.written))
+    inr (
+      one,
+      refl,
+      stopped_line words _ _ one (gave_rows _ _ _ one c.deref-2.result.now
+          c.in-Ok.ensures.loaded (c.deref-2.ensures.value ∙ appended) c.in_default-2.ensures.written),
+    )

@@ -46,5 +46,9 @@ returns-in-Err-Tzif c =
     (rw c.in-Err-Tzif.field-0-is at c.in-Err-Tzif.ensures.err) in
     IfOk-weaker c.refusal-in-Err-Tzif.result _ _ (λ prepared refused. refused_table c.args.words.now
     c.args.is_there (texts_in c.args.texts.now) (zone_file_line c.args.name.now) prepared
-    (inr (inr (c.args.name.now, c.requires.named, c.requires.no_rule,
-    inr (inside, (fault, failure), refl)))) refused) c.refusal-in-Err-Tzif.ensures
+    (inr (inr (
+      c.args.name.now,
+      c.requires.named,
+      c.requires.no_rule,
+      inr (inside, (fault, failure), refl),
+    ))) refused) c.refusal-in-Err-Tzif.ensures

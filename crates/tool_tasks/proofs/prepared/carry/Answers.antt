@@ -49,10 +49,12 @@ pub returns-in-Ok-flush : goal.returns-in-Ok-flush
 returns-in-Ok-flush g c = λ words start loads was named begun.
     let p = c.args.prepared.now in
     let files = begun_files g.W.File.Write.contents c.args.begun in
-    let none : Given = record { loads = loads; text = []; note = []; files = [] } in
-    (refl, gave_flushed _ _ _ start (with_files (with_prepared none p) files) (string_bytes p.note)
-    c.in-Ok-flush.ensures.flushed
-    (c.say.ensures ∙ ap (λ (n : List ℕ). with_said (g.W.Inputs.run c.flush.new.self) n)
-    c.as_bytes.ensures.value)
-    (c.in-Ok-finish_begun.ensures.made start (with_prepared none p)
-    (c.in-Ok.ensures.given start none (was ∙ gave_loads start loads))))
+    let none : Given = record { loads = loads; text = []; note = []; files = [] } in (
+      refl,
+      gave_flushed _ _ _ start (with_files (with_prepared none p) files) (string_bytes p.note)
+          c.in-Ok-flush.ensures.flushed
+          (c.say.ensures ∙ ap (λ (n : List ℕ). with_said (g.W.Inputs.run c.flush.new.self) n)
+          c.as_bytes.ensures.value)
+          (c.in-Ok-finish_begun.ensures.made start (with_prepared none p)
+          (c.in-Ok.ensures.given start none (was ∙ gave_loads start loads))),
+    )
