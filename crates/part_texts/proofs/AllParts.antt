@@ -8,8 +8,7 @@ use Rattle.std.specs.List.{AllZip}
 use Rattle.std.proofs.lemmas.Bool.Decides.{nat_tests}
 use Rattle.std.proofs.lemmas.List.{drop-drop, drop-set-lt, drop_all, drop_more, take_all}
 use Rattle.std.proofs.lemmas.List.{take_more_set}
-use Rattle.std.proofs.lemmas.List.Elements.{All-drop, All-head, All-map, All-push}
-use Rattle.std.proofs.lemmas.List.Elements.{All-weaker}
+use Rattle.std.proofs.lemmas.List.Elements.{All-drop, All-head, All-map, All-push, All-weaker}
 use Rattle.tap_views.specs.declared.token.Token.{Token}
 use Rattle.recorded_lines.specs.Texts.{CanBe, Follows, IsEndAt, IsFresh, calls_of, left}
 use Rattle.recorded_lines.specs.declared.text.Lines.{Lines}

@@ -1,7 +1,7 @@
 -- The whole program: how what is asked for ends.
-use Rattle.std.specs.Prelude.{◌≡◌, ◌⊎◌, ⊤, ℕ, MatchBool, List, ◌++◌, Option, codes, map}
+use Rattle.std.specs.Prelude.{◌≡◌, ◌⊎◌, ⊤, ℕ, MatchBool, List, Option, map}
 use Rattle.frame.specs.Outcome.{Ends}
-use Rattle.world.specs.Run.{Calls, Run, with_flushed, with_said, with_written}
+use Rattle.world.specs.Run.{Calls, Run, with_flushed, with_written}
 use Rattle.world.specs.Writes.{IsSaid}
 use Rattle.tool_tasks.specs.Corrections.{corrections_rule}
 use Rattle.tool_tasks.specs.Decode.{decode_rule}
@@ -11,12 +11,11 @@ use Rattle.tool_tasks.specs.Merge.{merge_rule}
 use Rattle.tool_tasks.specs.ValidPrefix.{valid_prefix_rule}
 use Rattle.tool_tasks.specs.MergeSorted.{merge_sorted_rule}
 use Rattle.tool_tasks.specs.Sort.{sort_rule}
-use Rattle.tool_words.specs.Request.{Request, corrections, decode, encode}
-use Rattle.tool_words.specs.Request.{encode_rows, valid_prefix, merge, usage_error, shows, sort}
-use Rattle.tool_words.specs.UsageErrors.{usage_error_text}
+use Rattle.tool_words.specs.Request.{Request, corrections, decode, encode, encode_rows, merge}
+use Rattle.tool_words.specs.Request.{misused, request_by, shows, sort, valid_prefix}
 use Rattle.tool_words.specs.Tasks.{rows_words_of}
+use Rattle.tool_words.specs.ToolLine.{AsksForText, Parses}
 use Rattle.tool_words.specs.declared.task.RowsWords.{RowsWords}
-use Rattle.tool_words.specs.declared.usage_error.UsageError.{UsageError}
 
 -- a text was written and flushed, and nothing else was done
 abbrev pub IsPrinted : Run → Run → Type 0
@@ -25,12 +24,6 @@ IsPrinted old new = (text : List ℕ) × (new ≡ with_flushed (with_written old
 -- something was said, with status 2, or 1 if an allocation failed, and nothing else was done
 abbrev pub IsRefused : Run → Run → ℕ → Type 0
 IsRefused old new status = ((status ≡ 2) ⊎ (status ≡ 1)) × IsSaid old new
-
--- the line of a mistake was said, with status 2, or an allocation failed
-abbrev pub IsMisused : UsageError → Run → Run → ℕ → Type 0
-IsMisused why old new status =
-    ((status ≡ 2) × (new ≡ with_said old (usage_error_text why ++ codes "\n")))
-    ⊎ ((status ≡ 1) × IsSaid old new)
 
 -- THE rule of the program: what is asked for ends so. Files that are read in pieces are read by these
 -- calls, which follow those before, and `placed` is what is known of files that are read at any
@@ -50,6 +43,17 @@ IsFramed before after placed (valid_prefix request) old new status =
 IsFramed before after placed (sort request) old new status = MatchBool request.is_merge
     (Ends (merge_sorted_rule request (map placed request.uploads)) old new status)
     (Ends (sort_rule request) old new status)
-IsFramed before after placed (usage_error why) old new status =
-    (after ≡ before) × IsMisused why old new status
+IsFramed before after placed misused old new status =
+    (after ≡ before) × IsRefused old new status
 IsFramed before after placed shows old new status = ⊤
+
+-- THE outcome of a run of these words: what they ask for ends as it says. Only running out of memory,
+-- while the words are read, may come before it. Words that are no command line have status 2, and
+-- nothing is read or written, unless they ask for help or the version, which is printed with status 0.
+pub record EndsTools (words : List (List ℕ)) (before after : List Calls)
+    (placed : List ℕ → Option (List ℕ)) (old new : Run) (status : ℕ) : Type 0 where
+  pub command : Parses words → IsFramed before after placed (request_by words) old new status
+      ⊎ ((status ≡ 1) × IsSaid old new)
+  pub helped : ¬ Parses words → status ≡ 0 → AsksForText words × IsPrinted old new
+  pub refused : ¬ Parses words → (¬ AsksForText words)
+      → IsRefused old new status × (after ≡ before)

@@ -22,5 +22,4 @@ returns-in-EncodeRows g c =
     )
 
 pub returns-in-UsageError : goal.returns-in-UsageError
-returns-in-UsageError g c =
-    rw c.in-UsageError.is (refl, c.report_usage_error.ensures)
+returns-in-UsageError g c = rw c.in-UsageError.is (refl, c.refuse.ensures)
