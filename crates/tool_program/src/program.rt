@@ -1,5 +1,5 @@
 //! The whole program, from the words to the status.
-ghost use Rattle.std.specs.Prelude.{◌≤◌, map, string_bytes};
+ghost use Rattle.std.specs.Prelude.{map, string_bytes};
 ghost use Rattle.tool_program.specs.Program.{EndsTools, IsFramed, IsRefused};
 ghost use Rattle.tool_words.specs.Tasks.{request_of};
 
@@ -53,10 +53,9 @@ fn task_over<R: Threads + Sync, D: PlacedFiles, F: Streams, W: World + Counted>(
     streams: &mut F,
     world: &mut W,
 ) -> u8
-    ensures framed { IsFramed (F.readings streams.old) (F.readings streams.new)
+    ensures { IsFramed (F.readings streams.old) (F.readings streams.new)
         (D.bytes_under files.now) (request_of task.entry) (W.run world.old) (W.run world.new)
         result }
-    ensures status { result ≤ 3 }
 {
     match task {
         Task::Encode(word) => encode_over(alloc, word, world),
@@ -91,10 +90,9 @@ pub fn main_over<R: Threads + Sync, D: PlacedFiles, F: Streams, W: World + Count
     streams: &mut F,
     world: &mut W,
 ) -> u8
-    ensures ends { EndsTools (map string_bytes words.now) (F.readings streams.old)
+    ensures { EndsTools (map string_bytes words.now) (F.readings streams.old)
         (F.readings streams.new) (D.bytes_under files.now) (W.run world.old) (W.run world.new)
         result }
-    ensures status { result ≤ 3 }
 {
     match read(alloc, words) {
         Ok(task) => task_over(threads, alloc, seed, moment, task, files, streams, world),

@@ -3,21 +3,21 @@ use Rattle.tool_words.specs.Request.{Request}
 use Rattle.tool_program.specs.Program.{IsFramed}
 use Rattle.tool_program.proofs.program.main_over.Goals as goal
 
-pub returns-in-Ok-clause-ends : goal.returns-in-Ok-clause-ends
-returns-in-Ok-clause-ends g c =
+pub returns-in-Ok : goal.returns-in-Ok
+returns-in-Ok g c =
     let (parses, is) = c.in-Ok.ensures.request in record {
       command = λ _. inl (subst
           (λ (request : Request). IsFramed (g.F.Streams.readings c.args.streams.now)
           (g.F.Streams.readings c.task_over.new.streams)
           (g.D.PlacedFiles.bytes_under c.args.files.now) request (g.W.Inputs.run c.args.world.now)
           (g.W.Inputs.run c.task_over.new.world) c.task_over.result) is
-          c.task_over.ensures.framed);
+          c.task_over.ensures);
       helped = λ not_so. absurd (not_so parses);
       refused = λ not_so. absurd (not_so parses);
     }
 
-pub returns-in-Err-clause-ends : goal.returns-in-Err-clause-ends
-returns-in-Err-clause-ends g c =
+pub returns-in-Err : goal.returns-in-Err
+returns-in-Err g c =
     elim c.in-Err.ensures.wrong [
       | inl memory ↦
           let (one, said) = c.show.ensures.memory memory in record {
