@@ -36,7 +36,7 @@ MINUTE_MS, DAY_MS, MOMENT_LIMIT = 60_000, 86_400_000, 4_102_444_800_000
 HEAD = ("token,line,moment,validator,mode,answer,cents,"
         "window_start,window_end,ride,reason,points_at\n")
 TRACED_HEAD = HEAD[:-1] + ",class,upload,place\n"
-NUMBER, WORD, REASON = "(?:0|[1-9][0-9]*)", "[a-z-]{0,16}", "[a-z:-]{0,24}"
+NUMBER, WORD, REASON = "(?:0|[1-9][0-9]*)", "[a-z-]{0,16}", "[a-z:-]{0,32}"
 MOMENT = "[0-9]{4}-[0-9]{2}-[0-9]{2}T(?:[01][0-9]|2[0-3])(?::[0-5][0-9]){2}[.][0-9]{3}Z"
 LINE = re.compile(f"([0-9a-f]{{32}}),({NUMBER}),({MOMENT}),({NUMBER}),{WORD},{WORD},({NUMBER}),"
                   f"({MOMENT}|),({MOMENT}|),({NUMBER}|),{REASON},({MOMENT}|)\n")
@@ -105,6 +105,15 @@ def terms_of_class(keys):
     return (fare, keys.get("fares", {}), rides or 60_000, ceiling, 255 if given == "any" else given,
             keys.get("transfer_minutes", 120) * MINUTE_MS)
 
+def pairs_of(entries):
+    """What each pair of modes pays: 0, cents, or the difference of fares."""
+    pairs = {}
+    for entry in entries:
+        *pair, pays = (*entry, 0) if isinstance(entry, list) else map(entry.get, ("from", "to", "pays"))
+        if pairs.setdefault(tuple(pair), pays) != pays:
+            raise ValueError(f"the pair {pair} has two prices")
+    return pairs
+
 def window_of(text):
     """The form of a window."""
     if (form := WINDOW.fullmatch(text)) is None:
@@ -114,7 +123,7 @@ def window_of(text):
 class Fares:
     """A fare table, as the rules ask it."""
     def __init__(self, table):
-        self.pairs = {tuple(pair) for pair in table["transfers"]}
+        self.pairs = pairs_of(table["transfers"])
         self.terms = {name: terms_of_class(keys) for name, keys in table["classes"].items()}
         self.usual_class = table["default_class"]
         self.usual = self.terms[self.usual_class]
@@ -227,6 +236,8 @@ class Account:
         self.tables, self.token, self.lines = tables, token, 0
         self.last, self.last_text, self.mode = -1, "", None  # the last live tap
         self.ride, self.ride_text, self.given = -1, "", 0  # the last ride, and its transfers
+        # its fare, the price of its trip, and whether the limit of rides freed it
+        self.fare, self.price, self.freed = 0, 0, False
         self.end, self.window, self.rides, self.cents = -1, "", 0, 0
         self.caps = {}  # of each cap beside `window` the end of its last window, and its cents
 
@@ -240,7 +251,7 @@ class Account:
         elif moment <= self.last:
             rest = f"{mode},stale,0,,,,stale,{self.last_text}"
         elif self.gives(fares, moment, mode):
-            rest = f"{mode},transfer,0,,,,transfer,{self.ride_text}"
+            rest = f"{mode},transfer,{self.transfer(fares, mode)},{self.ride_text}"
             self.last, self.last_text, self.mode = moment, text, mode
             self.given += 1
         else:
@@ -264,30 +275,59 @@ class Account:
             if moment >= self.caps.get(name, (-1, 0))[0]:
                 self.caps[name] = fares.window_end(moment, window), 0
         answer, cents, ride, reason = self.decided(fares, mode)
+        self.fare = self.price = self.fare_of(fares, mode)
+        self.freed = reason == "ride-limit"
+        self.count(fares, mode, cents)
+        return f"{answer},{cents},{self.window},{ride},{reason}"
+
+    def transfer(self, fares, mode):
+        """Cents, window, ride and reason of a transfer, by its table. It costs what it raises the
+        price of the trip, or what is left of that."""
+        pays = fares.pairs[self.mode, mode]
+        wanted = self.fare_of(fares, mode) if pays == "difference" else self.fare + pays
+        cents, self.price = max(0, wanted - self.price), max(wanted, self.price)
+        if cents == 0 or self.freed:
+            return "0,,,,transfer"
+        left, cap = self.least_left(fares, mode)
+        reason, cents = "fare" if left >= cents else "cut" if left else "capped", min(left, cents)
+        self.count(fares, mode, cents)
+        name = ":" + cap if cap and reason != "fare" else ""
+        return f"{cents},{self.window},,transfer-{reason}{name}"
+
+    def count(self, fares, mode, cents):
+        """Counts the cents of a tap on the mode in the windows of `window` and of its caps."""
         self.cents += cents
         for name, _, modes in fares.caps:
             if mode in modes:
                 self.caps[name] = self.caps[name][0], self.caps[name][1] + cents
-        return f"{answer},{cents},{self.window},{ride},{reason}"
+
+    def fare_of(self, fares, mode):
+        """The fare of the token's class on the mode."""
+        fare, of_modes, *_ = fares.terms_of(self.token)
+        return of_modes.get(mode, fare)
+
+    def least_left(self, fares, mode):
+        """The least that `window` or a cap of the mode leaves, and the name of that cap. Of `window`
+        the name is empty. It comes first of those that leave as little, then by name."""
+        ceiling = fares.terms_of(self.token)[3]
+        ceilings = fares.ceilings[fares.classes.get(self.token, fares.usual_class)]
+        left = [(ceiling - self.cents, "")]
+        left += [(ceilings.get(name, 100_000_000) - self.caps[name][1], name)
+                 for name, _, modes in fares.caps if mode in modes]
+        return min((max(0, cents), name) for cents, name in left)
 
     def decided(self, fares, mode):
         """What decides the cents of a ride whose windows are open."""
-        fare, of_modes, limit, ceiling, *_ = fares.terms_of(self.token)
-        fare = of_modes.get(mode, fare)
-        left, self.rides = ceiling - self.cents, self.rides + 1
+        limit, fare = fares.terms_of(self.token)[2], self.fare_of(fares, mode)
+        self.rides += 1
         if self.rides > limit:
             return "capped", 0, "", "ride-limit"
-        if left <= 0:
-            return "capped", 0, self.rides, "ceiling"
-        ceilings = fares.ceilings[fares.classes.get(self.token, fares.usual_class)]
-        least, cap = min(((max(0, ceilings.get(name, 100_000_000) - self.caps[name][1]), name)
-                          for name, _, modes in fares.caps if mode in modes),
-                         default=(100_000_000, ""))
-        if least == 0:
-            return "capped", 0, self.rides, "cap:" + cap
-        if least < min(fare, left):
-            return "paid", least, self.rides, "cap-cut:" + cap
-        return "paid", min(fare, left), self.rides, "full" if left >= fare else "ceiling-cut"
+        left, cap = self.least_left(fares, mode)
+        if left == 0:
+            return "capped", 0, self.rides, "cap:" + cap if cap else "ceiling"
+        if left < fare:
+            return "paid", left, self.rides, "cap-cut:" + cap if cap else "ceiling-cut"
+        return "paid", fare, self.rides, "full"
 
 class Sums:
     """Taps, answers and cents of a ledger's lines: of all, by validator and by token."""

@@ -19,17 +19,23 @@ CREATE TABLE line (
   validator    bigint      NOT NULL CHECK (validator BETWEEN 0 AND 4294967295),
   mode         text        COLLATE "C" CHECK ((mode IS NULL) = (answer = 'unknown')),
   answer       text        COLLATE "C" NOT NULL,
-  cents        bigint      NOT NULL CHECK (cents >= 0 AND (cents = 0 OR answer = 'paid')),
-  window_start timestamptz CHECK ((window_start IS NOT NULL) = (answer IN ('paid', 'capped'))),
-  window_end   timestamptz CHECK ((window_end IS NOT NULL) = (answer IN ('paid', 'capped'))),
+  cents        bigint      NOT NULL CHECK (cents >= 0
+                                           AND (cents = 0 OR answer IN ('paid', 'transfer'))),
+  window_start timestamptz CHECK ((window_start IS NOT NULL) = (answer IN ('paid', 'capped')
+                                  OR (answer = 'transfer' AND reason <> 'transfer'))),
+  window_end   timestamptz CHECK ((window_end IS NOT NULL) = (window_start IS NOT NULL)),
   ride         bigint,
   reason       text        COLLATE "C" NOT NULL,
-  points_at    timestamptz CHECK ((points_at IS NOT NULL) = (reason IN ('transfer', 'stale'))),
+  points_at    timestamptz CHECK ((points_at IS NOT NULL) = (answer IN ('transfer', 'stale'))),
   CHECK (CASE answer WHEN 'paid' THEN reason IN ('full', 'ceiling-cut')
                                       OR reason ~ '^cap-cut:[a-z]{1,16}$'
                      WHEN 'capped' THEN reason IN ('ceiling', 'ride-limit')
                                         OR reason ~ '^cap:[a-z]{1,16}$'
-                     WHEN 'transfer' THEN reason = answer WHEN 'stale' THEN reason = answer
+                     WHEN 'transfer' THEN
+                       CASE WHEN reason ~ '^transfer(-capped(:[a-z]{1,16})?)?$' THEN cents = 0
+                            WHEN reason ~ '^transfer-(fare|cut(:[a-z]{1,16})?)$' THEN cents > 0
+                            ELSE false END
+                     WHEN 'stale' THEN reason = answer
                      WHEN 'unknown' THEN reason = answer ELSE false END)
 );
 CREATE TABLE trace (

@@ -34,7 +34,8 @@ SELECT 'must be empty: a number is left out among a token''s lines' AS question;
 SELECT token FROM line GROUP BY token HAVING max(line) <> count(*) ORDER BY token LIMIT 10;
 
 SELECT 'must be empty: a ride outside of its window' AS question;
-SELECT token, line FROM line WHERE moment < window_start OR moment >= window_end
+SELECT token, line FROM line
+  WHERE answer IN ('paid', 'capped') AND (moment < window_start OR moment >= window_end)
   ORDER BY token, line LIMIT 10;
 
 SELECT 'must be empty: a window that opens before the last one ends' AS question;

@@ -9,19 +9,29 @@ CREATE TABLE line (
   validator    INTEGER NOT NULL CHECK (validator BETWEEN 0 AND 4294967295),
   mode         TEXT    CHECK ((mode IS NULL) = (answer = 'unknown')),
   answer       TEXT    NOT NULL,
-  cents        INTEGER NOT NULL CHECK (cents >= 0 AND (cents = 0 OR answer = 'paid')),
-  window_start TEXT    CHECK ((window_start IS NOT NULL) = (answer = 'paid' OR answer = 'capped')),
-  window_end   TEXT    CHECK ((window_end IS NOT NULL) = (answer = 'paid' OR answer = 'capped')),
+  cents        INTEGER NOT NULL CHECK (cents >= 0
+                                       AND (cents = 0 OR answer = 'paid' OR answer = 'transfer')),
+  window_start TEXT    CHECK ((window_start IS NOT NULL) = (answer = 'paid' OR answer = 'capped'
+                              OR (answer = 'transfer' AND reason <> 'transfer'))),
+  window_end   TEXT    CHECK ((window_end IS NOT NULL) = (window_start IS NOT NULL)),
   ride         INTEGER,                             -- the ride's place in its window, from 1
   reason       TEXT    NOT NULL,
-  points_at    TEXT    CHECK ((points_at IS NOT NULL) = (reason = 'transfer' OR reason = 'stale')),
+  points_at    TEXT    CHECK ((points_at IS NOT NULL) = (answer = 'transfer' OR answer = 'stale')),
   CHECK (CASE answer WHEN 'paid' THEN reason = 'full' OR reason = 'ceiling-cut'
                                       OR (reason GLOB 'cap-cut:[a-z]*' AND length(reason) <= 24
                                           AND substr(reason, 9) NOT GLOB '*[^a-z]*')
                      WHEN 'capped' THEN reason = 'ceiling' OR reason = 'ride-limit'
                                         OR (reason GLOB 'cap:[a-z]*' AND length(reason) <= 20
                                             AND substr(reason, 5) NOT GLOB '*[^a-z]*')
-                     WHEN 'transfer' THEN reason = answer WHEN 'stale' THEN reason = answer
+                     WHEN 'transfer' THEN
+                       CASE WHEN reason = 'transfer' OR reason = 'transfer-capped'
+                                 OR (reason GLOB 'transfer-capped:[a-z]*' AND length(reason) <= 32
+                                     AND substr(reason, 17) NOT GLOB '*[^a-z]*') THEN cents = 0
+                            WHEN reason = 'transfer-fare' OR reason = 'transfer-cut'
+                                 OR (reason GLOB 'transfer-cut:[a-z]*' AND length(reason) <= 29
+                                     AND substr(reason, 14) NOT GLOB '*[^a-z]*') THEN cents > 0
+                            ELSE 0 END
+                     WHEN 'stale' THEN reason = answer
                      WHEN 'unknown' THEN reason = answer ELSE 0 END),
   PRIMARY KEY (token, line)
 ) WITHOUT ROWID;

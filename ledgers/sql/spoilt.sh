@@ -1,6 +1,8 @@
 # Sourced by the bash scripts that load ledgers.
 # shellcheck shell=bash
 
+spoilt_window=2024-03-08T17:00:00.000Z,2024-03-15T17:00:00.000Z
+
 # what is wrong with a ledger, and the sed program that makes it so of the example's
 declare -A SPOILT=(
     ["no head line"]='1d'
@@ -11,6 +13,11 @@ declare -A SPOILT=(
     ["a cap without a name"]='2s/,full,/,cap-cut,/'
     ["a cap with a digit in its name"]='2s/,full,/,cap-cut:day2,/'
     ["a paid ride that a cap freed"]='2s/,full,/,cap:day,/'
+    ["a paid transfer without a window"]='3s/,transfer,0,,,,transfer,/,transfer,25,,,,transfer-fare,/'
+    ["a free transfer with a window"]="3s/,transfer,0,,,,/,transfer,0,$spoilt_window,,/"
+    ["a whole fare of nothing"]="3s/,transfer,0,,,,transfer,/,transfer,0,$spoilt_window,,transfer-fare,/"
+    ["a capped transfer that costs cents"]="3s/,0,,,,transfer,/,25,$spoilt_window,,transfer-capped,/"
+    ["a transfer with a ride's reason"]="3s/,0,,,,transfer,/,25,$spoilt_window,,cap-cut:day,/"
 )
 
 # the same of the columns of the example's traced ledger

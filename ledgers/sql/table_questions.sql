@@ -1,7 +1,7 @@
 -- Questions that know the fare table, in words that SQLite and PostgreSQL share: each row is a
 -- fault of the ledger under that table. They read the tables that `omny_tools table --sql` writes.
 -- They know one fare table without caps: under several, each valid from a date, or under caps
--- beside `window`, they find right lines, too.
+-- beside `window`, they find right lines, too. What transfers cost they do not ask.
 -- The days of the books are to be those of the table's zone (ledgers/sql/load LEDGER BOOKS ZONE).
 
 SELECT 'must be empty: a validator with another mode than the table''s' AS question;
@@ -9,20 +9,21 @@ SELECT v.validator, v.mode FROM (SELECT DISTINCT validator, mode FROM line) AS v
   LEFT JOIN ranges ON v.validator BETWEEN first_validator AND last_validator
   WHERE coalesce(v.mode, '') <> coalesce(ranges.mode, '') ORDER BY v.validator LIMIT 10;
 
--- What is left of the ceiling counts the cents that the window's earlier rides have in the ledger.
+-- What is left of the ceiling counts the cents that the window's earlier rides and their transfers
+-- have in the ledger.
 SELECT 'must be empty: a ride with other cents or another reason than its class gives' AS question;
 SELECT token, line, cents, reason FROM (
     SELECT l.token, l.line, l.cents, l.reason, l.ride, f.fare, c.rides,
            c.ceiling - l.earlier_cents AS rest
-      FROM (SELECT token, line, mode, cents, reason, ride,
+      FROM (SELECT token, line, mode, answer, cents, reason, ride,
                    coalesce(sum(cents) OVER (PARTITION BY token, window_start ORDER BY line
                             ROWS BETWEEN UNBOUNDED PRECEDING AND 1 PRECEDING), 0) AS earlier_cents
-              FROM line WHERE answer IN ('paid', 'capped')) AS l
+              FROM line WHERE window_start IS NOT NULL) AS l
       LEFT JOIN riders AS r ON r.token = l.token
       JOIN classes AS c
            ON c.name = coalesce(r.class, (SELECT name FROM classes WHERE is_default = 1))
       LEFT JOIN fares AS f ON f.class = c.name AND f.mode = l.mode
-      WHERE l.reason <> 'ride-limit') AS charged
+      WHERE l.answer <> 'transfer' AND l.reason <> 'ride-limit') AS charged
   WHERE ride IS NULL OR ride > rides OR fare IS NULL
      OR cents <> CASE WHEN rest <= 0 THEN 0 WHEN rest < fare THEN rest ELSE fare END
      OR reason <> CASE WHEN rest <= 0 THEN 'ceiling' WHEN rest < fare THEN 'ceiling-cut'

@@ -18,12 +18,12 @@ CREATE VIEW revenue AS
          count(CASE answer WHEN 'stale' THEN 1 END) AS stale, sum(cents) AS cents
   FROM line GROUP BY day, coalesce(mode, '-');
 
--- Each window of each rider.
+-- Each window of each rider: its rides, and their cents with those of their transfers.
 CREATE VIEW windows AS
-  SELECT token, window_start, window_end, count(*) AS rides,
+  SELECT token, window_start, window_end, count(CASE WHEN answer <> 'transfer' THEN 1 END) AS rides,
          count(CASE answer WHEN 'paid' THEN 1 END) AS paid,
          count(CASE answer WHEN 'capped' THEN 1 END) AS capped, sum(cents) AS cents
-  FROM line WHERE answer IN ('paid', 'capped') GROUP BY token, window_start, window_end;
+  FROM line WHERE window_start IS NOT NULL GROUP BY token, window_start, window_end;
 
 -- The windows in which a rider reached the cap, and the moment of the first free ride.
 CREATE VIEW riders_at_cap AS
@@ -32,11 +32,12 @@ CREATE VIEW riders_at_cap AS
          count(CASE reason WHEN 'ride-limit' THEN 1 END) AS by_rides
   FROM line WHERE answer = 'capped' GROUP BY token, window_start;
 
--- The rides that a cap beside `window` cut or freed, with its name.
-CREATE VIEW cap_rides AS
+-- The rides and transfers that a cap beside `window` cut or freed, with its name.
+CREATE VIEW cap_taps AS
   SELECT token, line, day, mode, answer, cents,
-         substr(reason, CASE answer WHEN 'paid' THEN 9 ELSE 5 END) AS cap
-  FROM line WHERE reason LIKE 'cap-cut:%' OR reason LIKE 'cap:%';
+         substr(reason, CASE WHEN reason LIKE 'cap:%' THEN 5 WHEN reason LIKE 'cap-cut:%' THEN 9
+                             WHEN reason LIKE 'transfer-cut:%' THEN 14 ELSE 17 END) AS cap
+  FROM line WHERE reason LIKE '%:%';
 
 -- Each transfer beside the ride that gives it: a token has one live tap at a moment.
 CREATE VIEW transfer_ride AS
@@ -46,7 +47,7 @@ CREATE VIEW transfer_ride AS
        AND r.moment = t.points_at AND r.answer IN ('paid', 'capped')
   WHERE t.answer = 'transfer';
 
--- Transfers by pair of modes.
+-- Transfers by pair of modes: of the ride, and of the transfer.
 CREATE VIEW transfers AS
   SELECT ride_mode AS from_mode, mode AS to_mode, count(*) AS taps
   FROM transfer_ride GROUP BY ride_mode, mode;

@@ -1,38 +1,46 @@
 -- Each way out of a step under caps is one of the rule's cases.
-use Rattle.std.proofs.Common.{◌≡◌, ℕ, List, [], ◌∷◌, ◌++◌, length, map, Some, None, sym}
-use Rattle.std.proofs.Common.{ap}
-use Rattle.std.proofs.Common.{◌∙◌, arith, subst}
-use Rattle.std.proofs.lemmas.List.{length-map}
+use Rattle.std.proofs.Common.{◌≡◌, ℕ, ◌-◌, ◌==◌, ◌||◌, Bool, true, false, cond, not, List, [], ◌∷◌, ◌++◌}
+use Rattle.std.proofs.Common.{length, map, Option, Some, None, refl, sym, ap, ◌∙◌, subst, inl, inr}
+use Rattle.std.proofs.Common.{arith, IfSome, ◌≤◌}
+use Rattle.std.proofs.lemmas.Bool.{cases_Bool, eqb-true, or_parts, true≢false}
 use Rattle.tariffs.specs.ClockView.{ClockView}
-use Rattle.tariffs.specs.Fares.{Fares, class_of, meaning_at, ride_terms}
+use Rattle.tariffs.specs.Fares.{Fares, class_of, has_caps_or_prices, has_prices, meaning_at}
+use Rattle.tariffs.specs.Fares.{price_of, ride_terms}
 use Rattle.tariffs.specs.TableMeaning.{TableMeaning}
 use Rattle.tariffs.specs.Terms.{AreBoundedTerms}
 use Rattle.tariffs.specs.Until.{window_end_in}
 use Rattle.tariffs.specs.declared.cap_terms.CapTerms.{CapTerms}
+use Rattle.tariffs.specs.declared.mode.Mode.{Mode}
 use Rattle.account_rule.specs.declared.account.Account.{Account}
 use Rattle.account_rule.specs.declared.reason.Reason.{Reason}
 use Rattle.account_rule.specs.declared.tap.TapIn.{TapIn}
 use Rattle.account_rule.specs.Reasons as rule
 use Rattle.account_rule.specs.Represents as kept
-use Rattle.account_rule.specs.Replies.{reply}
-use Rattle.account_rule.specs.TokenRules.{rules_of, token_class}
+use Rattle.account_rule.specs.Replies.{reply, reply_with}
 use Rattle.account_rule.specs.Taps.{live_at}
-use Rattle.fare_caps.specs.CapMeanings.{cap_positions, cap_rules, capped_rules_of}
-use Rattle.fare_caps.specs.CapStates.{CapStates, after_ride, states}
-use Rattle.fare_caps.specs.CappedReplies.{capped_reason, capped_reply}
-use Rattle.fare_caps.specs.Caps.{CappedRules}
-use Rattle.fare_caps.specs.Represents.{HasRoom, IsFurther, KeepsStates, Represents}
+use Rattle.account_rule.specs.TokenRules.{TokenRules, rules_of, token_class}
+use Rattle.account_rule.specs.Windows.{last_window}
+use Rattle.fare_caps.specs.CapMeanings.{cap_positions, cap_rules, capped_rules_of, pays_of}
+use Rattle.fare_caps.specs.CapStates.{states}
+use Rattle.fare_caps.specs.CappedReplies.{capped_reason, capped_reply, capped_window, replied_by}
+use Rattle.fare_caps.specs.CappedReplies.{transfer_by}
+use Rattle.fare_caps.specs.Charges.{cap_cents}
+use Rattle.fare_caps.specs.Caps.{CappedRules, has_more}
+use Rattle.fare_caps.specs.Laws.{without_caps}
+use Rattle.fare_caps.specs.Represents.{HasRoom, KeepsFurther, KeepsTrip, Represents}
 use Rattle.fare_caps.specs.declared.cap_charge.CapCharge.{CapCharge}
-use Rattle.fare_caps.specs.declared.capped_account.RideSeen.{RideSeen}
+use Rattle.fare_caps.specs.declared.capped_account.LiveKind.TheVariants as live
 use Rattle.fare_caps.specs.declared.capped_reason.CappedReason.{CappedReason}
 use Rattle.fare_caps.specs.declared.capped_reason.CappedReason.TheVariants.{Ride}
 use Rattle.fare_caps.specs.declared.further.Further.{Further}
-use Rattle.fare_caps.specs.inside.Further.{charge_of, counted_all, opened_all, said_by}
-use Rattle.fare_caps.specs.inside.Seen.{ride_seen, uncapped}
-use Rattle.fare_caps.proofs.FurtherLemmas.{caps_count, keeps-is, keeps-some, positions-none}
-use Rattle.fare_caps.proofs.FurtherLemmas.{positions-some, rides, said_to}
-use Rattle.fare_caps.proofs.NoCapsLemmas.{keeps-empty, reason-empty, reply-empty}
-use Rattle.fare_caps.proofs.SeenLemmas.{no-ride, ride}
+use Rattle.fare_caps.specs.inside.Further.{charge_of, counted_all, extra_of, opened_all, raised}
+use Rattle.fare_caps.specs.inside.Further.{said_by, transfer_reason, transferred, with_new_trip}
+use Rattle.fare_caps.specs.inside.Further.{with_some_cents}
+use Rattle.fare_caps.specs.inside.Seen.{live_kind, uncapped}
+use Rattle.fare_caps.proofs.FurtherLemmas.{no-length, opened_to, reason-of, rides, said_to}
+use Rattle.fare_caps.proofs.FurtherLemmas.{same-window, transfers}
+use Rattle.fare_caps.proofs.NoCapsLemmas.{reason-none, reply-none, window-none}
+use Rattle.fare_caps.proofs.SeenLemmas.{no-ride, ride, transfer}
 
 -- a step from one account to the next is the rule's
 pub record IsStep (capped : CappedRules) (taps : List TapIn) (tap : TapIn) (one : CappedReason)
@@ -41,167 +49,279 @@ pub record IsStep (capped : CappedRules) (taps : List TapIn) (tap : TapIn) (one 
   pub holds : Represents capped (record { account = account; further = further })
       (taps ++ tap ∷ [])
 
--- there are no caps
+-- ---- what a table has
+
+no-positions : (caps : List CapTerms) → length caps ≡ 0 → cap_positions caps ≡ []
+no-positions [] none = refl
+no-positions (one ∷ more) none = absurd (omega (arith, none))
+
+-- a table with neither caps nor prices has the rules without them
+pub plain-rules : (fares : Fares) (token : List ℕ) → has_caps_or_prices fares ≡ false
+    → capped_rules_of fares token ≡ without_caps (rules_of fares token)
+unfolding capped_rules_of
+plain-rules fares token plain =
+    let both = or_parts (not (length fares.meaning.caps == 0)) (has_prices fares) plain in
+    rw (
+      both.1,
+      no-positions fares.meaning.caps (no-length (length fares.meaning.caps) both.0),
+    ) refl
+
+same-caps : (fares : Fares) (token : List ℕ) (caps : List CapTerms) (priced : Bool)
+    → has_more (record {
+      rules = rules_of fares token;
+      caps = map (cap_rules fares token) (cap_positions caps);
+      pays = cond priced (Some (pays_of fares)) None;
+    }) ≡ (not (length caps == 0) || priced)
+same-caps fares token [] true = refl
+same-caps fares token [] false = refl
+same-caps fares token (a ∷ []) priced = refl
+same-caps fares token (a ∷ b ∷ []) priced = refl
+same-caps fares token (a ∷ b ∷ c ∷ more) priced =
+    elim (cases_Bool (length (a ∷ b ∷ c ∷ more) == 0)) [
+      | inl none ↦ absurd (omega (arith, eqb-true (length (a ∷ b ∷ c ∷ more)) 0 none))
+      | inr some ↦ rw some refl
+    ]
+
+-- a table with caps or prices keeps more
+pub some-rules : (fares : Fares) (token : List ℕ) → has_caps_or_prices fares ≡ true
+    → has_more (capped_rules_of fares token) ≡ true
+unfolding capped_rules_of
+some-rules fares token some =
+    same-caps fares token fares.meaning.caps (has_prices fares) ∙ some
+
+plain-keeps : (rules : TokenRules) (further : Further) (taps : List TapIn)
+    → has_more (without_caps rules) ≡ true → KeepsFurther (without_caps rules) further taps
+plain-keeps rules further taps more = absurd (true≢false (sym more))
+
+-- ---- the steps
+
+plain-step : (rules : TokenRules) (account : Account) (further : Further) (taps : List TapIn)
+    (tap : TapIn) (one : Reason)
+    → one ≡ rule.reason rules taps tap
+    → kept.Represents rules account (taps ++ tap ∷ [])
+    → IsStep (without_caps rules) taps tap (uncapped one) account further
+plain-step rules account further taps tap one is holds = record {
+  reason = ap uncapped is ∙ sym (reason-none rules taps tap);
+  holds = record {
+    account = holds;
+    further = plain-keeps rules further (taps ++ tap ∷ []);
+  };
+}
+
+-- there are neither caps nor prices
 pub empty-step : (fares : Fares) (token : List ℕ) (account : Account)
     (further : Further) (taps : List TapIn) (tap : TapIn) (one : Reason)
-    → length fares.meaning.caps ≡ 0
+    → has_caps_or_prices fares ≡ false
     → one ≡ rule.reason (rules_of fares token) taps tap
     → kept.Represents (rules_of fares token) account (taps ++ tap ∷ [])
     → IsStep (capped_rules_of fares token) taps tap (uncapped one) account further
-unfolding capped_rules_of
-empty-step fares token account further taps tap one none is holds =
-    let empty : length (map (cap_rules fares token) (cap_positions fares.meaning.caps)) ≡ 0 =
-    omega (
-      arith,
-      positions-none fares.meaning.caps none,
-      length-map (cap_positions fares.meaning.caps) (cap_rules fares token),
-    ) in
-    record {
-      reason = ap uncapped is
-          ∙ sym (reason-empty (rules_of fares token)
-          (map (cap_rules fares token) (cap_positions fares.meaning.caps)) taps tap
-          empty);
-      holds = record {
-        account = holds;
-        further = keeps-empty (map (cap_rules fares token) (cap_positions fares.meaning.caps)) further
-            _ empty;
-      };
-    }
+empty-step fares token account further taps tap one plain is holds =
+    rw (plain-rules fares token plain)
+    (plain-step (rules_of fares token) account further taps tap one is holds)
 
--- the tap is no ride
+-- the tap is not live
 pub free-step : (fares : Fares) (token : List ℕ) (account : Account)
     (further : Further) (taps : List TapIn) (tap : TapIn) (one : Reason)
     → one ≡ rule.reason (rules_of fares token) taps tap
     → kept.Represents (rules_of fares token) account (taps ++ tap ∷ [])
-    → KeepsStates (capped_rules_of fares token).caps further
-    (states (capped_rules_of fares token) taps)
-    → ride_seen one tap.mode ≡ None
+    → (has_more (capped_rules_of fares token) ≡ true
+    → KeepsFurther (capped_rules_of fares token) further taps)
+    → live_kind one tap.mode ≡ live.Free
     → IsStep (capped_rules_of fares token) taps tap (uncapped one) account further
 unfolding capped_rules_of
 free-step fares token account further taps tap one is holds keeps none =
     let free = no-ride (capped_rules_of fares token) taps tap (rw is at none) in
     record {
       reason = ap uncapped is ∙ sym free.reason;
-      holds = record { account = holds; further = rw free.same keeps };
+      holds = record {
+        account = holds;
+        further = λ more. record {
+          states = rw free.same (keeps more).states;
+          trip = rw free.trip (keeps more).trip;
+        };
+      };
     }
 
 -- the tap is a ride
-pub ride-step : (fares : Fares) (token : List ℕ) (account : Account)
-    (further after : Further) (taps : List TapIn) (tap : TapIn) (one : Reason) (seen : RideSeen)
-    (charge : CapCharge)
-    → (length fares.meaning.caps ≡ 0 → ⊥)
+ride-step : (fares : Fares) (token : List ℕ) (account : Account)
+    (further after : Further) (taps : List TapIn) (tap : TapIn) (one : Reason) (start until : ℕ)
+    (mode : Mode) (charge : CapCharge)
     → one ≡ rule.reason (rules_of fares token) taps tap
     → kept.Represents (rules_of fares token) account (taps ++ tap ∷ [])
-    → KeepsStates (capped_rules_of fares token).caps further
-    (states (capped_rules_of fares token) taps)
-    → ride_seen one tap.mode ≡ Some seen
-    → AreBoundedTerms ((rules_of fares token).terms (live_at tap.moment seen.mode))
+    → KeepsFurther (capped_rules_of fares token) further taps
+    → live_kind one tap.mode ≡ live.Ride start until mode
+    → AreBoundedTerms ((rules_of fares token).terms (live_at tap.moment mode))
     → HasRoom after
-    → charge ≡ charge_of ((rules_of fares token).terms (live_at tap.moment seen.mode))
-    (said_to fares token tap.moment seen.mode)
-    (opened_all fares.zone tap.moment ((rules_of fares token).until tap.moment)
-    (said_to fares token tap.moment seen.mode) further)
-    → after ≡ counted_all charge (said_to fares token tap.moment seen.mode)
-    (opened_all fares.zone tap.moment ((rules_of fares token).until tap.moment)
-    (said_to fares token tap.moment seen.mode) further)
-    → IsStep (capped_rules_of fares token) taps tap (Ride seen.start seen.until charge) account
-    after
+    → charge ≡ charge_of ((rules_of fares token).terms (live_at tap.moment mode))
+    (said_to fares token tap.moment mode) (opened_to fares token tap.moment mode further)
+    → after ≡ with_new_trip ((rules_of fares token).terms (live_at tap.moment mode)).fare mode
+    (counted_all charge (said_to fares token tap.moment mode)
+    (opened_to fares token tap.moment mode further))
+    → IsStep (capped_rules_of fares token) taps tap (Ride start until charge) account after
 unfolding capped_rules_of
-ride-step fares token account further after taps tap one seen charge some is holds keeps
-    seen-is bounds room costs counted =
-    let long = length-map (cap_positions fares.meaning.caps) (cap_rules fares token) in
-    let before : IsFurther (caps_count fares) further (states (capped_rules_of fares token) taps) =
-    subst (λ n. IsFurther n further (states (capped_rules_of fares token) taps)) long
-    (keeps-some (map (cap_rules fares token) (cap_positions fares.meaning.caps)) further _
-    (λ none. some (positions-some fares.meaning.caps (omega (arith, none, long)))) keeps) in
-    let now = rides fares token tap.moment seen.mode further after _ charge before bounds
+ride-step fares token account further after taps tap one start until mode charge is holds keeps
+    seen bounds room costs counted =
+    let now = rides fares token tap.moment mode further after _ charge keeps.states bounds
     room costs counted in
-    let it = ride (capped_rules_of fares token) taps tap seen (rw is at seen-is) in
+    let it = ride (capped_rules_of fares token) taps tap start until mode (rw is at seen) in
     record {
-      reason = ap (λ c. Ride seen.start seen.until c) now.costs ∙ sym it.reason;
+      reason = ap (λ c. Ride start until c) now.costs ∙ sym it.reason;
       holds = record {
         account = holds;
-        further = rw it.more
-            (keeps-is (map (cap_rules fares token) (cap_positions fares.meaning.caps)) after _
-            (subst (λ n. IsFurther n after (after_ride (capped_rules_of fares token)
-            (states (capped_rules_of fares token) taps) (live_at tap.moment seen.mode)))
-            (sym long) now.state));
+        further = λ _. record {
+          states = rw it.more now.state;
+          trip = rw it.trip now.trip;
+        };
       };
     }
 
 -- the same by the meaning that is valid, the token's class in it and a clock
 pub ride-step-by : (fares : Fares) (token : List ℕ) (account : Account)
-    (further after : Further) (taps : List TapIn) (tap : TapIn) (one : Reason) (seen : RideSeen)
-    (charge : CapCharge) (clock : ClockView) (meaning : TableMeaning) (class : ℕ)
+    (further after : Further) (taps : List TapIn) (tap : TapIn) (one : Reason) (start until : ℕ)
+    (mode : Mode) (charge : CapCharge) (clock : ClockView) (meaning : TableMeaning) (class : ℕ)
     (caps : List CapTerms)
-    → (length fares.meaning.caps ≡ 0 → ⊥)
     → one ≡ rule.reason (rules_of fares token) taps tap
     → kept.Represents (rules_of fares token) account (taps ++ tap ∷ [])
-    → KeepsStates (capped_rules_of fares token).caps further
-    (states (capped_rules_of fares token) taps)
-    → ride_seen one tap.mode ≡ Some seen
+    → KeepsFurther (capped_rules_of fares token) further taps
+    → live_kind one tap.mode ≡ live.Ride start until mode
     → clock ≡ fares.zone → meaning ≡ meaning_at fares tap.moment → class ≡ class_of meaning token
     → caps ≡ fares.meaning.caps
-    → AreBoundedTerms (ride_terms meaning class seen.mode.position)
+    → AreBoundedTerms (ride_terms meaning class mode.position)
     → HasRoom after
-    → charge ≡ charge_of (ride_terms meaning class seen.mode.position)
-    (said_by caps meaning seen.mode.position class)
+    → charge ≡ charge_of (ride_terms meaning class mode.position)
+    (said_by caps meaning mode.position class)
     (opened_all clock tap.moment (window_end_in clock meaning.window tap.moment)
-    (said_by caps meaning seen.mode.position class) further)
-    → after ≡ counted_all charge (said_by caps meaning seen.mode.position class)
+    (said_by caps meaning mode.position class) further)
+    → after ≡ with_new_trip (ride_terms meaning class mode.position).fare mode
+    (counted_all charge (said_by caps meaning mode.position class)
     (opened_all clock tap.moment (window_end_in clock meaning.window tap.moment)
-    (said_by caps meaning seen.mode.position class) further)
-    → IsStep (capped_rules_of fares token) taps tap (Ride seen.start seen.until charge) account
-    after
+    (said_by caps meaning mode.position class) further))
+    → IsStep (capped_rules_of fares token) taps tap (Ride start until charge) account after
 unfolding rules_of token_class live_at
-ride-step-by fares token account further after taps tap one seen charge clock meaning class
-    caps some is holds keeps seen-is clock-is meaning-is class-is caps-is bounds room costs counted =
+ride-step-by fares token account further after taps tap one start until mode charge clock meaning
+    class caps is holds keeps seen clock-is meaning-is class-is caps-is bounds room costs counted =
     let class-at : class ≡ class_of (meaning_at fares tap.moment) token =
     rw meaning-is at class-is in
-    ride-step fares token account further after taps tap one seen charge some is holds
-    keeps
-    seen-is (rw (meaning-is, class-at) at bounds) room
+    ride-step fares token account further after taps tap one start until mode charge is holds
+    keeps seen (rw (meaning-is, class-at) at bounds) room
     (rw (clock-is, meaning-is, class-at, caps-is) at costs)
     (rw (clock-is, meaning-is, class-at, caps-is) at counted)
 
--- the numbers that are kept leave room for one more ride
-pub has-room : (fares : Fares) (token : List ℕ) (further : Further)
-    (states : CapStates) → (length fares.meaning.caps ≡ 0 → ⊥)
-    → KeepsStates (capped_rules_of fares token).caps further states → HasRoom further
+-- the tap is a transfer
+transfer-step : (fares : Fares) (token : List ℕ) (account : Account)
+    (further after : Further) (taps : List TapIn) (tap : TapIn) (one : Reason) (moment : ℕ)
+    (ride_mode mode : Mode) (charge : Option CapCharge)
+    → one ≡ rule.reason (rules_of fares token) taps tap
+    → kept.Represents (rules_of fares token) account (taps ++ tap ∷ [])
+    → KeepsFurther (capped_rules_of fares token) further taps
+    → live_kind one tap.mode ≡ live.Transfer moment ride_mode mode
+    → HasRoom after
+    → charge ≡ extra_of ((rules_of fares token).terms (live_at tap.moment mode))
+    (said_to fares token tap.moment mode)
+    (raised (price_of (meaning_at fares tap.moment) further.mode.position mode.position)
+    ((rules_of fares token).terms (live_at tap.moment mode)).fare further - further.price)
+    (transferred (price_of (meaning_at fares tap.moment) further.mode.position mode.position)
+    ((rules_of fares token).terms (live_at tap.moment mode)).fare mode further)
+    → after ≡ with_some_cents charge (said_to fares token tap.moment mode)
+    (transferred (price_of (meaning_at fares tap.moment) further.mode.position mode.position)
+    ((rules_of fares token).terms (live_at tap.moment mode)).fare mode further)
+    → IsStep (capped_rules_of fares token) taps tap (transfer_reason after moment ride_mode charge)
+    account after
 unfolding capped_rules_of
-has-room fares token further states some keeps =
-    let long = length-map (cap_positions fares.meaning.caps) (cap_rules fares token) in
-    (keeps-some (map (cap_rules fares token) (cap_positions fares.meaning.caps)) further states
-    (λ none. some (positions-some fares.meaning.caps (omega (arith, none, long)))) keeps).room
+transfer-step fares token account further after taps tap one moment ride_mode mode charge is holds
+    keeps seen room costs counted =
+    let it = transfer (capped_rules_of fares token) taps tap moment ride_mode mode
+    (rw is at seen) in
+    let trip = subst (λ t. KeepsTrip (capped_rules_of fares token) further t) it.before keeps.trip in
+    let window = same-window charge (said_to fares token tap.moment mode)
+    (price_of (meaning_at fares tap.moment) further.mode.position mode.position)
+    ((rules_of fares token).terms (live_at tap.moment mode)).fare mode further in
+    let now = transfers fares token tap.moment mode further after _ it.ride it.given charge
+    keeps.states trip room costs counted in
+    record {
+      reason = reason-of (length (capped_rules_of fares token).caps) further after _ moment ride_mode
+          charge keeps.states (ap (λ (f : Further). f.window.start) counted ∙ window.0)
+          (ap (λ (f : Further). f.window.until) counted ∙ window.1)
+          ∙ ap (λ c. transfer_by (states (capped_rules_of fares token) taps) moment ride_mode c)
+          now.costs ∙ sym it.reason;
+      holds = record {
+        account = holds;
+        further = λ _. record {
+          states = rw (it.more, ← now.costs) now.state;
+          trip = rw it.trip now.trip;
+        };
+      };
+    }
 
--- there are no caps, and the reply is asked for
+-- the same by the meaning that is valid and the token's class in it
+pub transfer-step-by : (fares : Fares) (token : List ℕ) (account : Account)
+    (further after : Further) (taps : List TapIn) (tap : TapIn) (one : Reason) (moment : ℕ)
+    (ride_mode mode : Mode) (charge : Option CapCharge) (meaning : TableMeaning) (class : ℕ)
+    (caps : List CapTerms)
+    → one ≡ rule.reason (rules_of fares token) taps tap
+    → kept.Represents (rules_of fares token) account (taps ++ tap ∷ [])
+    → KeepsFurther (capped_rules_of fares token) further taps
+    → live_kind one tap.mode ≡ live.Transfer moment ride_mode mode
+    → meaning ≡ meaning_at fares tap.moment → class ≡ class_of meaning token
+    → caps ≡ fares.meaning.caps
+    → HasRoom after
+    → charge ≡ extra_of (ride_terms meaning class mode.position)
+    (said_by caps meaning mode.position class)
+    (raised (price_of meaning further.mode.position mode.position)
+    (ride_terms meaning class mode.position).fare further - further.price)
+    (transferred (price_of meaning further.mode.position mode.position)
+    (ride_terms meaning class mode.position).fare mode further)
+    → after ≡ with_some_cents charge (said_by caps meaning mode.position class)
+    (transferred (price_of meaning further.mode.position mode.position)
+    (ride_terms meaning class mode.position).fare mode further)
+    → IsStep (capped_rules_of fares token) taps tap (transfer_reason after moment ride_mode charge)
+    account after
+unfolding rules_of token_class live_at
+transfer-step-by fares token account further after taps tap one moment ride_mode mode charge
+    meaning class caps is holds keeps seen meaning-is class-is caps-is room costs counted =
+    let class-at : class ≡ class_of (meaning_at fares tap.moment) token =
+    rw meaning-is at class-is in
+    transfer-step fares token account further after taps tap one moment ride_mode mode charge is
+    holds keeps seen room
+    (rw (meaning-is, class-at, caps-is) at costs)
+    (rw (meaning-is, class-at, caps-is) at counted)
+
+-- the reply to a transfer costs few cents
+pub few-reason : (further : Further) (moment : ℕ) (mode : Mode) (charge : Option CapCharge)
+    → IfSome charge (λ one. cap_cents one ≤ 100_000)
+    → (replied_by (transfer_reason further moment mode charge)).cents ≤ 100_000
+unfolding reply_with
+few-reason further moment mode None few = omega arith
+few-reason further moment mode (Some charge) few = few
+
+-- ---- there are neither caps nor prices, and the reply is computed
 pub empty-reply : (fares : Fares) (token : List ℕ) (taps : List TapIn)
     (tap : TapIn)
-    → length fares.meaning.caps ≡ 0
+    → has_caps_or_prices fares ≡ false
     → capped_reply (capped_rules_of fares token) taps tap
     ≡ reply (rules_of fares token) taps tap
-unfolding capped_rules_of
-empty-reply fares token taps tap none =
-    reply-empty (rules_of fares token) (map (cap_rules fares token) (cap_positions fares.meaning.caps))
-    taps tap
-    (omega (
-      arith,
-      positions-none fares.meaning.caps none,
-      length-map (cap_positions fares.meaning.caps) (cap_rules fares token),
-    ))
+empty-reply fares token taps tap plain =
+    rw (plain-rules fares token plain) (reply-none (rules_of fares token) taps tap)
+
+plain-holds : (rules : TokenRules) (account : Account) (further : Further) (taps : List TapIn)
+    → kept.Represents rules account taps
+    → Represents (without_caps rules) (record { account = account; further = further }) taps
+plain-holds rules account further taps holds = record {
+  account = holds;
+  further = plain-keeps rules further taps;
+}
+
+pub empty-window : (fares : Fares) (token : List ℕ) (taps : List TapIn)
+    → has_caps_or_prices fares ≡ false
+    → capped_window (capped_rules_of fares token) taps ≡ last_window (rules_of fares token) taps
+empty-window fares token taps plain =
+    rw (plain-rules fares token plain) (window-none (rules_of fares token) taps)
 
 pub empty-holds : (fares : Fares) (token : List ℕ) (account : Account)
-    (further : Further) (taps : List TapIn) → length fares.meaning.caps ≡ 0
+    (further : Further) (taps : List TapIn) → has_caps_or_prices fares ≡ false
     → kept.Represents (rules_of fares token) account taps
     → Represents (capped_rules_of fares token)
     (record { account = account; further = further }) taps
-unfolding capped_rules_of
-empty-holds fares token account further taps none holds = record {
-  account = holds;
-  further = keeps-empty (map (cap_rules fares token) (cap_positions fares.meaning.caps)) further _
-      (omega (
-        arith,
-        positions-none fares.meaning.caps none,
-        length-map (cap_positions fares.meaning.caps) (cap_rules fares token),
-      ));
-}
+empty-holds fares token account further taps plain holds =
+    rw (plain-rules fares token plain)
+    (plain-holds (rules_of fares token) account further taps holds)

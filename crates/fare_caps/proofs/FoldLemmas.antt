@@ -1,11 +1,12 @@
 -- A fold over rides whose steps open and extend blocks says what the last block says.
-use Rattle.std.proofs.Common.{◌≡◌, Bool, cond, List, [], ◌∷◌, ◌++◌, refl, sym, ap, ◌∙◌, append-nil}
-use Rattle.std.proofs.Common.{append_assoc}
+use Rattle.std.proofs.Common.{◌≡◌, Bool, cond, List, [], ◌∷◌, ◌++◌, map, refl, sym, ap, ◌∙◌}
+use Rattle.std.proofs.Common.{append-nil, append_assoc}
 use Rattle.account_rule.specs.Blocks.{blocks_by, last_block}
 use Rattle.account_rule.specs.Taps.{LiveTap}
 use Rattle.account_rule.proofs.BlockLemmas.{blocks_by-push, last_block-extend}
 use Rattle.fare_caps.specs.Caps.{CappedRules}
-use Rattle.fare_caps.specs.CapStates.{CapStates, after_ride, after_rides}
+use Rattle.fare_caps.specs.CapStates.{CapStates, after_due, after_dues, after_ride}
+use Rattle.fare_caps.specs.Prices.{Due, of_ride}
 
 -- what holds of the empty list and with one more element holds of each list
 pub by_pushes : {A : Type 0} (P : List A → Type 0) → P []
@@ -15,6 +16,27 @@ by_pushes P none more earlier [] all = rw (append-nil earlier) all
 by_pushes P none more earlier (x ∷ xs) all =
     rw (← append_assoc earlier (x ∷ []) xs)
     (by_pushes P none more (earlier ++ x ∷ []) xs (more earlier x all))
+
+-- the states after more taps
+pub after_dues-append : (capped : CappedRules) (states : CapStates) (dues more : List Due)
+    → after_dues capped states (dues ++ more)
+    ≡ after_dues capped (after_dues capped states dues) more
+unfolding after_dues
+after_dues-append capped states [] more = refl
+after_dues-append capped states (due ∷ dues) more =
+    after_dues-append capped (after_due capped states due) dues more
+
+-- the states after rides alone
+unfoldable pub after_rides : CappedRules → CapStates → List LiveTap → CapStates
+after_rides capped states [] = states
+after_rides capped states (ride ∷ more) =
+    after_rides capped (after_ride capped states ride) more
+
+pub rides-alone : (capped : CappedRules) (states : CapStates) (rides : List LiveTap)
+    → after_dues capped states (map of_ride rides) ≡ after_rides capped states rides
+unfolding after_dues after_due after_rides
+rides-alone capped states [] = refl
+rides-alone capped states (ride ∷ more) = rides-alone capped (after_ride capped states ride) more
 
 -- the states after one more ride
 pub after_rides-push : (capped : CappedRules) (states : CapStates) (rides : List LiveTap)

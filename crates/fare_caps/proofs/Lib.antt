@@ -8,5 +8,6 @@ pub mod FurtherLemmas
 pub mod LoweredLemmas
 pub mod NoCapsLemmas
 pub mod OneMoreLemmas
+pub mod PriceLemmas
 pub mod RideLemmas
 pub mod SeenLemmas

@@ -1,9 +1,10 @@
 -- With no cap beside `window`, the states are the numbers of its last window.
-use Rattle.std.proofs.Common.{◌≡◌, ℕ, ◌+◌, true, false, cond, List, [], ◌∷◌, ◌++◌}
+use Rattle.std.proofs.Common.{◌≡◌, ℕ, ◌+◌, Bool, true, false, cond, List, [], ◌∷◌, ◌++◌}
 use Rattle.std.proofs.Common.{Option, Some, None, refl, sym, ap, ◌∙◌, length, nat_lt}
 use Rattle.std.proofs.Common.{arith}
 use Rattle.std.proofs.Common.{append-nil, append_assoc, option_map}
 use Rattle.std.proofs.lemmas.Bool.{le-ltb}
+use Rattle.std.specs.List.{last_or}
 use Rattle.tariffs.specs.declared.mode.Mode.{Mode}
 use Rattle.account_rule.specs.declared.reason.Charge.{Charge}
 use Rattle.account_rule.specs.declared.reason.Charge.TheVariants.{CeilingCut, CeilingReached, Full}
@@ -24,8 +25,6 @@ use Rattle.account_rule.proofs.BlockLemmas.{length-push}
 use Rattle.account_rule.proofs.LimitLemmas.{cents-push, last_charge-push, paid-push}
 use Rattle.account_rule.proofs.ReasonLemmas.{reply-follows}
 use Rattle.account_rule.proofs.WindowLemmas.{after_ride as after_window}
-use Rattle.fare_caps.specs.Represents.{KeepsStates}
-use Rattle.fare_caps.specs.declared.further.Further.{Further}
 use Rattle.fare_caps.specs.Caps.{CapRules, CappedRules, counted, each_window, no_window, opened}
 use Rattle.fare_caps.specs.Caps.{opened_until}
 use Rattle.fare_caps.specs.Caps.{window_cap}
@@ -33,13 +32,20 @@ use Rattle.fare_caps.specs.CapStates.{CapStates, after_ride, at_ride, charge_at,
 use Rattle.fare_caps.specs.CapStates.{ride_charge, states, with_charge}
 use Rattle.fare_caps.specs.CappedReplies.{capped_reason, capped_replies, capped_replies_after}
 use Rattle.fare_caps.specs.CappedReplies.{capped_reply, capped_window, replied_by}
-use Rattle.fare_caps.specs.CappedReplies.{under_caps}
+use Rattle.fare_caps.specs.CappedReplies.{transfer_charge, under_caps}
 use Rattle.fare_caps.specs.inside.Seen.{uncapped}
-use Rattle.fare_caps.specs.Charges.{least_from, lowered}
+use Rattle.fare_caps.specs.Charges.{is_freed_by, least_from, lowered}
 use Rattle.fare_caps.specs.Laws.{without_caps}
 use Rattle.fare_caps.specs.declared.cap_charge.CapCharge.TheVariants.{ByWindow}
-use Rattle.fare_caps.proofs.FoldLemmas.{fold-last}
-use Rattle.fare_caps.proofs.RideLemmas.{is_of_ride, is_free, is_ride, tapped}
+use Rattle.fare_caps.proofs.FoldLemmas.{fold-last, rides-alone}
+use Rattle.fare_caps.proofs.PriceLemmas.{dues-free, extra-free}
+use Rattle.fare_caps.proofs.RideLemmas.{is_of_live, is_free, is_ride, is_transfer, tapped}
+use Rattle.fare_caps.proofs.RideLemmas.{trip_before}
+
+-- whether the limit of rides frees the ride of the charge, if there is one
+abbrev freed_by : Option Charge → Bool
+freed_by None = false
+freed_by (Some charge) = is_freed_by charge
 
 -- the states of rides that opened a window at a moment
 abbrev numbers : TokenRules → ℕ → ℕ → List LiveTap → CapStates
@@ -48,7 +54,12 @@ numbers rules start until block = record {
   paid = paid_rides rules.terms block;
   window = record { start = start; until = until; cents = window_cents rules.terms block };
   caps = [];
+  freed = freed_by (last_or None (charges rules.terms block));
 }
+
+-- the same, whether the limit of rides freed the last ride or not
+abbrev freed_as : Bool → CapStates → CapStates
+freed_as freed states = record states { freed = freed }
 
 -- what a window says
 unfoldable pub of_block : TokenRules → List LiveTap → CapStates
@@ -63,32 +74,39 @@ by-window (CeilingReached position) = refl
 by-window RideLimitReached = refl
 
 -- the charge in the states of a window that has begun
-charge-numbers : (rules : TokenRules) (start until : ℕ) (block : List LiveTap) (ride : LiveTap)
-    → charge_at (without_caps rules) ride (numbers rules start until block)
+charge-numbers : (rules : TokenRules) (start until : ℕ) (block : List LiveTap) (freed : Bool)
+    (ride : LiveTap)
+    → charge_at (without_caps rules) ride (freed_as freed (numbers rules start until block))
     ≡ ByWindow (charge (rules.terms ride) (length block) (window_cents rules.terms block))
 unfolding charge_at least_from
-charge-numbers rules start until block ride = by-window _
+charge-numbers rules start until block freed ride = by-window _
 
 -- one more ride of the window
-numbers-push : (rules : TokenRules) (start until : ℕ) (block : List LiveTap) (ride : LiveTap)
+numbers-push : (rules : TokenRules) (start until : ℕ) (block : List LiveTap) (freed : Bool)
+    (ride : LiveTap)
     → with_charge (without_caps rules) ride
-    (charge_at (without_caps rules) ride (numbers rules start until block))
-    (numbers rules start until block)
+    (charge_at (without_caps rules) ride (freed_as freed (numbers rules start until block)))
+    (freed_as freed (numbers rules start until block))
     ≡ numbers rules start until (block ++ ride ∷ [])
 unfolding with_charge each_window counted window_cap is_paid
-numbers-push rules start until block ride =
+numbers-push rules start until block freed ride =
     let long : length (block ++ ride ∷ []) ≡ length block + 1 =
     omega (arith, length-push block ride) in
     rw (
-      charge-numbers rules start until block ride,
+      charge-numbers rules start until block freed ride,
       paid-push rules.terms block ride,
       cents-push rules.terms block ride,
+      last_charge-push rules.terms block ride,
       long,
     ) refl
 
 none-paid : (rules : TokenRules) → paid_rides rules.terms [] ≡ 0
 unfolding paid_rides charges charges_after
 none-paid rules = refl
+
+none-charged : (rules : TokenRules) → charges rules.terms [] ≡ []
+unfolding charges charges_after
+none-charged rules = refl
 
 none-cost : (rules : TokenRules) → window_cents rules.terms [] ≡ 0
 unfolding window_cents charges charges_after
@@ -97,8 +115,8 @@ none-cost rules = refl
 -- the states in which a ride is charged are those of its window before it
 at_ride-block : (rules : TokenRules) (block : List LiveTap) (ride : LiveTap)
     → at_ride (without_caps rules) ride (of_block rules block)
-    ≡ cond (is_within rules.until block ride) (of_block rules block)
-    (numbers rules ride.moment (rules.until ride.moment) [])
+    ≡ freed_as (of_block rules block).freed (cond (is_within rules.until block ride)
+    (of_block rules block) (numbers rules ride.moment (rules.until ride.moment) []))
 unfolding at_ride of_block opened opened_until window_cap each_window is_within
 at_ride-block rules [] ride =
     let past : nat_lt ride.moment 0 ≡ false = le-ltb ride.moment 0 (omega arith) in
@@ -113,8 +131,10 @@ at_ride-block rules (first ∷ block) ride =
         cents = window_cents rules.terms (first ∷ block);
       }) (record { start = ride.moment; until = rules.until ride.moment; cents = 0 });
       caps = [];
-    } ≡ cond v (numbers rules first.moment (rules.until first.moment) (first ∷ block))
-    (numbers rules ride.moment (rules.until ride.moment) [])) [
+      freed = (numbers rules first.moment (rules.until first.moment) (first ∷ block)).freed;
+    } ≡ freed_as (numbers rules first.moment (rules.until first.moment) (first ∷ block)).freed
+    (cond v (numbers rules first.moment (rules.until first.moment) (first ∷ block))
+    (numbers rules ride.moment (rules.until ride.moment) []))) [
       | true ↦ refl
       | false ↦ rw (none-paid rules, none-cost rules) refl
     ]
@@ -126,30 +146,31 @@ after_ride-block : (rules : TokenRules) (block : List LiveTap) (ride : LiveTap)
 unfolding after_ride ride_charge of_block is_within
 after_ride-block rules [] ride =
     rw (at_ride-block rules [] ride)
-    (numbers-push rules ride.moment (rules.until ride.moment) [] ride)
+    (numbers-push rules ride.moment (rules.until ride.moment) [] _ ride)
 after_ride-block rules (first ∷ block) ride =
+    let freed = (numbers rules first.moment (rules.until first.moment) (first ∷ block)).freed in
     rw (at_ride-block rules (first ∷ block) ride)
     (elim (nat_lt ride.moment (rules.until first.moment)) as (λ v.
     with_charge (without_caps rules) ride (charge_at (without_caps rules) ride
-    (cond v (numbers rules first.moment (rules.until first.moment) (first ∷ block))
+    (freed_as freed (cond v (numbers rules first.moment (rules.until first.moment) (first ∷ block))
+    (numbers rules ride.moment (rules.until ride.moment) []))))
+    (freed_as freed (cond v (numbers rules first.moment (rules.until first.moment) (first ∷ block))
     (numbers rules ride.moment (rules.until ride.moment) [])))
-    (cond v (numbers rules first.moment (rules.until first.moment) (first ∷ block))
-    (numbers rules ride.moment (rules.until ride.moment) []))
     ≡ of_block rules (cond v (first ∷ (block ++ ride ∷ [])) (ride ∷ []))) [
-      | true ↦ numbers-push rules first.moment (rules.until first.moment) (first ∷ block) ride
-      | false ↦ numbers-push rules ride.moment (rules.until ride.moment) [] ride
+      | true ↦ numbers-push rules first.moment (rules.until first.moment) (first ∷ block) freed ride
+      | false ↦ numbers-push rules ride.moment (rules.until ride.moment) [] freed ride
     ])
 
 first-states : (rules : TokenRules) → no_rides (without_caps rules) ≡ of_block rules []
 unfolding no_rides of_block no_window
-first-states rules = rw (none-paid rules, none-cost rules) refl
+first-states rules = rw (none-paid rules, none-cost rules, none-charged rules) refl
 
 -- the states are what the last window says
 pub states-block : (rules : TokenRules) (taps : List TapIn)
     → states (without_caps rules) taps ≡ of_block rules (last_block (windows rules taps))
 unfolding states windows
 states-block rules taps =
-    rw (first-states rules)
+    rw (dues-free rules [] taps, rides-alone, first-states rules)
     (fold-last (without_caps rules) (is_within rules.until) (of_block rules) _
     (after_ride-block rules))
 
@@ -190,22 +211,31 @@ ride-block rules (first ∷ block) ride =
           (last_charge-push rules.terms [] ride)
     ])
 
-pub free-same : (capped : CappedRules) (states : CapStates) (tap : TapIn) (one : Reason)
-    → is_of_ride one ≡ false → under_caps capped states tap one ≡ uncapped one
-free-same capped states tap reason.Unknown free = refl
-free-same capped states tap (reason.Stale latest) free = refl
-free-same capped states tap (reason.Transfer moment mode) free = refl
-free-same capped states tap (reason.Ride start until charge) free = absurd (cc (free))
+pub free-same : (capped : CappedRules) (states : CapStates) (trip : List LiveTap) (tap : TapIn)
+    (one : Reason)
+    → is_of_live one ≡ false → under_caps capped states trip tap one ≡ uncapped one
+free-same capped states trip tap reason.Unknown free = refl
+free-same capped states trip tap (reason.Stale latest) free = refl
+free-same capped states trip tap (reason.Transfer moment mode) free = absurd (cc (free))
+free-same capped states trip tap (reason.Ride start until charge) free = absurd (cc (free))
+
+-- with no prices a transfer is free
+pub transfer-same : (rules : TokenRules) (caps : List CapRules) (states : CapStates)
+    (ride : LiveTap) (given : List LiveTap) (tap : LiveTap)
+    → transfer_charge (record { rules = rules; caps = caps; pays = None }) states (ride ∷ given) tap
+    ≡ None
+transfer-same rules caps states ride given tap = rw (extra-free rules caps given ride tap) refl
 
 ride-same : (rules : TokenRules) (tap : TapIn) (mode : Mode) (before : CapStates)
+    (trip : List LiveTap)
     → tap.mode ≡ Some mode
-    → under_caps (without_caps rules) before tap
+    → under_caps (without_caps rules) before trip tap
     (ride_in rules (live_at tap.moment mode)
     (at_ride (without_caps rules) (live_at tap.moment mode) before))
     ≡ uncapped (ride_in rules (live_at tap.moment mode)
     (at_ride (without_caps rules) (live_at tap.moment mode) before))
 unfolding ride_charge
-ride-same rules tap mode before known =
+ride-same rules tap mode before trip known =
     rw (
       known,
       charge-none rules (live_at tap.moment mode)
@@ -216,14 +246,24 @@ pub reason-none : (rules : TokenRules) (taps : List TapIn) (tap : TapIn)
     → capped_reason (without_caps rules) taps tap ≡ uncapped (rule.reason rules taps tap)
 unfolding capped_reason
 reason-none rules taps tap = elim (tapped rules taps tap) [
-  | is_free free same ↦ free-same (without_caps rules) (states (without_caps rules) taps) tap _ free
-  | is_ride mode known why more ↦
+  | is_free free same ↦ free-same (without_caps rules) (states (without_caps rules) taps)
+      (trip_before rules taps) tap _ free
+  | is_transfer mode known shown joins ride given is why ↦
+      rw (
+        why,
+        known,
+        is,
+        transfer-same rules [] (states (without_caps rules) taps) ride given
+            (live_at tap.moment mode),
+      ) refl
+  | is_ride mode known shown apart why ↦
       rw (
         why,
         ride-block rules (last_block (windows rules taps)) (live_at tap.moment mode),
         states-block rules taps,
       )
-      (ride-same rules tap mode (of_block rules (last_block (windows rules taps))) known)
+      (ride-same rules tap mode (of_block rules (last_block (windows rules taps)))
+      (trip_before rules taps) known)
 ]
 
 pub replied-none : (one : Reason) → replied_by (uncapped one) ≡ rule.replied_by one
@@ -266,31 +306,6 @@ pub window-none : (rules : TokenRules) (taps : List TapIn)
 unfolding capped_window last_window
 window-none rules taps =
     rw (states-block rules taps) (shown-block rules (last_block (windows rules taps)))
-
--- with a list of caps that is empty
-pub window-empty : (rules : TokenRules) (caps : List CapRules) (taps : List TapIn)
-    → length caps ≡ 0
-    → capped_window (record { rules = rules; caps = caps }) taps ≡ last_window rules taps
-window-empty rules [] taps none = window-none rules taps
-window-empty rules (cap ∷ caps) taps none = absurd (omega (arith, none))
-
-pub reason-empty : (rules : TokenRules) (caps : List CapRules) (taps : List TapIn) (tap : TapIn)
-    → length caps ≡ 0
-    → capped_reason (record { rules = rules; caps = caps }) taps tap
-    ≡ uncapped (rule.reason rules taps tap)
-reason-empty rules [] taps tap none = reason-none rules taps tap
-reason-empty rules (cap ∷ caps) taps tap none = absurd (omega (arith, none))
-
-pub reply-empty : (rules : TokenRules) (caps : List CapRules) (taps : List TapIn) (tap : TapIn)
-    → length caps ≡ 0
-    → capped_reply (record { rules = rules; caps = caps }) taps tap ≡ reply rules taps tap
-reply-empty rules [] taps tap none = reply-none rules taps tap
-reply-empty rules (cap ∷ caps) taps tap none = absurd (omega (arith, none))
-
-pub keeps-empty : (caps : List CapRules) (further : Further) (states : CapStates)
-    → length caps ≡ 0 → KeepsStates caps further states
-keeps-empty [] further states none = tt
-keeps-empty (cap ∷ caps) further states none = absurd (omega (arith, none))
 
 later-after : (capped : CappedRules) (earlier taps later : List TapIn)
     → capped_replies_after capped earlier (taps ++ later)

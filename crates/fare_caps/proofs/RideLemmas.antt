@@ -1,8 +1,8 @@
--- What one more tap makes of the rides, by why it is answered as it is.
-use Rattle.std.proofs.Common.{◌≡◌, Bool, true, false, List, [], ◌∷◌, ◌++◌, Option, Some}
-use Rattle.std.proofs.Common.{None}
-use Rattle.std.proofs.Common.{refl, ap, ◌∙◌, append-nil, ⊎_elim}
-use Rattle.std.proofs.lemmas.Bool.{cases_Bool}
+-- What one more tap makes of the trips, by why it is answered as it is.
+use Rattle.std.proofs.Common.{◌≡◌, suc, Bool, true, false, cond, List, [], ◌∷◌, ◌++◌, Some}
+use Rattle.std.proofs.Common.{None, length, nat_lt, arith}
+use Rattle.std.proofs.Common.{refl, sym, ap, ◌∙◌, ⊎_elim}
+use Rattle.std.proofs.lemmas.Bool.{cases_Bool, lt-ltb, true≢false}
 use Rattle.tariffs.specs.declared.mode.Mode.{Mode}
 use Rattle.account_rule.specs.declared.reason.Reason.{Reason}
 use Rattle.account_rule.specs.declared.reason.Reason.TheVariants.{Ride, Stale, Transfer, Unknown}
@@ -11,44 +11,83 @@ use Rattle.account_rule.specs.Blocks.{last_block}
 use Rattle.account_rule.specs.Reasons.{given_by, latest, live_reason, reason, ride_of}
 use Rattle.account_rule.specs.TokenRules.{TokenRules}
 use Rattle.account_rule.specs.Taps.{LiveTap, is_later, live_at, live_tap}
-use Rattle.account_rule.specs.Trips.{TripEnd, ends_in_transfer, last_trip, rides, trips}
+use Rattle.account_rule.specs.Trips.{continues, ends_in_transfer, last_trip, trip_of}
+use Rattle.account_rule.specs.Trips.{trips}
 use Rattle.account_rule.specs.Windows.{windows}
+use Rattle.account_rule.proofs.BlockLemmas.{last_block-extend, length-push}
 use Rattle.account_rule.proofs.ReasonLemmas.{reason_live, reason_stale, reason_transfer}
 use Rattle.account_rule.proofs.ReasonLemmas.{reason_unknown}
 use Rattle.account_rule.proofs.StepLemmas.{is_live, not_known, not_later}
-use Rattle.account_rule.proofs.TapLemmas.{last_window-ride, live-push, rides-push}
+use Rattle.account_rule.proofs.TapLemmas.{last_window-ride}
 use Rattle.account_rule.proofs.WindowLemmas.{after_ride as after_window}
+use Rattle.fare_caps.proofs.PriceLemmas.{trips-push, trips-same}
 
--- whether the reason is that of a ride
-abbrev pub is_of_ride : Reason → Bool
-is_of_ride Unknown = false
-is_of_ride (Stale latest) = false
-is_of_ride (Transfer moment mode) = false
-is_of_ride (Ride start until charge) = true
+-- whether the reason is that of a live tap
+abbrev pub is_of_live : Reason → Bool
+is_of_live Unknown = false
+is_of_live (Stale latest) = false
+is_of_live (Transfer moment mode) = true
+is_of_live (Ride start until charge) = true
 
--- what one more tap makes of the rides, and why it is answered as it is
+-- the last trip
+abbrev pub trip_before : TokenRules → List TapIn → List LiveTap
+trip_before rules taps = last_block (trips rules taps)
+
+-- what one more tap makes of the trips, and why it is answered as it is
 pub data Tapped (rules : TokenRules) (taps : List TapIn) (tap : TapIn) : Type 0 where
-  is_free : is_of_ride (reason rules taps tap) ≡ false
-      → rides rules (taps ++ tap ∷ []) ≡ rides rules taps → Tapped rules taps tap
+  is_free : is_of_live (reason rules taps tap) ≡ false
+      → trips rules (taps ++ tap ∷ []) ≡ trips rules taps → Tapped rules taps tap
+  is_transfer : (mode : Mode) → tap.mode ≡ Some mode
+      → live_tap taps tap ≡ Some (live_at tap.moment mode)
+      → continues rules.transfers (trip_before rules taps) (live_at tap.moment mode) ≡ true
+      → (ride : LiveTap) (given : List LiveTap) → trip_before rules taps ≡ ride ∷ given
+      → reason rules taps tap ≡ Transfer ride.moment ride.mode
+      → Tapped rules taps tap
   is_ride : (mode : Mode) → tap.mode ≡ Some mode
+      → live_tap taps tap ≡ Some (live_at tap.moment mode)
+      → continues rules.transfers (trip_before rules taps) (live_at tap.moment mode) ≡ false
       → reason rules taps tap
       ≡ ride_of rules
       (after_window rules (last_block (windows rules taps)) (live_at tap.moment mode))
-      → rides rules (taps ++ tap ∷ []) ≡ rides rules taps ++ live_at tap.moment mode ∷ []
       → Tapped rules taps tap
 
--- a tap that is not live is no ride
+-- a tap that is not live is in no trip
 not-live : (rules : TokenRules) (taps : List TapIn) (tap : TapIn)
-    → is_of_ride (reason rules taps tap) ≡ false → live_tap taps tap ≡ None
+    → is_of_live (reason rules taps tap) ≡ false → live_tap taps tap ≡ None
     → Tapped rules taps tap
-unfolding rides trips
-not-live rules taps tap free none =
-    is_free free (rw (live-push taps tap, none, append-nil) refl)
+not-live rules taps tap free none = is_free free (trips-same rules taps tap none)
 
-no-ride : (trip : Option TripEnd) → is_of_ride (given_by trip) ≡ false
-unfolding given_by
-no-ride None = refl
-no-ride (Some trip) = refl
+-- the last trip, once the list has one more live tap
+pub trip-push : (rules : TokenRules) (taps : List TapIn) (tap : TapIn) (shown : LiveTap)
+    → live_tap taps tap ≡ Some shown
+    → trip_before rules (taps ++ tap ∷ [])
+    ≡ cond (continues rules.transfers (trip_before rules taps) shown)
+    (trip_before rules taps ++ shown ∷ []) (shown ∷ [])
+trip-push rules taps tap shown some =
+    ap last_block (trips-push rules taps tap shown some)
+    ∙ last_block-extend (continues rules.transfers) (trips rules taps) shown
+
+longer-if : (b : Bool) (ride : LiveTap) (given : List LiveTap) (tap : LiveTap)
+    → nat_lt 1 (length (cond b (ride ∷ (given ++ tap ∷ [])) (tap ∷ []))) ≡ b
+longer-if true ride given tap =
+    lt-ltb 1 (suc (length (given ++ tap ∷ []))) (omega (arith, length-push given tap))
+longer-if false ride given tap = refl
+
+longer : (rules : TokenRules) (trip : List LiveTap) (tap : LiveTap)
+    → nat_lt 1 (length (cond (continues rules.transfers trip tap) (trip ++ tap ∷ []) (tap ∷ [])))
+    ≡ continues rules.transfers trip tap
+unfolding continues
+longer rules [] tap = refl
+longer rules (ride ∷ given) tap = longer-if _ ride given tap
+
+-- the tap is a transfer exactly if it continues the last trip
+ends : (rules : TokenRules) (taps : List TapIn) (tap : TapIn) (shown : LiveTap)
+    → live_tap taps tap ≡ Some shown
+    → ends_in_transfer rules (taps ++ tap ∷ [])
+    ≡ continues rules.transfers (trip_before rules taps) shown
+unfolding ends_in_transfer
+ends rules taps tap shown some =
+    rw (trip-push rules taps tap shown some) (longer rules (trip_before rules taps) shown)
 
 ride-in : (rules : TokenRules) (earlier taps : List TapIn) (window : List LiveTap)
     → ends_in_transfer rules taps ≡ false → last_block (windows rules taps) ≡ window
@@ -56,32 +95,54 @@ ride-in : (rules : TokenRules) (earlier taps : List TapIn) (window : List LiveTa
 unfolding live_reason
 ride-in rules earlier taps window ends is = rw (ends, is) refl
 
+-- what gives a transfer of the trip
+given-by : (rules : TokenRules) (taps : List TapIn) (ride : LiveTap) (given : List LiveTap)
+    → trip_before rules taps ≡ ride ∷ given
+    → given_by (last_trip rules taps) ≡ Transfer ride.moment ride.mode
+unfolding last_trip trip_of given_by
+given-by rules taps ride given is = rw is refl
+
+transfer-tapped : (rules : TokenRules) (taps : List TapIn) (tap : TapIn) (mode : Mode)
+    → tap.mode ≡ Some mode → is_later taps tap.moment ≡ true
+    → live_tap taps tap ≡ Some (live_at tap.moment mode)
+    → continues rules.transfers (trip_before rules taps) (live_at tap.moment mode) ≡ true
+    → (trip : List LiveTap) → trip_before rules taps ≡ trip → Tapped rules taps tap
+unfolding continues
+transfer-tapped rules taps tap mode known later shown joins [] is =
+    absurd (true≢false (sym joins
+    ∙ ap (λ trip. continues rules.transfers trip (live_at tap.moment mode)) is))
+transfer-tapped rules taps tap mode known later shown joins (ride ∷ given) is =
+    is_transfer mode known shown joins ride given is
+    (reason_live rules taps tap mode known later
+    ∙ reason_transfer rules taps (taps ++ tap ∷ []) (ends rules taps tap _ shown ∙ joins)
+    ∙ given-by rules taps ride given is)
+
 live-tapped : (rules : TokenRules) (taps : List TapIn) (tap : TapIn) (mode : Mode)
     → tap.mode ≡ Some mode → is_later taps tap.moment ≡ true
     → live_tap taps tap ≡ Some (live_at tap.moment mode)
     → Tapped rules taps tap
 live-tapped rules taps tap mode known later shown = ⊎_elim
-    (λ (ends : ends_in_transfer rules (taps ++ tap ∷ []) ≡ true).
-    is_free
-    (ap is_of_ride (reason_live rules taps tap mode known later
-    ∙ reason_transfer rules taps (taps ++ tap ∷ []) ends) ∙ no-ride (last_trip rules taps))
-    (rides-push rules taps tap _ shown ∙ rw (ends, append-nil) refl))
-    (λ (ends : ends_in_transfer rules (taps ++ tap ∷ []) ≡ false).
-    is_ride mode known
+    (λ (joins : continues rules.transfers (trip_before rules taps) (live_at tap.moment mode)
+    ≡ true).
+    transfer-tapped rules taps tap mode known later shown joins (trip_before rules taps) refl)
+    (λ (apart : continues rules.transfers (trip_before rules taps) (live_at tap.moment mode)
+    ≡ false).
+    let no-transfer = ends rules taps tap _ shown ∙ apart in
+    is_ride mode known shown apart
     (reason_live rules taps tap mode known later
-    ∙ ride-in rules taps (taps ++ tap ∷ []) _ ends (last_window-ride rules taps tap _ shown ends))
-    (rides-push rules taps tap _ shown ∙ rw ends refl))
-    (cases_Bool (ends_in_transfer rules (taps ++ tap ∷ [])))
+    ∙ ride-in rules taps (taps ++ tap ∷ []) _ no-transfer
+    (last_window-ride rules taps tap _ shown no-transfer)))
+    (cases_Bool (continues rules.transfers (trip_before rules taps) (live_at tap.moment mode)))
 
 pub tapped : (rules : TokenRules) (taps : List TapIn) (tap : TapIn) → Tapped rules taps tap
 tapped rules taps tap = elim tap.mode as (λ mode. tap.mode ≡ mode → Tapped rules taps tap) [
-  | None ↦ λ none. not-live rules taps tap (ap is_of_ride (reason_unknown rules taps tap none))
+  | None ↦ λ none. not-live rules taps tap (ap is_of_live (reason_unknown rules taps tap none))
       (not_known taps tap none)
   | Some mode ↦ λ known. ⊎_elim
       (λ (later : is_later taps tap.moment ≡ true).
       live-tapped rules taps tap mode known later (is_live taps tap mode known later))
       (λ (stale : is_later taps tap.moment ≡ false).
-      not-live rules taps tap (ap is_of_ride (reason_stale rules taps tap mode known stale))
+      not-live rules taps tap (ap is_of_live (reason_stale rules taps tap mode known stale))
       (not_later taps tap stale))
       (cases_Bool (is_later taps tap.moment))
 ] refl

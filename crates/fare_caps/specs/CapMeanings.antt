@@ -1,11 +1,15 @@
 -- What a table says of its caps, and the rules of a token by it.
-use Rattle.std.specs.Prelude.{ℕ, false, List, [], ◌∷◌, map, slice_index_or}
-use Rattle.tariffs.specs.Fares.{Fares, cap_ceiling, meaning_at}
+use Rattle.std.specs.Prelude.{ℕ, false, if◌then◌else◌, List, [], ◌∷◌, map, Option, Some, None}
+use Rattle.std.specs.Prelude.{slice_index_or}
+use Rattle.tariffs.specs.Fares.{Fares, cap_ceiling, has_prices, meaning_at, price_of}
 use Rattle.tariffs.specs.TableMeaning.{TableMeaning}
 use Rattle.tariffs.specs.Until.{window_end_in}
 use Rattle.tariffs.specs.declared.cap_terms.CapTerms.{CapTerms}
+use Rattle.tariffs.specs.declared.mode.Mode.{Mode}
+use Rattle.tariffs.specs.declared.price.Pays.{Pays}
 use Rattle.tariffs.specs.declared.window_span.WindowLength.TheVariants.{CalendarDay}
 use Rattle.tariffs.specs.declared.window_span.WindowSpan.{WindowSpan}
+use Rattle.account_rule.specs.Taps.{LiveTap}
 use Rattle.account_rule.specs.TokenRules.{rules_of, token_class}
 use Rattle.fare_caps.specs.Caps.{CapRules, CappedRules}
 use Rattle.fare_caps.specs.declared.ride_cap.RideCap.{RideCap}
@@ -47,9 +51,14 @@ cap_positions (first ∷ []) = 0 ∷ []
 cap_positions (first ∷ second ∷ []) = 0 ∷ 1 ∷ []
 cap_positions (first ∷ second ∷ third ∷ more) = 0 ∷ 1 ∷ 2 ∷ []
 
+-- what a transfer from the mode to the tap pays by what is valid at the tap
+unfoldable pub pays_of : Fares → Mode → LiveTap → Option Pays
+pays_of fares from tap = price_of (meaning_at fares tap.moment) from.position tap.mode.position
+
 -- the rules of a token under a table: all tables name the same caps
 unfoldable pub capped_rules_of : Fares → List ℕ → CappedRules
 capped_rules_of fares token = record {
   rules = rules_of fares token;
   caps = map (cap_rules fares token) (cap_positions fares.meaning.caps);
+  pays = if has_prices fares then Some (pays_of fares) else None;
 }

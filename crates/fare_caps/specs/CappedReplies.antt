@@ -1,5 +1,7 @@
--- The reason of each tap of a token under caps, and the reply, after the taps before it.
-use Rattle.std.specs.Prelude.{ℕ, List, [], ◌∷◌, ◌++◌, Option, Some, None, option_map}
+-- The reason of each tap of a token under caps and prices, and the reply, after the taps before it.
+use Rattle.std.specs.Prelude.{ℕ, ◌==◌, if◌then◌else◌, List, [], ◌∷◌, ◌++◌, Option, Some, None}
+use Rattle.std.specs.Prelude.{option_map}
+use Rattle.std.specs.Option.{option_and_then}
 use Rattle.tariffs.specs.declared.mode.Mode.{Mode}
 use Rattle.account_rule.specs.declared.reason.Reason.{Reason}
 use Rattle.account_rule.specs.declared.reason.Reason.TheVariants as reason
@@ -9,14 +11,18 @@ use Rattle.account_rule.specs.declared.tap.TapIn.{TapIn}
 use Rattle.account_rule.specs.declared.window.WindowView.{WindowView}
 use Rattle.account_rule.specs.Reasons as rule
 use Rattle.account_rule.specs.Replies.{reply_with, ride_reply}
-use Rattle.account_rule.specs.Taps.{live_at}
+use Rattle.account_rule.specs.Blocks.{last_block}
+use Rattle.account_rule.specs.Taps.{LiveTap, live_at}
+use Rattle.account_rule.specs.Trips.{trips}
 use Rattle.account_rule.specs.Windows.{last_window}
 use Rattle.fare_caps.specs.Caps.{CappedRules}
-use Rattle.fare_caps.specs.CapStates.{CapStates, ride_charge, states}
-use Rattle.fare_caps.specs.Charges.{cap_paid}
+use Rattle.fare_caps.specs.CapStates.{CapStates, ride_charge, extra_charge, states}
+use Rattle.fare_caps.specs.Charges.{cap_cents, cap_paid}
+use Rattle.fare_caps.specs.Prices.{extra}
+use Rattle.fare_caps.specs.declared.cap_charge.CapCharge.{CapCharge}
 use Rattle.fare_caps.specs.declared.capped_reason.CappedReason.{CappedReason}
-use Rattle.fare_caps.specs.declared.capped_reason.CappedReason.TheVariants.{Ride, Stale, Transfer}
-use Rattle.fare_caps.specs.declared.capped_reason.CappedReason.TheVariants.{Unknown}
+use Rattle.fare_caps.specs.declared.capped_reason.CappedReason.TheVariants.{PaidTransfer, Ride}
+use Rattle.fare_caps.specs.declared.capped_reason.CappedReason.TheVariants.{Stale, Transfer, Unknown}
 
 -- a ride of this window on the mode (a ride has one)
 abbrev pub ride_on : CappedRules → CapStates → ℕ → ℕ → ℕ → Option Mode → CappedReason
@@ -24,25 +30,42 @@ ride_on capped states start until moment None = Unknown
 ride_on capped states start until moment (Some mode) =
     Ride start until (ride_charge capped states (live_at moment mode))
 
--- The reason of a tap under caps, by the reason without them: caps change no transfer, no ride and
--- no window, but what decides the cents of a ride.
-abbrev pub under_caps : CappedRules → CapStates → TapIn → Reason → CappedReason
-under_caps capped states tap reason.Unknown = Unknown
-under_caps capped states tap (reason.Stale latest) = Stale latest
-under_caps capped states tap (reason.Transfer moment mode) = Transfer moment mode
-under_caps capped states tap (reason.Ride start until charge) =
+-- what decides the cents of the tap as the next transfer of the trip, if it costs something
+abbrev pub transfer_charge : CappedRules → CapStates → List LiveTap → LiveTap → Option CapCharge
+transfer_charge capped states trip tap =
+    if extra capped trip tap == 0 then None
+    else extra_charge capped states tap (extra capped trip tap)
+
+-- a transfer that the ride at the moment gives, in the last window if it costs something
+abbrev pub transfer_by : CapStates → ℕ → Mode → Option CapCharge → CappedReason
+transfer_by states moment mode None = Transfer moment mode
+transfer_by states moment mode (Some charge) =
+    PaidTransfer states.window.start states.window.until moment mode charge
+
+-- The reason of a tap under caps and prices, after the last trip, by the reason without them. They
+-- change no transfer, no ride and no window, but what decides the cents of a ride or a transfer.
+abbrev pub under_caps : CappedRules → CapStates → List LiveTap → TapIn → Reason → CappedReason
+under_caps capped states trip tap reason.Unknown = Unknown
+under_caps capped states trip tap (reason.Stale latest) = Stale latest
+under_caps capped states trip tap (reason.Transfer moment mode) =
+    transfer_by states moment mode (option_and_then
+    (λ on. transfer_charge capped states trip (live_at tap.moment on)) tap.mode)
+under_caps capped states trip tap (reason.Ride start until charge) =
     ride_on capped states start until tap.moment tap.mode
 
 -- why a tap after the earlier ones of its token is answered as it is
 unfoldable pub capped_reason : CappedRules → List TapIn → TapIn → CappedReason
 capped_reason capped earlier tap =
-    under_caps capped (states capped earlier) tap (rule.reason capped.rules earlier tap)
+    under_caps capped (states capped earlier) (last_block (trips capped.rules earlier)) tap
+    (rule.reason capped.rules earlier tap)
 
 -- the reply that follows from the reason
 abbrev pub replied_by : CappedReason → Reply
 replied_by Unknown = reply_with answer.Unknown 0
 replied_by (Stale latest) = reply_with answer.Stale 0
 replied_by (Transfer moment mode) = reply_with answer.Transfer 0
+replied_by (PaidTransfer start until moment mode charge) =
+    reply_with answer.Transfer (cap_cents charge)
 replied_by (Ride start until charge) = ride_reply (cap_paid charge)
 
 -- the reply to a tap after the earlier ones of its token
@@ -59,7 +82,7 @@ capped_replies_after capped earlier (tap ∷ taps) =
 unfoldable pub capped_replies : CappedRules → List TapIn → List Reply
 capped_replies capped taps = capped_replies_after capped [] taps
 
--- the last window of `window`, with what its rides cost under the caps
+-- the last window of `window`, with what its rides and their transfers cost under caps and prices
 unfoldable pub capped_window : CappedRules → List TapIn → Option WindowView
 capped_window capped taps = option_map (λ (view : WindowView). record view {
   paid = (states capped taps).paid;

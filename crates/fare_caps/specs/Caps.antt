@@ -1,26 +1,34 @@
 -- Caps beside `window`: when their windows end, what they count, and what they leave.
-use Rattle.std.specs.Prelude.{ℕ, ◌+◌, ◌-◌, Bool, true, if◌then◌else◌, List, [], ◌∷◌, nat_lt, Option}
-use Rattle.std.specs.Prelude.{Some, None}
+use Rattle.std.specs.Prelude.{ℕ, ◌+◌, ◌-◌, ◌==◌, ◌||◌, Bool, true, not, if◌then◌else◌, List, [], ◌∷◌}
+use Rattle.std.specs.Prelude.{length, nat_lt, Option, Some, None, is_some}
+use Rattle.tariffs.specs.declared.mode.Mode.{Mode}
+use Rattle.tariffs.specs.declared.price.Pays.{Pays}
 use Rattle.account_rule.specs.TokenRules.{TokenRules}
 use Rattle.account_rule.specs.Taps.{LiveTap}
 use Rattle.fare_caps.specs.declared.cap_window.CapWindow.{CapWindow}
 
--- What the rule takes from a cap for the rides of one token. What it says of a ride may depend on
--- the ride's moment and mode.
+-- What the rule takes from a cap for the taps of one token. What it says of a tap may depend on the
+-- tap's moment and mode.
 pub record CapRules : Type 0 where
   -- the end of a window whose first ride, of whatever mode, is at the moment
   pub until : ℕ → ℕ
-  -- whether the cap counts the ride
+  -- whether the cap counts the tap
   pub counts : LiveTap → Bool
-  -- the most that the rides which it counts may cost in a window, by the last of them
+  -- the most that the taps which it counts may cost in a window, by the last of them
   pub ceiling : LiveTap → ℕ
 
--- the rules of a token, and the caps beside `window` in the order of their names
+-- the rules of a token, the caps beside `window` in the order of their names, and, if any transfer
+-- costs something, what a transfer from a mode to a tap pays if it is not free
 pub record CappedRules : Type 0 where
   pub rules : TokenRules
   pub caps : List CapRules
+  pub pays : Option (Mode → LiveTap → Option Pays)
 
--- `window` as a cap: it counts all rides
+-- whether there are caps, or prices of transfers
+abbrev pub has_more : CappedRules → Bool
+has_more capped = not (length capped.caps == 0) || is_some capped.pays
+
+-- `window` as a cap: it counts all taps
 unfoldable pub window_cap : TokenRules → CapRules
 window_cap rules = record {
   until = rules.until;
@@ -42,12 +50,12 @@ opened_until moment until window =
 unfoldable pub opened : LiveTap → CapRules → CapWindow → CapWindow
 opened ride cap window = opened_until ride.moment (cap.until ride.moment) window
 
--- what a cap leaves for a ride in its window, if it counts the ride
+-- what a cap leaves for a tap in its window, if it counts the tap
 unfoldable pub left : LiveTap → CapRules → CapWindow → Option ℕ
 left ride cap window =
     if cap.counts ride then Some (cap.ceiling ride - window.cents) else None
 
--- the window with the cents of one more ride, if its cap counts the ride
+-- the window with the cents of one more tap, if its cap counts the tap
 unfoldable pub counted : LiveTap → ℕ → CapRules → CapWindow → CapWindow
 counted ride cents cap window =
     record window { cents = window.cents + (if cap.counts ride then cents else 0) }

@@ -1,6 +1,6 @@
--- What a ride costs: today's charge by `window`, lowered to the least that a further cap leaves.
-use Rattle.std.specs.Prelude.{ℕ, suc, ◌==◌, if◌then◌else◌, List, [], ◌∷◌, nat_lt, Option, Some}
-use Rattle.std.specs.Prelude.{None}
+-- What a tap costs: its charge by `window`, lowered to the least that a further cap leaves.
+use Rattle.std.specs.Prelude.{ℕ, suc, ◌==◌, Bool, true, false, if◌then◌else◌, List, [], ◌∷◌, nat_lt}
+use Rattle.std.specs.Prelude.{Option, Some, None}
 use Rattle.account_rule.specs.declared.reason.Charge.{Charge}
 use Rattle.account_rule.specs.declared.reason.Charge.TheVariants.{CeilingCut, CeilingReached, Full}
 use Rattle.account_rule.specs.declared.reason.Charge.TheVariants.{RideLimitReached}
@@ -55,3 +55,16 @@ abbrev pub cap_paid : CapCharge → Option ℕ
 cap_paid (ByWindow charge) = paid_by charge
 cap_paid (CapCut position cents cap) = Some cents
 cap_paid (CapReached position cap) = None
+
+-- whether the limit of rides frees the ride
+abbrev pub is_freed_by : Charge → Bool
+is_freed_by (Full position cents) = false
+is_freed_by (CeilingCut position cents) = false
+is_freed_by (CeilingReached position) = false
+is_freed_by RideLimitReached = true
+
+-- whether the limit of rides frees the ride
+abbrev pub is_freed : CapCharge → Bool
+is_freed (ByWindow charge) = is_freed_by charge
+is_freed (CapCut position cents cap) = false
+is_freed (CapReached position cap) = false

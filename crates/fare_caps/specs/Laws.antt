@@ -1,5 +1,5 @@
--- What holds of every list of taps under caps.
-use Rattle.std.specs.Prelude.{◌≡◌, ℕ, ◌≤◌, true, List, [], ◌∷◌, ◌++◌, All, sum_by}
+-- What holds of every list of taps under caps and prices.
+use Rattle.std.specs.Prelude.{◌≡◌, ℕ, ◌≤◌, true, List, [], ◌∷◌, ◌++◌, All, None, sum_by}
 use Rattle.account_rule.specs.Taps.{LiveTap}
 use Rattle.account_rule.specs.declared.tap.TapIn.{TapIn}
 use Rattle.account_rule.specs.Replies.{replies}
@@ -9,12 +9,13 @@ use Rattle.fare_caps.specs.CappedReplies.{capped_replies, capped_replies_after, 
 use Rattle.fare_caps.specs.Caps.{CapRules, CappedRules}
 use Rattle.fare_caps.specs.CapWindows.{Charged, all_caps, cents_for, charged, counted_in}
 use Rattle.fare_caps.specs.CapWindows.{windows_of}
+use Rattle.fare_caps.specs.Prices.{due_tap}
 
--- the rules with no cap beside `window`
+-- the rules with no cap beside `window` and no price of a transfer
 abbrev pub without_caps : TokenRules → CappedRules
-without_caps rules = record { rules = rules; caps = [] }
+without_caps rules = record { rules = rules; caps = []; pays = None }
 
--- with no cap beside `window` each tap is charged as without this crate
+-- with no cap beside `window` and no price each tap is charged as without this crate
 abbrev pub NoCapsChangeNothing : Type 0
 NoCapsChangeNothing =
     (rules : TokenRules) (taps : List TapIn)
@@ -33,15 +34,16 @@ LaterTapsChangeNothing =
     → capped_replies capped (taps ++ later)
     ≡ capped_replies capped taps ++ capped_replies_after capped taps later
 
--- the cap's ceiling for the ride, if it counts the ride, is not above this
+-- the cap's ceiling for the tap, if it counts the tap, is not above this
 abbrev pub HasCeiling : CapRules → ℕ → Charged → Type 0
-HasCeiling cap ceiling one = cap.counts one.ride ≡ true → cap.ceiling one.ride ≤ ceiling
+HasCeiling cap ceiling one =
+    cap.counts (due_tap one.due) ≡ true → cap.ceiling (due_tap one.due) ≤ ceiling
 
--- no window of the cap counts more than the highest ceiling of the rides that it counts
+-- no window of the cap counts more than the highest ceiling of the taps that it counts
 abbrev pub KeepsCeiling : List Charged → CapRules → Type 0
-KeepsCeiling rides cap =
+KeepsCeiling taps cap =
     (ceiling : ℕ) → All (λ window.
-    All (HasCeiling cap ceiling) window → counted_in cap window ≤ ceiling) (windows_of cap rides)
+    All (HasCeiling cap ceiling) window → counted_in cap window ≤ ceiling) (windows_of cap taps)
 
 -- so it is of all caps, `window` among them
 abbrev pub CapsKeepTheirCeilings : Type 0
@@ -49,21 +51,21 @@ CapsKeepTheirCeilings =
     (capped : CappedRules) (taps : List TapIn)
     → All (KeepsCeiling (charged capped taps)) (all_caps capped)
 
--- the windows of any cap add up to what it counts of all rides
+-- the windows of any cap add up to what it counts of all rides and transfers
 abbrev pub WindowsAddUp : Type 0
 WindowsAddUp =
     (capped : CappedRules) (taps : List TapIn) (cap : CapRules)
     → sum_by (counted_in cap) (windows_of cap (charged capped taps))
     ≡ sum_by (cents_for cap) (charged capped taps)
 
--- and the rides add up to all replies
-abbrev pub RidesAreTheBill : Type 0
-RidesAreTheBill =
+-- and the rides and transfers add up to all replies
+abbrev pub TapsAreTheBill : Type 0
+TapsAreTheBill =
     (capped : CappedRules) (taps : List TapIn)
     → sum_by (λ (one : Charged). one.cents) (charged capped taps)
     ≡ sum_by (λ reply. reply.cents) (capped_replies capped taps)
 
--- the cap counts rides on all modes
+-- the cap counts taps on all modes
 abbrev pub CountsAll : CapRules → Type 0
 CountsAll cap = (ride : LiveTap) → cap.counts ride ≡ true
 

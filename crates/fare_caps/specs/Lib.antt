@@ -5,5 +5,6 @@ pub mod CappedReplies
 pub mod Caps
 pub mod Charges
 pub mod Laws
+pub mod Prices
 pub mod Represents
 pub mod inside

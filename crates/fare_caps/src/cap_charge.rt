@@ -1,4 +1,4 @@
-//! What decides the cents of a ride under caps.
+//! What decides the cents of a ride, or of a transfer, under caps.
 
 ghost use Rattle.std.specs.Prelude.{◌≡◌};
 ghost use Rattle.fare_caps.specs.Charges as spec;
@@ -6,20 +6,21 @@ ghost use Rattle.fare_caps.specs.Charges.{cap_cents, cap_paid};
 
 use account_rule::Charge;
 
-/// What decides the cents of a ride under caps. `position` is the number of rides before it in its
-/// window of `window`, and `cap` the index of the cap that decides, of two the first.
+/// What decides the cents of a ride, or of a transfer that raises the price of its trip, under caps.
+/// `position` is the number of rides before a ride in its window of `window`, and 0 of a transfer.
+/// `cap` is the index of the cap that decides, of two the first.
 #[derive(Clone, Copy, Debug, PartialEq, Eq)]
 pub enum CapCharge {
     /// The caps leave as much as `window` does: it decides.
     ByWindow { charge: Charge },
     /// The cap leaves less than the fare and than `window` does, `cents`, and that is charged.
     CapCut { position: u32, cents: u32, cap: u8 },
-    /// The rides that the cap counted have cost its ceiling or more.
+    /// The taps that the cap counted have cost its ceiling or more.
     CapReached { position: u32, cap: u8 },
 }
 
 impl CapCharge {
-    /// What the ride costs, in cents.
+    /// What it costs, in cents.
     pub fn cents(self) -> u32
         ensures { result ≡ cap_cents self }
     {
@@ -37,7 +38,7 @@ impl CapCharge {
         }
     }
 
-    /// What is paid for the ride, in cents, or `None` if a limit is reached.
+    /// What is paid for a ride, in cents, or `None` if a limit is reached.
     pub fn paid(self) -> Option<u32>
         ensures { result ≡ cap_paid self }
     {
@@ -53,6 +54,41 @@ impl CapCharge {
                 cap: _,
             } => None,
         }
+    }
+}
+
+/// Whether the limit of rides frees the ride.
+pub(crate) fn is_freed(charge: CapCharge) -> bool
+    ensures { result ≡ spec.is_freed charge }
+{
+    match charge {
+        CapCharge::ByWindow { charge } => is_freed_by(charge),
+        CapCharge::CapCut {
+            position: _,
+            cents: _,
+            cap: _,
+        } => false,
+        CapCharge::CapReached {
+            position: _,
+            cap: _,
+        } => false,
+    }
+}
+
+fn is_freed_by(charge: Charge) -> bool
+    ensures { result ≡ spec.is_freed_by charge }
+{
+    match charge {
+        Charge::Full {
+            position: _,
+            cents: _,
+        } => false,
+        Charge::CeilingCut {
+            position: _,
+            cents: _,
+        } => false,
+        Charge::CeilingReached { position: _ } => false,
+        Charge::RideLimitReached => true,
     }
 }
 

@@ -9,14 +9,14 @@ ghost use Rattle.fare_caps.specs.inside.Further as spec;
 use crate::ride_cap::RideCap;
 use tariffs::{Clock, WindowSpan};
 
-/// A window of a cap. Any ride opens it, and the cap counts the rides of its modes.
+/// A window of a cap. Any ride opens it, and the cap counts the taps of its modes.
 #[derive(Clone, Copy, Debug, PartialEq, Eq)]
 pub struct CapWindow {
     /// The moment of its first ride.
     pub start: u64,
     /// The moment from which on a ride opens the next window.
     pub until: u64,
-    /// What the rides that the cap counts have cost, in cents.
+    /// What the taps that the cap counts have cost, in cents.
     pub cents: u32,
 }
 
@@ -49,7 +49,7 @@ impl CapWindow {
     }
 
     pub(crate) fn opened_by(self, cap: Option<RideCap>, clock: &Clock, moment: u64) -> Self
-        requires span { IfSome cap (λ cap. IsBoundedSpan cap.span) }
+        requires bounds { IfSome cap spec.IsBoundedCap }
         requires moment { moment < 4_102_444_800_000 }
         ensures { result ≡ spec.opened_by clock.now moment cap self }
     {

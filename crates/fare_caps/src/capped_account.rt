@@ -8,7 +8,7 @@ ghost use Rattle.fare_caps.specs.CapMeanings.{capped_rules_of};
 ghost use Rattle.fare_caps.specs.CappedReplies.{capped_reason, capped_reply, capped_window};
 ghost use Rattle.fare_caps.specs.CappedReplies.{replied_by};
 ghost use Rattle.fare_caps.specs.Represents.{Represents, RepresentsSome, no_further};
-ghost use Rattle.fare_caps.specs.inside.Seen.{ride_seen, uncapped};
+ghost use Rattle.fare_caps.specs.inside.Seen.{live_kind, uncapped};
 
 use crate::cap_charge::CapCharge;
 use crate::capped_reason::CappedReason;
@@ -16,13 +16,13 @@ use crate::further::Further;
 use account_rule::{Account, Reason, Reply, TapIn, WindowView};
 use tariffs::{Clock, FareTable, Mode};
 
-/// The account of one token under one fare table with its caps. Without caps it costs what
-/// `Account` costs, and answers as that does.
+/// The account of one token under one fare table with its caps and prices. Without these it costs
+/// what `Account` costs, and answers as that does.
 #[derive(Clone, Copy, Debug, PartialEq, Eq)]
 pub struct CappedAccount {
-    /// What it stores whatever the table: without caps that is all.
+    /// What it stores whatever the table: without caps and prices that is all.
     pub account: Account,
-    /// Says nothing if the table has no caps.
+    /// Says nothing if the table has neither caps nor prices.
     pub further: Further,
 }
 
@@ -62,14 +62,14 @@ impl CappedAccount {
         ensures some { RepresentsSome (capped_rules_of table.now token.now) self.new }
         ensures few { result.cents ≤ 100_000 }
     {
-        if table.has_caps_at(tap.moment) {
+        if table.has_caps_or_prices_at(tap.moment) {
             return self.capped_step(table, clock, token, tap.mode, tap.moment);
         }
         self.account.step(table, clock, token, tap)
     }
 
     /// Kept out of `step`, with scalars for the tap: a local of `step`, or a tap whose address is
-    /// taken, would cost a run without caps some stores at each tap.
+    /// taken, would cost a run without caps and prices some stores at each tap.
     #[cold]
     #[inline(never)]
     fn capped_step(
@@ -126,20 +126,34 @@ impl CappedAccount {
         ensures few { (replied_by result).cents ≤ 100_000 }
     {
         let reason = self.account.explain_step(table, clock, token, tap);
-        if !table.has_caps() {
+        if !table.has_caps_or_prices() {
             return uncapped(reason);
         }
-        let Some(ride) = ride_seen(reason, tap.mode) else {
-            return uncapped(reason);
-        };
-        let tariff = table.at(tap.moment);
-        let class = tariff.class_of(token);
-        CappedReason::Ride {
-            start: ride.start,
-            until: ride.until,
-            charge: self
-                .further
-                .charge_ride(tariff, table.caps(), clock, class, ride.mode, tap.moment),
+        match live_kind(reason, tap.mode) {
+            LiveKind::Free => uncapped(reason),
+            LiveKind::Ride { start, until, mode } => {
+                let tariff = table.at(tap.moment);
+                let class = tariff.class_of(token);
+                CappedReason::Ride {
+                    start,
+                    until,
+                    charge: self
+                        .further
+                        .charge_ride(tariff, table.caps(), clock, class, mode, tap.moment),
+                }
+            }
+            LiveKind::Transfer {
+                moment,
+                ride_mode,
+                mode,
+            } => {
+                let tariff = table.at(tap.moment);
+                let class = tariff.class_of(token);
+                let charge = self
+                    .further
+                    .charge_transfer(tariff, table.caps(), class, mode);
+                self.further.transfer_reason(moment, ride_mode, charge)
+            }
         }
     }
 
@@ -152,7 +166,7 @@ impl CappedAccount {
         let Some(view) = self.account.window() else {
             return None;
         };
-        if !table.has_caps() {
+        if !table.has_caps_or_prices() {
             return Some(view);
         }
         Some(WindowView {
@@ -164,33 +178,52 @@ impl CappedAccount {
     }
 }
 
+/// A live tap, by the reason without caps.
 #[derive(Clone, Copy)]
-struct RideSeen {
-    start: u64,
-    until: u64,
-    mode: Mode,
+enum LiveKind {
+    /// The tap is not live.
+    Free,
+    /// A ride on the mode, of the window from `start` to `until`.
+    Ride {
+        start: u64,
+        until: u64,
+        mode: Mode,
+    },
+    /// A transfer to the mode that the ride at the moment gives.
+    Transfer {
+        moment: u64,
+        ride_mode: Mode,
+        mode: Mode,
+    },
 }
 
-/// The ride whose reason this is, at a validator of the mode.
-fn ride_seen(reason: Reason, mode: Option<Mode>) -> Option<RideSeen>
-    ensures { result ≡ ride_seen reason mode }
+/// The live tap whose reason this is, at a validator of the mode.
+fn live_kind(reason: Reason, mode: Option<Mode>) -> LiveKind
+    ensures { result ≡ live_kind reason mode }
 {
+    let Some(mode) = mode else {
+        return LiveKind::Free;
+    };
     match reason {
-        Reason::Unknown => None,
-        Reason::Stale { latest: _ } => None,
-        Reason::Transfer { moment: _, mode: _ } => None,
+        Reason::Unknown => LiveKind::Free,
+        Reason::Stale { latest: _ } => LiveKind::Free,
+        Reason::Transfer {
+            moment,
+            mode: ride_mode,
+        } => LiveKind::Transfer {
+            moment,
+            ride_mode,
+            mode,
+        },
         Reason::Ride {
             start,
             until,
             charge: _,
-        } => {
-            let mode = mode?;
-            Some(RideSeen { start, until, mode })
-        }
+        } => LiveKind::Ride { start, until, mode },
     }
 }
 
-/// The same reason, if there are no caps.
+/// The same reason, if there are neither caps nor prices.
 fn uncapped(reason: Reason) -> CappedReason
     ensures { result ≡ uncapped reason }
 {

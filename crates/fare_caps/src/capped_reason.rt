@@ -22,6 +22,15 @@ pub enum CappedReason {
         moment: u64,
         mode: Mode,
     },
+    /// The same, and it raises the price of its trip. Of the window from `start` to `until` is the
+    /// last ride before it. Its charge never says that the limit of rides is reached.
+    PaidTransfer {
+        start: u64,
+        until: u64,
+        moment: u64,
+        mode: Mode,
+        charge: CapCharge,
+    },
     /// It is a ride of the window that its first ride opened at `start` and that ends at `until`.
     Ride {
         start: u64,
@@ -39,6 +48,13 @@ impl CappedReason {
             CappedReason::Unknown => free(Answer::Unknown),
             CappedReason::Stale { latest: _ } => free(Answer::Stale),
             CappedReason::Transfer { moment: _, mode: _ } => free(Answer::Transfer),
+            CappedReason::PaidTransfer {
+                start: _,
+                until: _,
+                moment: _,
+                mode: _,
+                charge,
+            } => with_cents(Answer::Transfer, charge.cents()),
             CappedReason::Ride {
                 start: _,
                 until: _,
@@ -48,11 +64,17 @@ impl CappedReason {
     }
 }
 
-#[tactic(auto, unfolding(account_rule::specs::Replies::reply_with))]
 fn free(answer: Answer) -> Reply
     ensures { result ≡ reply_with answer 0 }
 {
-    Reply { answer, cents: 0 }
+    with_cents(answer, 0)
+}
+
+#[tactic(auto, unfolding(account_rule::specs::Replies::reply_with))]
+fn with_cents(answer: Answer, cents: u32) -> Reply
+    ensures { result ≡ reply_with answer cents }
+{
+    Reply { answer, cents }
 }
 
 #[tactic(auto, unfolding(account_rule::specs::Replies::ride_reply, account_rule::specs::Replies::reply_with))]

@@ -1,6 +1,7 @@
-//! Caps beside a fare table's `window`, each with windows, modes and ceilings of its own: what each
-//! tap of a token costs under them. Rides, transfers and the windows of `window` are those of
-//! `account_rule`. [`CappedAccount`] stores a few numbers in place of the list of a token's taps.
+//! Caps beside a fare table's `window`, each with windows, modes and ceilings of its own, and prices
+//! of transfers: what each tap of a token costs under them. Rides, transfers and the windows of
+//! `window` are those of `account_rule`. [`CappedAccount`] stores a few numbers in place of the list
+//! of a token's taps.
 #![tactic(auto)]
 
 mod cap_charge;

@@ -1,13 +1,12 @@
-//! What a cap says of one ride.
+//! What a cap says of one ride or transfer.
 
-ghost use Rattle.std.specs.Prelude.{◌≡◌, ◌<◌, ◌≤◌, IfSome, length};
-ghost use Rattle.tariffs.specs.WindowSpan.{IsBoundedSpan};
+ghost use Rattle.std.specs.Prelude.{◌≡◌, ◌<◌, IfSome, length};
 ghost use Rattle.fare_caps.specs.CapMeanings.{said_of};
-ghost use Rattle.fare_caps.specs.inside.Further.{said_at};
+ghost use Rattle.fare_caps.specs.inside.Further.{IsBoundedCap, said_at};
 
 use tariffs::{CapTerms, Mode, Tariff, WindowLength, WindowSpan};
 
-/// What a cap says of one ride.
+/// What a cap says of one ride or transfer.
 #[derive(Clone, Copy)]
 pub(crate) struct RideCap {
     pub(crate) span: WindowSpan,
@@ -26,8 +25,7 @@ impl RideCap {
     ) -> Option<RideCap>
         requires { class < length tariff.now.meaning.classes }
         ensures said { result ≡ said_at caps.now tariff.now.meaning mode.position class index }
-        ensures span { IfSome result (λ cap. IsBoundedSpan cap.span) }
-        ensures ceiling { IfSome result (λ cap. cap.ceiling ≤ 100_000_000) }
+        ensures bounds { IfSome result IsBoundedCap }
     {
         caps.get(index)?;
         Some(RideCap::of(index, tariff, class, mode))
@@ -36,8 +34,7 @@ impl RideCap {
     fn of(index: usize, tariff: &Tariff, class: u32, mode: Mode) -> RideCap
         requires { class < length tariff.now.meaning.classes }
         ensures said { result ≡ said_of tariff.now.meaning index mode.position class }
-        ensures span { IsBoundedSpan result.span }
-        ensures ceiling { result.ceiling ≤ 100_000_000 }
+        ensures bounds { IsBoundedCap result }
     {
         let ceiling = tariff.cap_ceiling(class, index);
         let day_starts = tariff.window_span().day_starts;

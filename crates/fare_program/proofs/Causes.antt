@@ -3,21 +3,19 @@ use Rattle.std.proofs.Common.{◌≡◌, ◌∷◌, ℕ, List, [], true, Bor, ar
 use Rattle.std.proofs.Common.{nat_eq, inl, inr, length, map, refl, sym, subst}
 use Rattle.std.specs.Prelude.{◌<◌}
 use Rattle.std.proofs.lemmas.Bool.Decides.{nat_tests}
-use Rattle.std.proofs.KnownBytes.{Keeps-refl}
+use Rattle.std.proofs.lemmas.List.{length-map}
 use Rattle.program_manners.specs.Loads.{Loaded}
 use Rattle.program_manners.specs.Refusals.{IsOneOf}
-use Rattle.program_manners.specs.TableWords.{TableNames}
 use Rattle.world.specs.declared.faults.LoadFault.{LoadFault}
-use Rattle.fare_program.specs.Causes.{IsFaultOfTables, IsFileFault, IsRightFault, IsRightOfSorted}
-use Rattle.fare_program.specs.Causes.{IsTableFault, names_reported}
+use Rattle.fare_program.specs.Causes.{IsRightFault, IsRightOfSorted, names_reported}
+use Rattle.fare_program.specs.FilesLoaded.{names_to_load}
 use Rattle.fare_program.specs.Options.{Request}
 use Rattle.fare_program.specs.declared.fault.Fault.{Fault}
-use Rattle.fare_program.specs.declared.fault.Fault.TheVariants.{ClassName, File, Gather, Late}
-use Rattle.fare_program.specs.declared.sorted_fault.LateFault.{LateFault}
-use Rattle.fare_program.specs.declared.fault.Fault.TheVariants.{NamedClass, NoMemory, Tables, TooManyTaps}
+use Rattle.fare_program.specs.declared.fault.Fault.TheVariants.{Gather, Late, NoMemory, TooManyTaps}
 use Rattle.fare_program.specs.declared.fault.Fault.TheVariants.{Unopened, Unsorted, Uploads, Write}
-use Rattle.fare_program.specs.inside.Causes.{IsOfOutput}
-use Rattle.fare_program.specs.inside.Ends.{IsLate, IsUnopened, Stops}
+use Rattle.fare_program.specs.declared.sorted_fault.LateFault.{LateFault}
+use Rattle.fare_program.specs.inside.Causes.{IsOfOutput, IsRightOfUploads}
+use Rattle.fare_program.specs.inside.Ends.{IsLate}
 
 -- a file of the words is one of those that are reported
 pub named_one : (names : List (List ℕ)) (name : List ℕ) → IsOneOf name names
@@ -33,30 +31,12 @@ none_named (n ∷ names) is =
     let zero : length (n ∷ names) ≡ 0 = grind (arith, nat_tests) in
     absurd (omega (arith, zero))
 
--- a fault of a file is one of several files
-pub among : (names : List (List ℕ)) (name : List ℕ) (refused : Option (Option (List ℕ) × LoadFault))
-    (fault : Fault) → IsOneOf name names → IsFileFault (name ∷ []) refused fault
-    → IsFileFault names refused fault
-among names name refused (File file) one (inl same, why) =
-    (subst (λ (n : List ℕ). IsOneOf n names) (sym same) one, why)
-among names name refused (File file) one (inr none, why) = absurd none
-among names name refused NoMemory one is = tt
-among names name refused _ one is = absurd is
+pub many_named : (names : List (List ℕ)) → 65535 < length (names_to_load names)
+    → 65535 < length names
+many_named [] many = absurd (omega (arith, many))
+many_named (n ∷ names) many = omega (arith, many, length-map names (λ (x : List ℕ). Some x))
 
--- ---- nothing is written before faults of which none is a failed write
-pub before : (Right : List ℕ → Type 0) (out : Option (List ℕ)) (Is : Fault → Type 0) → (Is Write → ⊥)
-    → (fault : Fault) → Is fault → Stops Right out out fault
-before Right out Is other Write is = absurd (other is)
-before Right out Is other (Late why) is = tt
-before Right out Is other _ is = Keeps-refl out
-
--- ---- and each is the right one
-pub right_unopened : (names : List (List ℕ)) (known : List (Option (List ℕ))) (fault : Fault)
-    → IsUnopened names fault → IsRightOfSorted names known fault
-right_unopened names known (Unopened file) is = is
-right_unopened names known NoMemory is = tt
-right_unopened names known _ is = absurd is
-
+-- ---- faults that are right
 pub of_output : (Is : Fault → Type 0) → Is Write → Is NoMemory → (fault : Fault) → IsOfOutput fault
     → Is fault
 of_output Is write memory Write is = write
@@ -73,27 +53,6 @@ module _ (request : Request) (under : List ℕ → Option (List ℕ))
   abbrev IsRight : Fault → Type 0
   IsRight fault = IsRightFault request under loaded loaded' refused fault
 
-  pub right_file : (fault : Fault) → IsFileFault (names_reported request.files) refused fault
-      → IsRight fault
-  right_file (File file) is = is
-  right_file NoMemory is = tt
-  right_file _ is = absurd is
-
-  in_tables : (tables : TableNames) → request.table ≡ Some tables → (fault : Fault)
-      → IsTableFault tables loaded loaded' refused fault
-      → IsFaultOfTables request.table loaded loaded' refused fault
-  in_tables tables named fault is =
-      subst (λ t. IsFaultOfTables t loaded loaded' refused fault) (sym named) is
-
-  pub right_class : request.traced ≡ true → (tables : TableNames) → request.table ≡ Some tables
-      → (fault : Fault) → IsTableFault tables loaded loaded' refused fault → IsRight fault
-  right_class traced tables named (Tables why) is = in_tables tables named (Tables why) is
-  right_class traced tables named ClassName is = (traced, in_tables tables named ClassName is)
-  right_class traced tables named (NamedClass line) is =
-      (traced, in_tables tables named (NamedClass line) is)
-  right_class traced tables named NoMemory is = tt
-  right_class traced tables named _ is = absurd is
-
   pub right_sorted : request.sorted ≡ true → (fault : Fault)
       → IsRightOfSorted request.files (map under request.files) fault → IsRight fault
   right_sorted sorted (Unopened file) is = (sorted, is)
@@ -103,3 +62,11 @@ module _ (request : Request) (under : List ℕ → Option (List ℕ))
   right_sorted sorted Write is = tt
   right_sorted sorted NoMemory is = tt
   right_sorted sorted _ is = absurd is
+
+  pub right_uploads : (number : ℕ) → (65535 < number → 65535 < length request.files)
+      → (fault : Fault) → IsRightOfUploads number fault → IsRight fault
+  right_uploads number more Uploads is = more is
+  right_uploads number more (Gather fault) is = is
+  right_uploads number more Write is = tt
+  right_uploads number more NoMemory is = tt
+  right_uploads number more _ is = absurd is

@@ -1,9 +1,9 @@
 -- How the writing of a text ends.
-use Rattle.std.proofs.Common.{◌≡◌, ◌∙◌, ◌++◌, ℕ, List, Bool, Option, None, Some, Result, Ok, Err}
-use Rattle.std.proofs.Common.{ap, refl, subst}
-use Rattle.std.specs.Prelude.{◌≢◌, IfErr, IfOk, OnOk}
+use Rattle.std.proofs.Common.{◌≡◌, [], ℕ, List, Bool, Option, Result, Ok, Err, refl, subst}
+use Rattle.std.specs.Prelude.{◌≢◌, IfErr, OnOk}
 use Rattle.std.specs.Io.KnownBytes.{Appends, Keeps}
-use Rattle.std.proofs.KnownBytes.{Keeps-refl, Keeps-trans}
+use Rattle.std.proofs.KnownBytes.{Appends-kept, Appends-nil, Appends-trans, Keeps-refl, Keeps-trans}
+use Rattle.fare_texts.proofs.Beginnings.{begins_after}
 use Rattle.fare_texts.specs.PrintFaults.{UnchangedUnlessWrite}
 use Rattle.fare_texts.specs.WrittenOut.{Begins}
 use Rattle.fare_texts.specs.declared.print_fault.PrintFault.{PrintFault}
@@ -22,13 +22,13 @@ module _ (Right : List ℕ → Type 0) (out out' : Option (List ℕ)) where
   stopped (Late why) kept started = tt
   stopped _ kept started = kept (λ is. cc) (λ late. late)
 
-  -- so it is of a text that was printed
-  pub printed : (fault : PrintFault) (Same : Type 0) → UnchangedUnlessWrite fault Same
-      → (Same → Keeps out out')
-      → (fault ≡ print.Write → (text : List ℕ) × Right text × Begins out out' text)
-      → Stops Right out out' (printed_as fault)
-  printed print.Write Same same kept started = started refl
-  printed print.NoMemory Same same kept started = kept same
+-- so it is of a text that was printed
+pub printed : {V : Type 0} (contents : V → Option (List ℕ)) (old new : V) (Right : List ℕ → Type 0)
+    (fault : PrintFault) → UnchangedUnlessWrite fault (new ≡ old)
+    → (fault ≡ print.Write → (text : List ℕ) × Right text × Begins (contents old) (contents new) text)
+    → Stops Right (contents old) (contents new) (printed_as fault)
+printed contents old new Right print.Write same started = started refl
+printed contents old new Right print.NoMemory same started = rw same (Keeps-refl (contents old))
 
 -- what is right so is right in another way
 pub stops_by : (A B : List ℕ → Type 0) (out out' : Option (List ℕ)) (fault : Fault)
@@ -70,17 +70,19 @@ gives_given Given Given' A B out out' (Err fault) given same stops =
     (λ text right more. let it = right (given more) in (it.0, same text it.0 it.1)) stops
 
 -- a text that was printed, by what is known of each end of it
-pub gives_printed : {T : Type 0} (A : List ℕ → Type 0) (out out' : Option (List ℕ)) (Same : Type 0)
-    (r : Result T PrintFault) (success : Bool) → (Same → Keeps out out')
-    → OnOk r ((text : List ℕ) × A text × Appends out out' text)
-    → IfErr r (λ fault. fault ≡ print.Write → (text : List ℕ) × A text × Begins out out' text)
-    → IfErr r (λ fault. UnchangedUnlessWrite fault Same)
-    → Gives (λ text s. (s ≡ success) × A text) out out' (ended_as r success)
-gives_printed A out out' Same (Ok done) success same (text, right, written) started kept =
+pub gives_printed : {T V : Type 0} (contents : V → Option (List ℕ)) (old new : V)
+    (A : List ℕ → Type 0) (r : Result T PrintFault) (success : Bool)
+    → OnOk r ((text : List ℕ) × A text × Appends (contents old) (contents new) text)
+    → IfErr r (λ fault. fault ≡ print.Write → (text : List ℕ) × A text
+    × Begins (contents old) (contents new) text)
+    → IfErr r (λ fault. UnchangedUnlessWrite fault (new ≡ old))
+    → Gives (λ text s. (s ≡ success) × A text) (contents old) (contents new) (ended_as r success)
+gives_printed contents old new A (Ok done) success (text, right, written) started same =
     (text, (refl, right), written)
-gives_printed A out out' Same (Err print.Write) success same ok started kept =
+gives_printed contents old new A (Err print.Write) success ok started same =
     let (text, right, front) = started refl in (text, (success, (refl, right)), front)
-gives_printed A out out' Same (Err print.NoMemory) success same ok started kept = same kept
+gives_printed contents old new A (Err print.NoMemory) success ok started same =
+    rw same (Keeps-refl (contents old))
 
 -- nothing was written before a fault that is none of a write
 pub unwritten : (Right : List ℕ → Type 0) (out : Option (List ℕ)) (fault : Fault) → fault ≢ Write
@@ -95,40 +97,14 @@ pub started_of : (A : List ℕ → Type 0) (out out' : Option (List ℕ)) (fault
     → (text : List ℕ) × A text × Begins out out' text
 started_of A out out' fault is stops = subst (λ (f : Fault). Stops A out out' f) is stops
 
--- what is given, by what is known of each end of it
-pub gives_of : (A : List ℕ → Bool → Type 0) (out out' : Option (List ℕ)) (r : Result Bool Fault)
-    → IfOk r (λ success. (text : List ℕ) × A text success × Appends out out' text)
-    → IfErr r (λ fault. fault ≡ Write → (success : Bool) × (text : List ℕ) × A text success
-    × Begins out out' text)
-    → IfErr r (λ fault. fault ≢ Write → Keeps out out') → Gives A out out' r
-gives_of A out out' (Ok success) ok started kept = ok
-gives_of A out out' (Err fault) ok started kept =
-    stopped (λ text. (success : Bool) × A text success) out out' fault (λ other late. kept other)
-    (λ write. let (success, text, right, front) = started write in
-    (text, (success, right), front))
-
--- ---- what was kept before
-appends_after : (a b c : Option (List ℕ)) (text : List ℕ) → Keeps a b → Appends b c text
-    → Appends a c text
-appends_after None b c text kept added = tt
-appends_after (Some x) None c text kept added = absurd kept
-appends_after (Some x) (Some y) None text kept added = absurd added
-appends_after (Some x) (Some y) (Some z) text kept added = added ∙ ap (λ l. l ++ text) kept
-
-begins_after : (a b c : Option (List ℕ)) (text : List ℕ) → Keeps a b → Begins b c text
-    → Begins a c text
-begins_after a b c text kept started = record {
-  front = started.front;
-  rest = started.rest;
-  whole = started.whole;
-  written = appends_after a b c started.front kept started.written;
-}
-
+-- so it is where nothing was written before
 pub gives_kept : (A : List ℕ → Bool → Type 0) (out mid out' : Option (List ℕ))
     (r : Result Bool Fault) → Keeps out mid → Gives A mid out' r → Gives A out out' r
 gives_kept A out mid out' (Ok success) kept (text, right, written) =
-    (text, right, appends_after out mid out' text kept written)
+    let none = Appends-kept out out mid [] (Appends-nil out) kept in
+    (text, right, Appends-trans out mid out' [] text none written)
 gives_kept A out mid out' (Err Write) kept (text, right, started) =
-    (text, right, begins_after out mid out' text kept started)
+    let none = Appends-kept out out mid [] (Appends-nil out) kept in
+    (text, right, begins_after out mid out' [] text none started)
 gives_kept A out mid out' (Err (Late why)) kept stops = tt
 gives_kept A out mid out' (Err _) kept stops = Keeps-trans out mid out' kept stops

@@ -1,5 +1,5 @@
 -- The ledger of books is that of a history with the same entries of each token.
-use Rattle.std.proofs.Common.{◌≡◌, ℕ, List, Option, Some, None, map, refl, subst, ◌∙◌}
+use Rattle.std.proofs.Common.{◌≡◌, ℕ, List, Option, Some, None, map, refl, ◌∙◌}
 use Rattle.std.specs.Prelude.{slice_get}
 use Rattle.std.specs.Ordering.{eq_by_cmp}
 use Rattle.std.proofs.lemmas.List.Sorted.{IsPermutation-map, list_any-IsPermutation}
@@ -16,7 +16,7 @@ use Rattle.histories.proofs.IncreasingLemmas.{increasing-is, increasing-only}
 use Rattle.histories.proofs.SameEntries.{same_entries}
 use Rattle.tap_views.proofs.TokenLemmas.{token_cmp-total, token_cmp-ties}
 use Rattle.fare_service.specs.Outcomes.{OutcomeView}
-use Rattle.fare_texts.specs.Ledger.{AreLinesOfEach, IsLedgerOver, ledger_tokens}
+use Rattle.fare_texts.specs.Ledger.{IsLedgerOver, ledger_tokens}
 use Rattle.fare_service.specs.Ledger.{IsLedgerOfBooks}
 use Rattle.fare_texts.proofs.ByToken.{each_same}
 
@@ -48,12 +48,10 @@ pub ledger_same : (fares : Fares) (outcome : OutcomeView) (history : List Entry)
     → IsLedgerOfBooks outcome.books only text → IsLedgerOver fares history only text
 ledger_same fares outcome history only text same table is =
     let all = all_entries outcome.books in
-    let over : IsLedgerOver fares all only text =
-    subst (λ (f : Fares). IsLedgerOver f all only text) (table is.first is.holds_first) is.over in
+    let over : IsLedgerOver fares all only text = rw (table is.first is.holds_first) at is.over in
     record {
       lines = over.lines;
-      of_each = subst (λ (ts : List Token). AreLinesOfEach fares history ts over.lines)
-          (same_reported all history same only)
+      of_each = rw (← same_reported all history same only)
           (each_same fares all history (ledger_tokens only all) over.lines same over.of_each);
       whole = over.whole;
     }

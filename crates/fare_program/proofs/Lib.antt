@@ -1,14 +1,13 @@
 pub mod Appends
 pub mod Billed
 pub mod Causes
+pub mod Drawn
 pub mod Ends
-pub mod Explains
 pub mod Going
 pub mod LastMoments
 pub mod Ledgers
 pub mod Loads
 pub mod PostedTexts
 pub mod Prefetched
-pub mod SystemFiles
 pub mod Usable
 pub mod Works

@@ -1,109 +1,59 @@
 -- What was asked for was done.
-use Rattle.std.proofs.Common.{◌≡◌, ℕ, List, Bool, true, false, not, Option, Some, None, refl, map, sym}
-use Rattle.std.proofs.Common.{inl, inr, subst}
-use Rattle.std.specs.Prelude.{MatchBool, is_some, ◌||◌, ◌⊎◌}
+use Rattle.std.proofs.Common.{◌≡◌, ℕ, List, Bool, Option, None, Some, false, true, refl, subst, sym}
+use Rattle.std.specs.Prelude.{MatchBool, MatchOption}
 use Rattle.tariffs.specs.Fares.{Fares}
 use Rattle.tap_views.specs.declared.token.Token.{Token}
 use Rattle.world.specs.Origins.{Origin}
-use Rattle.fare_program.specs.FilesLoaded.{AreLoaded, LoadsFiles, names_to_load}
-use Rattle.fare_program.specs.Options.{Request, lists}
-use Rattle.fare_program.specs.Parts.{ShowsSorted}
-use Rattle.fare_program.specs.Program.{Does, DoesUntraced, IsTokenIn, LoadsTable, RunsListing}
-use Rattle.fare_program.specs.Program.{RunsService, RunsSorted, RunsTraced, ShowsRequest}
-use Rattle.fare_program.specs.Uploads.{IsListing}
-use Rattle.fare_program.specs.inside.Ends.{IfKnown}
-use Rattle.program_manners.specs.TableWords.{TableNames}
+use Rattle.fare_program.specs.Options.{Request}
+use Rattle.fare_program.specs.Program.{Charges, Does, DoesBy, DoesWith, Lists, Merges, Traces}
 use Rattle.program_manners.specs.Loads.{Loaded}
-
--- with fares, and without the flag, the service is asked for
-serves : (list : Bool) (table : Option TableNames) (before between : Option (List Loaded))
-    (fares : Option Fares) (f : Fares) → list ≡ false → LoadsTable table before between fares
-    → fares ≡ Some f → (list || not (is_some table)) ≡ false
-serves true table before between fares f flag loads is = cc
-serves false None before between fares f flag loads is = let none = loads.0 in cc
-serves false (Some name) before between fares f flag loads is = refl
-
--- with the flag, or without fares, a listing is asked for
-lists_by : (list : Bool) (table : Option TableNames) (before between : Option (List Loaded))
-    (fares : Option Fares) → LoadsTable table before between fares
-    → (list ≡ true) ⊎ (fares ≡ None) → (list || not (is_some table)) ≡ true
-lists_by true table before between fares loads is = refl
-lists_by false None before between fares loads is = refl
-lists_by false (Some name) before between fares loads (inl e) = cc
-lists_by false (Some name) before between fares loads (inr e) = let some = loads.3 in cc
+use Rattle.program_manners.specs.TableWords.{TableNames}
 
 module _ (request : Request) (known : List ℕ → Option (List ℕ)) (origin : List ℕ → Origin)
     (before after : Option (List Loaded)) (text : List ℕ) (success : Bool) where
-  abbrev DoesIf : Bool → Type 0
-  DoesIf traced = MatchBool traced (RunsTraced request before after text success)
-      (DoesUntraced request known origin before after text success)
+  abbrev DoesOf : Option TableNames → Type 0
+  DoesOf table = MatchOption table (Lists request None before after text success)
+      (DoesWith request known origin before after text success)
 
-  pub does_traced : request.traced ≡ true → RunsTraced request before after text success
+  pub does_list : request.table ≡ None → Lists request None before after text success
       → Does request known origin before after text success
-  does_traced traced runs = subst DoesIf (sym traced) runs
+  does_list none lists = subst DoesOf (sym none) lists
 
-  pub does_untraced : request.traced ≡ false
-      → DoesUntraced request known origin before after text success
+  pub does_with : (tables : TableNames) → request.table ≡ Some tables
+      → DoesWith request known origin before after text success tables
       → Does request known origin before after text success
-  does_untraced untraced does = subst DoesIf (sym untraced) does
+  does_with tables named does = subst DoesOf (sym named) does
 
-module _ (request : Request) (known : List ℕ → Option (List ℕ)) (origin : List ℕ → Origin)
-    (before between after : Option (List Loaded)) (text : List ℕ) (success : Bool) where
-  abbrev Untraced : Bool → Bool → Type 0
-  Untraced list sorted = MatchBool list
-      (RunsListing request.table request.files before after text success)
-      (MatchBool sorted (RunsSorted request known before after text success)
-      (RunsService request origin before after text success))
+  module _ (texts : List (List ℕ)) (fares : Fares) (token : Option Token) where
+    abbrev ByIf : Bool → Bool → Bool → Type 0
+    ByIf list traced sorted =
+        MatchBool list (Lists request (Some fares) before after text success)
+        (MatchBool traced (Traces request texts fares before after text success)
+        (MatchBool sorted ((after ≡ before) × Merges request known fares token text success)
+        (Charges request origin fares token before after text success)))
 
-  pub does_list : (fares : Option Fares) → LoadsTable request.table before between fares
-      → (files : List (List ℕ)) → LoadsFiles (names_to_load request.files) between after files
-      → (request.list ≡ true) ⊎ (fares ≡ None) → IsListing fares files text success
-      → DoesUntraced request known origin before after text success
-  does_list fares loads files loaded flag listing =
-      subst (λ (b : Bool). Untraced b request.sorted)
-      (sym (lists_by request.list request.table before between fares loads flag)) (record {
-        between = between;
-        fares = fares;
-        loads_table = loads;
-        files = files;
-        loads_files = loaded;
-        listing = listing;
-      })
+    abbrev By : Type 0
+    By = DoesBy request known origin texts fares token before after text success
 
-  pub does_charge : (fares : Option Fares) → LoadsTable request.table before between fares
-      → (f : Fares) (files : List (List ℕ)) (drawn : List ℕ) (token : Option Token)
-      → fares ≡ Some f → AreLoaded request origin between after files drawn
-      → IsTokenIn request.token token → request.list ≡ false → request.sorted ≡ false
-      → ShowsRequest request f files drawn token text success
-      → DoesUntraced request known origin before after text success
-  does_charge fares loads f files drawn token is loaded is_token flag live shows =
-      subst (λ (b : Bool). Untraced b request.sorted)
-      (sym (serves request.list request.table before between fares f flag loads is))
-      (subst (λ (b : Bool). Untraced false b) (sym live) (record {
-        between = between;
-        fares = f;
-        loads_table = subst (LoadsTable request.table before between) is loads;
-        files = files;
-        drawn = drawn;
-        loads_files = loaded;
-        token = token;
-        is_token = is_token;
-        shows = shows;
-      }))
+    by_flags : (list traced sorted : Bool) → request.list ≡ list → request.traced ≡ traced
+        → request.sorted ≡ sorted → ByIf list traced sorted → By
+    by_flags list traced sorted l t s is =
+        subst (λ (b : Bool). ByIf b request.traced request.sorted) (sym l)
+        (subst (λ (b : Bool). ByIf list b request.sorted) (sym t)
+        (subst (λ (b : Bool). ByIf list traced b) (sym s) is))
 
-  pub does_sorted : (fares : Fares) (token : Option Token) → lists request ≡ false
-      → request.sorted ≡ true → success ≡ true → LoadsTable request.table before after (Some fares)
-      → IsTokenIn request.token token → IfKnown (map known request.files)
-      (λ files text. ShowsSorted request fares files token text true) text
-      → DoesUntraced request known origin before after text success
-  does_sorted fares token list sorted succeeded loads is_token shows =
-      subst (λ (b : Bool). Untraced b request.sorted) (sym list)
-      (subst (λ (b : Bool). Untraced false b) (sym sorted) (record {
-        fares = fares;
-        loads = loads;
-        token = token;
-        is_token = is_token;
-        shows = λ files are. subst (λ (b : Bool). ShowsSorted request fares files token text b)
-            (sym succeeded) (shows files are);
-        succeeded = succeeded;
-      }))
+    pub by_list : request.list ≡ true → Lists request (Some fares) before after text success → By
+    by_list list lists = by_flags true request.traced request.sorted list refl refl lists
+
+    pub by_trace : request.list ≡ false → request.traced ≡ true
+        → Traces request texts fares before after text success → By
+    by_trace list traced traces = by_flags false true request.sorted list traced refl traces
+
+    pub by_merge : request.list ≡ false → request.traced ≡ false → request.sorted ≡ true
+        → after ≡ before → Merges request known fares token text success → By
+    by_merge list traced sorted same merges =
+        by_flags false false true list traced sorted (same, merges)
+
+    pub by_charge : request.list ≡ false → request.traced ≡ false → request.sorted ≡ false
+        → Charges request origin fares token before after text success → By
+    by_charge list traced sorted charges = by_flags false false false list traced sorted charges

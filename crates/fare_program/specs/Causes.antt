@@ -1,6 +1,6 @@
 -- Why the program gives up is the case.
-use Rattle.std.specs.Prelude.{◌≡◌, ◌<◌, ℕ, List, [], ◌∷◌, Option, None, Some, true, false}
-use Rattle.std.specs.Prelude.{codes, length, map, slice_get}
+use Rattle.std.specs.Prelude.{◌≡◌, ◌≢◌, ◌<◌, ℕ, List, [], ◌∷◌, Option, None, Some, true}
+use Rattle.std.specs.Prelude.{MatchOption, codes, length, map, slice_get}
 use Rattle.tariffs.specs.Fares.{Fares}
 use Rattle.fare_service.specs.Faults.{IsForMemory}
 use Rattle.program_manners.specs.Loads.{Loaded}
@@ -8,7 +8,9 @@ use Rattle.program_manners.specs.Refusals.{IsOneOf, HasRefused}
 use Rattle.program_manners.specs.TableLoads.{LoadsTables}
 use Rattle.program_manners.specs.TablesFaults.{IsTablesFault}
 use Rattle.program_manners.specs.TableWords.{TableNames, table_files}
+use Rattle.program_manners.specs.declared.loading.FileFault.{FileFault}
 use Rattle.world.specs.declared.faults.LoadFault.{LoadFault}
+use Rattle.world.specs.declared.faults.LoadFault.TheVariants as load
 use Rattle.sorted_bills.specs.Faults.{HaveTooManyTaps}
 use Rattle.class_names.specs.ClassFaults.{IsWrongAt}
 use Rattle.class_names.specs.declared.names.WrongNames.{WrongNames}
@@ -16,10 +18,10 @@ use Rattle.class_names.specs.declared.names.ClassFault.TheVariants.{Name}
 use Rattle.sorted_taps.specs.Checked.{IsFirstUnsorted}
 use Rattle.fare_program.specs.Options.{Request}
 use Rattle.fare_program.specs.declared.fault.Fault.{Fault}
-use Rattle.fare_program.specs.declared.fault.Fault.TheVariants.{ClassName, File, Gather, Late}
-use Rattle.fare_program.specs.declared.fault.Fault.TheVariants.{NamedClass, NoMemory, Tables}
-use Rattle.fare_program.specs.declared.fault.Fault.TheVariants.{TooManyTaps, Unopened as AtOpening}
-use Rattle.fare_program.specs.declared.fault.Fault.TheVariants.{Unsorted, Uploads, Write}
+use Rattle.fare_program.specs.declared.fault.Fault.TheVariants.{Class, File, Gather, Late, NoMemory}
+use Rattle.fare_program.specs.declared.fault.Fault.TheVariants.{Tables, TooManyTaps}
+use Rattle.fare_program.specs.declared.fault.Fault.TheVariants.{Unopened as AtOpening, Unsorted}
+use Rattle.fare_program.specs.declared.fault.Fault.TheVariants.{Uploads, Write}
 
 -- what fault lines call the files to be loaded: standard input, if none is named
 abbrev pub names_reported : List (List ℕ) → List (List ℕ)
@@ -27,11 +29,9 @@ names_reported [] = codes "standard input" ∷ []
 names_reported (name ∷ names) = name ∷ names
 
 -- one of these files was the last that the source refused, or an allocation failed
-abbrev pub IsFileFault : List (List ℕ) → Option (Option (List ℕ) × LoadFault) → Fault → Type 0
-IsFileFault names refused (File file) =
-    IsOneOf file.name.now names × HasRefused refused file.name.now file.fault
-IsFileFault names refused NoMemory = Unit {0}
-IsFileFault names refused fault = ⊥
+abbrev pub IsFileFault : List (List ℕ) → Option (Option (List ℕ) × LoadFault) → FileFault → Type 0
+IsFileFault names refused file = file.fault ≢ load.NoMemory
+    → IsOneOf file.name.now names × HasRefused refused file.name.now file.fault
 
 -- A fault of sorted files under these names, of which this is known, is the right one: a file that
 -- is named is one of them, and is refused for this reason, or all have too many taps. Any may have
@@ -47,36 +47,17 @@ IsRightOfSorted names known Write = Unit {0}
 IsRightOfSorted names known NoMemory = Unit {0}
 IsRightOfSorted names known fault = ⊥
 
--- All tables were loaded. A text of them names a class that cannot be in a ledger, and none before it
--- does.
-pub record RefusesClass (tables : TableNames) (loaded loaded' : Option (List Loaded))
-    (wrong : WrongNames) : Type 0 where
+-- All tables were loaded. The text of this one's file names a class that cannot be in a ledger, and
+-- none before it does.
+pub record RefusesClass (loaded loaded' : Option (List Loaded)) (file : List ℕ) (tables : TableNames)
+    : Type 0 where
   pub texts : List (List ℕ)
   pub fares : Fares
   pub loads : LoadsTables tables loaded loaded' texts fares
+  pub wrong : WrongNames
   pub names : IsWrongAt texts wrong
   pub kind : wrong.fault ≡ Name
-
--- The fault is one of these tables: why they were not loaded; or a class that they name, with the file
--- of its table if several are named.
-abbrev pub IsTableFault : TableNames → Option (List Loaded) → Option (List Loaded)
-    → Option (Option (List ℕ) × LoadFault) → Fault → Type 0
-IsTableFault tables loaded loaded' refused (Tables fault) =
-    IsTablesFault tables loaded loaded' refused fault
-IsTableFault tables loaded loaded' refused ClassName =
-    (tables.later ≡ []) × (wrong : WrongNames) × RefusesClass tables loaded loaded' wrong
-IsTableFault tables loaded loaded' refused (NamedClass line) =
-    (wrong : WrongNames) × RefusesClass tables loaded loaded' wrong
-    × (slice_get (table_files tables) wrong.position ≡ Some line.0.now)
-IsTableFault tables loaded loaded' refused NoMemory = Unit {0}
-IsTableFault tables loaded loaded' refused fault = ⊥
-
--- the tables that the words name
-abbrev pub IsFaultOfTables : Option TableNames → Option (List Loaded) → Option (List Loaded)
-    → Option (Option (List ℕ) × LoadFault) → Fault → Type 0
-IsFaultOfTables None loaded loaded' refused fault = ⊥
-IsFaultOfTables (Some tables) loaded loaded' refused fault =
-    IsTableFault tables loaded loaded' refused fault
+  pub of_file : slice_get (table_files tables) wrong.position ≡ Some file
 
 -- The fault is the right one for what is asked for. A class's name is refused only for a traced
 -- ledger. There are too many uploads only above 65,535. A write may fail at any time, and so may
@@ -85,17 +66,13 @@ IsFaultOfTables (Some tables) loaded loaded' refused fault =
 abbrev pub IsRightFault : Request → (List ℕ → Option (List ℕ)) → Option (List Loaded)
     → Option (List Loaded) → Option (Option (List ℕ) × LoadFault) → Fault → Type 0
 IsRightFault request under loaded loaded' refused (File file) =
-    IsFileFault (names_reported request.files) refused (File file)
+    IsFileFault (names_reported request.files) refused file
 IsRightFault request under loaded loaded' refused (Tables fault) =
-    IsFaultOfTables request.table loaded loaded' refused (Tables fault)
-IsRightFault request under loaded loaded' refused ClassName =
-    (request.traced ≡ true) × IsFaultOfTables request.table loaded loaded' refused ClassName
-IsRightFault request under loaded loaded' refused (NamedClass line) =
-    (request.traced ≡ true) × IsFaultOfTables request.table loaded loaded' refused (NamedClass line)
-IsRightFault request under loaded loaded' refused Uploads =
-    (request.settle ≡ false) × (65535 < length request.files)
-IsRightFault request under loaded loaded' refused (Gather fault) =
-    (request.settle ≡ false) × IsForMemory fault
+    MatchOption request.table ⊥ (λ tables. IsTablesFault tables loaded loaded' refused fault)
+IsRightFault request under loaded loaded' refused (Class line) = (request.traced ≡ true)
+    × MatchOption request.table ⊥ (RefusesClass loaded loaded' line.file.now)
+IsRightFault request under loaded loaded' refused Uploads = 65535 < length request.files
+IsRightFault request under loaded loaded' refused (Gather fault) = IsForMemory fault
 IsRightFault request under loaded loaded' refused Write = Unit {0}
 IsRightFault request under loaded loaded' refused NoMemory = Unit {0}
 IsRightFault request under loaded loaded' refused fault =

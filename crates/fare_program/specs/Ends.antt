@@ -1,5 +1,5 @@
 -- How a run ends.
-use Rattle.std.specs.Prelude.{◌≡◌, ◌≢◌, ◌≤◌, ◌⊎◌, ℕ, Bool, true, false, List, Option, None}
+use Rattle.std.specs.Prelude.{◌≡◌, ◌≢◌, ◌⊎◌, ℕ, suc, zero, Bool, true, false, List, Option, None}
 use Rattle.std.specs.Prelude.{is_some, map}
 use Rattle.std.specs.Io.KnownBytes.{Appends, Keeps}
 use Rattle.clap.specs.Words.{Text}
@@ -92,36 +92,34 @@ pub record HasDoneNothing (did : Did) : Type 0 where
   pub unloaded : did.loaded' ≡ did.loaded
   pub unwritten : Keeps did.out did.out'
 
--- the line of this fault was reported, and nothing was written
-pub record Aborted (fault : Fault) (did : Did) : Type 0 where
-  pub line_reported : LineWritten did.said did.said' did.failed (fault_text fault)
-  pub unwritten : Keeps did.out did.out'
-
 -- How a command line ends. With status 1 a fault was reported, or an upload is damaged or not
--- finished, as the text says. Only usage errors have status 2. Before them only an allocation may
--- fail.
-pub record EndsCommand (request : Request) (did : Did) (status : ℕ) : Type 0 where
-  pub done : status ≡ 0 → HasFinished request did true
-  pub failed : status ≡ 1
-      → HasFinished request did false ⊎ (HasFailed request did ⊎ Aborted NoMemory did)
-  pub refused : status ≡ 2 → (is_usable request ≡ false) × HasDoneNothing did
-  pub bounded : status ≤ 2
+-- finished, as the text says. Only usage errors have status 2.
+abbrev pub EndsCommand : Request → Did → ℕ → Type 0
+EndsCommand request did zero = HasFinished request did true
+EndsCommand request did (suc zero) = HasFinished request did false ⊎ HasFailed request did
+EndsCommand request did (suc (suc zero)) = (is_usable request ≡ false) × HasDoneNothing did
+EndsCommand request did _ = ⊥
 
--- the line of a write that failed was reported, and the output remembers that one did
-pub record HasReportedWrite (did : Did) : Type 0 where
-  pub line_reported : LineWritten did.said did.said' did.failed (fault_text Write)
-  pub write_failed : did.end ≢ None
+-- the words are a command line, which ended so
+pub record EndsParsed (words : List Text) (did : Did) (status : ℕ) : Type 0 where
+  pub parses : Parses words
+  pub workers : ℕ
+  pub shards : ℕ
+  pub ends : EndsCommand (request_by workers shards words) did status
 
--- How words end that are no command line: with 0 and 1 help or the version was shown or not, or an
--- allocation failed.
-pub record EndsAnswer (words : List Text) (did : Did) (status : ℕ) : Type 0 where
-  pub done : status ≡ 0 → AsksForText words × Keeps did.said did.said'
-  pub failed : status ≡ 1 → Aborted NoMemory did ⊎ (AsksForText words × HasReportedWrite did)
-  pub refused : status ≡ 2 → HasDoneNothing did
-  pub bounded : status ≤ 2
+-- the line of this fault was reported
+abbrev pub HasReported : Fault → Did → Type 0
+HasReported fault did = LineWritten did.said did.said' did.failed (fault_text fault)
+
+-- How words end that are not run: they ask for help or the version, which was shown or not; or they
+-- are no command line; or an allocation failed.
+abbrev pub EndsAnswer : List Text → Did → ℕ → Type 0
+EndsAnswer words did zero = AsksForText words × Keeps did.said did.said'
+EndsAnswer words did (suc zero) = (HasReported NoMemory did × Keeps did.out did.out')
+    ⊎ (AsksForText words × HasReported Write did × (did.end ≢ None))
+EndsAnswer words did (suc (suc zero)) = (¬ Parses words) × HasDoneNothing did
+EndsAnswer words did _ = ⊥
 
 -- THE outcome of a run of these words.
-pub record Ends (words : List Text) (did : Did) (status : ℕ) : Type 0 where
-  pub command : Parses words → (workers : ℕ) × (shards : ℕ)
-      × EndsCommand (request_by workers shards words) did status
-  pub answer : ¬ Parses words → EndsAnswer words did status
+abbrev pub Ends : List Text → Did → ℕ → Type 0
+Ends words did status = EndsParsed words did status ⊎ EndsAnswer words did status

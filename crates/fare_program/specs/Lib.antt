@@ -9,7 +9,6 @@ pub mod Parts
 pub mod Program
 pub mod Settling
 pub mod SortedFaults
-pub mod SystemFiles
 pub mod TokenRanges
 pub mod Uploads
 pub mod Usage

@@ -1,6 +1,6 @@
 -- The command line, and what its words ask for.
-use Rattle.std.specs.Prelude.{◌≡◌, ◌⊎◌, ◌∷◌, ℕ, Bool, false, ◌||◌, not, List, [], Option}
-use Rattle.std.specs.Prelude.{None, Some, codes, is_some, pos, true, unwrap_or}
+use Rattle.std.specs.Prelude.{◌≡◌, ◌⊎◌, ◌∷◌, ℕ, Bool, false, List, [], Option, None, Some, codes}
+use Rattle.std.specs.Prelude.{pos, true, unwrap_or}
 use Rattle.std.specs.Option.{option_map_or}
 use Rattle.std.specs.Str.{bytes_eq}
 use Rattle.clap.specs.Words.{App, IsAmong, Row, Rule, Text, all_of, fault_of, first_of, matches_of}
@@ -109,7 +109,3 @@ form_by true true = Some Json
 -- the form in which the statement is explained, if it is
 abbrev pub form_of : Request → Option Form
 form_of request = form_by request.explain request.json
-
--- The taps are listed by the flag, or if there is no table. Else the service runs.
-abbrev pub lists : Request → Bool
-lists request = request.list || not (is_some request.table)

@@ -1,18 +1,19 @@
 -- What a run of the program does.
 use Rattle.std.specs.Prelude.{◌≡◌, ℕ, Bool, true, List, map, Option}
-use Rattle.std.specs.Prelude.{None, Some, Ok, MatchBool}
+use Rattle.std.specs.Prelude.{None, Some, Ok, MatchBool, MatchOption, length}
 use Rattle.hex.specs.Hex.{decode_sized}
 use Rattle.tariffs.specs.Fares.{Fares}
 use Rattle.tap_views.specs.Token.{bytes_of}
 use Rattle.tap_views.specs.declared.token.Token.{Token}
 use Rattle.tap_views.specs.declared.upload_end.UploadEnd.{UploadEnd}
 use Rattle.histories.specs.declared.entry.Entry.{Entry}
+use Rattle.shared_books.specs.Drawing.{AllBelow, HasAll}
 use Rattle.fare_service.specs.Headline.{HasRun, drawn_by}
 use Rattle.fare_service.specs.Outcomes.{OutcomeView}
 use Rattle.fare_service.specs.Plain.{AreApart}
 use Rattle.histories.specs.Plain.{IsPlain}
 use Rattle.fare_service.specs.Printed.{IsStatementOf, report_with}
-use Rattle.fare_program.specs.Options.{Request, form_of, lists}
+use Rattle.fare_program.specs.Options.{Request, form_of}
 use Rattle.fare_texts.specs.declared.form.Form.{Form}
 use Rattle.tap_views.specs.UploadEnds.{are_posted}
 use Rattle.fare_program.specs.Parts.{ShowsSorted}
@@ -29,23 +30,12 @@ use Rattle.world.specs.Origins.{Origin}
 use Rattle.class_names.specs.Classes.{AreTrees, class_of_token, tree_at}
 use Rattle.settled_texts.specs.Ledgers.{IsTracedLedger}
 
--- If tables are named, their files were loaded in order: the first table, and each later one from
--- its date on. Their texts mean these fares.
-abbrev pub LoadsTable : Option TableNames → Option (List Loaded) → Option (List Loaded)
-    → Option Fares → Type 0
-LoadsTable None loaded loaded' fares = (fares ≡ None) × (loaded' ≡ loaded)
-LoadsTable (Some tables) loaded loaded' fares = (texts : List (List ℕ)) × (all : Fares)
-    × LoadsTables tables loaded loaded' texts all × (fares ≡ Some all)
-
--- Tables and files were loaded, and the text is the listing of these files, with the validators
--- known that the table knows. It is clean if no file has a layout fault.
-pub record RunsListing (table : Option TableNames) (names : List (List ℕ))
-    (loaded loaded' : Option (List Loaded)) (text : List ℕ) (clean : Bool) : Type 0 where
-  pub between : Option (List Loaded)
-  pub fares : Option Fares
-  pub loads_table : LoadsTable table loaded between fares
+-- The files were loaded, and the text is their listing, with the validators known that the table
+-- knows. It is clean if no file has a layout fault.
+pub record Lists (request : Request) (fares : Option Fares) (loaded loaded' : Option (List Loaded))
+    (text : List ℕ) (clean : Bool) : Type 0 where
   pub files : List (List ℕ)
-  pub loads_files : LoadsFiles (names_to_load names) between loaded' files
+  pub loads_files : LoadsFiles (names_to_load request.files) loaded loaded' files
   pub listing : IsListing fares files text clean
 
 -- the text is the statement of this token, explained in this form if there is one
@@ -82,8 +72,8 @@ IsTokenIn (Some digits) (Some token) = decode_sized digits 16 ≡ Ok (bytes_of t
 IsTokenIn _ _ = ⊥
 
 -- A service was run over the files as they are, of which these were drawn, and the text is what is
--- asked for of its outcome. It is well if each upload was posted whole. A text that is well is then
--- that of the plain history of the files, if no token has taps in two of them.
+-- asked for of its outcome. It is well if each upload was posted whole. Then each file was drawn once,
+-- and the text is that of the plain history of the files, if no token has taps in two of them.
 pub record ShowsLiveRun (request : Request) (fares : Fares) (files : List (List ℕ)) (drawn : List ℕ)
     (token : Option Token) (text : List ℕ) (success : Bool) : Type 0 where
   pub outcome : OutcomeView
@@ -91,6 +81,7 @@ pub record ShowsLiveRun (request : Request) (fares : Fares) (files : List (List 
   pub drawn_are : drawn ≡ drawn_by run.0
   pub shows : ShowsOf request token outcome.ends outcome text
   pub succeeded : success ≡ are_posted outcome.ends
+  pub once : success ≡ true → HasAll (length files) drawn × AllBelow (length files) drawn
   pub plain : success ≡ true → ShowsPlain request fares files token text
 
 -- The text is what is asked for of the files. Settled, it is a function of the files and the table:
@@ -101,44 +92,30 @@ ShowsRequest request fares files drawn token text success = MatchBool request.se
     (ShowsSettled request fares files token text success)
     (ShowsLiveRun request fares files drawn token text success)
 
--- Tables and files were loaded, and their taps posted. Where the bytes of a file come from that was
--- read ahead is given for its name. The text is the report, the statement of the token that is asked
--- for, or the ledger, whichever is asked for.
-pub record RunsService (request : Request) (origin : List ℕ → Origin)
-    (loaded loaded' : Option (List Loaded)) (text : List ℕ) (success : Bool) : Type 0 where
-  pub between : Option (List Loaded)
-  pub fares : Fares
-  pub loads_table : LoadsTable request.table loaded between (Some fares)
+-- The files were loaded, and their taps posted. Where the bytes of a file come from that was read
+-- ahead is given for its name. The text is the report, the statement of this token, or the ledger,
+-- whichever is asked for.
+pub record Charges (request : Request) (origin : List ℕ → Origin) (fares : Fares)
+    (token : Option Token) (loaded loaded' : Option (List Loaded)) (text : List ℕ) (success : Bool)
+    : Type 0 where
   pub files : List (List ℕ)
   pub drawn : List ℕ
-  pub loads_files : AreLoaded request origin between loaded' files drawn
-  pub token : Option Token
-  pub is_token : IsTokenIn request.token token
+  pub loads_files : AreLoaded request origin loaded loaded' files drawn
   pub shows : ShowsRequest request fares files drawn token text success
 
--- The named tables were loaded, and the named files were opened, each of which has its taps in
--- canonical order. The text is what is asked for of the settled history of the files, or of a part
--- of it, if what stands under their names is known. All is well.
-pub record RunsSorted (request : Request) (known : List ℕ → Option (List ℕ))
-    (loaded loaded' : Option (List Loaded)) (text : List ℕ) (success : Bool) : Type 0 where
-  pub fares : Fares
-  pub loads : LoadsTable request.table loaded loaded' (Some fares)
-  pub token : Option Token
-  pub is_token : IsTokenIn request.token token
-  pub shows : (files : List (List ℕ)) → map known request.files ≡ map Some files
-      → ShowsSorted request fares files token text success
-  pub succeeded : success ≡ true
+-- The named files were opened, each of which has its taps in canonical order. The text is what is
+-- asked for of the settled history of the files, or of a part of it, if what stands under their names
+-- is known. All is well.
+abbrev pub Merges : Request → (List ℕ → Option (List ℕ)) → Fares → Option Token → List ℕ → Bool
+    → Type 0
+Merges request known fares token text success = (success ≡ true)
+    × ((files : List (List ℕ)) → map known request.files ≡ map Some files
+    → ShowsSorted request fares files token text true)
 
--- The named tables were loaded, and then the files. The text is the traced ledger of the files, with
--- the class of each token that the table's text names which is valid at the tap's moment.
-pub record RunsTraced (request : Request) (loaded loaded' : Option (List Loaded)) (text : List ℕ)
-    (success : Bool) : Type 0 where
-  pub tables : TableNames
-  pub are_named : request.table ≡ Some tables
-  pub texts : List (List ℕ)
-  pub between : Option (List Loaded)
-  pub fares : Fares
-  pub loads_tables : LoadsTables tables loaded between texts fares
+-- The files were loaded. The text is their traced ledger, with the class of each token that the
+-- tables' texts name which is valid at the tap's moment.
+pub record Traces (request : Request) (texts : List (List ℕ)) (fares : Fares)
+    (loaded loaded' : Option (List Loaded)) (text : List ℕ) (success : Bool) : Type 0 where
   pub tree : Members
   pub later : List (ℕ × Members)
   pub parsed : AreTrees fares texts tree later
@@ -146,21 +123,36 @@ pub record RunsTraced (request : Request) (loaded loaded' : Option (List Loaded)
   pub are_classes : (moment : ℕ) (token : List ℕ)
       → class_of_token (tree_at tree later moment) token ≡ Some (classes moment token)
   pub files : List (List ℕ)
-  pub loads_files : LoadsFiles (names_to_load request.files) between loaded' files
+  pub loads_files : LoadsFiles (names_to_load request.files) loaded loaded' files
   pub shows : IsTracedLedger classes fares files text success
 
--- The text is what is asked for beside a traced ledger, of files that were loaded, or of sorted
--- files. What stands under a name of a sorted file is given, if it is known.
-abbrev pub DoesUntraced : Request → (List ℕ → Option (List ℕ)) → (List ℕ → Origin)
-    → Option (List Loaded) → Option (List Loaded) → List ℕ → Bool → Type 0
-DoesUntraced request known origin loaded loaded' text success = MatchBool (lists request)
-    (RunsListing request.table request.files loaded loaded' text success)
-    (MatchBool request.sorted (RunsSorted request known loaded loaded' text success)
-    (RunsService request origin loaded loaded' text success))
+-- The text is what is asked for by these tables, of files that were loaded, or of sorted files. What
+-- stands under a name of a sorted file is given, if it is known.
+abbrev pub DoesBy : Request → (List ℕ → Option (List ℕ)) → (List ℕ → Origin) → List (List ℕ) → Fares
+    → Option Token → Option (List Loaded) → Option (List Loaded) → List ℕ → Bool → Type 0
+DoesBy request known origin texts fares token loaded loaded' text success =
+    MatchBool request.list (Lists request (Some fares) loaded loaded' text success)
+    (MatchBool request.traced (Traces request texts fares loaded loaded' text success)
+    (MatchBool request.sorted
+    ((loaded' ≡ loaded) × Merges request known fares token text success)
+    (Charges request origin fares token loaded loaded' text success)))
 
--- The text is what is asked for: a traced ledger, or something else.
+-- The files of these tables were loaded in order: the first table, and each later one from its date
+-- on. Their texts mean these fares, and the text is what is asked for by them.
+pub record DoesWith (request : Request) (known : List ℕ → Option (List ℕ)) (origin : List ℕ → Origin)
+    (loaded loaded' : Option (List Loaded)) (text : List ℕ) (success : Bool) (tables : TableNames)
+    : Type 0 where
+  pub texts : List (List ℕ)
+  pub fares : Fares
+  pub between : Option (List Loaded)
+  pub loads_tables : LoadsTables tables loaded between texts fares
+  pub token : Option Token
+  pub is_token : IsTokenIn request.token token
+  pub does : DoesBy request known origin texts fares token between loaded' text success
+
+-- The text is what is asked for: of files alone, or by the tables that are named.
 abbrev pub Does : Request → (List ℕ → Option (List ℕ)) → (List ℕ → Origin) → Option (List Loaded)
     → Option (List Loaded) → List ℕ → Bool → Type 0
-Does request known origin loaded loaded' text success = MatchBool request.traced
-    (RunsTraced request loaded loaded' text success)
-    (DoesUntraced request known origin loaded loaded' text success)
+Does request known origin loaded loaded' text success = MatchOption request.table
+    (Lists request None loaded loaded' text success)
+    (DoesWith request known origin loaded loaded' text success)

@@ -1,6 +1,5 @@
 -- What only private functions cite. Who reads the contracts of public calls need not read it.
 pub mod Causes
-pub mod ChargedPrefetched
 pub mod Ends
 pub mod Fault
 pub mod Listing

@@ -9,9 +9,8 @@ ghost use Rattle.tap_views.specs.UploadEnds.{are_posted};
 ghost use Rattle.settlement.specs.Bills.{IsBillOf};
 ghost use Rattle.histories.specs.declared.entry.Entry.{Entry};
 
-use crate::fault::Fault;
+use crate::fault::{Fault, ended};
 use crate::options::Options;
-use crate::output::ended;
 use crate::run::are_posted;
 use fare_table::FareTable;
 use histories::HashSeed;

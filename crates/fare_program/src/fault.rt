@@ -1,10 +1,10 @@
 //! Why the program fails, with the line that says so.
-ghost use Rattle.std.specs.Prelude.{◌≡◌, ◌≢◌, ℕ, List, Option, Some, map};
+ghost use Rattle.std.specs.Prelude.{◌≡◌, ◌≢◌, ℕ, List, Option, Some, IfErr, map};
 ghost use Rattle.fare_service.specs.Faults.{MissesNothing};
-ghost use Rattle.fare_program.specs.Fault.{fault_text, gather_text, tables_text};
-ghost use Rattle.fare_program.specs.inside.Causes.{IsRunFailure};
+ghost use Rattle.fare_program.specs.Fault.{class_text, fault_text};
+ghost use Rattle.fare_program.specs.inside.Causes.{IsOfOutput, IsRightOfUploads};
 ghost use Rattle.fare_program.specs.inside.Ends.{IsLate};
-ghost use Rattle.fare_program.specs.inside.Fault.{as_remembered, printed_as};
+ghost use Rattle.fare_program.specs.inside.Fault.{as_remembered, ended_as, printed_as};
 ghost use Rattle.fare_program.specs.Causes.{IsRightOfSorted};
 ghost use Rattle.sorted_bills.specs.Faults.{IsBeforeText, IsBillFault};
 
@@ -13,7 +13,6 @@ use fare_service::{GatherFault, OpenFault, PrintFault, RunFault};
 use program_manners::{FileFault, NamedClassLine, TableLine, TablesFault, WriteEnd};
 use sorted_bills::BillFault;
 use std::fmt;
-use tap_views::NoMemory;
 
 /// Why the program fails. Its `Display` is the fault line without its line feed.
 #[derive(Clone, Copy, Debug)]
@@ -22,10 +21,8 @@ pub(crate) enum Fault<'a> {
     File(FileFault<'a>),
     /// The fare tables were not loaded.
     Tables(TablesFault<'a>),
-    /// The fare table has a class whose name cannot stand in a ledger.
-    ClassName,
-    /// One of several fare tables has a class whose name cannot stand in a ledger.
-    NamedClass(NamedClassLine<'a>),
+    /// A fare table has a class whose name cannot be in a ledger.
+    Class(ClassLine<'a>),
     /// A sorted file was not opened.
     Unopened(UnopenedFile<'a>),
     /// A file is not read as taps in canonical order, and each file before it is.
@@ -96,7 +93,8 @@ impl<'a> Fault<'a> {
     pub(crate) fn of_run(fault: RunFault) -> Fault<'a>
         requires workers { fault ≢ RunFault.Workers }
         requires claims { MissesNothing fault }
-        ensures { (uploads : ℕ) → IsRunFailure uploads result }
+        ensures right { (uploads : ℕ) → IsRightOfUploads uploads result }
+        ensures unwritten { result ≢ Fault.Write }
     {
         match fault {
             RunFault::Workers => unreachable!(),
@@ -120,47 +118,33 @@ impl<'a> Fault<'a> {
     }
 }
 
-impl From<NoMemory> for Fault<'_> {
-    ghost use Rattle.fare_program.specs.declared.fault.Fault.TheVariants.{NoMemory as ForMemory};
-
-    ghost from_gives = { λ _ fault. fault ≡ ForMemory };
-
-    fn from(_refused: NoMemory) -> Self {
-        Fault::NoMemory
+/// What the writing of a text comes to, of uploads that are whole or not.
+pub(crate) fn ended<'a>(written: Result<(), PrintFault>, success: bool) -> Result<bool, Fault<'a>>
+    ensures ended { result ≡ ended_as written success }
+    ensures output { IfErr result IsOfOutput }
+{
+    match written {
+        Ok(()) => Ok(success),
+        Err(fault) => Err(Fault::of_print(fault)),
     }
 }
 
-/// The line of a run that was not gathered.
-#[derive(Clone, Copy)]
-struct GatherLine(GatherFault);
-
-impl fmt::Display for GatherLine {
-    ghost output = { λ line. Some (gather_text line.0) };
-
-    fn fmt<W: fmt::Write>(&self, f: &mut fmt::Formatter<W>) -> fmt::Result {
-        f.write_str(match self.0 {
-            GatherFault::Missing { .. } => "fault: run U3 G1",
-            GatherFault::Drawn { .. } => "fault: run U3 G4",
-            GatherFault::NoMemory => "fault: out of memory",
-        })
-    }
+/// A fare table with a class whose name cannot be in a ledger, shown as its fault line.
+#[derive(Clone, Copy, Debug)]
+pub(crate) struct ClassLine<'a> {
+    pub(crate) file: &'a str,
+    /// It is the only table, and the line does not name it.
+    pub(crate) is_alone: bool,
 }
 
-/// The line of fare tables that were not loaded.
-#[derive(Clone, Copy)]
-struct TablesLine<'a>(TablesFault<'a>);
-
-impl fmt::Display for TablesLine<'_> {
-    ghost output = { λ line. Some (tables_text line.0) };
+impl fmt::Display for ClassLine<'_> {
+    ghost output = { λ line. Some (class_text line) };
 
     fn fmt<W: fmt::Write>(&self, f: &mut fmt::Formatter<W>) -> fmt::Result {
-        match self.0 {
-            TablesFault::File(fault) => fault.fmt(f),
-            TablesFault::Table(fault) => TableLine(fault).fmt(f),
-            TablesFault::NamedTable(line) => line.fmt(f),
-            TablesFault::Follow(line) => line.fmt(f),
-            TablesFault::NoMemory => f.write_str("fault: out of memory"),
+        if self.is_alone {
+            return f.write_str("fault: table has a class name that no ledger can have");
         }
+        NamedClassLine(self.file).fmt(f)
     }
 }
 
@@ -169,20 +153,22 @@ impl fmt::Display for Fault<'_> {
 
     fn fmt<W: fmt::Write>(&self, f: &mut fmt::Formatter<W>) -> fmt::Result {
         match self {
-            Fault::File(fault) => fault.fmt(f),
-            Fault::Tables(fault) => TablesLine(*fault).fmt(f),
-            Fault::NamedClass(line) => line.fmt(f),
-            Fault::ClassName => f.write_str(
-                "fault: table has a class name that no ledger can have",
-            ),
+            Fault::File(fault) | Fault::Tables(TablesFault::File(fault)) => fault.fmt(f),
+            Fault::Tables(TablesFault::Table(fault)) => TableLine(*fault).fmt(f),
+            Fault::Tables(TablesFault::NamedTable(line)) => line.fmt(f),
+            Fault::Tables(TablesFault::Follow(line)) => line.fmt(f),
+            Fault::Class(line) => line.fmt(f),
             Fault::Unopened(fault) => fault.fmt(f),
             Fault::Unsorted(fault) => fault.fmt(f),
             Fault::TooManyTaps => f.write_str("fault: too many taps"),
             Fault::Late(fault) => fault.fmt(f),
             Fault::Uploads => f.write_str("fault: too many uploads"),
-            Fault::Gather(fault) => GatherLine(*fault).fmt(f),
+            Fault::Gather(GatherFault::Missing { .. }) => f.write_str("fault: run U3 G1"),
+            Fault::Gather(GatherFault::Drawn { .. }) => f.write_str("fault: run U3 G4"),
             Fault::Write => f.write_str("fault: cannot write"),
-            Fault::NoMemory => f.write_str("fault: out of memory"),
+            Fault::Tables(TablesFault::NoMemory)
+            | Fault::Gather(GatherFault::NoMemory)
+            | Fault::NoMemory => f.write_str("fault: out of memory"),
         }
     }
 }

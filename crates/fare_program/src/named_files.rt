@@ -1,9 +1,9 @@
 //! Named files that are read while their taps are charged.
-ghost use Rattle.std.specs.Prelude.{◌≡◌, ◌<◌, false, length, None, Some, IfErr, IfSome};
+ghost use Rattle.std.specs.Prelude.{◌≡◌, ◌<◌, length, None, Some, IfErr, IfSome};
 ghost use Rattle.std.specs.Io.KnownBytes.{Keeps};
+ghost use Rattle.fare_program.specs.Program.{Charges};
 ghost use Rattle.fare_program.specs.inside.Ends.{Gives, IsLate};
 ghost use Rattle.fare_program.specs.inside.Options.{request_of};
-ghost use Rattle.fare_program.specs.inside.ChargedPrefetched.{IsChargedPrefetched};
 
 use crate::fault::Fault;
 use crate::noting::NotingGatekeeper;
@@ -82,7 +82,7 @@ impl<D: Disk> Uploads for NamedFiles<'_, D> {
 
 impl<D: Disk> UploadSource for NamedFiles<'_, D> {
     ghost use Rattle.std.specs.Prelude.{map};
-    ghost use Rattle.fare_program.specs.FilesLoaded.{unless_memory};
+    ghost use Rattle.fare_program.specs.inside.PostedFiles.{unless_memory};
 
     ghost origins = { λ files.
         map (λ n. unless_memory (D.origin files.disk.now n.now)) files.names.now };
@@ -129,11 +129,10 @@ fn charge_named<'a, R: Threads + Wait + RandomSource + Sync, D: Disk + Sync, W: 
     calls: &mut Trace,
     out: &mut W,
 ) -> Result<bool, Fault<'a>>
-    requires list { options.now.list ≡ false }
-    requires some { 0 < length options.now.files.items }
-    ensures ends { Gives (IsChargedPrefetched (request_of options.now) (D.origin disk.now)
-        (Some calls.old.run.loads) (Some calls.new.run.loads) (Some table.now) token)
-        (W.contents out.old) (W.contents out.new) result }
+    requires { 0 < length options.now.files.items }
+    ensures ends { Gives (Charges (request_of options.now) (D.origin disk.now) table.now token
+        (Some calls.old.run.loads) (Some calls.new.run.loads)) (W.contents out.old)
+        (W.contents out.new) result }
     ensures early { IfErr result (λ fault. IsLate fault → ⊥) }
 {
     let uploads = NamedFiles {
@@ -170,24 +169,21 @@ pub(crate) fn charge_prefetched<
     alloc: Global,
     disk: &D,
     options: &Options<'a>,
-    table: &Option<FareTable>,
+    table: &FareTable,
     token: Option<Token>,
     source: &mut S,
     out: &mut W,
 ) -> Option<Result<bool, Fault<'a>>>
-    ensures ends { IfSome result (Gives (IsChargedPrefetched (request_of options.now)
-        (D.origin disk.now) (S.loaded source.old) (S.loaded source.new) table.now token)
-        (W.contents out.old) (W.contents out.new)) }
+    ensures ends { IfSome result (Gives (Charges (request_of options.now) (D.origin disk.now)
+        table.now token (S.loaded source.old) (S.loaded source.new)) (W.contents out.old)
+        (W.contents out.new)) }
     ensures fault { IfSome result (λ ended. IfErr ended (λ fault. fault ≡ Fault.Write)) }
     ensures none { result ≡ None → Keeps (W.contents out.old) (W.contents out.new) }
     ensures unloaded { result ≡ None → S.loaded source.new ≡ S.loaded source.old }
 {
-    if options.list || options.files.is_empty() {
+    if options.files.is_empty() {
         return None;
     }
-    let Some(table) = table else {
-        return None;
-    };
     let Some(sizes) = sizes_of(alloc, disk, options.files.as_slice()) else {
         return None;
     };

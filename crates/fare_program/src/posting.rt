@@ -7,18 +7,17 @@ ghost use Rattle.fare_program.specs.inside.Causes.{IsRightOfUploads};
 ghost use Rattle.fare_program.specs.inside.Options.{request_of};
 ghost use Rattle.fare_program.specs.inside.Ends.{Gives};
 ghost use Rattle.fare_program.specs.inside.PostedFiles.{Posts};
-ghost use Rattle.fare_program.specs.Program.{ShowsRequest, ShowsOf, ShowsStatement, ShowsWith};
+ghost use Rattle.fare_program.specs.Program.{ShowsOf, ShowsRequest};
 
-use crate::fault::Fault;
+use crate::fault::{Fault, ended};
 use crate::noting::{NotedUploads, NotingGatekeeper, sizes_in};
 use crate::options::Options;
-use crate::output::ended;
 use crate::remarks::note_outcome;
-use crate::run::{are_posted, post_live};
+use crate::run::{are_posted, outcome_of, shows_plain};
 use crate::settle::charge_settled;
 use fare_service::{Gatekeeper, Outcome, UploadSource, write_explained, write_ledger};
 use fare_table::FareTable;
-use fare_texts::{Form, PrintFault};
+use fare_texts::PrintFault;
 use file_sources::Disk;
 use std::alloc::Global;
 use std::io::Write;
@@ -28,51 +27,6 @@ use std::sync::Wait;
 use std::thread::Threads;
 use tap_views::Token;
 use world::Trace;
-
-/// Prints the statement of the token, explained if that is asked for.
-fn print_statement<W: Write>(
-    alloc: Global,
-    form: Option<Form>,
-    outcome: &Outcome,
-    token: Token,
-    out: &mut W,
-) -> Result<(), PrintFault>
-    ensures ok { OnOk result ((text : List ℕ) × ShowsStatement form token outcome.now text
-        × Appends (W.contents out.old) (W.contents out.new) text) }
-    ensures started { IfErr result (λ fault. fault ≡ PrintFault.Write
-        → (text : List ℕ) × ShowsStatement form token outcome.now text
-        × Begins (W.contents out.old) (W.contents out.new) text) }
-    ensures fault { IfErr result (λ fault. UnchangedUnlessWrite fault (out.new ≡ out.old)) }
-{
-    match form {
-        Some(form) => write_explained(alloc, form, outcome.books(), token, out),
-        None => outcome.write_statement(alloc, &token, out),
-    }
-}
-
-/// Prints the report, or the statement of the token if one is asked for, explained if that is asked
-/// for.
-fn print<R: Threads + Sync, W: Write>(
-    rt: &R,
-    alloc: Global,
-    form: Option<Form>,
-    outcome: &Outcome,
-    token: Option<Token>,
-    out: &mut W,
-) -> Result<(), PrintFault>
-    ensures ok { OnOk result ((text : List ℕ)
-        × ShowsWith form token outcome.now.ends outcome.now text
-        × Appends (W.contents out.old) (W.contents out.new) text) }
-    ensures started { IfErr result (λ fault. fault ≡ PrintFault.Write
-        → (text : List ℕ) × ShowsWith form token outcome.now.ends outcome.now text
-        × Begins (W.contents out.old) (W.contents out.new) text) }
-    ensures fault { IfErr result (λ fault. UnchangedUnlessWrite fault (out.new ≡ out.old)) }
-{
-    match token {
-        None => outcome.write_report(rt, alloc, out),
-        Some(token) => print_statement(alloc, form, outcome, token, out),
-    }
-}
 
 /// Prints what is asked for: the ledger, or that of the token; else the report, or the statement of
 /// the token, explained if that is asked for.
@@ -94,9 +48,14 @@ fn print_requested<R: Threads + Sync, W: Write>(
     ensures fault { IfErr result (λ fault. UnchangedUnlessWrite fault (out.new ≡ out.old)) }
 {
     if options.ledger {
-        write_ledger(alloc, outcome.books(), token, out)
-    } else {
-        print(rt, alloc, options.form(), outcome, token, out)
+        return write_ledger(alloc, outcome.books(), token, out);
+    }
+    let Some(token) = token else {
+        return outcome.write_report(rt, alloc, out);
+    };
+    match options.form() {
+        Some(form) => write_explained(alloc, form, outcome.books(), token, out),
+        None => outcome.write_statement(alloc, &token, out),
     }
 }
 
@@ -124,13 +83,14 @@ pub(crate) fn charge_provided<
     requires { (request_of options.now).settle ≡ false }
     ensures ends { Gives (Posts (request_of options.now) table token (U.origins uploads)
         calls.old.run calls.new.run) (W.contents out.old) (W.contents out.new) result }
-    ensures right { IfErr result (IsRightOfUploads (request_of options.now).settle
-        (length (U.origins uploads))) }
+    ensures right { IfErr result (IsRightOfUploads (length (U.origins uploads))) }
 {
-    let outcome = match post_live(rt, alloc, table, options, uploads, keeper) {
+    let outcome = match outcome_of(rt, alloc, table, options, uploads, keeper) {
         Ok(outcome) => outcome,
         Err(fault) => return Err(fault),
     };
+    // proof: if no token has taps in two files, what is shown does not depend on the schedule
+    shows_plain(&outcome);
     note_outcome(alloc, disk, options, &outcome, token);
     let success = are_posted(outcome.ends());
     let printed = print_requested(rt, alloc, options, &outcome, token, out);
@@ -153,8 +113,7 @@ pub(crate) fn charge<'a, R: Threads + Wait + RandomSource + Sync, D: Disk + Sync
     ensures ends { Gives (λ text success. (drawn : List ℕ) × ShowsRequest (request_of options.now)
         table (map (λ f. f.items) files.items) drawn token text success) (W.contents out.old)
         (W.contents out.new) result }
-    ensures right { IfErr result (IsRightOfUploads (request_of options.now).settle
-        (length files.items)) }
+    ensures right { IfErr result (IsRightOfUploads (length files.items)) }
 {
     let uploads = NotedUploads { disk, all: &files };
     // nothing is read from outside

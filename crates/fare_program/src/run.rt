@@ -1,13 +1,12 @@
 //! A run of the service over uploads that are provided.
-ghost use Rattle.std.specs.Prelude.{◌≡◌, ℕ, true, List, Option, IfErr, IfOk, length};
+ghost use Rattle.std.specs.Prelude.{◌≡◌, ◌≢◌, ℕ, true, List, Option, IfErr, IfOk, length};
 ghost use Rattle.tariffs.specs.Fares.{Fares};
 ghost use Rattle.tap_views.specs.declared.token.Token.{Token};
-ghost use Rattle.fare_program.specs.inside.Causes.{IsRunFailure};
+ghost use Rattle.fare_program.specs.inside.Causes.{IsRightOfUploads};
 ghost use Rattle.tap_views.specs.UploadEnds.{are_posted, is_posted};
 ghost use Rattle.fare_program.specs.Options.{Request};
 ghost use Rattle.fare_program.specs.Program.{ShowsOf, ShowsPlain};
 ghost use Rattle.fare_service.specs.Headline.{HasRun, HasRunOver};
-ghost use Rattle.fare_program.specs.inside.PostedFiles.{IsLiveRun};
 
 use crate::fault::Fault;
 use crate::options::Options;
@@ -36,7 +35,8 @@ pub(crate) fn outcome_of<
 ) -> Result<Outcome, Fault<'a>>
     ensures run { IfOk result (HasRunOver table options.now.shards (U.origins uploads)
         options.now.workers) }
-    ensures fault { IfErr result (IsRunFailure (length (U.origins uploads))) }
+    ensures right { IfErr result (IsRightOfUploads (length (U.origins uploads))) }
+    ensures unwritten { IfErr result (λ fault. fault ≢ Fault.Write) }
 {
     let (service, share) = match Service::open(rt, alloc, table, options.shards, uploads) {
         Ok(opened) => opened,
@@ -50,7 +50,7 @@ pub(crate) fn outcome_of<
 
 /// proof: if no token has taps in two files, what is shown of an outcome is shown over the
 /// sequential history of the files. Reads no tap and no entry.
-fn shows_plain(outcome: &Outcome)
+pub(crate) fn shows_plain(outcome: &Outcome)
     ensures { (files : List (List ℕ)) (fares : Fares) (shards workers : ℕ) (request : Request)
         (token : Option Token) (text : List ℕ) → HasRun fares shards files workers outcome.now
         → are_posted outcome.now.ends ≡ true
@@ -60,30 +60,6 @@ fn shows_plain(outcome: &Outcome)
     let _ = outcome.shards();
     laws::tokens_are_named(outcome);
     one_increasing_list();
-}
-
-pub(crate) fn post_live<
-    'a,
-    R: Threads + Wait + RandomSource + Sync,
-    U: UploadSource + Drop + Sync,
-    G: Gatekeeper + Sync,
->(
-    rt: &R,
-    alloc: Global,
-    table: FareTable,
-    options: &Options<'a>,
-    uploads: U,
-    keeper: &G,
-) -> Result<Outcome, Fault<'a>>
-    ensures live { IfOk result (λ outcome. (files : List (List ℕ))
-        × IsLiveRun table options.now.shards options.now.workers (U.origins uploads) files
-        outcome) }
-    ensures fault { IfErr result (IsRunFailure (length (U.origins uploads))) }
-{
-    let outcome = outcome_of(rt, alloc, table, options, uploads, keeper)?;
-    // proof: if no token has taps in two files, what is shown does not depend on the schedule
-    shows_plain(&outcome);
-    Ok(outcome)
 }
 
 fn is_posted(end: UploadEnd) -> bool

@@ -6,9 +6,8 @@ ghost use Rattle.fare_program.specs.inside.Options.{request_of};
 ghost use Rattle.fare_program.specs.inside.Settling.{Settles};
 
 use crate::bill::write_bill;
-use crate::fault::Fault;
+use crate::fault::{Fault, ended};
 use crate::options::Options;
-use crate::output::ended;
 use crate::run::are_posted;
 use crate::settled_token::write_token;
 use fare_table::FareTable;

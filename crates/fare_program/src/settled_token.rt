@@ -11,16 +11,15 @@ ghost use Rattle.settlement.specs.Posted.{posted, token_of_tap};
 ghost use Rattle.fare_program.specs.inside.Causes.{IsOfOutput};
 ghost use Rattle.fare_program.specs.inside.Ends.{Gives};
 ghost use Rattle.fare_program.specs.inside.Settling.{Settles};
-ghost use Rattle.fare_program.specs.Settling.{IsStatementIn, ShowsOver};
+ghost use Rattle.fare_program.specs.Settling.{ShowsOver};
 ghost use Rattle.fare_program.specs.inside.Options.{request_of};
 
-use crate::fault::Fault;
+use crate::fault::{Fault, ended};
 use crate::options::Options;
-use crate::output::ended;
 use crate::remarks::note_taps;
 use crate::run::are_posted;
 use fare_table::FareTable;
-use fare_texts::{Form, PrintFault};
+use fare_texts::PrintFault;
 use file_sources::Disk;
 use settled_texts::{write_token_explained, write_token_ledger, write_token_statement};
 use settlement::{TokenTaps, Uploads, laws, settled_taps_of};
@@ -30,34 +29,6 @@ use std::marker::Sync;
 use std::thread::Threads;
 use tap_views::{TapFields, Token};
 use world::Trace;
-
-/// Writes the statement of a token that has these taps, explained if that is asked for.
-fn write_statement<W: Write>(
-    alloc: Global,
-    form: Option<Form>,
-    table: &FareTable,
-    token: Token,
-    taps: &[TapFields],
-    out: &mut W,
-) -> Result<(), PrintFault>
-    requires early { AreEarly (λ tap. tap.moment) taps.now }
-    requires its { All (λ tap. token_of_tap tap ≡ token) taps.now }
-    ensures ok { OnOk result ((text : List ℕ)
-        × ((history : List Entry) → own token history ≡ posted table.now taps.now
-        → IsStatementIn form table.now history token text)
-        × Appends (W.contents out.old) (W.contents out.new) text) }
-    ensures started { IfErr result (λ fault. fault ≡ PrintFault.Write
-        → (text : List ℕ)
-        × ((history : List Entry) → own token history ≡ posted table.now taps.now
-        → IsStatementIn form table.now history token text)
-        × Begins (W.contents out.old) (W.contents out.new) text) }
-    ensures fault { IfErr result (λ fault. UnchangedUnlessWrite fault (out.new ≡ out.old)) }
-{
-    match form {
-        Some(form) => write_token_explained(alloc, form, table, token, taps, out),
-        None => write_token_statement(alloc, table, token, taps, out),
-    }
-}
 
 /// Writes the ledger of a token that has these taps, or its statement, explained if that is asked
 /// for.
@@ -85,9 +56,11 @@ pub(crate) fn write_text<W: Write>(
     ensures fault { IfErr result (λ fault. UnchangedUnlessWrite fault (out.new ≡ out.old)) }
 {
     if options.ledger {
-        write_token_ledger(alloc, table, token, taps, out)
-    } else {
-        write_statement(alloc, options.form(), table, token, taps, out)
+        return write_token_ledger(alloc, table, token, taps, out);
+    }
+    match options.form() {
+        Some(form) => write_token_explained(alloc, form, table, token, taps, out),
+        None => write_token_statement(alloc, table, token, taps, out),
     }
 }
 

@@ -7,13 +7,13 @@ ghost use Rattle.fare_program.specs.Parts.{ShowsSorted};
 ghost use Rattle.fare_program.specs.TokenRanges.{range_fault};
 ghost use Rattle.fare_program.specs.Ends.{AreOfBytes};
 ghost use Rattle.fare_program.specs.Program.{IsTokenIn};
-ghost use Rattle.fare_program.specs.inside.Ends.{GivesKnown, GivesSettled, IsUnopened};
+ghost use Rattle.fare_program.specs.inside.Ends.{GivesKnown, GivesSettled};
 ghost use Rattle.fare_program.specs.inside.Options.{request_of};
+ghost use Rattle.program_manners.specs.Refusals.{IsOneOf};
 
 use crate::bill::write_billed;
-use crate::fault::Fault;
+use crate::fault::{Fault, ended};
 use crate::options::Options;
-use crate::output::ended;
 use crate::part::charge_part;
 use crate::remarks::note_taps;
 use crate::settled_token::write_text;
@@ -21,7 +21,7 @@ use crate::sorted_fault::UnopenedFile;
 use fare_table::FareTable;
 use file_sources::Disk;
 use histories::HashSeed;
-use placed_files::Placed;
+use placed_files::{Placed, Unopened};
 use settlement::laws;
 use sorted_bills::{sorted_bill, sorted_taps_of, write_sorted_ledger};
 use std::alloc::Global;
@@ -42,17 +42,23 @@ fn open_files<'a, D: Disk>(
     alloc: Global,
     disk: &D,
     names: &[&'a str],
-) -> Result<Vec<D::File>, Fault<'a>>
+) -> Result<Vec<D::File>, UnopenedFile<'a>>
     ensures opened { IfOk result (λ files. map D.File.bytes files.items
         ≡ map (D.bytes_under disk.now) (map (λ n. n.now) names.now)) }
-    ensures fault { IfErr result (IsUnopened (map (λ n. n.now) names.now)) }
+    ensures fault { IfErr result (λ file. IsOneOf file.name.now (map (λ n. n.now) names.now)) }
 {
     let mut files = Vec::new(alloc);
     for name in names {
-        match disk.open_placed(name) {
-            Ok(file) => push(&mut files, file)?,
-            Err(fault) => return Err(Fault::Unopened(UnopenedFile { name, fault })),
-        }
+        let file = match disk.open_placed(name) {
+            Ok(file) => file,
+            Err(fault) => return Err(UnopenedFile { name, fault }),
+        };
+        let Ok(()) = push(&mut files, file) else {
+            return Err(UnopenedFile {
+                name,
+                fault: Unopened::NoMemory,
+            });
+        };
     }
     Ok(files)
 }
@@ -175,7 +181,7 @@ pub(crate) fn work_sorted<'a, R: Threads + RandomSource + Sync, D: Disk, W: Writ
 {
     let files = match open_files(alloc, disk, &options.files) {
         Ok(files) => files,
-        Err(fault) => return Err(fault),
+        Err(file) => return Err(Fault::Unopened(file)),
     };
     match options.tokens {
         Some(word) => charge_part(rt, alloc, options, table, word, &files, out),

@@ -1,86 +1,110 @@
 //! The traced ledger of files.
-ghost use Rattle.std.specs.Prelude.{◌≡◌, ◌≤◌, ℕ, List, Option, IfErr, IfOk, length, map};
-ghost use Rattle.toml.specs.Data.{Members};
-ghost use Rattle.fare_program.specs.Causes.{IsTableFault};
-ghost use Rattle.fare_program.specs.inside.Causes.{IsNamedClass, IsOfOutput};
+ghost use Rattle.std.specs.Prelude.{◌≡◌, ◌≤◌, List, Option, Some, IfErr, IfSome, length, map};
+ghost use Rattle.std.specs.Prelude.{slice_get, true};
+ghost use Rattle.fare_program.specs.Causes.{IsRightFault};
+ghost use Rattle.fare_program.specs.Program.{Traces};
+ghost use Rattle.fare_program.specs.inside.Causes.{IsOfOutput};
 ghost use Rattle.fare_program.specs.inside.Ends.{Gives};
+ghost use Rattle.fare_program.specs.inside.Options.{request_of};
 ghost use Rattle.program_manners.specs.Loads.{Loaded};
 ghost use Rattle.program_manners.specs.TableLoads.{LoadsTables};
 ghost use Rattle.program_manners.specs.TableViews.{names_of};
-ghost use Rattle.world.specs.declared.faults.LoadFault.{LoadFault};
-ghost use Rattle.class_names.specs.Classes.{AreTrees};
+ghost use Rattle.program_manners.specs.TableWords.{table_files};
+ghost use Rattle.class_names.specs.Names.{class_by};
 ghost use Rattle.settled_texts.specs.Ledgers.{IsTracedLedger};
-ghost use Rattle.class_names.specs.Names.{HasClasses, class_by};
 
-use crate::fault::Fault;
+use crate::fault::{ClassLine, Fault};
+use crate::options::Options;
+use crate::program::load_files;
 use fare_table::FareTable;
-use program_manners::{NamedClassLine, TableWord, TableWords, Tables};
+use file_sources::{Disk, Source};
+use program_manners::{TableWord, TableWords, Tables};
 use settled_texts::{ClassFault, ClassNames, WrongNames, write_traced_ledger};
 use std::alloc::Global;
 use std::io::Write;
+use std::marker::Sync;
+use std::thread::Threads;
 
-/// Fare tables that follow one another, and the names of their classes.
-#[derive(Drop)]
-pub(crate) struct Riders {
-    pub(crate) table: FareTable,
-    /// The class of each rider.
-    pub(crate) names: ClassNames,
+/// The file of the table at this place.
+fn file_at<'a>(words: &TableWords<'a>, position: usize) -> &'a str
+    requires { position ≤ length (names_of words.now).later }
+    ensures { slice_get (table_files (names_of words.now)) position ≡ Some result.now }
+{
+    if position == 0 {
+        return words.first;
+    }
+    TableWord::of(words.later[position - 1]).name
 }
 
-/// The texts were read as fare tables before, so each is TOML and names a default class.
-fn of_names<'a>(words: &TableWords<'a>, wrong: WrongNames) -> Fault<'a>
+/// The line of a class that cannot be in a ledger. The texts were read as fare tables before, so each
+/// is TOML and names a default class.
+fn class_line<'a>(words: &TableWords<'a>, wrong: WrongNames) -> Option<ClassLine<'a>>
     requires { wrong.position ≤ length (names_of words.now).later }
-    ensures { IsNamedClass (names_of words.now) wrong result }
+    ensures { IfSome result (λ line. (wrong.fault ≡ ClassFault.Name)
+        × (slice_get (table_files (names_of words.now)) wrong.position ≡ Some line.file.now)) }
 {
     match wrong.fault {
-        ClassFault::Name if words.later.as_slice().is_empty() => Fault::ClassName,
-        ClassFault::Name if wrong.position == 0 => Fault::NamedClass(NamedClassLine(words.first)),
-        ClassFault::Name => {
-            let word = words.later[wrong.position - 1];
-            Fault::NamedClass(NamedClassLine(TableWord::of(word).name))
-        }
-        ClassFault::Text | ClassFault::NoMemory => Fault::NoMemory,
-    }
-}
-
-pub(crate) fn riders_of<'a>(
-    alloc: Global,
-    words: &TableWords<'a>,
-    tables: Tables,
-) -> Result<Riders, Fault<'a>>
-    requires { (loaded after : Option (List Loaded)) × LoadsTables (names_of words.now) loaded after
-        (map (λ t. t.items) tables.texts.items) tables.fares }
-    ensures table { IfOk result (λ riders. riders.table ≡ tables.fares) }
-    ensures names { IfOk result (λ riders. (tree : Members) × (later : List (ℕ × Members))
-        × AreTrees tables.fares (map (λ t. t.items) tables.texts.items) tree later
-        × HasClasses riders.names tree later) }
-    ensures fault { IfErr result (λ fault. (loaded after : Option (List Loaded))
-        (refused : Option (Option (List ℕ) × LoadFault)) → LoadsTables (names_of words.now) loaded
-        after (map (λ t. t.items) tables.texts.items) tables.fares
-        → IsTableFault (names_of words.now) loaded after refused fault) }
-{
-    match ClassNames::of_texts(alloc, &tables.fares, &tables.texts) {
-        Ok(names) => Ok(Riders {
-            table: tables.fares,
-            names,
+        ClassFault::Name => Some(ClassLine {
+            file: file_at(words, wrong.position),
+            is_alone: words.later.as_slice().is_empty(),
         }),
-        Err(wrong) => Err(of_names(words, wrong)),
+        ClassFault::Text | ClassFault::NoMemory => None,
     }
 }
 
-/// Returns whether no file has a layout fault.
-pub(crate) fn charge_traced<'a, W: Write>(
+fn print_traced<'a, W: Write>(
     alloc: Global,
-    riders: &Riders,
+    table: &FareTable,
+    names: &ClassNames,
     files: &[Vec<u8>],
     out: &mut W,
 ) -> Result<bool, Fault<'a>>
-    ensures ends { Gives (IsTracedLedger (class_by riders.now.names) riders.now.table
+    ensures ends { Gives (IsTracedLedger (class_by names.now) table.now
         (map (λ f. f.items) files.now)) (W.contents out.old) (W.contents out.new) result }
     ensures output { IfErr result IsOfOutput }
 {
-    match write_traced_ledger(alloc, &riders.table, &riders.names, files, out) {
+    match write_traced_ledger(alloc, table, names, files, out) {
         Ok(success) => Ok(success),
         Err(fault) => Err(Fault::of_print(fault)),
     }
+}
+
+/// Loads the files, and writes their traced ledger. Says whether no file has a layout fault.
+pub(crate) fn write_traced<'a, R: Threads + Sync, D: Disk + Sync, S: Source, W: Write>(
+    rt: &R,
+    alloc: Global,
+    disk: &D,
+    options: &Options<'a>,
+    words: &TableWords<'a>,
+    tables: &Tables,
+    source: &mut S,
+    out: &mut W,
+) -> Result<bool, Fault<'a>>
+    requires traced { (request_of options.now).traced ≡ true }
+    requires named { (request_of options.now).table ≡ Some (names_of words.now) }
+    requires loaded { (before : Option (List Loaded)) × LoadsTables (names_of words.now) before
+        (S.loaded source.old) (map (λ t. t.items) tables.now.texts.items) tables.now.fares }
+    ensures ends { Gives (Traces (request_of options.now) (map (λ t. t.items) tables.now.texts.items)
+        tables.now.fares (S.loaded source.old) (S.loaded source.new)) (W.contents out.old)
+        (W.contents out.new) result }
+    ensures right { IfErr result (λ fault. (loaded : Option (List Loaded))
+        → LoadsTables (names_of words.now) loaded (S.loaded source.old)
+        (map (λ t. t.items) tables.now.texts.items) tables.now.fares
+        → IsRightFault (request_of options.now) (D.bytes_under disk.now) loaded
+        (S.loaded source.new) (S.refused source.new) fault) }
+{
+    let names = match ClassNames::of_texts(alloc, &tables.fares, &tables.texts) {
+        Ok(names) => names,
+        Err(wrong) => {
+            if let Some(line) = class_line(words, wrong) {
+                return Err(Fault::Class(line));
+            }
+            return Err(Fault::NoMemory);
+        }
+    };
+    let files = match load_files(rt, alloc, disk, options, source) {
+        Ok(files) => files,
+        Err(file) => return Err(Fault::File(file)),
+    };
+    print_traced(alloc, &tables.fares, &names, &files, out)
 }

@@ -98,7 +98,7 @@ cap-reported tree modes n known =
     steps tree (cap_length (members_at at tree)) _ (needed_rows at the_key.CapWindow)
     (a_row at (Kind the_key.CapModes) ∷ a_row at Mode ∷ [])
     (cap_length_steps (value_at at the_key.CapWindow tree) (members_at at tree)
-    ∙ sym (reported_needed tree at the_key.CapWindow))
+    ∙ sym (reported_needed tree at the_key.CapWindow refl))
     (λ length is. done (counts_of modes named) _ ∙ counts_steps named modes
     ∙ ap (λ (names : List (List ℕ)). modes_report named names) (sym known)
     ∙ sym (reported_two tree at (Kind the_key.CapModes) Mode))

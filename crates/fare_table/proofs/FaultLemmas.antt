@@ -5,7 +5,7 @@ use Rattle.std.proofs.Common.{sym, ap, ◌∙◌, subst, arith, codes, append_as
 use Rattle.std.proofs.lemmas.Bool.{false≢true}
 use Rattle.std.proofs.lemmas.List.Folds.{find-append}
 use Rattle.std.specs.Cmp.Lexicographic.{slice_cmp}
-use Rattle.std.specs.List.{cons_option, find, list_any}
+use Rattle.std.specs.List.{find}
 use Rattle.std.specs.Option.{is_none, is_some, ok_or, option_or}
 use Rattle.std.specs.Ordering.{is_eq, match_ordering, nat_cmp}
 use Rattle.std.specs.declared.cmp.Ordering.TheVariants.{Less, Equal, Greater}
@@ -25,13 +25,13 @@ use Rattle.fare_table.specs.Classes.{default_of, fares_from, fares_of, is_empty,
 use Rattle.fare_table.specs.Classes.{own_ceiling, ride_transfers_of, taps_of, terms_of}
 use Rattle.tariffs.specs.declared.class.Class.{Class}
 use Rattle.fare_table.specs.Faults.{FaultRow, Where, top, class, mode_fare, cap_ceiling, a_row}
-use Rattle.fare_table.specs.Faults.{are_pairs, caps_in, ceiling_at, ceiling_rows, ceilings_in}
+use Rattle.fare_table.specs.Faults.{caps_in, ceiling_at, ceiling_rows, ceilings_in, has_two_prices}
 use Rattle.fare_table.specs.Faults.{rows_of_ceilings}
 use Rattle.fare_table.specs.Faults.{class_rows, fare_at, fare_rows, fares_in}
 use Rattle.fare_table.specs.Faults.{optional_rows, rows_of_fares, rows_of_terms, rows_of_transfers}
 use Rattle.fare_table.specs.Faults.{classes_in, first_row, holds, is_from, is_kind, is_mode}
 use Rattle.fare_table.specs.Faults.{is_in_bounds, is_wrong, items_of, member_at, members_at}
-use Rattle.fare_table.specs.Faults.{members_of, mode_names, needed_rows, pairs, holds_of_some}
+use Rattle.fare_table.specs.Faults.{members_of, mode_names, needed_rows, holds_of_some}
 use Rattle.fare_table.specs.Faults.{rows_of_class, texts, value_at, string_of}
 use Rattle.fare_table.specs.Members.{are_texts, hold_numbers, hold_tables, names_in}
 use Rattle.fare_table.specs.Members.{table_at, number_at, number_in}
@@ -39,8 +39,6 @@ use Rattle.fare_table.specs.Members.{number_or, of_kind, within}
 use Rattle.fare_table.specs.Modes.{are_mode_names, modes_of, strings_from}
 use Rattle.tariffs.specs.Names.{same_name}
 use Rattle.fare_table.specs.OrFault.{OrFault, ◌>>=◌}
-use Rattle.fare_table.specs.Transfers.{name_pair, pairs_from, transfers_from, transfers_of}
-use Rattle.tariffs.specs.Transfers.{with_pair}
 use Rattle.fare_table.specs.declared.fault.Key.{Key}
 use Rattle.fare_table.specs.declared.fault.Key.TheVariants as the_key
 use Rattle.fare_table.specs.declared.fault.TableFault.{TableFault}
@@ -102,16 +100,19 @@ needs o kind bounds key =
     cond (is_none o) (Some (Missing key))
     (cond (fails kind o) (Some (Kind key)) (cond (fails bounds o) (Some (Range key)) None))
 
-pub reported_needed : (tree : Members) (at : Where) (key : Key)
+pub reported_needed : (tree : Members) (at : Where) (key : Key) → has_two_prices at tree ≡ false
     → first_row tree (needed_rows at key)
     ≡ needs (value_at at key tree) (is_kind key) (is_in_bounds key (members_at at tree)) key
-reported_needed tree at key =
+reported_needed tree at key one =
     reported tree at (Missing key) (a_row at (Kind key) ∷ a_row at (Range key) ∷ [])
     ∙ ap (λ (x : Option TableFault). cond (is_none (value_at at key tree)) (Some (Missing key)) x)
     (reported tree at (Kind key) (a_row at (Range key) ∷ [])
     ∙ ap (λ (x : Option TableFault).
     cond (fails (is_kind key) (value_at at key tree)) (Some (Kind key)) x)
-    (reported tree at (Range key) []))
+    (reported tree at (Range key) []
+    ∙ ap (λ (b : Bool).
+    cond (b || fails (is_in_bounds key (members_at at tree)) (value_at at key tree))
+    (Some (Range key)) None) one))
 
 -- ---- numbers
 within_reports : (b : Bool) (n : ℕ) (key : Key)
@@ -186,7 +187,7 @@ pub modes-reported : (tree : Members)
     → fault_in (modes_of tree) ≡ first_row tree (needed_rows top the_key.Modes)
 unfolding modes_of
 modes-reported tree = modes_steps (get_member (codes "modes") tree)
-    ∙ sym (reported_needed tree top the_key.Modes)
+    ∙ sym (reported_needed tree top the_key.Modes refl)
 
 names_known : (o : Option Data) (modes : List (List ℕ))
     → ((ok_or o (Missing the_key.Modes) >>= (λ value. of_kind the_key.Modes (as_array value)))
@@ -215,106 +216,6 @@ pub modes-known : (tree : Members) (modes : List (List ℕ)) → modes_of tree �
     → mode_names tree ≡ modes
 unfolding modes_of
 modes-known tree modes is = names_known (get_member (codes "modes") tree) modes is
-
--- ---- transfers
-pair_read : (o : Option (List ℕ × List ℕ)) (found : List (List ℕ × List ℕ)) (more : Items)
-    → ((next : List (List ℕ × List ℕ))
-    → pairs_from next more
-    ≡ (if are_pairs more then Ok (next ++ pairs more) else Err (Kind the_key.Transfers)))
-    → (of_kind the_key.Transfers o >>= (λ pair. pairs_from (found ++ pair ∷ []) more))
-    ≡ (if is_some o && are_pairs more then Ok (found ++ cons_option o (pairs more)) else Err
-    (Kind the_key.Transfers))
-pair_read None found more rest = refl
-pair_read (Some pair) found more rest =
-    rest (found ++ pair ∷ [])
-    ∙ ap (λ (names : List (List ℕ × List ℕ)).
-    if are_pairs more then Ok names else Err (Kind the_key.Transfers))
-    (append_assoc found (pair ∷ []) (pairs more))
-
-pairs-read : (found : List (List ℕ × List ℕ)) (ds : Items)
-    → pairs_from found ds
-    ≡ (if are_pairs ds then Ok (found ++ pairs ds) else Err (Kind the_key.Transfers))
-pairs-read found no_items =
-    ap (λ (names : List (List ℕ × List ℕ)). Ok names) (sym (append_nil found))
-  where
-    append_nil : (xs : List (List ℕ × List ℕ)) → xs ++ [] ≡ xs
-    append_nil [] = refl
-    append_nil (x ∷ xs) = ap (λ ys. x ∷ ys) (append_nil xs)
-pairs-read found (item value more) =
-    pair_read (name_pair value) found more (λ next. pairs-read next more)
-
-abbrev is_unknown : List (List ℕ) → List ℕ × List ℕ → Bool
-is_unknown modes pair = not (is_mode modes pair.0 && is_mode modes pair.1)
-
-position_if : (from to : Option ℕ) (f : ℕ × ℕ → OrFault (List (ℕ × ℕ))) (rest : Option TableFault)
-    → ((positions : ℕ × ℕ) → fault_in (f positions) ≡ rest)
-    → fault_in ((ok_or from Mode >>= (λ a. ok_or to Mode >>= (λ b. Ok (a, b)))) >>= f)
-    ≡ cond (not (is_some from && is_some to)) (Some Mode) rest
-position_if None to f rest same = refl
-position_if (Some a) None f rest same = refl
-position_if (Some a) (Some b) f rest same = same (a, b)
-
-any_if : (b c : Bool)
-    → cond b (Some Mode) (cond c (Some Mode) None) ≡ cond (b || c) (Some Mode) None
-any_if true c = refl
-any_if false c = refl
-
-transfers_report : (modes : List (List ℕ)) (found : List (ℕ × ℕ)) (names : List (List ℕ × List ℕ))
-    → fault_in (transfers_from modes found names)
-    ≡ cond (list_any (is_unknown modes) names) (Some Mode) None
-transfers_report modes found [] = refl
-transfers_report modes found (pair ∷ more) =
-    position_if (position (same_name pair.0) modes) (position (same_name pair.1) modes)
-    (λ positions.
-    transfers_from modes (with_pair found positions.0 positions.1) more)
-    (cond (list_any (is_unknown modes) more) (Some Mode) None)
-    (λ positions. transfers_report modes (with_pair found positions.0 positions.1) more)
-    ∙ any_if (is_unknown modes pair) (list_any (is_unknown modes) more)
-
-pairs_if : (b : Bool) (modes : List (List ℕ)) (names : List (List ℕ × List ℕ))
-    → fault_in ((if b then Ok names else Err (Kind the_key.Transfers)) >>= transfers_from modes [])
-    ≡ cond (not b) (Some (Kind the_key.Transfers))
-    (cond (list_any (is_unknown modes) names) (Some Mode) None)
-pairs_if true modes names = transfers_report modes [] names
-pairs_if false modes names = refl
-
-abbrev by_pairs : List (List ℕ) → Items → OrFault (List (ℕ × ℕ))
-by_pairs modes ds = pairs_from [] ds >>= (λ names. transfers_from modes [] names)
-
-transfers_steps : (o : Option Data) (modes : List (List ℕ))
-    → fault_in ((ok_or o (Missing the_key.Transfers)
-    >>= (λ value. of_kind the_key.Transfers (as_array value))) >>= by_pairs modes)
-    ≡ cond (is_none o) (Some (Missing the_key.Transfers))
-    (cond (fails (is_kind the_key.Transfers) o) (Some (Kind the_key.Transfers))
-    (cond (list_any (is_unknown modes) (pairs (items_of o))) (Some Mode) None))
-transfers_steps None modes = refl
-transfers_steps (Some (array ds)) modes =
-    ap (λ (names : OrFault (List (List ℕ × List ℕ))).
-    fault_in (names >>= (λ found. transfers_from modes [] found))) (pairs-read [] ds)
-    ∙ pairs_if (are_pairs ds) modes (pairs ds)
-transfers_steps (Some _) modes = refl
-
-pub transfers-reported : (tree : Members) (modes : List (List ℕ)) → mode_names tree ≡ modes
-    → fault_in (transfers_of modes tree)
-    ≡ first_row tree (a_row top (Missing the_key.Transfers) ∷ a_row top (Kind the_key.Transfers)
-    ∷ a_row top Mode ∷ [])
-unfolding transfers_of
-transfers-reported tree modes known =
-    transfers_steps (get_member (codes "transfers") tree) modes
-    ∙ ap (λ (names : List (List ℕ)).
-    cond (is_none o) (Some (Missing the_key.Transfers))
-    (cond (fails (is_kind the_key.Transfers) o) (Some (Kind the_key.Transfers))
-    (cond (list_any (is_unknown names) (pairs (items_of o))) (Some Mode) None))) (sym known)
-    ∙ sym (reported tree top (Missing the_key.Transfers) (a_row top (Kind the_key.Transfers)
-    ∷ a_row top Mode ∷ [])
-    ∙ ap (λ (x : Option TableFault). cond (is_none o) (Some (Missing the_key.Transfers)) x)
-    (reported tree top (Kind the_key.Transfers) (a_row top Mode ∷ [])
-    ∙ ap (λ (x : Option TableFault).
-    cond (fails (is_kind the_key.Transfers) o) (Some (Kind the_key.Transfers)) x)
-    (reported tree top Mode [])))
-  where
-    o : Option Data
-    o = get_member (codes "transfers") tree
 
 -- ---- classes
 -- some members are those of a whole from a place on
@@ -352,7 +253,7 @@ terms-reported tree n =
     (needed_rows at the_key.Fare) (optional_rows at the_key.Rides
     ++ optional_rows at the_key.Ceiling)
     (number_reports (value_at at the_key.Fare tree) the_key.Fare 0 100_000
-    ∙ sym (reported_needed tree at the_key.Fare))
+    ∙ sym (reported_needed tree at the_key.Fare refl))
     (λ fare is. steps tree (number_or 60_000 the_key.Rides 1 1_000 named) _
     (optional_rows at the_key.Rides) (optional_rows at the_key.Ceiling)
     (number_or_reports named the_key.Rides 60_000 1 1_000
@@ -643,7 +544,7 @@ pub classes-reported : (tree : Members)
 unfolding classes_of class_need
 classes-reported tree =
     classes_steps (get_member (codes "classes") tree) tree
-    ∙ sym (reported_needed tree top the_key.Classes)
+    ∙ sym (reported_needed tree top the_key.Classes refl)
 
 -- the classes that are read are all tables
 pub classes_tables : (tree classes : Members) → classes_of tree ≡ Ok classes

@@ -15,3 +15,4 @@ pub mod RiderLemmas
 pub mod RowLemmas
 pub mod SortLemmas
 pub mod TextFaultLemmas
+pub mod TransferLemmas

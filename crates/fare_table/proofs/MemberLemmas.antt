@@ -8,6 +8,7 @@ use Rattle.toml.specs.View.{items_view, members_view, view}
 use Rattle.toml.specs.declared.value.Value.{Value}
 use Rattle.fare_table.specs.Members.{are_tables, are_texts, hold_numbers, hold_strings}
 use Rattle.fare_table.specs.Members.{hold_tables}
+use Rattle.fare_table.specs.Transfers.{are_pairs, is_pair}
 
 -- the value is a table, a string, and a number
 abbrev pub is_table : Value → Bool
@@ -28,6 +29,15 @@ pub each_item_is_string : (values : List Value)
     → list_all is_string values ≡ are_texts (items_view values)
 each_item_is_string [] = refl
 each_item_is_string (value ∷ more) = ap (λ rest. is_string value && rest) (each_item_is_string more)
+
+-- the value is a pair of strings, or a table
+abbrev pub is_pair_of : Value → Bool
+is_pair_of value = is_pair (view value)
+
+pub each_item_is_pair : (values : List Value)
+    → list_all is_pair_of values ≡ are_pairs (items_view values)
+each_item_is_pair [] = refl
+each_item_is_pair (value ∷ more) = ap (λ rest. is_pair_of value && rest) (each_item_is_pair more)
 
 pub each_is_table : (entries : List (String Global × Value))
     → list_all is_table (values_of entries) ≡ hold_tables (members_view entries)

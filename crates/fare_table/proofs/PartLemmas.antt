@@ -9,7 +9,7 @@ use Rattle.fare_table.specs.OrFault.{OrFault, ◌>>=◌}
 use Rattle.fare_table.specs.Riders.{riders_of}
 use Rattle.tariffs.specs.TableMeaning.{TableMeaning}
 use Rattle.fare_table.specs.TableMeaning.{meaning_of_tree}
-use Rattle.fare_table.specs.Transfers.{transfers_of}
+use Rattle.fare_table.specs.Transfers.{TextTransfers, text_transfers, transfers_of}
 use Rattle.fare_table.specs.Validators.{ranges_of}
 use Rattle.fare_table.specs.Window.{window_of}
 use Rattle.fare_table.specs.Zone.{zone_of}
@@ -26,7 +26,8 @@ bind_ok (Err e) f b is = absurd (cc)
 -- the meaning is what the keys give
 pub record AreParts (tree : Members) (meaning : TableMeaning) : Type 0 where
   pub modes : modes_of tree ≡ Ok meaning.modes
-  pub transfers : transfers_of meaning.modes tree ≡ Ok meaning.transfers
+  pub transfers : transfers_of meaning.modes tree
+      ≡ Ok (text_transfers meaning.transfers meaning.prices)
   pub caps : caps_of meaning.modes tree
       ≡ Ok (text_caps meaning.cap_names meaning.caps)
   pub table : Members
@@ -39,12 +40,13 @@ pub record AreParts (tree : Members) (meaning : TableMeaning) : Type 0 where
   pub zone : zone_of tree ≡ Ok meaning.zone
   pub window : window_of tree ≡ Ok meaning.window
 
-abbrev by_window : List (List ℕ) → List (ℕ × ℕ) → TextCaps → Members → List Class → ℕ
+abbrev by_window : List (List ℕ) → TextTransfers → TextCaps → Members → List Class → ℕ
     → List (ℕ × RangeRest) → List (List ℕ × ℕ) → Option (List ℕ) → WindowSpan
     → OrFault TableMeaning
 by_window modes transfers capped table classes standard ranges riders zone window = Ok (record {
   modes = modes;
-  transfers = transfers;
+  transfers = transfers.pairs;
+  prices = transfers.prices;
   classes = classes;
   names = names_in table;
   caps = capped.caps;
@@ -56,39 +58,39 @@ by_window modes transfers capped table classes standard ranges riders zone windo
   window = window;
 })
 
-abbrev by_zone : Members → List (List ℕ) → List (ℕ × ℕ) → TextCaps → Members → List Class → ℕ
+abbrev by_zone : Members → List (List ℕ) → TextTransfers → TextCaps → Members → List Class → ℕ
     → List (ℕ × RangeRest) → List (List ℕ × ℕ) → Option (List ℕ) → OrFault TableMeaning
 by_zone tree modes transfers capped table classes standard ranges riders zone =
     window_of tree >>= by_window modes transfers capped table classes standard ranges riders zone
 
-abbrev by_riders : Members → List (List ℕ) → List (ℕ × ℕ) → TextCaps → Members → List Class → ℕ
+abbrev by_riders : Members → List (List ℕ) → TextTransfers → TextCaps → Members → List Class → ℕ
     → List (ℕ × RangeRest) → List (List ℕ × ℕ) → OrFault TableMeaning
 by_riders tree modes transfers capped table classes standard ranges riders =
     zone_of tree >>= by_zone tree modes transfers capped table classes standard ranges riders
 
-abbrev by_ranges : Members → List (List ℕ) → List (ℕ × ℕ) → TextCaps → Members → List Class → ℕ
+abbrev by_ranges : Members → List (List ℕ) → TextTransfers → TextCaps → Members → List Class → ℕ
     → List (ℕ × RangeRest) → OrFault TableMeaning
 by_ranges tree modes transfers capped table classes standard ranges =
     riders_of table tree >>= by_riders tree modes transfers capped table classes standard ranges
 
-abbrev by_default : Members → List (List ℕ) → List (ℕ × ℕ) → TextCaps → Members → List Class → ℕ
+abbrev by_default : Members → List (List ℕ) → TextTransfers → TextCaps → Members → List Class → ℕ
     → OrFault TableMeaning
 by_default tree modes transfers capped table classes standard =
     ranges_of modes tree >>= by_ranges tree modes transfers capped table classes standard
 
-abbrev by_classes : Members → List (List ℕ) → List (ℕ × ℕ) → TextCaps → Members → List Class
+abbrev by_classes : Members → List (List ℕ) → TextTransfers → TextCaps → Members → List Class
     → OrFault TableMeaning
 by_classes tree modes transfers capped table classes =
     default_of table tree >>= by_default tree modes transfers capped table classes
 
-abbrev by_table : Members → List (List ℕ) → List (ℕ × ℕ) → TextCaps → Members → OrFault TableMeaning
+abbrev by_table : Members → List (List ℕ) → TextTransfers → TextCaps → Members → OrFault TableMeaning
 by_table tree modes transfers capped table =
     classes_from modes capped.names [] table >>= by_classes tree modes transfers capped table
 
-abbrev by_caps : Members → List (List ℕ) → List (ℕ × ℕ) → TextCaps → OrFault TableMeaning
+abbrev by_caps : Members → List (List ℕ) → TextTransfers → TextCaps → OrFault TableMeaning
 by_caps tree modes transfers capped = classes_of tree >>= by_table tree modes transfers capped
 
-abbrev by_transfers : Members → List (List ℕ) → List (ℕ × ℕ) → OrFault TableMeaning
+abbrev by_transfers : Members → List (List ℕ) → TextTransfers → OrFault TableMeaning
 by_transfers tree modes transfers = caps_of modes tree >>= by_caps tree modes transfers
 
 abbrev by_modes : Members → List (List ℕ) → OrFault TableMeaning
@@ -136,7 +138,8 @@ parts tree meaning is =
     zone.2 in
     let whole : TableMeaning = record {
       modes = modes.0;
-      transfers = transfers.0;
+      transfers = transfers.0.pairs;
+      prices = transfers.0.prices;
       classes = classes.0;
       names = names_in table.0;
       caps = capped.0.caps;

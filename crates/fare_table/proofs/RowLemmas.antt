@@ -23,11 +23,12 @@ use Rattle.fare_table.proofs.FaultLemmas.{default-reported}
 use Rattle.fare_table.proofs.FaultLemmas.{done, fails, fault_in, list-reported, modes-known}
 use Rattle.fare_table.proofs.FaultLemmas.{modes-reported, named-reported, needs, number_reports}
 use Rattle.fare_table.proofs.FaultLemmas.{aligned_all, aligned_here, aligned_next, steps, reported}
-use Rattle.fare_table.proofs.FaultLemmas.{reported_needed, reported_two, transfers-reported}
+use Rattle.fare_table.proofs.FaultLemmas.{reported_needed, reported_two}
 use Rattle.fare_table.proofs.OverlapLemmas.{holds-insert, comes_after, comes_before}
 use Rattle.fare_table.proofs.OverlapLemmas.{free_apart, rest_holds, with_one}
 use Rattle.fare_table.proofs.PayLemmas.{classes_read}
 use Rattle.fare_table.proofs.ReadLemmas.{number-read}
+use Rattle.fare_table.proofs.TransferLemmas.{transfers-reported}
 use Rattle.fare_table.specs.Caps.{caps_of}
 use Rattle.fare_table.specs.Classes.{class_named, classes_from, classes_of, default_of}
 use Rattle.fare_table.specs.Faults.{FaultRow, Where, caps_step, class_rows, classes_step}
@@ -115,7 +116,7 @@ range-reported tree modes n known =
     steps tree (number_at (codes "first") the_key.First 0 4_294_967_295 inner) _
     (needed_rows at the_key.First) (needed_rows at the_key.Last ++ mode_rows)
     (number_reports (value_at at the_key.First tree) the_key.First 0 4_294_967_295
-    ∙ sym (reported_needed tree at the_key.First))
+    ∙ sym (reported_needed tree at the_key.First refl))
     (λ first is.
     let low : amount_of (get_member (codes "first") inner) ≡ first =
     amount_is (get_member (codes "first") inner) first
@@ -125,7 +126,7 @@ range-reported tree modes n known =
     (number_reports (value_at at the_key.Last tree) the_key.Last first 4_294_967_295
     ∙ ap (λ (m : ℕ). needs (value_at at the_key.Last tree) (is_kind the_key.Last)
     (is_from m 4_294_967_295) the_key.Last) (sym low)
-    ∙ sym (reported_needed tree at the_key.Last))
+    ∙ sym (reported_needed tree at the_key.Last refl))
     (λ last is'. mode_steps (value_at at the_key.ModeName tree) modes first last
     ∙ ap (λ (names : List (List ℕ)). mode_need (value_at at the_key.ModeName tree) names)
     (sym known)
@@ -501,10 +502,10 @@ meaning-reported tree =
     let default_rows = default_step ++ entry_rows in
     let class_step_rows = classes_step tree ++ default_rows in
     let cap_step_rows = caps_step tree ++ class_step_rows in
-    steps tree (modes_of tree) _ (needed_rows top the_key.Modes) (transfers_step ++ cap_step_rows)
+    steps tree (modes_of tree) _ (needed_rows top the_key.Modes) (transfers_step tree ++ cap_step_rows)
     (modes-reported tree) (λ modes is_modes.
     let known = modes-known tree modes is_modes in
-    steps tree (transfers_of modes tree) _ transfers_step cap_step_rows
+    steps tree (transfers_of modes tree) _ (transfers_step tree) cap_step_rows
     (transfers-reported tree modes known) (λ transfers is_transfers.
     steps tree (caps_of modes tree) _ (caps_step tree) class_step_rows
     (caps-reported tree modes known) (λ capped is_capped.

@@ -1,6 +1,7 @@
 -- No step over the tree of a text gives the text fault.
 use Rattle.std.proofs.Common.{◌≡◌, ◌≢◌, ℕ, Bool, true, false, List, [], ◌∷◌, ◌++◌, Option, Some}
-use Rattle.std.proofs.Common.{None, Ok, Err, ap, codes}
+use Rattle.std.proofs.Common.{None, Ok, Err, ap, codes, not}
+use Rattle.std.specs.List.{find}
 use Rattle.std.specs.Option.{ok_or, is_some}
 use Rattle.std.specs.Prelude.{if◌then◌else◌, ◌*◌, replicate, slice_set}
 use Rattle.std.specs.Result.{result_ok}
@@ -25,9 +26,12 @@ use Rattle.fare_table.specs.OrFault.{OrFault, ◌>>=◌}
 use Rattle.fare_table.specs.Riders.{rider_of, riders_from, riders_at, riders_of, token_of_digits}
 use Rattle.fare_table.specs.Riders.{with_rider}
 use Rattle.fare_table.specs.TableMeaning.{meaning_of_tree}
-use Rattle.fare_table.specs.Transfers.{name_pair, pairs_from, positions_of, transfers_from}
-use Rattle.fare_table.specs.Transfers.{transfers_of}
-use Rattle.tariffs.specs.Transfers.{with_pair}
+use Rattle.fare_table.specs.Transfers.{NamedPair, are_pairs, at_positions, is_difference, is_new}
+use Rattle.fare_table.specs.Transfers.{is_other_price, name_pair, named_pairs, pair_in, pair_or}
+use Rattle.fare_table.specs.Transfers.{pairs_from, pays_of, positions_of, priced_pair, same_modes}
+use Rattle.fare_table.specs.Transfers.{transfers_from, transfers_of, with_transfer}
+use Rattle.fare_table.specs.declared.read.transfers.TextTransfer.{TextTransfer}
+use Rattle.tariffs.specs.declared.price.Pays.TheVariants.{Difference, More}
 use Rattle.fare_table.specs.Validators.{range_in, range_of, ranges_from, ranges_of, with_range}
 use Rattle.fare_table.specs.Window.{day_start_in, length_in, window_of}
 use Rattle.tariffs.specs.WindowSpan.{length_named, minutes_named}
@@ -119,13 +123,45 @@ modes_of-text tree = steps (array_at (codes "modes") the_key.Modes tree) _
 mode_named-text : (modes : List (List ℕ)) (name : List ℕ) → NotText (mode_named modes name)
 mode_named-text modes name = a_part _ the_fault.Mode (λ is. cc)
 
-pairs_from-text : (found : List (List ℕ × List ℕ)) (items : Items)
-    → NotText (pairs_from found items)
+pays_of-text : (value : Data) → NotText (pays_of value)
+pays_of-text value =
+    a_choice (is_difference value) (Ok Difference)
+    (number_in the_key.Pays 1 100_000 value >>= (λ cents. Ok (More cents))) (an_ok Difference)
+    (steps (number_in the_key.Pays 1 100_000 value) (λ cents. Ok (More cents))
+    (number_in-text the_key.Pays 1 100_000 value) (λ cents. an_ok (More cents)))
+
+priced_pair-text : (entry : Members) → NotText (priced_pair entry)
+unfolding priced_pair
+priced_pair-text entry =
+    steps (text_at (codes "from") the_key.From entry) _
+    (text_at-text (codes "from") the_key.From entry) (λ from.
+    steps (text_at (codes "to") the_key.To entry) _
+    (text_at-text (codes "to") the_key.To entry) (λ to.
+    steps (needed (codes "pays") the_key.Pays entry) _
+    (needed-text (codes "pays") the_key.Pays entry) (λ value.
+    steps (pays_of value) _ (pays_of-text value) (λ pays. an_ok _))))
+
+pair_or-text : (value : Data) (names : Option (List ℕ × List ℕ)) → NotText (pair_or value names)
+pair_or-text value (Some names) = an_ok (names, None)
+pair_or-text value None =
+    steps (of_kind the_key.Transfers (as_table value)) priced_pair
+    (of_kind-text the_key.Transfers (as_table value)) priced_pair-text
+
+pairs_from-text : (found : List NamedPair) (items : Items) → NotText (pairs_from found items)
 pairs_from-text found no_items = an_ok found
 pairs_from-text found (item value more) =
-    steps (of_kind the_key.Transfers (name_pair value)) (λ pair.
-    pairs_from (found ++ pair ∷ []) more) (of_kind-text the_key.Transfers (name_pair value))
-    (λ pair. pairs_from-text (found ++ pair ∷ []) more)
+    steps (pair_in value) (λ pair. pairs_from (found ++ pair ∷ []) more)
+    (pair_or-text value (name_pair value)) (λ pair. pairs_from-text (found ++ pair ∷ []) more)
+
+named_pairs-text : (tree : Members) → NotText (named_pairs tree)
+unfolding named_pairs
+named_pairs-text tree =
+    steps (array_at (codes "transfers") the_key.Transfers tree) _
+    (array_at-text (codes "transfers") the_key.Transfers tree)
+    (λ items. steps (if are_pairs items then Ok items else Err (the_fault.Kind the_key.Transfers)) _
+    (a_choice (are_pairs items) (Ok items) (Err (the_fault.Kind the_key.Transfers)) (an_ok items)
+    (another (the_fault.Kind the_key.Transfers) (λ is. cc)))
+    (λ listed. pairs_from-text [] listed))
 
 positions_of-text : (modes : List (List ℕ)) (pair : List ℕ × List ℕ)
     → NotText (positions_of modes pair)
@@ -133,22 +169,27 @@ positions_of-text modes pair =
     steps (mode_named modes pair.0) _ (mode_named-text modes pair.0) (λ from.
     steps (mode_named modes pair.1) _ (mode_named-text modes pair.1) (λ to. an_ok (from, to)))
 
-transfers_from-text : (modes : List (List ℕ)) (found : List (ℕ × ℕ)) (pairs : List (List ℕ
-    × List ℕ)) → NotText (transfers_from modes found pairs)
+is_new-text : (found : List TextTransfer) (one : TextTransfer) → NotText (is_new found one)
+is_new-text found one =
+    a_choice (is_other_price one (find (same_modes one) found))
+    (Err (the_fault.Range the_key.Transfers)) (Ok (not (is_some (find (same_modes one) found))))
+    (another (the_fault.Range the_key.Transfers) (λ is. cc)) (an_ok _)
+
+transfers_from-text : (modes : List (List ℕ)) (found : List TextTransfer) (pairs : List NamedPair)
+    → NotText (transfers_from modes found pairs)
 transfers_from-text modes found [] = an_ok found
 transfers_from-text modes found (pair ∷ more) =
-    steps (positions_of modes pair) (λ positions.
-    transfers_from modes (with_pair found positions.0 positions.1) more)
-    (positions_of-text modes pair)
-    (λ positions. transfers_from-text modes (with_pair found positions.0 positions.1) more)
+    steps (positions_of modes pair.0) _ (positions_of-text modes pair.0) (λ positions.
+    steps (with_transfer found (at_positions positions pair.1)) _
+    (steps (is_new found (at_positions positions pair.1)) _
+    (is_new-text found (at_positions positions pair.1)) (λ new. an_ok _))
+    (λ next. transfers_from-text modes next more))
 
 transfers_of-text : (modes : List (List ℕ)) (tree : Members) → NotText (transfers_of modes tree)
 unfolding transfers_of
 transfers_of-text modes tree =
-    steps (array_at (codes "transfers") the_key.Transfers tree) _
-    (array_at-text (codes "transfers") the_key.Transfers tree)
-    (λ items. steps (pairs_from [] items) _ (pairs_from-text [] items) (λ pairs.
-    transfers_from-text modes [] pairs))
+    steps (named_pairs tree) _ (named_pairs-text tree) (λ pairs.
+    steps (transfers_from modes [] pairs) _ (transfers_from-text modes [] pairs) (λ found. an_ok _))
 
 number_or-text : (default : ℕ) (key : Key) (low high : ℕ) (value : Option Data)
     → NotText (number_or default key low high value)

@@ -1,8 +1,8 @@
 -- When a text is not a fare table: the rows of the table of faults, in their order. The first row
 -- that holds gives the fault.
 use Rattle.std.specs.Prelude.{ℕ, zero, suc, pos, ◌&&◌, ◌||◌, ◌++◌, ◌∷◌, [], Bool, true, false, not}
-use Rattle.std.specs.Prelude.{List, Option, Some, None, codes, int_le, nat_le, option_map, position}
-use Rattle.std.specs.Prelude.{unsigned_abs}
+use Rattle.std.specs.Prelude.{List, Option, Some, None, codes, int_le, map, nat_le, option_map}
+use Rattle.std.specs.Prelude.{position, slice_get, take, unsigned_abs, if◌then◌else◌}
 use Rattle.std.specs.Cmp.Lexicographic.{slice_cmp}
 use Rattle.std.specs.List.{cons_option, find, list_any}
 use Rattle.std.specs.Option.{is_none, is_some, option_and_then, unwrap_or}
@@ -18,7 +18,11 @@ use Rattle.fare_table.specs.Members.{are_tables, are_texts, hold_numbers, hold_s
 use Rattle.fare_table.specs.Members.{hold_tables, names_in}
 use Rattle.fare_table.specs.Modes.{are_mode_names}
 use Rattle.tariffs.specs.Names.{same_name}
-use Rattle.fare_table.specs.Transfers.{name_pair}
+use Rattle.tariffs.specs.declared.price.Pays.{Pays}
+use Rattle.tariffs.specs.declared.price.Pays.TheVariants.{Difference, More}
+use Rattle.fare_table.specs.Transfers.{NamedPair, are_pairs, at_positions, is_difference}
+use Rattle.fare_table.specs.Transfers.{is_other_price, name_pair, named_pair, same_modes}
+use Rattle.fare_table.specs.declared.read.transfers.TextTransfer.{TextTransfer}
 use Rattle.tariffs.specs.WindowSpan.{length_named, minutes_named}
 use Rattle.fare_table.specs.declared.fault.Key.{Key}
 use Rattle.fare_table.specs.declared.fault.Key.TheVariants as the_key
@@ -27,13 +31,16 @@ use Rattle.fare_table.specs.declared.fault.TableFault.TheVariants.{Text, Missing
 use Rattle.fare_table.specs.declared.fault.TableFault.TheVariants.{Overlap, Rider, NoMemory, Zone}
 use Rattle.fare_table.specs.declared.fault.TableFault.TheVariants.{Cap}
 
--- where a row looks: at the keys of the text, at those of one of its classes or of one element of
+-- where a row looks: at the keys of the text, at those of one of its `transfers` that is a table, at
+-- the modes of one of these pairs, at the keys of one of its classes or of one element of
 -- its `validators`, at one key of the `fares` of a class (the class first, then the key), at one of
 -- its caps, at one key of the `caps` of a class, or at one key of its `riders`, each by its place.
 -- Classes and keys have the places of their byte order
 -- (`laws::keys_come_in_byte_order`).
 pub data Where : Type 0 where
   top : Where
+  transfer : ℕ → Where
+  transfer_modes : ℕ → Where
   class : ℕ → Where
   mode_fare : ℕ → ℕ → Where
   cap : ℕ → Where
@@ -51,6 +58,9 @@ holds_of_some test (Some value) = test value
 abbrev pub key_word : Key → List ℕ
 key_word the_key.Modes = codes "modes"
 key_word the_key.Transfers = codes "transfers"
+key_word the_key.From = codes "from"
+key_word the_key.To = codes "to"
+key_word the_key.Pays = codes "pays"
 key_word the_key.Caps = codes "caps"
 key_word the_key.CapWindow = codes "window"
 key_word the_key.CapModes = codes "modes"
@@ -93,11 +103,6 @@ abbrev pub texts : Items → List (List ℕ)
 texts no_items = []
 texts (item value more) = cons_option (as_str value) (texts more)
 
--- the pairs of strings among some items
-abbrev pub pairs : Items → List (List ℕ × List ℕ)
-pairs no_items = []
-pairs (item value more) = cons_option (name_pair value) (pairs more)
-
 -- the key and the value at a place
 abbrev pub member_at : ℕ → Members → Option (List ℕ × Data)
 member_at index no_members = None
@@ -116,6 +121,10 @@ classes_in tree = members_of (get_member (codes "classes") tree)
 abbrev pub caps_in : Members → Members
 caps_in tree = members_of (get_member (codes "caps") tree)
 
+-- the text's elements of `transfers`
+abbrev pub listed_in : Members → Items
+listed_in tree = items_of (get_member (codes "transfers") tree)
+
 -- the text's elements of `validators`
 abbrev pub elements_in : Members → Items
 elements_in tree = items_of (get_member (codes "validators") tree)
@@ -127,6 +136,8 @@ riders_in tree = members_of (get_member (codes "riders") tree)
 -- the keys and values where a row looks
 abbrev pub members_at : Where → Members → Members
 members_at top tree = tree
+members_at (transfer index) tree = members_of (get_item index (listed_in tree))
+members_at (transfer_modes index) tree = no_members
 members_at (class index) tree =
     members_of (option_map (λ one. one.1) (member_at index (classes_in tree)))
 members_at (mode_fare index key) tree = no_members
@@ -159,15 +170,13 @@ value_at (cap_ceiling index at) key tree = option_map (λ one. one.1) (ceiling_a
 value_at at key tree = get_member (key_word key) (members_at at tree)
 
 -- ---- what is wrong with it
--- each item is a pair of strings
-abbrev pub are_pairs : Items → Bool
-are_pairs no_items = true
-are_pairs (item value more) = is_some (name_pair value) && are_pairs more
-
 -- the value is of the kind that the key takes, and so are all its elements
 abbrev pub is_kind : Key → Data → Bool
 is_kind the_key.Modes value = holds_of_some are_texts (as_array value)
 is_kind the_key.Transfers value = holds_of_some are_pairs (as_array value)
+is_kind the_key.From value = is_some (as_str value)
+is_kind the_key.To value = is_some (as_str value)
+is_kind the_key.Pays value = is_difference value || is_some (as_integer value)
 is_kind the_key.Caps value = holds_of_some hold_tables (as_table value)
 is_kind the_key.CapWindow value = is_some (as_str value)
 is_kind the_key.CapModes value = holds_of_some are_texts (as_array value)
@@ -199,6 +208,9 @@ abbrev pub is_in_bounds : Key → Members → Data → Bool
 is_in_bounds the_key.Modes beside value =
     holds_of_some (λ names. are_mode_names (texts names)) (as_array value)
 is_in_bounds the_key.Transfers beside value = true
+is_in_bounds the_key.From beside value = true
+is_in_bounds the_key.To beside value = true
+is_in_bounds the_key.Pays beside value = is_difference value || is_from 1 100_000 value
 is_in_bounds the_key.Caps beside value =
     holds_of_some (λ caps. are_cap_names (names_in caps)) (as_table value)
 is_in_bounds the_key.CapWindow beside value =
@@ -234,12 +246,61 @@ is_mode names name = is_some (position (same_name name) names)
 abbrev pub is_unknown_mode : Members → List ℕ → Bool
 is_unknown_mode tree name = not (is_mode (mode_names tree) name)
 
+-- what the value of `pays` says
+abbrev pub price_in : Data → Pays
+price_in value = if is_difference value then Difference else More (amount_of (Some value))
+
+-- the pair of a table
+abbrev pub priced_names : Members → NamedPair
+priced_names entry =
+    named_pair (string_of (get_member (codes "from") entry)) (string_of (get_member (codes "to") entry))
+    (option_map price_in (get_member (codes "pays") entry))
+
+-- the pair of an element of `transfers`: its names, and its price
+abbrev pub pair_names : Data → NamedPair
+pair_names value =
+    unwrap_or (option_map (λ names. (names, None)) (name_pair value))
+    (priced_names (members_of (Some value)))
+
+-- the pairs of some items
+abbrev pub pairs : Items → List NamedPair
+pairs no_items = []
+pairs (item value more) = pair_names value ∷ pairs more
+
+-- the pair at a place
+abbrev pub pair_at : Members → ℕ → Option NamedPair
+pair_at tree index = slice_get (pairs (listed_in tree)) index
+
+-- the place of the mode of this name
+abbrev pub position_or_none : List (List ℕ) → List ℕ → ℕ
+position_or_none modes name = unwrap_or (position (same_name name) modes) 0
+
+-- the transfer of a pair of names of modes
+abbrev pub placed : List (List ℕ) → NamedPair → TextTransfer
+placed modes pair =
+    at_positions (position_or_none modes pair.0.0, position_or_none modes pair.0.1) pair.1
+
+-- an earlier pair has the modes of the pair, and the first of these pays something else
+abbrev pub is_priced_otherwise : Members → ℕ → NamedPair → Bool
+is_priced_otherwise tree index pair =
+    is_other_price (placed (mode_names tree) pair)
+    (find (same_modes (placed (mode_names tree) pair))
+    (map (placed (mode_names tree)) (take index (pairs (listed_in tree)))))
+
+-- the pair has another price than an earlier one of its modes
+abbrev pub has_two_prices : Where → Members → Bool
+has_two_prices (transfer_modes index) tree =
+    holds_of_some (is_priced_otherwise tree index) (pair_at tree index)
+has_two_prices at tree = false
+
 -- one of the names of a transfer or of a cap's modes, or that of an element of `validators`, is not
 -- one of the modes
 abbrev pub names_no_mode : Where → Members → Bool
-names_no_mode top tree =
-    list_any (λ pair. not (is_mode (mode_names tree) pair.0 && is_mode (mode_names tree) pair.1))
-    (pairs (items_of (get_member (codes "transfers") tree)))
+names_no_mode top tree = false
+names_no_mode (transfer index) tree = false
+names_no_mode (transfer_modes index) tree =
+    holds_of_some (λ pair. not (is_mode (mode_names tree) pair.0.0
+    && is_mode (mode_names tree) pair.0.1)) (pair_at tree index)
 names_no_mode (class index) tree = false
 names_no_mode (mode_fare index key) tree =
     holds_of_some (λ one. is_unknown_mode tree one.0) (fare_at tree index key)
@@ -272,6 +333,8 @@ last_at tree index = amount_of (value_at (range index) the_key.Last tree)
 -- the element shares a validator with an earlier one
 abbrev pub shares_validator : Where → Members → Bool
 shares_validator top tree = false
+shares_validator (transfer index) tree = false
+shares_validator (transfer_modes index) tree = false
 shares_validator (class index) tree = false
 shares_validator (mode_fare index key) tree = false
 shares_validator (cap index) tree = false
@@ -304,6 +367,8 @@ is_no_class tree name = is_none (get_member name (classes_in tree))
 -- a token, or is the token of an earlier key
 abbrev pub names_no_rider : Where → Members → Bool
 names_no_rider top tree = is_no_class tree (string_of (get_member (codes "default_class") tree))
+names_no_rider (transfer index) tree = false
+names_no_rider (transfer_modes index) tree = false
 names_no_rider (class index) tree = false
 names_no_rider (mode_fare index key) tree = false
 names_no_rider (cap index) tree = false
@@ -325,7 +390,8 @@ is_wrong tree at (Missing key) = is_none (value_at at key tree)
 is_wrong tree at (Kind key) =
     holds_of_some (λ value. not (is_kind key value)) (value_at at key tree)
 is_wrong tree at (Range key) =
-    holds_of_some (λ value. not (is_in_bounds key (members_at at tree) value))
+    has_two_prices at tree
+    || holds_of_some (λ value. not (is_in_bounds key (members_at at tree) value))
     (value_at at key tree)
 is_wrong tree at Mode = names_no_mode at tree
 is_wrong tree at Overlap = shares_validator at tree
@@ -434,10 +500,32 @@ abbrev pub rider_rows : ℕ → Members → List FaultRow
 rider_rows index no_members = []
 rider_rows index (member key value more) = a_row (rider index) Rider ∷ rider_rows (suc index) more
 
+-- of one element of `transfers` that is a table: `from`, `to`, `pays`
+abbrev pub rows_of_pair : ℕ → List FaultRow
+rows_of_pair index =
+    a_row (transfer index) (Missing the_key.From) ∷ a_row (transfer index) (Kind the_key.From)
+    ∷ a_row (transfer index) (Missing the_key.To) ∷ a_row (transfer index) (Kind the_key.To)
+    ∷ needed_rows (transfer index) the_key.Pays
+
+-- table by table in `transfers`
+abbrev pub pair_rows : ℕ → Items → List FaultRow
+pair_rows index no_items = []
+pair_rows index (item value more) =
+    (if is_some (name_pair value) then [] else rows_of_pair index) ++ pair_rows (suc index) more
+
+-- pair by pair: its modes, and whether an earlier one has another price
+abbrev pub mode_rows : ℕ → List NamedPair → List FaultRow
+mode_rows index [] = []
+mode_rows index (pair ∷ more) =
+    a_row (transfer_modes index) Mode ∷ a_row (transfer_modes index) (Range the_key.Transfers)
+    ∷ mode_rows (suc index) more
+
 -- the step `transfers`
-abbrev pub transfers_step : List FaultRow
-transfers_step =
-    a_row top (Missing the_key.Transfers) ∷ a_row top (Kind the_key.Transfers) ∷ a_row top Mode ∷ []
+abbrev pub transfers_step : Members → List FaultRow
+transfers_step tree =
+    (a_row top (Missing the_key.Transfers) ∷ a_row top (Kind the_key.Transfers)
+    ∷ pair_rows 0 (listed_in tree))
+    ++ mode_rows 0 (pairs (listed_in tree))
 
 -- the step `caps`
 abbrev pub caps_step : Members → List FaultRow
@@ -475,7 +563,7 @@ window_step = optional_rows top the_key.Window ++ optional_rows top the_key.DayS
 abbrev pub rows : Members → List FaultRow
 rows tree =
     needed_rows top the_key.Modes
-    ++ (transfers_step ++ (caps_step tree ++ (classes_step tree
+    ++ (transfers_step tree ++ (caps_step tree ++ (classes_step tree
     ++ (default_step
     ++ (validators_step tree ++ (riders_step tree ++ (zone_step ++ window_step)))))))
 

@@ -4,7 +4,7 @@ use Rattle.fare_table.specs.declared.fault.Key.{Key}
 use Rattle.fare_table.specs.declared.fault.Key.TheVariants.{Modes, Transfers, Caps, CapWindow}
 use Rattle.fare_table.specs.declared.fault.Key.TheVariants.{CapModes, Classes, Fare, Rides}
 use Rattle.fare_table.specs.declared.fault.Key.TheVariants.{Ceiling, ClassCaps, Fares}
-use Rattle.fare_table.specs.declared.fault.Key.TheVariants.{RideTransfers}
+use Rattle.fare_table.specs.declared.fault.Key.TheVariants.{From, Pays, RideTransfers, To}
 use Rattle.fare_table.specs.declared.fault.Key.TheVariants.{TransferMinutes, DefaultClass}
 use Rattle.fare_table.specs.declared.fault.Key.TheVariants.{Validators}
 use Rattle.fare_table.specs.declared.fault.Key.TheVariants.{First, Last, ModeName, Riders, Window}
@@ -14,6 +14,9 @@ use Rattle.fare_table.specs.declared.fault.Key.TheVariants.{DayStarts, Zone}
 abbrev pub key_name : Key → List ℕ
 key_name Modes = codes "Modes"
 key_name Transfers = codes "Transfers"
+key_name From = codes "From"
+key_name To = codes "To"
+key_name Pays = codes "Pays"
 key_name Caps = codes "Caps"
 key_name CapWindow = codes "CapWindow"
 key_name CapModes = codes "CapModes"

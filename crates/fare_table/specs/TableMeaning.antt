@@ -20,7 +20,7 @@ use Rattle.tariffs.specs.TableMeaning.{TableMeaning}
 unfoldable pub meaning_of_tree : Members → OrFault TableMeaning
 meaning_of_tree tree = do
   modes ← modes_of tree
-  transfers ← transfers_of modes tree
+  listed ← transfers_of modes tree
   capped ← caps_of modes tree
   table ← classes_of tree
   classes ← classes_from modes capped.names [] table
@@ -31,7 +31,8 @@ meaning_of_tree tree = do
   window ← window_of tree
   Ok (record {
     modes = modes;
-    transfers = transfers;
+    transfers = listed.pairs;
+    prices = listed.prices;
     classes = classes;
     names = names_in table;
     caps = capped.caps;

@@ -24,6 +24,9 @@ pub const MAX_RIDE_TRANSFERS: u32 = 9;
 /// How many transfers a ride gives if its class names `any`: as many as an account counts.
 pub const ANY_RIDE_TRANSFERS: u32 = 255;
 
+/// The most that a pair of modes pays in cents.
+pub const MAX_PAYS_CENTS: u32 = 100_000;
+
 /// The longest time for which a ride gives transfers, in minutes.
 pub const MAX_TRANSFER_MINUTES: u32 = 1_440;
 
@@ -37,7 +40,7 @@ impl Key {
 
     /// The least and the greatest number that the key may have, or `None` if it takes no number.
     /// Those of `Fares` and `ClassCaps` are of each number in it; `Last` may also not be below the
-    /// `first` beside it, and `RideTransfers` may also be a text.
+    /// `first` beside it, and `RideTransfers` and `Pays` may also be a text.
     pub fn bounds(self) -> Option<(u32, u32)>
         ensures bounds { IfSome result (λ b. self ≢ Key.Last → (beside : Members) (number : ℤ)
             → is_in_bounds self beside (integer number) ≡ is_from b.0 b.1 (integer number)) }
@@ -46,6 +49,7 @@ impl Key {
             × ((number : ℤ) → is_kind self (integer number) ≡ false) }
     {
         match self {
+            Key::Pays => Some((1, MAX_PAYS_CENTS)),
             Key::Fare => Some((0, MAX_FARE_CENTS)),
             Key::Rides => Some((1, MAX_RIDES)),
             Key::Ceiling => Some((1, MAX_CEILING_CENTS)),

@@ -15,6 +15,12 @@ pub enum Key {
     Modes,
     /// `transfers`
     Transfers,
+    /// `from` of a pair of modes that has a price
+    From,
+    /// `to` of such a pair
+    To,
+    /// `pays` of such a pair
+    Pays,
     /// `caps`
     Caps,
     /// `window` of a cap
@@ -65,6 +71,9 @@ impl Key {
         match self {
             Key::Modes => "Modes",
             Key::Transfers => "Transfers",
+            Key::From => "From",
+            Key::To => "To",
+            Key::Pays => "Pays",
             Key::Caps => "Caps",
             Key::CapWindow => "CapWindow",
             Key::CapModes => "CapModes",
@@ -95,6 +104,9 @@ impl Key {
         match self {
             Key::Modes | Key::CapModes => "modes",
             Key::Transfers | Key::RideTransfers => "transfers",
+            Key::From => "from",
+            Key::To => "to",
+            Key::Pays => "pays",
             Key::Caps | Key::ClassCaps => "caps",
             Key::Classes => "classes",
             Key::Fare => "fare",
@@ -124,7 +136,8 @@ impl fmt::Display for Key {
 }
 
 /// The first fault of a table's text, in the order in which its keys are read: `modes`,
-/// `transfers`, `caps` (by name: `window`, `modes`), `classes` (by name: `fare`, `rides`,
+/// `transfers` (each table in it: `from`, `to`, `pays`; then each pair), `caps` (by name: `window`,
+/// `modes`), `classes` (by name: `fare`, `rides`,
 /// `ceiling`, `fares` with the mode and the number of each, `caps` with the cap and its number,
 /// `transfers`, `transfer_minutes`), `default_class`, `validators` (each: `first`, `last`, `mode`,
 /// the range), `riders` (by token), `zone`, `window`, `day_starts`. The kind of all elements of an

@@ -29,11 +29,11 @@ end_shown none one two three four five six seven feed fields comma cents answer
     let last : one ≡ feed = a ∙ ap (λ (back : List ℕ). feed ++ back) empty ∙ append-nil feed in
     rw (f, e, d, c, b, last) at g
 
--- the fields of a ride
-pub ride_shown : (old one two three four rest to from : List ℕ)
+-- a window, and what follows it
+pub window_shown : (old one two three four rest to from : List ℕ)
     → one ≡ rest ++ old → two ≡ to ++ one → three ≡ codes "," ++ two → four ≡ from ++ three
     → four ≡ (from ++ (codes "," ++ (to ++ rest))) ++ old
-ride_shown old one two three four rest to from a b c d =
+window_shown old one two three four rest to from a b c d =
     simp append_assoc (rw (c, b, a) at d)
 
 -- the whole line: what stands before the mode, the mode, and the end

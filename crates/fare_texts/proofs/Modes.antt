@@ -11,12 +11,12 @@ use Rattle.fare_caps.specs.CapMeanings.{capped_rules_of}
 use Rattle.fare_caps.specs.CappedReplies.{capped_reason}
 use Rattle.fare_caps.specs.Represents.{Represents}
 use Rattle.fare_caps.specs.declared.capped_account.CappedAccount.{CappedAccount}
-use Rattle.fare_caps.proofs.AnswerLemmas.{capped-transfer}
+use Rattle.fare_caps.proofs.AnswerLemmas.{capped-paid-transfer, capped-transfer}
 use Rattle.account_rule.specs.Taps.{LiveTap, live_at}
 use Rattle.account_rule.specs.declared.reason.Reason.TheVariants as plain_reason
 use Rattle.fare_caps.specs.declared.capped_reason.CappedReason.{CappedReason}
-use Rattle.fare_caps.specs.declared.capped_reason.CappedReason.TheVariants.{Ride, Stale, Transfer}
-use Rattle.fare_caps.specs.declared.capped_reason.CappedReason.TheVariants.{Unknown}
+use Rattle.fare_caps.specs.declared.capped_reason.CappedReason.TheVariants.{PaidTransfer, Ride}
+use Rattle.fare_caps.specs.declared.capped_reason.CappedReason.TheVariants.{Stale, Transfer, Unknown}
 use Rattle.account_rule.specs.declared.tap.TapIn.{TapIn}
 use Rattle.account_rule.proofs.ReasonLemmas.{giver-ride}
 use Rattle.fare_texts.specs.ReasonWords.{HasModeOf}
@@ -48,4 +48,8 @@ has_mode fares token account taps tap (Stale latest) holds is = tt
 has_mode fares token account taps tap (Transfer moment mode) holds is =
     within (rules_of fares token) (kept_of account.account) taps tap moment mode holds.account
     (capped-transfer (capped_rules_of fares token) taps tap moment mode (sym is))
+has_mode fares token account taps tap (PaidTransfer start until moment mode charge) holds is =
+    within (rules_of fares token) (kept_of account.account) taps tap moment mode holds.account
+    (capped-paid-transfer (capped_rules_of fares token) taps tap start until moment mode charge
+    (sym is))
 has_mode fares token account taps tap (Ride start until charge) holds is = tt

@@ -16,13 +16,14 @@ use Rattle.jiff_core.proofs.StandardFacts.{known_days}
 use Rattle.jiff_fmt.specs.Text.{date_text}
 use Rattle.tariffs.specs.Fares.{Fares}
 use Rattle.fare_caps.specs.declared.capped_reason.CappedReason.{CappedReason}
-use Rattle.fare_caps.specs.declared.capped_reason.CappedReason.TheVariants.{Ride, Stale, Transfer}
-use Rattle.fare_caps.specs.declared.capped_reason.CappedReason.TheVariants.{Unknown}
+use Rattle.fare_caps.specs.declared.capped_reason.CappedReason.TheVariants.{PaidTransfer, Ride}
+use Rattle.fare_caps.specs.declared.capped_reason.CappedReason.TheVariants.{Stale, Transfer, Unknown}
 use Rattle.histories.specs.Entry.{own}
 use Rattle.histories.specs.declared.entry.Entry.{Entry}
 use Rattle.tap_views.specs.declared.token.Token.{Token}
-use Rattle.fare_texts.specs.LedgerLines.{IsLedgerLine, IsPointing, IsReasonFields}
+use Rattle.fare_texts.specs.LedgerLines.{IsLedgerLine, IsPointing, IsReasonFields, IsWindowFields}
 use Rattle.fare_texts.specs.LedgerLines.{entry_fields, line_head, reason_after, ride_rest}
+use Rattle.fare_texts.specs.LedgerLines.{transfer_words}
 use Rattle.fare_texts.specs.Lines.{AreLinesAlong}
 use Rattle.fare_texts.specs.Moments.{IsMomentText, clock_text}
 
@@ -152,17 +153,24 @@ pointing words at =
     let found = moment_exists at in
     (words ++ found.0, record { moment = found.0; is = found.1; shown = refl })
 
+windowed : (start until : ℕ) (rest : List ℕ) → (text : List ℕ) × IsWindowFields start until rest text
+windowed start until rest =
+    let from = moment_exists start in
+    let to = moment_exists until in (
+      from.0 ++ (codes "," ++ (to.0 ++ rest)),
+      record { from = from.0; starts = from.1; to = to.0; ends = to.1; shown = refl },
+    )
+
 fields_exist : (caps : List (List ℕ)) (why : CappedReason)
     → (text : List ℕ) × IsReasonFields caps why text
 fields_exist caps Unknown = (codes ",,,unknown,", refl)
 fields_exist caps (Stale latest) = pointing (codes ",,,stale,") latest
 fields_exist caps (Transfer moment mode) = pointing (codes ",,,transfer,") moment
-fields_exist caps (Ride start until charge) =
-    let from = moment_exists start in
-    let to = moment_exists until in (
-      from.0 ++ (codes "," ++ (to.0 ++ ride_rest caps charge)),
-      record { from = from.0; starts = from.1; to = to.0; ends = to.1; shown = refl },
-    )
+fields_exist caps (PaidTransfer start until moment mode charge) =
+    let rest = pointing (transfer_words caps charge) moment in
+    let text = windowed start until rest.0 in
+    (text.0, (rest.0, rest.1, text.1))
+fields_exist caps (Ride start until charge) = windowed start until (ride_rest caps charge)
 
 pub line_exists : (fares : Fares) (token : Token) (number : ℕ) (entry : Entry) (why : CappedReason)
     → (line : List ℕ) × IsLedgerLine fares token number entry why line

@@ -20,8 +20,8 @@ use Rattle.account_rule.specs.declared.reason.Charge.TheVariants.{RideLimitReach
 use Rattle.fare_caps.specs.declared.cap_charge.CapCharge.{CapCharge}
 use Rattle.fare_caps.specs.declared.cap_charge.CapCharge.TheVariants.{ByWindow, CapCut, CapReached}
 use Rattle.fare_caps.specs.declared.capped_reason.CappedReason.{CappedReason}
-use Rattle.fare_caps.specs.declared.capped_reason.CappedReason.TheVariants.{Ride, Stale, Transfer}
-use Rattle.fare_caps.specs.declared.capped_reason.CappedReason.TheVariants.{Unknown}
+use Rattle.fare_caps.specs.declared.capped_reason.CappedReason.TheVariants.{PaidTransfer, Ride}
+use Rattle.fare_caps.specs.declared.capped_reason.CappedReason.TheVariants.{Stale, Transfer, Unknown}
 use Rattle.account_rule.specs.declared.window.WindowView.{WindowView}
 use Rattle.histories.specs.Entry.{tap_of}
 use Rattle.histories.specs.Sums.{Sums, sums}
@@ -95,6 +95,26 @@ within_json clocks start until =
     codes "\"window_start\":" ++ (at_json clocks start ++ (codes ",\"window_end\":"
     ++ at_json clocks until))
 
+-- how `window` decided the cents of a transfer, which no limit of rides frees
+abbrev pub window_transfer_json : Charge → List ℕ
+window_transfer_json (Full position cents) = codes "\"kind\":\"transfer-fare\""
+window_transfer_json (CeilingCut position cents) = codes "\"kind\":\"transfer-cut\""
+window_transfer_json (CeilingReached position) = codes "\"kind\":\"transfer-capped\""
+window_transfer_json RideLimitReached = codes "\"kind\":\"transfer-capped\""
+
+-- likewise how a cap decided them, and its name
+unfoldable pub cap_transfer_json : List ℕ → List ℕ → List ℕ
+cap_transfer_json kind name =
+    codes "\"kind\":\"" ++ (kind ++ (codes "\",\"cap\":\"" ++ (name ++ codes "\"")))
+
+-- either, by the names of caps
+abbrev pub transfer_json : List (List ℕ) → CapCharge → List ℕ
+transfer_json caps (ByWindow charge) = window_transfer_json charge
+transfer_json caps (CapCut position cents cap) =
+    cap_transfer_json (codes "transfer-cut") (slice_index_or caps cap [])
+transfer_json caps (CapReached position cap) =
+    cap_transfer_json (codes "transfer-capped") (slice_index_or caps cap [])
+
 -- why a tap is answered as it is, by the names of modes and of caps
 abbrev pub reason_json : ClockView → List (List ℕ) → List (List ℕ) → CappedReason → List ℕ
 reason_json clocks modes caps Unknown = codes "{\"kind\":\"unknown\"}"
@@ -103,6 +123,10 @@ reason_json clocks modes caps (Stale latest) =
 reason_json clocks modes caps (Transfer moment mode) =
     codes "{\"kind\":\"transfer\",\"points_at\":" ++ (at_json clocks moment
     ++ (codes ",\"mode\":\"" ++ (slice_index_or modes mode.position [] ++ codes "\"}")))
+reason_json clocks modes caps (PaidTransfer start until moment mode charge) =
+    codes "{" ++ (transfer_json caps charge ++ (codes ",\"points_at\":" ++ (at_json clocks moment
+    ++ (codes ",\"mode\":\"" ++ (slice_index_or modes mode.position [] ++ (codes "\","
+    ++ (within_json clocks start until ++ codes "}")))))))
 reason_json clocks modes caps (Ride start until charge) =
     codes "{" ++ (charge_json caps charge ++ (codes "," ++ (within_json clocks start until
     ++ codes "}")))
@@ -134,6 +158,7 @@ abbrev pub lack_json : ClockView → List (List ℕ) → ℕ → CappedReason �
 lack_json clocks modes moment Unknown lack = codes "null"
 lack_json clocks modes moment (Stale latest) lack = codes "null"
 lack_json clocks modes moment (Transfer last mode) lack = codes "null"
+lack_json clocks modes moment (PaidTransfer start until last mode charge) lack = codes "null"
 lack_json clocks modes moment (Ride start until charge) None = codes "null"
 lack_json clocks modes moment (Ride start until charge) (Some lack) =
     no_transfer_json clocks modes moment lack

@@ -12,8 +12,8 @@ use Rattle.account_rule.specs.declared.reason.Charge.TheVariants.{RideLimitReach
 use Rattle.fare_caps.specs.declared.cap_charge.CapCharge.{CapCharge}
 use Rattle.fare_caps.specs.declared.cap_charge.CapCharge.TheVariants.{ByWindow, CapCut, CapReached}
 use Rattle.fare_caps.specs.declared.capped_reason.CappedReason.{CappedReason}
-use Rattle.fare_caps.specs.declared.capped_reason.CappedReason.TheVariants.{Ride, Stale, Transfer}
-use Rattle.fare_caps.specs.declared.capped_reason.CappedReason.TheVariants.{Unknown}
+use Rattle.fare_caps.specs.declared.capped_reason.CappedReason.TheVariants.{PaidTransfer, Ride}
+use Rattle.fare_caps.specs.declared.capped_reason.CappedReason.TheVariants.{Stale, Transfer, Unknown}
 use Rattle.histories.specs.Entry.{tap_of}
 use Rattle.tap_views.specs.Token.{bytes_of}
 use Rattle.histories.specs.declared.entry.Entry.{Entry}
@@ -78,14 +78,30 @@ ride_rest caps (CapCut position cents cap) =
 ride_rest caps (CapReached position cap) =
     position_fields position (cap_reason (codes "cap") caps cap)
 
--- the window's start and end, the ride's place and what decided its cents
-pub record IsRideFields (caps : List (List ℕ)) (start until : ℕ) (charge : CapCharge)
-    (text : List ℕ) : Type 0 where
+-- the window's start and end, and the rest
+pub record IsWindowFields (start until : ℕ) (rest text : List ℕ) : Type 0 where
   pub from : List ℕ
   pub starts : IsMomentText start from
   pub to : List ℕ
   pub ends : IsMomentText until to
-  pub shown : text ≡ from ++ (codes "," ++ (to ++ ride_rest caps charge))
+  pub shown : text ≡ from ++ (codes "," ++ (to ++ rest))
+
+-- how `window` decided the cents of a transfer, which no limit of rides frees
+abbrev pub window_transfer_reason : Charge → List ℕ
+window_transfer_reason (Full position cents) = codes "transfer-fare"
+window_transfer_reason (CeilingCut position cents) = codes "transfer-cut"
+window_transfer_reason (CeilingReached position) = codes "transfer-capped"
+window_transfer_reason RideLimitReached = codes "transfer-capped"
+
+-- what decided the cents of a transfer: `window`, or a cap beside it, which is named
+abbrev pub transfer_reason : List (List ℕ) → CapCharge → List ℕ
+transfer_reason caps (ByWindow charge) = window_transfer_reason charge
+transfer_reason caps (CapCut position cents cap) = cap_reason (codes "transfer-cut") caps cap
+transfer_reason caps (CapReached position cap) = cap_reason (codes "transfer-capped") caps cap
+
+-- `,,transfer-fare,`: no place, and what decided the cents of a transfer
+unfoldable pub transfer_words : List (List ℕ) → CapCharge → List ℕ
+transfer_words caps charge = codes ",," ++ (transfer_reason caps charge ++ codes ",")
 
 -- the words, and the moment to which they point
 pub record IsPointing (words : List ℕ) (at : ℕ) (text : List ℕ) : Type 0 where
@@ -98,7 +114,11 @@ abbrev pub IsReasonFields : List (List ℕ) → CappedReason → List ℕ → Ty
 IsReasonFields caps Unknown text = text ≡ codes ",,,unknown,"
 IsReasonFields caps (Stale latest) text = IsPointing (codes ",,,stale,") latest text
 IsReasonFields caps (Transfer moment mode) text = IsPointing (codes ",,,transfer,") moment text
-IsReasonFields caps (Ride start until charge) text = IsRideFields caps start until charge text
+IsReasonFields caps (PaidTransfer start until moment mode charge) text =
+    (rest : List ℕ) × IsPointing (transfer_words caps charge) moment rest
+    × IsWindowFields start until rest text
+IsReasonFields caps (Ride start until charge) text =
+    IsWindowFields start until (ride_rest caps charge) text
 
 -- the line of a token's entry with this number and this reason
 pub record IsLedgerLine (fares : Fares) (token : Token) (number : ℕ) (entry : Entry)

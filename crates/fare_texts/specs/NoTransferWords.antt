@@ -11,8 +11,8 @@ use Rattle.account_rule.specs.declared.no_transfer.NoTransfer.TheVariants.{After
 use Rattle.account_rule.specs.declared.no_transfer.NoTransfer.TheVariants.{NotPermitted}
 use Rattle.account_rule.specs.declared.no_transfer.NoTransfer.TheVariants.{RideTooLate}
 use Rattle.fare_caps.specs.declared.capped_reason.CappedReason.{CappedReason}
-use Rattle.fare_caps.specs.declared.capped_reason.CappedReason.TheVariants.{Ride, Stale, Transfer}
-use Rattle.fare_caps.specs.declared.capped_reason.CappedReason.TheVariants.{Unknown}
+use Rattle.fare_caps.specs.declared.capped_reason.CappedReason.TheVariants.{PaidTransfer, Ride}
+use Rattle.fare_caps.specs.declared.capped_reason.CappedReason.TheVariants.{Stale, Transfer, Unknown}
 use Rattle.histories.specs.Entry.{tap_of}
 use Rattle.histories.specs.declared.entry.Entry.{Entry}
 use Rattle.tap_views.specs.Token.{bytes_of}
@@ -66,6 +66,7 @@ abbrev pub IsNoTransferEnd : Fares → ℕ → CappedReason → Option NoTransfe
 IsNoTransferEnd fares moment Unknown lack text = text ≡ []
 IsNoTransferEnd fares moment (Stale latest) lack text = text ≡ []
 IsNoTransferEnd fares moment (Transfer last mode) lack text = text ≡ []
+IsNoTransferEnd fares moment (PaidTransfer start until last mode charge) lack text = text ≡ []
 IsNoTransferEnd fares moment (Ride start until charge) None text = text ≡ []
 IsNoTransferEnd fares moment (Ride start until charge) (Some lack) text =
     IsNoTransferText fares moment lack text

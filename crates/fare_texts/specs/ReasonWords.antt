@@ -8,8 +8,8 @@ use Rattle.account_rule.specs.declared.reason.Charge.TheVariants.{RideLimitReach
 use Rattle.fare_caps.specs.declared.cap_charge.CapCharge.{CapCharge}
 use Rattle.fare_caps.specs.declared.cap_charge.CapCharge.TheVariants.{ByWindow, CapCut, CapReached}
 use Rattle.fare_caps.specs.declared.capped_reason.CappedReason.{CappedReason}
-use Rattle.fare_caps.specs.declared.capped_reason.CappedReason.TheVariants.{Ride, Stale, Transfer}
-use Rattle.fare_caps.specs.declared.capped_reason.CappedReason.TheVariants.{Unknown}
+use Rattle.fare_caps.specs.declared.capped_reason.CappedReason.TheVariants.{PaidTransfer, Ride}
+use Rattle.fare_caps.specs.declared.capped_reason.CappedReason.TheVariants.{Stale, Transfer, Unknown}
 use Rattle.fare_texts.specs.Moments.{IsMomentText}
 
 -- the mode that gives a transfer is the table's
@@ -17,6 +17,8 @@ abbrev pub HasModeOf : Fares → CappedReason → Type 0
 HasModeOf fares Unknown = Unit {0}
 HasModeOf fares (Stale latest) = Unit {0}
 HasModeOf fares (Transfer moment mode) = mode.position < length fares.meaning.modes
+HasModeOf fares (PaidTransfer start until moment mode charge) =
+    mode.position < length fares.meaning.modes
 HasModeOf fares (Ride start until charge) = Unit {0}
 
 -- ` because it is ride 3 of the window`
@@ -67,11 +69,25 @@ pub record IsStaleText (latest : ℕ) (text : List ℕ) : Type 0 where
 unfoldable pub giver_start : List ℕ → List ℕ
 giver_start mode = codes " because the " ++ (mode ++ codes " ride of ")
 
--- ` because the subway ride of 2024-03-08T17:00:00.000Z gives it`
-pub record IsTransferText (mode : List ℕ) (at : ℕ) (text : List ℕ) : Type 0 where
+-- how `window` decided the cents of a transfer, which no limit of rides frees
+abbrev pub window_transfer_end : Charge → List ℕ
+window_transfer_end (Full position cents) = codes " at full price"
+window_transfer_end (CeilingCut position cents) = codes " cut by the ceiling"
+window_transfer_end (CeilingReached position) = codes " past the ceiling"
+window_transfer_end RideLimitReached = []
+
+-- a cap that decides is named: ` cut by the cap month`
+abbrev pub transfer_end : List (List ℕ) → CapCharge → List ℕ
+transfer_end caps (ByWindow charge) = window_transfer_end charge
+transfer_end caps (CapCut position cents cap) =
+    codes " cut by the cap " ++ slice_index_or caps cap []
+transfer_end caps (CapReached position cap) = codes " past the cap " ++ slice_index_or caps cap []
+
+-- ` because the subway ride of 2024-03-08T17:00:00.000Z gives it`, and this end
+pub record IsTransferText (mode : List ℕ) (at : ℕ) (end : List ℕ) (text : List ℕ) : Type 0 where
   pub moment : List ℕ
   pub is : IsMomentText at moment
-  pub shown : text ≡ giver_start mode ++ (moment ++ codes " gives it")
+  pub shown : text ≡ giver_start mode ++ (moment ++ (codes " gives it" ++ end))
 
 -- ` because it is ride 3 of the window from .. until .. at full fare`
 pub record IsRideText (caps : List (List ℕ)) (start until : ℕ) (charge : CapCharge) (text : List ℕ)
@@ -85,6 +101,9 @@ abbrev pub IsReasonWords : Fares → CappedReason → List ℕ → Type 0
 IsReasonWords fares Unknown text = text ≡ codes " because the table has no such validator"
 IsReasonWords fares (Stale latest) text = IsStaleText latest text
 IsReasonWords fares (Transfer moment mode) text =
-    IsTransferText (slice_index_or fares.meaning.modes mode.position []) moment text
+    IsTransferText (slice_index_or fares.meaning.modes mode.position []) moment [] text
+IsReasonWords fares (PaidTransfer start until moment mode charge) text =
+    IsTransferText (slice_index_or fares.meaning.modes mode.position []) moment
+    (transfer_end fares.meaning.cap_names charge) text
 IsReasonWords fares (Ride start until charge) text =
     IsRideText fares.meaning.cap_names start until charge text

@@ -20,7 +20,7 @@ use tap_views::Token;
 use tariffs::FareTable;
 
 /// A longer name of a mode is appended on its own, since a line has no room for it.
-const MODE_BYTES: usize = 24;
+const MODE_BYTES: usize = 16;
 
 /// Appends the line of a token's entry, whose number among the token's lines counts from 1.
 pub fn write_line(
@@ -99,7 +99,7 @@ fn put_end(line: &mut Line, table: &FareTable, entry: &Entry, reason: &CappedRea
         × IsReasonFields table.now.meaning.cap_names reason.now fields
         × (line.new ≡ codes "," ++ (answer_text entry.now.answer
         ++ (codes "," ++ (decimal entry.now.cents ++ (codes "," ++ (fields ++ codes "\n")))))) }
-    ensures short { length line.new ≤ 201 }
+    ensures short { length line.new ≤ 208 }
 {
     line.put(b"\n");
     put_reason_fields(line, table, reason);

@@ -32,9 +32,10 @@ pub fn write_no_transfer(
             Some(none) => write_words(text, table, moment, none),
             None => Ok(()),
         },
-        CappedReason::Unknown | CappedReason::Stale { .. } | CappedReason::Transfer { .. } => Ok(
-            (),
-        ),
+        CappedReason::Unknown
+        | CappedReason::Stale { .. }
+        | CappedReason::Transfer { .. }
+        | CappedReason::PaidTransfer { .. } => Ok(()),
     }
 }
 

@@ -5,8 +5,8 @@ ghost use Rattle.std.specs.Prelude.{slice_index_or, string_bytes};
 ghost use Rattle.fare_texts.specs.ReasonWords.{IsRideText, IsTransferText, IsReasonWords};
 ghost use Rattle.fare_texts.specs.ReasonWords.{IsWindowText};
 ghost use Rattle.fare_texts.specs.ReasonWords.{charge_end, charge_start, giver_start};
-ghost use Rattle.fare_texts.specs.ReasonWords.{position_start, window_charge_end};
-ghost use Rattle.fare_texts.specs.ReasonWords.{window_charge_start};
+ghost use Rattle.fare_texts.specs.ReasonWords.{position_start, transfer_end, window_charge_end};
+ghost use Rattle.fare_texts.specs.ReasonWords.{window_charge_start, window_transfer_end};
 ghost use Rattle.fare_texts.specs.ReasonWords.{HasModeOf};
 
 use crate::names::cap_name;
@@ -39,6 +39,13 @@ pub fn write_reason_words(
             table.mode_name(mode),
             moment,
         ),
+        CappedReason::PaidTransfer {
+            start: _,
+            until: _,
+            moment,
+            mode,
+            charge,
+        } => write_paid_transfer(text, table, table.mode_name(mode), moment, charge),
         CappedReason::Ride {
             start,
             until,
@@ -49,13 +56,66 @@ pub fn write_reason_words(
 
 /// Appends ` because the subway ride of 2024-03-08T17:00:00.000Z gives it`.
 fn write_transfer(text: &mut String, mode: &str, moment: u64) -> Result<(), AllocError>
-    ensures { OnOk result ((written : List ℕ) × IsTransferText mode.now moment written
+    ensures { OnOk result ((written : List ℕ) × IsTransferText mode.now moment [] written
         × (string_bytes text.new ≡ string_bytes text.old ++ written)) }
 {
     write_giver(text, mode)?;
     write_moment(text, moment)?;
     text.push_str(" gives it")?;
     Ok(())
+}
+
+/// Appends ` because the subway ride of 2024-03-08T17:00:00.000Z gives it at full price`.
+fn write_paid_transfer(
+    text: &mut String,
+    table: &FareTable,
+    mode: &str,
+    moment: u64,
+    charge: CapCharge,
+) -> Result<(), AllocError>
+    ensures { OnOk result ((written : List ℕ)
+        × IsTransferText mode.now moment (transfer_end table.now.meaning.cap_names charge) written
+        × (string_bytes text.new ≡ string_bytes text.old ++ written)) }
+{
+    write_giver(text, mode)?;
+    write_moment(text, moment)?;
+    text.push_str(" gives it")?;
+    write_transfer_end(text, table, charge)?;
+    Ok(())
+}
+
+/// Appends what decided the cents of a transfer.
+fn write_transfer_end(
+    text: &mut String,
+    table: &FareTable,
+    charge: CapCharge,
+) -> Result<(), AllocError>
+    ensures { OnOk result (string_bytes text.new
+        ≡ string_bytes text.old ++ transfer_end table.now.meaning.cap_names charge) }
+{
+    match charge {
+        CapCharge::ByWindow { charge } => text.push_str(window_transfer_end(charge)),
+        CapCharge::CapCut {
+            position: _,
+            cents: _,
+            cap,
+        } => write_cap(text, " cut by the cap ", table, cap),
+        CapCharge::CapReached { position: _, cap } => {
+            write_cap(text, " past the cap ", table, cap)
+        }
+    }
+}
+
+/// How `window` decided the cents of a transfer.
+fn window_transfer_end(charge: Charge) -> &'static str
+    ensures { result.now ≡ window_transfer_end charge }
+{
+    match charge {
+        Charge::Full { .. } => " at full price",
+        Charge::CeilingCut { .. } => " cut by the ceiling",
+        Charge::CeilingReached { .. } => " past the ceiling",
+        Charge::RideLimitReached => "",
+    }
 }
 
 /// Appends ` because the subway ride of `.

@@ -1,6 +1,5 @@
-pub mod Ends
 pub mod Failing
-pub mod Making
-pub mod Stops
-pub mod Tasks
-pub mod inside
+pub mod Given
+pub mod Names
+pub mod Outcome
+pub mod Outsides

@@ -1,11 +1,11 @@
-//! How a run of a program ends, once for all programs: `specs/Failing.antt` has what is promised.
+//! How a run of a program ends, once for all programs: `specs/Outcome.antt` and `specs/Failing.antt`
+//! have what is promised.
 #![tactic(auto)]
 
-mod run;
-mod step;
-mod stop;
-mod task;
+mod names;
+mod outside;
+mod steps;
 
-pub use run::{report, run_task};
-pub use stop::Stop;
-pub use task::{For, Step, Task};
+pub use names::file_of;
+pub use outside::Outside;
+pub use steps::{begin, finish, make, report, say, write};

@@ -24,7 +24,7 @@ use Rattle.fare_caps.specs.CapMeanings.{capped_rules_of}
 use Rattle.fare_caps.specs.CappedReplies.{capped_reply}
 use Rattle.fare_caps.specs.Caps.{CappedRules}
 use Rattle.fare_caps.proofs.AnswerLemmas as capped
-use Rattle.fare_caps.proofs.AnswerLemmas.{is_charged, is_same}
+use Rattle.fare_caps.proofs.AnswerLemmas.{is_charged, is_raised, is_same}
 use Rattle.std.proofs.lemmas.Bool.{true≢false}
 use Rattle.account_rule.specs.declared.reply.Answer.{Answer}
 use Rattle.account_rule.specs.declared.reply.Answer.TheVariants.{Paid, Transfer, Capped, Stale}
@@ -45,7 +45,7 @@ use Rattle.laws.specs.Bills.{BillAlike, ChargeAlike, is_live, is_live_answer, li
 use Rattle.laws.specs.TapSets.{AreSentAgain, HaveSameSetOfTaps, fields_of_uploads}
 use Rattle.laws.proofs.Posts.{SameBill, after, plain_is_after}
 use Rattle.laws.proofs.Sets.{same_bill}
-use Rattle.laws.proofs.States.{ride_is_live, same_windows}
+use Rattle.laws.proofs.States.{ride_is_live, same_windows, transfer_is_live}
 
 -- ---- what is no ride and no transfer costs nothing
 abbrev Free : Entry → Type 0
@@ -83,6 +83,9 @@ free_reply rules earlier tap e = elim (capped.answered rules earlier tap) [
       (sym (ap (λ (r : Reply). is_live_answer r.answer) same) ∙ e)
   | is_charged paid other one two ↦
       absurd (true≢false (sym (ride_is_live paid)
+      ∙ sym (ap (λ (r : Reply). is_live_answer r.answer) one) ∙ e))
+  | is_raised cents one two ↦
+      absurd (true≢false (sym (transfer_is_live cents)
       ∙ sym (ap (λ (r : Reply). is_live_answer r.answer) one) ∙ e))
 ]
 

@@ -1,21 +1,33 @@
 -- No entry of taps that are posted costs more than the greatest fare of a table, and each has the
 -- sizes
 -- of its tap.
-use Rattle.std.specs.Prelude.{List, [], ◌∷◌, ◌++◌, All}
+use Rattle.std.specs.Prelude.{ℕ, List, [], ◌∷◌, ◌++◌, All, IfSome}
 use Rattle.std.proofs.lemmas.List.Elements.{All-cons, All-head, All-nil, All-tail}
 use Rattle.tariffs.specs.Fares.{Fares}
+use Rattle.tariffs.specs.Prices.{IsBoundedPays}
+use Rattle.tariffs.specs.declared.mode.Mode.{Mode}
 use Rattle.tap_views.specs.Token.{Fits, bytes_of}
 use Rattle.tap_views.specs.declared.encoder.TapFields.{TapFields}
 use Rattle.account_rule.specs.TokenRules.{rules_of, token_class}
 use Rattle.account_rule.specs.Taps.{live_at}
 use Rattle.fare_caps.specs.CapMeanings.{capped_rules_of}
+use Rattle.fare_caps.specs.Prices.{pays_to}
 use Rattle.fare_caps.proofs.AnswerLemmas.{capped_most}
+use Rattle.fare_caps.proofs.FurtherLemmas.{pays-by}
 use Rattle.histories.specs.declared.entry.Entry.{Entry}
 use Rattle.histories.specs.Entry.{tap_of, taps_of}
 use Rattle.histories.specs.Plain.{answered}
 use Rattle.settlement.specs.Posted.{HasName, posted_after, unposted}
 use Rattle.laws.specs.Sizes.{HaveBoundedTerms}
 use Rattle.laws.proofs.SumsFit.{CostsFew}
+
+-- what a pair pays is within its bound
+pays_few : (fares : Fares) → HaveBoundedTerms fares → (token : List ℕ) (from mode : Mode)
+    (moment : ℕ)
+    → IfSome (pays_to (capped_rules_of fares token) from (live_at moment mode)) IsBoundedPays
+pays_few fares bounds token from mode moment =
+    rw (← pays-by fares token from mode moment)
+    (bounds.pays moment from.position mode.position)
 
 pub posted_few : (fares : Fares) → HaveBoundedTerms fares → (earlier : List Entry)
     (taps : List TapFields) → All CostsFew (posted_after fares earlier taps)
@@ -26,7 +38,9 @@ posted_few fares bounds earlier (tap ∷ taps) =
     let made = answered fares earlier entry in
     All-cons CostsFew made (posted_after fares (earlier ++ made ∷ []) taps)
     (capped_most (capped_rules_of fares (bytes_of entry.token)) (taps_of fares entry.token earlier)
-    (tap_of fares entry) (λ mode known. bounds (bytes_of entry.token) entry.moment mode.position))
+    (tap_of fares entry)
+    (λ mode known. bounds.terms (bytes_of entry.token) entry.moment mode.position)
+    (λ mode known from. pays_few fares bounds (bytes_of entry.token) from mode entry.moment))
     (posted_few fares bounds (earlier ++ made ∷ []) taps)
 
 pub tokens_fit : (fares : Fares) (earlier : List Entry) (taps : List TapFields) → All HasName taps

@@ -18,8 +18,8 @@ use Rattle.account_rule.specs.declared.reason.Charge.TheVariants.{RideLimitReach
 use Rattle.fare_caps.specs.declared.cap_charge.CapCharge.{CapCharge}
 use Rattle.fare_caps.specs.declared.cap_charge.CapCharge.TheVariants.{ByWindow, CapCut, CapReached}
 use Rattle.fare_caps.specs.declared.capped_reason.CappedReason.{CappedReason}
-use Rattle.fare_caps.specs.declared.capped_reason.CappedReason.TheVariants.{Ride, Stale, Transfer}
-use Rattle.fare_caps.specs.declared.capped_reason.CappedReason.TheVariants.{Unknown}
+use Rattle.fare_caps.specs.declared.capped_reason.CappedReason.TheVariants.{PaidTransfer, Ride}
+use Rattle.fare_caps.specs.declared.capped_reason.CappedReason.TheVariants.{Stale, Transfer, Unknown}
 use Rattle.account_rule.specs.declared.reply.Answer.{Answer}
 use Rattle.account_rule.specs.declared.reply.Answer.TheVariants as answer
 use Rattle.tap_views.specs.Token.{bytes_of}
@@ -27,9 +27,10 @@ use Rattle.histories.specs.declared.entry.Entry.{Entry}
 use Rattle.tap_views.specs.declared.token.Token.{Token}
 use Rattle.fare_texts.specs.Moments.{IsCivilText, IsMomentText, clock_text, pad3}
 use Rattle.fare_texts.specs.StatementText.{answer_text}
-use Rattle.fare_texts.specs.LedgerLines.{IsReasonFields, IsLedgerLine, entry_fields, line_head}
-use Rattle.fare_texts.specs.LedgerLines.{cap_suffix, mode_field, name_or_empty, position_fields}
-use Rattle.fare_texts.specs.LedgerLines.{ride_rest, window_rest}
+use Rattle.fare_texts.specs.LedgerLines.{IsLedgerLine, IsReasonFields, IsWindowFields, cap_suffix}
+use Rattle.fare_texts.specs.LedgerLines.{entry_fields, line_head, mode_field, name_or_empty}
+use Rattle.fare_texts.specs.LedgerLines.{position_fields, ride_rest, transfer_reason}
+use Rattle.fare_texts.specs.LedgerLines.{transfer_words, window_rest, window_transfer_reason}
 use Rattle.ledger_check.specs.Lines.{Lacks}
 use Rattle.ledger_check.proofs.LineLemmas.{has_none, lacks-append, lacks-at, lacks-tested}
 use Rattle.laws.specs.Written.{AreLetters, HasLetterNames}
@@ -210,12 +211,17 @@ suffix_free name is = by (nat_le (length name) 16)
     by true = both (written (codes ":") refl) is
     by false = written [] refl
 
+named_free : (caps : List (List ℕ)) (word : List ℕ) (cap : ℕ) → AreLetters caps → Free word
+    → Free (word ++ cap_suffix (slice_index_or caps cap []))
+named_free caps word cap letters is =
+    both is (suffix_free (slice_index_or caps cap [])
+    (free (slice_index_or caps cap []) (named_lacks caps cap letters)))
+
 capped_free : (caps : List (List ℕ)) (word : List ℕ) (position cap : ℕ) → AreLetters caps
     → Free word → Free (position_fields position (word ++ cap_suffix (slice_index_or caps cap [])))
 capped_free caps word position cap letters is =
     placed_free position (word ++ cap_suffix (slice_index_or caps cap []))
-    (both is (suffix_free (slice_index_or caps cap [])
-    (free (slice_index_or caps cap []) (named_lacks caps cap letters))))
+    (named_free caps word cap letters is)
 
 ride_free : (caps : List (List ℕ)) (charge : CapCharge) → AreLetters caps
     → Free (ride_rest caps charge)
@@ -224,6 +230,33 @@ ride_free caps (CapCut position cents cap) letters =
     capped_free caps (codes "cap-cut") position cap letters (written (codes "cap-cut") refl)
 ride_free caps (CapReached position cap) letters =
     capped_free caps (codes "cap") position cap letters (written (codes "cap") refl)
+
+window_transfer_free : (charge : Charge) → Free (window_transfer_reason charge)
+window_transfer_free (Full position cents) = written (codes "transfer-fare") refl
+window_transfer_free (CeilingCut position cents) = written (codes "transfer-cut") refl
+window_transfer_free (CeilingReached position) = written (codes "transfer-capped") refl
+window_transfer_free RideLimitReached = written (codes "transfer-capped") refl
+
+transfer_free : (caps : List (List ℕ)) (charge : CapCharge) → AreLetters caps
+    → Free (transfer_reason caps charge)
+transfer_free caps (ByWindow charge) letters = window_transfer_free charge
+transfer_free caps (CapCut position cents cap) letters =
+    named_free caps (codes "transfer-cut") cap letters (written (codes "transfer-cut") refl)
+transfer_free caps (CapReached position cap) letters =
+    named_free caps (codes "transfer-capped") cap letters (written (codes "transfer-capped") refl)
+
+transfer_words_free : (caps : List (List ℕ)) (charge : CapCharge) → AreLetters caps
+    → Free (transfer_words caps charge)
+unfolding transfer_words
+transfer_words_free caps charge letters =
+    both (written (codes ",,") refl) (both (transfer_free caps charge letters) comma)
+
+window_lacks : (start until : ℕ) (rest text : List ℕ) → Free rest
+    → IsWindowFields start until rest text → Lacks 10 text
+window_lacks start until rest text more is =
+    let from = free is.from (moment_lacks start is.from is.starts) in
+    let to = free is.to (moment_lacks until is.to is.ends) in
+    subst (Lacks 10) (sym is.shown) (both from (both comma (both to more))).lacks
 
 reason_fields_lacks : (caps : List (List ℕ)) (why : CappedReason) (text : List ℕ)
     → AreLetters caps → IsReasonFields caps why text → Lacks 10 text
@@ -237,10 +270,13 @@ reason_fields_lacks caps (Transfer moment mode) text letters is =
     subst (Lacks 10) (sym is.shown)
     (lacks-append 10 (codes ",,,transfer,") is.moment (lacks-tested 10 (codes ",,,transfer,") refl)
     (moment_lacks moment is.moment is.is))
+reason_fields_lacks caps (PaidTransfer start until moment mode charge) text letters is =
+    let point = free is.1.moment (moment_lacks moment is.1.moment is.1.is) in
+    window_lacks start until is.0 text
+    (free is.0 (subst (Lacks 10) (sym is.1.shown)
+    (both (transfer_words_free caps charge letters) point).lacks)) is.2
 reason_fields_lacks caps (Ride start until charge) text letters is =
-    let from = free is.from (moment_lacks start is.from is.starts) in
-    let to = free is.to (moment_lacks until is.to is.ends) in
-    subst (Lacks 10) (sym is.shown) (both from (both comma (both to (ride_free caps charge letters)))).lacks
+    window_lacks start until (ride_rest caps charge) text (ride_free caps charge letters) is
 
 -- ---- the line
 pub record EndsOnce (line : List ℕ) : Type 0 where

@@ -11,8 +11,8 @@ use Rattle.fare_caps.specs.CappedReplies.{capped_window}
 use Rattle.fare_caps.specs.Caps.{CappedRules}
 use Rattle.fare_caps.specs.declared.cap_charge.CapCharge.{CapCharge}
 use Rattle.fare_caps.specs.declared.capped_reason.CappedReason.{CappedReason}
-use Rattle.fare_caps.specs.declared.capped_reason.CappedReason.TheVariants.{Ride, Stale, Transfer}
-use Rattle.fare_caps.specs.declared.capped_reason.CappedReason.TheVariants.{Unknown}
+use Rattle.fare_caps.specs.declared.capped_reason.CappedReason.TheVariants.{PaidTransfer, Ride}
+use Rattle.fare_caps.specs.declared.capped_reason.CappedReason.TheVariants.{Stale, Transfer, Unknown}
 use Rattle.account_rule.specs.declared.tap.TapIn.{TapIn}
 use Rattle.account_rule.specs.declared.window.WindowView.{WindowView}
 use Rattle.histories.specs.Entry.{own, tap_of}
@@ -154,10 +154,10 @@ stale_same latest a b is also =
     is.shown ∙ ap (λ m. codes " because a tap of " ++ (m ++ codes " is not earlier"))
     (moment_same latest is.moment also.moment is.is also.is) ∙ sym also.shown
 
-transfer_same : (mode : List ℕ) (at : ℕ) (a b : List ℕ) → IsTransferText mode at a
-    → IsTransferText mode at b → a ≡ b
-transfer_same mode at a b is also =
-    is.shown ∙ ap (λ m. giver_start mode ++ (m ++ codes " gives it"))
+transfer_same : (mode : List ℕ) (at : ℕ) (end a b : List ℕ) → IsTransferText mode at end a
+    → IsTransferText mode at end b → a ≡ b
+transfer_same mode at end a b is also =
+    is.shown ∙ ap (λ m. giver_start mode ++ (m ++ (codes " gives it" ++ end)))
     (moment_same at is.moment also.moment is.is also.is) ∙ sym also.shown
 
 ride_same : (caps : List (List ℕ)) (start until : ℕ) (charge : CapCharge) (a b : List ℕ)
@@ -170,7 +170,9 @@ words_same : (fares : Fares) (why : CappedReason) (a b : List ℕ) → IsReasonW
     → IsReasonWords fares why b → a ≡ b
 words_same fares Unknown a b is also = is ∙ sym also
 words_same fares (Stale latest) a b is also = stale_same latest a b is also
-words_same fares (Transfer moment mode) a b is also = transfer_same _ moment a b is also
+words_same fares (Transfer moment mode) a b is also = transfer_same _ moment _ a b is also
+words_same fares (PaidTransfer start until moment mode charge) a b is also =
+    transfer_same _ moment _ a b is also
 words_same fares (Ride start until charge) a b is also =
     ride_same fares.meaning.cap_names start until charge a b is also
 
@@ -207,6 +209,8 @@ lack_end_same : (fares : Fares) (moment : ℕ) (why : CappedReason) (none : Opti
 lack_end_same fares moment Unknown lack a b is also = is ∙ sym also
 lack_end_same fares moment (Stale latest) lack a b is also = is ∙ sym also
 lack_end_same fares moment (Transfer last mode) lack a b is also = is ∙ sym also
+lack_end_same fares moment (PaidTransfer start until last mode charge) lack a b is also =
+    is ∙ sym also
 lack_end_same fares moment (Ride start until charge) None a b is also = is ∙ sym also
 lack_end_same fares moment (Ride start until charge) (Some lack) a b is also =
     lack_same fares moment lack a b is also

@@ -11,7 +11,6 @@ use Rattle.tap_views.specs.Token.{Fits as TokenFits}
 use Rattle.tap_views.specs.declared.encoder.TapFields.{TapFields}
 use Rattle.tap_views.specs.declared.upload_end.UploadEnd.TheVariants.{Posted}
 use Rattle.tariffs.specs.Fares.{Fares}
-use Rattle.histories.specs.Entry.{TokensFit}
 use Rattle.histories.specs.Sums.{sums}
 use Rattle.histories.specs.SumsByKey.{sums_by_token, sums_by_validator}
 use Rattle.histories.specs.declared.entry.Entry.{Entry}
@@ -27,7 +26,7 @@ use Rattle.part_texts.specs.HistoryParts.{AreRight, Fits, HistoryPart, histories
 use Rattle.part_texts.specs.HistoryParts.{report_of, whole_history}
 use Rattle.part_texts.specs.HistoryParts.{AreIncreasing as HistoriesIncrease, added as added_up}
 use Rattle.fare_texts.specs.Ledger.{IsLedgerOver}
-use Rattle.part_texts.specs.LedgerParts.{AreReadable, DoJoinUp, IsPartLedger}
+use Rattle.part_texts.specs.LedgerParts.{DoJoinUp, IsPartLedger}
 use Rattle.part_texts.specs.Merged.{merge_of}
 use Rattle.part_texts.specs.Shown.{SpanFits, part_text, sum_up}
 use Rattle.laws.specs.PartTexts.{IsLedgerText, history_part, part_report}
@@ -264,24 +263,6 @@ module _ (fares : Fares) (files : List (List ℕ)) where
   texts_of (p ∷ ps) [] are = absurd are
   texts_of (p ∷ ps) (t ∷ ts) are = (are.0, texts_of ps ts are.1)
 
-  all_readable : (parts : List PartView) → ArePartsOf fares files parts
-      → AllByRecursion (λ (p : PartView). AreReadable fares p.history) parts
-      → AllByRecursion (λ (p : HistoryPart). TokensFit p.history × AreReadable fares p.history)
-      (map history_part parts)
-  all_readable [] are readable = tt
-  all_readable (part ∷ parts) are readable =
-      let here = All-head (λ (p : PartView). IsPartOf fares files p.spans p.lists p.history) part
-      parts are in (
-        (
-          subst TokensFit (sym here.posted_are) (tokens_fit fares [] here.taps here.named),
-          readable.0,
-        ),
-        all_readable parts
-            (All-tail (λ (p : PartView). IsPartOf fares files p.spans p.lists p.history) part parts
-            are)
-            readable.1,
-      )
-
 -- what is merged of ledgers of right parts
 abbrev pub LedgersAreWhole : Type 0
 LedgersAreWhole = (fares : Fares) (files : ℕ) (part : HistoryPart) (parts : List HistoryPart)
@@ -303,25 +284,3 @@ ledgers_of_parts law fares files part parts have are whole increase texts each t
     (law fares (length files) (history_part part) (map history_part parts) texts
     (join_up fares files (part ∷ parts) are whole increase have)
     (texts_of fares files (part ∷ parts) texts each) text is)
-
--- readable ledgers of right parts are merged
-abbrev pub LedgersAreMerged : Type 0
-LedgersAreMerged = (fares : Fares) (files : ℕ) (part : HistoryPart) (parts : List HistoryPart)
-    (texts : List (List ℕ)) → DoJoinUp files (part ∷ parts)
-    → AllZip (IsPartLedger fares) (part ∷ parts) texts
-    → AllByRecursion (λ p. TokensFit p.history × AreReadable fares p.history) (part ∷ parts)
-    → (text : List ℕ) × (merge_of texts ≡ Ok text)
-
-pub ledgers_merged : (law : LedgersAreMerged) (fares : Fares) (files : List (List ℕ))
-    (part : PartView) (parts : List PartView) → HavePositions files (part ∷ parts)
-    → ArePartsOf fares files (part ∷ parts)
-    → AreWhole (map (λ p. p.spans) (part ∷ parts))
-    → AreIncreasing (map (λ p. p.history) (part ∷ parts))
-    → (texts : List (List ℕ)) → AllZip (IsLedgerText fares) (part ∷ parts) texts
-    → AllByRecursion (λ p. AreReadable fares p.history) (part ∷ parts)
-    → (text : List ℕ) × (merge_of texts ≡ Ok text)
-ledgers_merged law fares files part parts have are whole increase texts each readable =
-    law fares (length files) (history_part part) (map history_part parts) texts
-    (join_up fares files (part ∷ parts) are whole increase have)
-    (texts_of fares files (part ∷ parts) texts each)
-    (all_readable fares files (part ∷ parts) are readable)

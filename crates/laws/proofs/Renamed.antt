@@ -1,7 +1,7 @@
 -- A token that has another's taps has its lines.
 use Rattle.std.proofs.Common.{◌≡◌, ℕ, true, cond, List, [], ◌∷◌, ◌++◌, map, filter, refl}
 use Rattle.std.proofs.Common.{sym, ap, subst, ◌∙◌, All, is_some, Option, Some, None}
-use Rattle.std.specs.Prelude.{slice_index_or}
+use Rattle.std.specs.Prelude.{if◌then◌else◌, slice_index_or}
 use Rattle.std.specs.Cmp.{tied_itself}
 use Rattle.std.specs.Cmp.Lexicographic.{slice_cmp}
 use Rattle.std.specs.List.Sorted.{IsPermutation, IsSorted}
@@ -19,11 +19,11 @@ use Rattle.tap_views.specs.declared.encoder.TapFields.{TapFields}
 use Rattle.tap_views.specs.Token.{bytes_of, token_eq}
 use Rattle.tap_views.specs.declared.token.Token.{Token}
 use Rattle.tap_views.proofs.ParseLemmas.{one_list}
-use Rattle.tariffs.specs.Fares.{Fares, class_of, meaning_at, terms_on}
+use Rattle.tariffs.specs.Fares.{Fares, class_of, has_prices, meaning_at, terms_on}
 use Rattle.tariffs.specs.declared.class.Class.{Class}
 use Rattle.account_rule.specs.Blocks.{last_block}
 use Rattle.account_rule.specs.Reasons.{given_by, latest, live_reason, reason, ride_of}
-use Rattle.account_rule.specs.Taps.{LiveTap, is_later}
+use Rattle.account_rule.specs.Taps.{LiveTap, is_later, live_at}
 use Rattle.account_rule.specs.TokenRules.{TokenRules, permits_of, rules_of, token_class}
 use Rattle.account_rule.specs.TokenRules.{transfers_of}
 use Rattle.account_rule.specs.Trips.{ends_in_transfer, last_trip, rides, trips}
@@ -33,11 +33,15 @@ use Rattle.account_rule.specs.declared.reason.Reason.TheVariants.{Ride, Stale, T
 use Rattle.account_rule.specs.declared.tap.TapIn.{TapIn}
 use Rattle.account_rule.specs.declared.reply.Reply.{Reply}
 use Rattle.tariffs.specs.declared.mode.Mode.{Mode}
-use Rattle.fare_caps.specs.CapMeanings.{cap_positions, cap_rules, capped_rules_of}
-use Rattle.fare_caps.specs.CapStates.{CapStates, after_ride, after_rides, at_ride, charge_at}
-use Rattle.fare_caps.specs.CapStates.{no_rides, ride_charge, states, with_charge}
-use Rattle.fare_caps.specs.CappedReplies.{capped_reason, capped_reply, replied_by, under_caps}
+use Rattle.fare_caps.specs.CapMeanings.{cap_positions, cap_rules, capped_rules_of, pays_of}
+use Rattle.fare_caps.specs.CapStates.{CapStates, after_due, after_dues, after_ride, at_ride}
+use Rattle.fare_caps.specs.CapStates.{charge_at, extra_charge, no_rides, ride_charge, states}
+use Rattle.fare_caps.specs.CapStates.{with_charge, with_extra, with_some_extra}
+use Rattle.fare_caps.specs.CappedReplies.{capped_reason, capped_reply, replied_by, transfer_charge}
+use Rattle.fare_caps.specs.CappedReplies.{under_caps}
 use Rattle.fare_caps.specs.Caps.{CapRules, CappedRules, window_cap}
+use Rattle.fare_caps.specs.Prices.{Due, dues, extra, of_ride, of_transfer}
+use Rattle.fare_caps.proofs.PriceLemmas.{ArePriced, extra-same, same-dues}
 use Rattle.histories.specs.Entry.{is_of, own, tap_of, taps_of}
 use Rattle.histories.specs.Keys.{same_token}
 use Rattle.histories.specs.Plain.{answered, token_of_bytes}
@@ -135,40 +139,89 @@ same_reason rules position earlier tap =
 capped_by : CappedRules → (ℕ → ℕ) → CappedRules
 capped_by rules position = record rules { rules = of_class rules.rules position }
 
-same_after : (rules : CappedRules) (position : ℕ → ℕ) (before : CapStates) (rides : List LiveTap)
-    → after_rides (capped_by rules position) before rides ≡ after_rides rules before rides
-unfolding after_rides after_ride ride_charge charge_at at_ride with_charge window_cap capped_by
-    of_class
+-- they have the same prices
+same_priced : (rules : CappedRules) (position : ℕ → ℕ)
+    → ArePriced rules (capped_by rules position)
+unfolding capped_by of_class
+same_priced rules position = record { fares = λ tap. refl; pays = refl }
+
+same_after : (rules : CappedRules) (position : ℕ → ℕ) (before : CapStates) (dues : List Due)
+    → after_dues (capped_by rules position) before dues ≡ after_dues rules before dues
+unfolding after_dues after_due after_ride ride_charge charge_at at_ride with_charge window_cap
+    extra_charge with_extra capped_by of_class
 same_after rules position before [] = refl
-same_after rules position before (ride ∷ rides) =
-    same_after rules position (after_ride rules before ride) rides
+same_after rules position before (of_ride ride ∷ more) =
+    same_after rules position (after_ride rules before ride) more
+same_after rules position before (of_transfer tap cents ∷ more) =
+    same_after rules position
+    (with_some_extra rules tap (extra_charge rules before tap cents) before) more
+
+same_trips : (rules : CappedRules) (position : ℕ → ℕ) (taps : List TapIn)
+    → trips (capped_by rules position).rules taps ≡ trips rules.rules taps
+unfolding trips capped_by of_class
+same_trips rules position taps = refl
+
+same_first : (rules : CappedRules) (position : ℕ → ℕ)
+    → no_rides (capped_by rules position) ≡ no_rides rules
+unfolding no_rides capped_by of_class
+same_first rules position = refl
 
 same_states : (rules : CappedRules) (position : ℕ → ℕ) (taps : List TapIn)
     → states (capped_by rules position) taps ≡ states rules taps
-unfolding states no_rides rides trips capped_by of_class
+unfolding states
 same_states rules position taps =
-    same_after rules position (no_rides rules) (rides rules.rules taps)
+    rw (
+      same-dues rules (capped_by rules position) taps (same_priced rules position)
+          (same_trips rules position taps),
+      same_first rules position,
+    ) (same_after rules position (no_rides rules) (dues rules taps))
 
-same_under : (rules : CappedRules) (position : ℕ → ℕ) (before : CapStates) (tap : TapIn)
-    (mode : Option Mode) (one : Reason) → tap.mode ≡ mode
-    → under_caps (capped_by rules position) before tap one ≡ under_caps rules before tap one
+same_extra : (rules : CappedRules) (position : ℕ → ℕ) (before : CapStates) (tap : LiveTap)
+    (cents : ℕ)
+    → extra_charge (capped_by rules position) before tap cents
+    ≡ extra_charge rules before tap cents
+unfolding extra_charge capped_by of_class
+same_extra rules position before tap cents = refl
+
+same_transfer : (rules : CappedRules) (position : ℕ → ℕ) (before : CapStates)
+    (trip : List LiveTap) (tap : LiveTap)
+    → transfer_charge (capped_by rules position) before trip tap
+    ≡ transfer_charge rules before trip tap
+same_transfer rules position before trip tap =
+    rw (
+      extra-same rules (capped_by rules position) trip tap (same_priced rules position),
+      same_extra rules position before tap (extra rules trip tap),
+    ) refl
+
+same_under : (rules : CappedRules) (position : ℕ → ℕ) (before : CapStates) (trip : List LiveTap)
+    (tap : TapIn) (mode : Option Mode) (one : Reason) → tap.mode ≡ mode
+    → under_caps (capped_by rules position) before trip tap one
+    ≡ under_caps rules before trip tap one
 unfolding ride_charge charge_at at_ride window_cap capped_by of_class
-same_under rules position before tap mode Unknown is = refl
-same_under rules position before tap mode (Stale latest) is = refl
-same_under rules position before tap mode (Transfer moment given) is = refl
-same_under rules position before tap None (Ride start until charge) is = rw is refl
-same_under rules position before tap (Some mode) (Ride start until charge) is = rw is refl
+same_under rules position before trip tap mode Unknown is = refl
+same_under rules position before trip tap mode (Stale latest) is = refl
+same_under rules position before trip tap None (Transfer moment given) is = rw is refl
+same_under rules position before trip tap (Some mode) (Transfer moment given) is =
+    rw (is, same_transfer rules position before trip (live_at tap.moment mode)) refl
+same_under rules position before trip tap None (Ride start until charge) is = rw is refl
+same_under rules position before trip tap (Some mode) (Ride start until charge) is = rw is refl
+
+same_reason_by : (rules : CappedRules) (position : ℕ → ℕ) (earlier : List TapIn) (tap : TapIn)
+    → reason (capped_by rules position).rules earlier tap ≡ reason rules.rules earlier tap
+unfolding capped_by
+same_reason_by rules position earlier tap = same_reason rules.rules position earlier tap
 
 same_capped : (rules : CappedRules) (position : ℕ → ℕ) (earlier : List TapIn) (tap : TapIn)
     → capped_reason (capped_by rules position) earlier tap ≡ capped_reason rules earlier tap
-unfolding capped_reason capped_by
+unfolding capped_reason
 same_capped rules position earlier tap =
-    ap (λ (before : CapStates). under_caps (capped_by rules position) before tap
-    (reason (of_class rules.rules position) earlier tap)) (same_states rules position earlier)
-    ∙ ap (under_caps (capped_by rules position) (states rules earlier) tap)
-    (same_reason rules.rules position earlier tap)
-    ∙ same_under rules position (states rules earlier) tap tap.mode
-    (reason rules.rules earlier tap) refl
+    rw (
+      same_states rules position earlier,
+      same_trips rules position earlier,
+      same_reason_by rules position earlier tap,
+    )
+    (same_under rules position (states rules earlier) (last_block (trips rules.rules earlier)) tap
+    tap.mode (reason rules.rules earlier tap) refl)
 
 answer_alike : (rules : CappedRules) (position : ℕ → ℕ)
     → AnswerAlike rules (capped_by rules position)
@@ -209,6 +262,7 @@ same_rules fares token other same =
     λ i. record {
       rules = rules_by fares position (λ moment. back moment i);
       caps = caps_by fares (λ moment. back moment i);
+      pays = if has_prices fares then Some (pays_of fares) else None;
     } in
     subst (λ (rules : CappedRules). AnswerAlike (capped_rules_of fares (bytes_of token)) rules)
     (sym is) (answer_alike (capped_rules_of fares (bytes_of token)) position)

@@ -21,8 +21,9 @@ use Rattle.account_rule.proofs.TapLemmas.{is_later-push, live-push}
 use Rattle.fare_caps.specs.Caps.{CappedRules}
 use Rattle.fare_caps.specs.CapStates.{CapStates, states}
 use Rattle.fare_caps.specs.CappedReplies.{capped_reply}
-use Rattle.fare_caps.proofs.AnswerLemmas.{answered, is_charged, is_same, reply-under}
-use Rattle.fare_caps.proofs.AnswerLemmas.{states-same, under_reply}
+use Rattle.fare_caps.proofs.AnswerLemmas.{answered, is_charged, is_raised, is_same, reply-under}
+use Rattle.fare_caps.proofs.AnswerLemmas.{states-same, trip-same, under_reply}
+use Rattle.fare_caps.proofs.RideLemmas.{trip_before}
 use Rattle.laws.specs.Bills.{is_live_answer}
 
 -- they have the same live taps, and the same moments are later
@@ -106,7 +107,12 @@ unfolding ride_reply reply_with
 ride_is_live None = refl
 ride_is_live (Some cents) = refl
 
--- and is answered as no ride and no transfer
+-- and so is a transfer
+pub transfer_is_live : (cents : ℕ) → is_live_answer (reply_with Transfer cents).answer ≡ true
+unfolding reply_with
+transfer_is_live cents = refl
+
+-- a tap that comes again is answered as no ride and no transfer
 plain_again : (rules : TokenRules) (taps : List TapIn) (tap : TapIn)
     → is_live_answer (reply rules (taps ++ tap ∷ []) tap).answer ≡ false
 unfolding reply_with
@@ -128,6 +134,9 @@ not_live_again rules taps tap = elim (answered rules (taps ++ tap ∷ []) tap) [
       ap (λ (r : Reply). is_live_answer r.answer) same ∙ plain_again rules.rules taps tap
   | is_charged paid other one two ↦
       absurd (true≢false (sym (ride_is_live other)
+      ∙ sym (ap (λ (r : Reply). is_live_answer r.answer) two) ∙ plain_again rules.rules taps tap))
+  | is_raised cents one two ↦
+      absurd (true≢false (sym (transfer_is_live 0)
       ∙ sym (ap (λ (r : Reply). is_live_answer r.answer) two) ∙ plain_again rules.rules taps tap))
 ]
 
@@ -170,9 +179,14 @@ pub same_reply : (rules : CappedRules) (one other : List TapIn) (tap : TapIn) �
     → capped_reply rules one tap ≡ capped_reply rules other tap
 same_reply rules one other tap same =
     reply-under rules one tap
-    ∙ ap (λ (before : CapStates). under_reply rules before tap (reply rules.rules one tap))
+    ∙ ap (λ (before : CapStates).
+    under_reply rules before (trip_before rules.rules one) tap (reply rules.rules one tap))
     (states-same rules one other same.shown)
-    ∙ ap (under_reply rules (states rules other) tap) (plain_same rules.rules one other tap same)
+    ∙ ap (λ (trip : List LiveTap).
+    under_reply rules (states rules other) trip tap (reply rules.rules one tap))
+    (trip-same rules.rules one other same.shown)
+    ∙ ap (under_reply rules (states rules other) (trip_before rules.rules other) tap)
+    (plain_same rules.rules one other tap same)
     ∙ sym (reply-under rules other tap)
 
 by_live_rides : (rules : TokenRules) (taps : List TapIn)

@@ -1,19 +1,21 @@
 -- What numbers of 64 bits can hold.
-use Rattle.std.specs.Prelude.{ℕ, ◌<◌, ◌^◌, List, All, flat_map, length}
+use Rattle.std.specs.Prelude.{ℕ, ◌<◌, ◌^◌, List, All, IfSome, flat_map, length}
 use Rattle.std.specs.List.{AllByRecursion}
-use Rattle.tariffs.specs.Fares.{Fares, class_of, meaning_at, ride_terms}
+use Rattle.tariffs.specs.Fares.{Fares, class_of, meaning_at, price_of, ride_terms}
+use Rattle.tariffs.specs.Prices.{IsBoundedPays}
 use Rattle.tariffs.specs.Terms.{AreBoundedTerms}
 use Rattle.histories.specs.declared.entry.Entry.{Entry}
 use Rattle.sorted_bills.specs.Parts.{PartView}
 use Rattle.part_texts.specs.Shown.{SpanFits}
 
--- the terms of each token are within their bounds on each mode at each moment, so that no tap costs
--- more than 100,000 cents
-abbrev pub HaveBoundedTerms : Fares → Type 0
-HaveBoundedTerms fares =
-    (token : List ℕ) (moment mode : ℕ)
-    → AreBoundedTerms
-    (ride_terms (meaning_at fares moment) (class_of (meaning_at fares moment) token) mode)
+-- the terms of each token are within their bounds on each mode at each moment, and so are the prices
+-- of transfers, so that no tap costs more than 100,000 cents
+pub record HaveBoundedTerms (fares : Fares) : Type 0 where
+  pub terms : (token : List ℕ) (moment mode : ℕ)
+      → AreBoundedTerms
+      (ride_terms (meaning_at fares moment) (class_of (meaning_at fares moment) token) mode)
+  pub pays : (moment from to : ℕ)
+      → IfSome (price_of (meaning_at fares moment) from to) IsBoundedPays
 
 -- each entry's validator has 32 bits
 abbrev pub HaveNumbers : List Entry → Type 0

@@ -1,10 +1,9 @@
 //! Theorems about runs in parts: each part of a file's tokens is charged by a run of its own.
 
 ghost use Rattle.std.specs.Prelude.{◌≡◌, ◌∷◌, ℕ, List, None, Ok, flat_map, map};
-ghost use Rattle.std.specs.List.{AllByRecursion, AllZip};
+ghost use Rattle.std.specs.List.{AllZip};
 ghost use Rattle.tariffs.specs.Fares.{Fares};
 ghost use Rattle.fare_texts.specs.Ledger.{IsLedgerOver};
-ghost use Rattle.part_texts.specs.LedgerParts.{AreReadable};
 ghost use Rattle.part_texts.specs.Merged.{merge_of};
 ghost use Rattle.report_texts.specs.OverHistory.{IsReportOver};
 ghost use Rattle.settlement.specs.Settled.{IsSettledHistory};
@@ -31,7 +30,6 @@ pub fn merged_reports()
 }
 
 /// What is merged of the ledgers of parts that join and rise by token is that of one settled run.
-/// They are merged if each line has the form of a ledger's line.
 pub fn merged_ledgers()
     ensures whole { (fares : Fares) (files : List (List ℕ)) (part : PartView) (parts : List PartView)
         → HavePositions files (part ∷ parts) → ArePartsOf fares files (part ∷ parts)
@@ -40,12 +38,6 @@ pub fn merged_ledgers()
         → (text : List ℕ) → merge_of texts ≡ Ok text
         → IsSettledHistory fares files (flat_map (λ p. p.history) (part ∷ parts))
         × IsLedgerOver fares (flat_map (λ p. p.history) (part ∷ parts)) None text }
-    ensures merged { (fares : Fares) (files : List (List ℕ)) (part : PartView) (parts : List PartView)
-        → HavePositions files (part ∷ parts) → ArePartsOf fares files (part ∷ parts)
-        → AreWhole (map (λ p. p.spans) (part ∷ parts)) → AreIncreasing (map (λ p. p.history) (part ∷ parts))
-        → (texts : List (List ℕ)) → AllZip (IsLedgerText fares) (part ∷ parts) texts
-        → AllByRecursion (λ p. AreReadable fares p.history) (part ∷ parts)
-        → (text : List ℕ) × (merge_of texts ≡ Ok text) }
 {
     joined_parts_are_settled();
     ledgers_are_merged();

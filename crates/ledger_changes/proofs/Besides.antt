@@ -1,12 +1,12 @@
 -- Two bills side by side: the pairs are those of both lists, in order, as long as both have one.
-use Rattle.std.proofs.Common.{◌≡◌, List, [], ◌∷◌, ◌++◌, Option, Some}
-use Rattle.std.proofs.Common.{None, Bool, true, false, refl, sym, ap, subst, ◌∙◌}
-use Rattle.std.proofs.Common.{All, flat_map, map}
+use Rattle.std.proofs.Common.{◌≡◌, List, [], ◌∷◌, ◌++◌, Option, Some, None, Bool, true, false, refl}
+use Rattle.std.proofs.Common.{sym, ap, subst, ◌∙◌, All, flat_map, map}
 use Rattle.std.specs.List.{AllByRecursion}
 use Rattle.std.specs.Ordering.{is_lt, ordering_reverse}
 use Rattle.std.specs.declared.cmp.Ordering.{Ordering}
 use Rattle.std.specs.declared.cmp.Ordering.TheVariants.{Less, Equal, Greater}
 use Rattle.std.proofs.lemmas.List.Sorted.{ranks_by}
+use Rattle.tap_views.proofs.Lists.{each-weaker}
 use Rattle.ledger_changes.specs.Changes.{AreCorrections, AreSideBySide, IsSameOrListed, IsSomeLine}
 use Rattle.ledger_changes.specs.Changes.{Pair, UsesUp}
 use Rattle.ledger_changes.specs.Changes.{afters, befores, beside, both_rows, changes_between}
@@ -126,18 +126,13 @@ lt_le a b c less up =
           absurd (let t : true ≡ false = sym (ap is_lt less) ∙ here in cc),
     )
 
-all_map : {P Q : Row → Type 0} → ((row : Row) → P row → Q row) → (rows : List Row)
-    → AllByRecursion P rows → AllByRecursion Q rows
-all_map f [] all = tt
-all_map f (row ∷ rows) all = (f row all.0, all_map f rows all.1)
-
 -- behind the first row, and past the key
 past_first : (key : Key) (row : Row) (rows : List Row) → key_cmp key row.key ≡ Less
     → AreNondecreasing (row ∷ rows)
     → AllByRecursion (λ later. Lt key later.key) (row ∷ rows)
 past_first key row rows less up = (
   lt_le key row.key row.key less (le_same row.key),
-  all_map (λ later up. lt_le key row.key later.key less up) rows up.0,
+  each-weaker _ _ rows (λ later up. lt_le key row.key later.key less up) up.0,
 )
   where
     le_same : (k : Key) → Le k k
@@ -151,7 +146,7 @@ past_first key row rows less up = (
 
 ups : (key : Key) (rows : List Row) → AllByRecursion (λ later. Lt key later.key) rows
     → AllByRecursion (λ later. Le key later.key) rows
-ups key rows all = all_map (λ later past. past.0) rows all
+ups key rows all = each-weaker _ _ rows (λ later past. past.0) all
 
 first_old : (old : Row) (olds news : List Row) → AreNondecreasing (old ∷ olds)
     → AllByRecursion (λ later. Lt old.key later.key) news

@@ -13,15 +13,15 @@ use Rattle.std.specs.declared.cmp.Ordering.TheVariants.{Less, Equal, Greater}
 use Rattle.std.proofs.lemmas.Cmp.{tied_itself}
 use Rattle.std.proofs.lemmas.List.Elements.{filter-append}
 use Rattle.std.proofs.lemmas.List.Sums.{sum_by-append}
+use Rattle.tap_views.proofs.Lists.{each-append, each-weaker}
 use Rattle.ledger_changes.specs.Changes.{AreCorrections, Pair, is_changed}
 use Rattle.ledger_fields.specs.Rows.{Key, Row}
 use Rattle.ledger_changes.specs.Rows.{AreInOrder, is_same_text, key_cmp, text_cmp}
 use Rattle.ledger_changes.specs.Texts.{cents_of, is_removed}
-use Rattle.ledger_changes.specs.Tokens.{Sums, is_added}
-use Rattle.ledger_changes.specs.Tokens.{is_kept, is_of_token, of_token, sums_of, token_line}
-use Rattle.ledger_changes.specs.Tokens.{tokens_lines}
-use Rattle.ledger_changes.specs.Tokens.{TokenSum, add_changes, add_sums, all_lines, last_sums}
-use Rattle.ledger_changes.specs.Tokens.{HasTokens, lines_of_changes, no_sums, sums_line}
+use Rattle.ledger_changes.specs.Tokens.{Sums, is_added, is_kept, is_of_token, of_token, sums_of}
+use Rattle.ledger_changes.specs.Tokens.{token_line, tokens_lines, TokenSum, add_changes, add_sums}
+use Rattle.ledger_changes.specs.Tokens.{all_lines, last_sums, HasTokens, lines_of_changes, no_sums}
+use Rattle.ledger_changes.specs.Tokens.{sums_line}
 use Rattle.ledger_changes.proofs.Keys.{tied}
 
 -- ---- tokens
@@ -92,11 +92,6 @@ key_not_below key later not =
     by_order Less is not = absurd (let h : true ≡ false = not in cc)
     by_order Equal is not = ap is_lt is
     by_order Greater is not = ap is_lt is
-
-all_weaker : {P Q : Pair → Type 0} → ((change : Pair) → P change → Q change) → (changes : List Pair)
-    → AllByRecursion P changes → AllByRecursion Q changes
-all_weaker f [] all = tt
-all_weaker f (change ∷ changes) all = (f change all.0, all_weaker f changes all.1)
 
 increases : (changes : List Pair) → AreInOrder (λ change. change.key) changes
     → Ascends (filter is_changed changes)
@@ -199,19 +194,13 @@ Listed tokens change = Contains tokens change.key.token
 listed_run : (t : List ℕ) (tokens : List (List ℕ)) (run : List Pair)
     → AllByRecursion (λ change. t ≡ change.key.token) run → AllByRecursion (Listed (t ∷ tokens)) run
 listed_run t tokens run all =
-    all_weaker (λ change is. subst (Contains (t ∷ tokens)) is (here t tokens)) run all
-
-all_append : (P : Pair → Type 0) (xs ys : List Pair) → AllByRecursion P xs → AllByRecursion P ys
-    → AllByRecursion P (xs ++ ys)
-all_append P [] ys one two = two
-all_append P (x ∷ xs) ys one two = (one.0, all_append P xs ys one.1 two)
+    each-weaker _ _ run (λ change is. subst (Contains (t ∷ tokens)) is (here t tokens)) all
 
 tokens_above : (t s : List ℕ) (tokens : List (List ℕ)) → text_cmp t s ≡ Less
     → AllByRecursion (λ later. text_cmp s later ≡ Less) tokens
     → AllByRecursion (λ later. text_cmp t later ≡ Less) tokens
-tokens_above t s [] less all = tt
-tokens_above t s (later ∷ tokens) less all =
-    (text_total.trans t s later less all.0, tokens_above t s tokens less all.1)
+tokens_above t s tokens less all =
+    each-weaker _ _ tokens (λ later above. text_total.trans t s later less above) all
 
 abbrev pub Has : List Pair → List ℕ → Type 0
 Has changes token = ¬ (of_token token changes ≡ [])
@@ -281,8 +270,8 @@ cut_more t run rest s text all some less above cut =
       above = higher;
       increasing = (cut.above, cut.increasing);
       some = (λ none. some (sym mine ∙ none), has_past t run rest all tokens higher cut.some);
-      all = all_append (Listed (t ∷ tokens)) run rest (listed_run t tokens run all)
-          (all_weaker (λ change is. there t change.key.token tokens is) rest cut.all);
+      all = each-append (Listed (t ∷ tokens)) run rest (listed_run t tokens run all)
+          (each-weaker _ _ rest (λ change is. there t change.key.token tokens is) cut.all);
       shown = ap (λ (lines : List ℕ). token_line t (sums_of run) ++ lines)
           (cut.shown ∙ lines_past t run rest all tokens higher)
           ∙ ap (λ (some : List Pair). token_line t (sums_of some)
@@ -292,7 +281,7 @@ cut_more t run rest s text all some less above cut =
 all_above : (t s : List ℕ) (rest : List Pair) → text_cmp t s ≡ Less
     → AllByRecursion (NotBelow s) rest → AllByRecursion (Above t) rest
 all_above t s rest less all =
-    all_weaker (λ change not. below_up t s change.key.token less not) rest all
+    each-weaker _ _ rest (λ change not. below_up t s change.key.token less not) all
 
 run_longer : (run : List Pair) (change : Pair) → ¬ (run ++ change ∷ [] ≡ [])
 run_longer [] change = not_nil change []
@@ -307,7 +296,7 @@ cut t run [] all some up order =
 cut t run (change ∷ rest) all some up order =
     by_test (is_same_text t change.key.token) refl
     (λ is. cut t (run ++ change ∷ []) rest
-    (all_append (λ change. t ≡ change.key.token) run (change ∷ []) all (is, tt))
+    (each-append (λ change. t ≡ change.key.token) run (change ∷ []) all (is, tt))
     (run_longer run change) up.1 order.1)
     (cut change.key.token (change ∷ []) rest (refl, tt) (not_nil change []) order.0 order.1)
   where

@@ -2,8 +2,7 @@
 use Rattle.std.proofs.Common.{◌≡◌, suc, Bool, true, false, not, cond, List, [], ◌∷◌, filter, refl}
 use Rattle.std.proofs.Common.{ap, arith, All, Option, None, Some, inl, inr}
 use Rattle.std.proofs.lemmas.List.Elements.{All-cons, All-nil, All-weaker}
-use Rattle.ledger_changes.specs.Changes.{IsSameOrListed, Pair, agree}
-use Rattle.ledger_changes.specs.Changes.{is_changed}
+use Rattle.ledger_changes.specs.Changes.{IsSameOrListed, Pair, agree, is_changed}
 use Rattle.ledger_fields.specs.Rows.{Charge}
 use Rattle.ledger_changes.proofs.Keys.{same_charge}
 

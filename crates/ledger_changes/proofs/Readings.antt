@@ -1,7 +1,6 @@
 -- What the next line of a ledger makes of its rows.
 use Rattle.std.proofs.Common.{◌≡◌, ◌+◌, ℕ, Bool, true, false, cond, List, [], ◌∷◌, length, Option}
-use Rattle.std.proofs.Common.{Some, None, Result, Ok, Err}
-use Rattle.std.proofs.Common.{refl, sym, ap, subst, ◌∙◌}
+use Rattle.std.proofs.Common.{Some, None, Result, Ok, Err, refl, sym, ap, subst, ◌∙◌}
 use Rattle.std.specs.Prelude.{is_some, nat_lt, not}
 use Rattle.std.specs.Str.{bytes_eq}
 use Rattle.std.proofs.lemmas.Bool.{false≢true}
@@ -29,40 +28,7 @@ goes_on number lines said =
     carry (λ row. cons_row row (rows_from (number + 1) (Some row) lines)) (λ why. (number, why))
     said
 
-pub rows_end : (number : ℕ) (before : Option Row) (text : List ℕ) → text ≡ []
-    → rows_from number before (lines_of text) ≡ Ok []
-rows_end number before text none = ap (λ (t : List ℕ). rows_from number before (lines_of t)) none
-
-pub rows_long : (number : ℕ) (before : Option Row) (text line : List ℕ) (lines : List (List ℕ))
-    → lines_of text ≡ line ∷ lines → nat_lt 1024 (length line) ≡ true
-    → rows_from number before (lines_of text) ≡ Err (number, Form)
-rows_long number before text line lines shown long = rw (shown, long)
-
-pub rows_form : (number : ℕ) (before : Option Row) (text line : List ℕ) (lines : List (List ℕ))
-    → lines_of text ≡ line ∷ lines → nat_lt 1024 (length line) ≡ false → row_in line ≡ None
-    → rows_from number before (lines_of text) ≡ Err (number, Form)
-rows_form number before text line lines shown short none = rw (shown, short, none)
-
-pub rows_order : (number : ℕ) (before : Option Row) (text line : List ℕ) (lines : List (List ℕ))
-    (row : Row)
-    → lines_of text ≡ line ∷ lines → nat_lt 1024 (length line) ≡ false → row_in line ≡ Some row
-    → does_decrease before row ≡ true
-    → rows_from number before (lines_of text) ≡ Err (number, Order)
-rows_order number before text line lines row shown short some is_decrease =
-    rw (shown, short, some, is_decrease)
-
-pub rows_more : (number : ℕ) (before : Option Row) (text line rest : List ℕ) (row : Row)
-    → lines_of text ≡ line ∷ lines_of rest → nat_lt 1024 (length line) ≡ false
-    → row_in line ≡ Some row
-    → does_decrease before row ≡ false
-    → rows_from number before (lines_of text) ≡ rows_with (Some row) number rest
-rows_more number before text line rest row shown short some stays =
-    rw (shown, short, some, stays)
-
 -- ---- the head line
-pub head_none : (text : List ℕ) → text ≡ [] → rows_of text ≡ Err (1, Form)
-head_none text none = ap rows_of none
-
 other_bytes : (a b : List ℕ) (r : Bool) → bytes_eq a b ≡ r → (a ≡ b → ⊥) → r ≡ false
 other_bytes a b false is other = refl
 other_bytes a b true is other = absurd (other ((bytes_eq-Decides a b).0 is))

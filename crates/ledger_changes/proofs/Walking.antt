@@ -20,8 +20,7 @@ use Rattle.world.specs.Streams.{IsWhole}
 use Rattle.ledger_changes.specs.Ledgers.{cons_row, rows_from, rows_of}
 use Rattle.ledger_changes.specs.Rows.{key_cmp}
 use Rattle.ledger_changes.specs.Texts.{corrections_lines, is_removed, removed_in}
-use Rattle.ledger_changes.specs.Tokens.{TokenSum, all_lines, changes_of_both, head_of}
-use Rattle.ledger_changes.specs.Tokens.{last_sums}
+use Rattle.ledger_changes.specs.Tokens.{TokenSum, all_lines, changes_of_both, head_of, last_sums}
 use Rattle.ledger_changes.specs.Tokens.{lines_of_changes, sums_line, sums_with, text_of}
 use Rattle.ledger_changes.specs.declared.changes.Corrections.{Corrections}
 use Rattle.ledger_changes.specs.declared.fault.Bill.{Bill}

@@ -9,12 +9,10 @@ use Rattle.std.specs.Fmt.{decimal}
 use Rattle.std.specs.List.{list_all}
 use Rattle.std.proofs.lemmas.Bool.Decides.{nat_tests}
 use Rattle.line_forms.specs.FormLaws.{line_complete, number_complete, number_law, wide_64}
-use Rattle.line_forms.specs.Forms.{value_if}
-use Rattle.line_forms.specs.Numbers.{number_in}
 use Rattle.ledger_check.specs.Columns.{ColumnsAreReadBack, IsTraced, TracedLine, class_in}
 use Rattle.ledger_check.specs.Columns.{columns_in, cut_line, is_class_name, is_name_byte}
 use Rattle.ledger_check.specs.Columns.{last_field}
-use Rattle.ledger_check.specs.Columns.{number_line, on, traced_text, untraced_line, untraced_lines}
+use Rattle.ledger_check.specs.Columns.{traced_text, untraced_line, untraced_lines}
 use Rattle.ledger_check.specs.Columns.{upload_in, with_byte}
 use Rattle.ledger_check.specs.Lines.{Lacks}
 use Rattle.ledger_check.proofs.FieldLemmas.{decimal_lacks}
@@ -122,43 +120,32 @@ class_back cut is =
     let fit : (nat_lt (length cut.fields) 255 && is_class_name cut.class) ≡ true =
     and_from (nat_lt (length cut.fields) 255) (is_class_name cut.class)
     (lt-ltb (length cut.fields) 255 is.fields) is.class in
-    ap (λ (o : Option (List ℕ × List ℕ)). on o (λ parts.
-    value_if (nat_lt (length parts.0) 255 && is_class_name parts.1) (record {
-      fields = parts.0;
-      class = parts.1;
-      upload = cut.upload;
-      position = cut.position;
-    }))) (last_is cut.fields cut.class (class_lacks cut.class is.class))
-    ∙ ap (λ (b : Bool). value_if b cut) fit
+    rw (last_is cut.fields cut.class (class_lacks cut.class is.class), fit)
 
 upload_back : (cut : TracedLine) → IsTraced cut
     → upload_in cut.position ((cut.fields ++ 44 ∷ cut.class) ++ 44 ∷ decimal cut.upload) ≡ Some cut
 upload_back cut is =
-    let front = cut.fields ++ 44 ∷ cut.class in
-    ap (λ (o : Option (List ℕ × List ℕ)). on o (λ parts.
-    on (number_in (2 ^ 32) parts.1) (λ upload. class_in upload cut.position parts.0)))
-    (last_is front (decimal cut.upload) (decimal_lacks 44 (omega arith) cut.upload (omega (arith, is.upload))))
-    ∙ ap (λ (o : Option ℕ). on o (λ upload. class_in upload cut.position front))
-    (number_complete (2 ^ 32) cut.upload (omega (arith, is.upload)) is.upload)
-    ∙ class_back cut is
+    rw (
+      last_is (cut.fields ++ 44 ∷ cut.class) (decimal cut.upload)
+          (decimal_lacks 44 (omega arith) cut.upload (omega (arith, is.upload))),
+      number_complete (2 ^ 32) cut.upload (omega (arith, is.upload)) is.upload,
+    )
+    (class_back cut is)
 
 columns_back : (cut : TracedLine) → IsTraced cut → columns_in (traced_text cut) ≡ Some cut
 columns_back cut is =
     let front = (cut.fields ++ 44 ∷ cut.class) ++ 44 ∷ decimal cut.upload in
     let end = decimal cut.position ++ 10 ∷ [] in
     ap columns_in (cut_once cut.fields cut.class (decimal cut.upload) end)
-    ∙ ap (λ (o : Option (List ℕ × List ℕ)). on o (λ parts.
-    on (number_line parts.1) (λ position. upload_in position parts.0)))
-    (last_is front end (lacks-append 44 (decimal cut.position) (10 ∷ [])
-    (decimal_lacks 44 (omega arith) cut.position is.position) (lacks-tested 44 (10 ∷ []) refl)))
-    ∙ ap (λ (o : Option ℕ). on o (λ position. upload_in position front))
-    (line_complete (number_law (2 ^ 64) wide_64) refl cut.position (decimal cut.position)
-    (is.position, refl))
-    ∙ upload_back cut is
+    ∙ rw (
+      last_is front end (lacks-append 44 (decimal cut.position) (10 ∷ [])
+          (decimal_lacks 44 (omega arith) cut.position is.position) (lacks-tested 44 (10 ∷ []) refl)),
+      line_complete (number_law (2 ^ 64) wide_64) refl cut.position (decimal cut.position)
+          (is.position, refl),
+    )
+    (upload_back cut is)
 
 pub read_back : ColumnsAreReadBack
 unfolding cut_line
 read_back cut is =
-    ap (λ (b : Bool). if b then None else columns_in (traced_text cut))
-    (le-ltb 352 (length (traced_text cut)) (written_short cut is))
-    ∙ columns_back cut is
+    rw (le-ltb 352 (length (traced_text cut)) (written_short cut is)) (columns_back cut is)

@@ -1,48 +1,88 @@
--- Numbers of digits that make a date and a time of day.
-use Rattle.std.proofs.Common.{◌≡◌, ◌+◌, ◌*◌, ◌/◌, ◌%◌, ◌<◌, ℕ, pos}
-use Rattle.std.proofs.Common.{subst, arith, to_z, w8, w16}
-use Rattle.std.proofs.lemmas.Int.{ints}
+-- The numbers in a moment's text are those of its date and of its time of day.
+use Rattle.std.proofs.Common.{◌≡◌, ◌∙◌, ◌+◌, ◌-◌, ◌*◌, ◌/◌, ◌%◌, ◌<◌, ℕ, ℤ, pos, List, []}
+use Rattle.std.proofs.Common.{◌∷◌, ◌++◌, length, sym, ap, arith}
 use Rattle.jiff_core.specs.declared.civil.date.Date.{Date}
-use Rattle.jiff_core.specs.Calendar.{IsDate, IsYear}
-use Rattle.jiff_core.proofs.CalendarLemmas.{days_in_month_bounds}
-use Rattle.jiff_core.proofs.SignedLemmas.{signed_arith}
+use Rattle.jiff_core.specs.Date.{epoch_day}
+use Rattle.jiff_core.proofs.DateLemmas.{epoch_day_same}
+use Rattle.jiff_fmt.specs.Text.{pad2, year_text}
+use Rattle.fare_texts.specs.Moments.{IsMomentText, clock_text}
+use Rattle.fare_texts.proofs.Years.{year_of}
+use Rattle.ledger_check.specs.inside.Moments.{clock_at, two_at, year_at}
 
-pub clock_number : (ms hour minute second hundreds rest : ℕ) → hour ≡ ms / 3_600_000
-    → minute ≡ ms / 60_000 % 60 → second ≡ ms / 1_000 % 60
-    → hundreds ≡ ms % 1_000 / 100 → rest ≡ ms % 1_000 % 100
-    → hour * 3_600_000 + minute * 60_000 + second * 1_000 + hundreds * 100 + rest ≡ ms
-clock_number ms hour minute second hundreds rest h m s f r = omega arith
+-- ---- digits
+abbrev pub bytes_by : ℤ → ℕ → ℕ → ℕ → List ℕ
+bytes_by year month day ms =
+    (year_text year ++ 45 ∷ [] ++ pad2 month ++ 45 ∷ [] ++ pad2 day) ++ clock_text ms
 
-pub year_number : (year century rest : ℕ) → century ≡ year / 100 → rest ≡ year % 100
-    → century * 100 + rest ≡ year
-year_number year century rest c r = omega arith
+two_back : (n : ℕ) → (48 + n / 10 - 48) * 10 + (48 + n % 10 - 48) ≡ n
+two_back n = omega arith
 
-pub year_small : (date : Date) (year : ℕ) → date.year ≡ pos year → year < 10_000
-year_small date year is =
-    let bound : IsYear (pos year) = subst IsYear is date.year_in in
-    omega (arith, signed_arith)
+year_back : (n month day ms : ℕ) → year_at (bytes_by (pos n) month day ms) ≡ n
+year_back n month day ms = joined n _ _ (two_back (n / 100)) (two_back (n % 100))
+  where
+    joined : (n century rest : ℕ) → century ≡ n / 100 → rest ≡ n % 100 → century * 100 + rest ≡ n
+    joined n century rest c r = omega arith
 
-pub month_small : (date : Date) → date.month < 100
-month_small date = let bound = date.month_in in omega arith
+three_back : (n : ℕ) → ((48 + n / 100 - 48) * 10 + (48 + n % 100 / 10 - 48)) * 10
+    + ((48 + n % 100 / 10 - 48) * 10 + (48 + n % 100 % 10 - 48)) % 10 ≡ n
+three_back n = omega arith
 
-pub day_small : (date : Date) → date.day < 100
-day_small date = let bound = date.day_in in omega (arith, days_in_month_bounds date.year date.month)
+clock_back : (year month day ms : ℕ) → clock_at (bytes_by (pos year) month day ms) ≡ ms
+clock_back year month day ms =
+    joined ms _ _ _ _ (two_back (ms / 3_600_000)) (two_back (ms / 60_000 % 60))
+    (two_back (ms / 1_000 % 60)) (three_back (ms % 1_000))
+  where
+    joined : (ms h m s l : ℕ) → h ≡ ms / 3_600_000 → m ≡ ms / 60_000 % 60 → s ≡ ms / 1_000 % 60
+        → l ≡ ms % 1_000 → ((h * 60 + m) * 60 + s) * 1_000 + l ≡ ms
+    joined ms h m s l ph pm ps pl = omega arith
 
-pub wide : (n : ℕ) → n < 10_000 → to_z w16 n ≡ pos n
-wide n small = omega (arith, ints)
+-- a moment's date and time of day, and where its text has them
+pub record MomentParts (moment : ℕ) (text : List ℕ) : Type 0 where
+  pub date : Date
+  pub day : epoch_day date ≡ pos (moment / 86_400_000)
+  pub year : ℕ
+  pub shown : text ≡ bytes_by (pos year) date.month date.day (moment % 86_400_000)
+  pub size : length text ≡ 24
+  pub year_is : date.year ≡ pos (year_at text)
+  pub month_is : date.month ≡ two_at text 5
+  pub day_is : date.day ≡ two_at text 8
+  pub clock_is : clock_at text ≡ moment % 86_400_000
 
-pub narrow : (n : ℕ) → n < 100 → to_z w8 n ≡ pos n
-narrow n small = omega (arith, ints)
-
-pub is_date : (date : Date) → IsDate date.year (pos date.month) (pos date.day)
-is_date date =
-    let month = date.month_in in
-    let day = date.day_in in (
-      date.year_in,
-      (omega (arith, signed_arith, month), omega (arith, signed_arith, month)),
-      (omega (arith, signed_arith, day), omega (arith, signed_arith, day)),
-    )
+pub moment_parts : (moment : ℕ) (text : List ℕ) → moment < 253_402_207_200_000
+    → IsMomentText moment text → MomentParts moment text
+moment_parts moment text small is =
+    let civil = is.civil small in
+    let d = civil.date in
+    let ms = moment % 86_400_000 in
+    let (year, year_is) = year_of d (moment / 86_400_000) civil.day in
+    let shown : text ≡ bytes_by (pos year) d.month d.day ms =
+    civil.shown ∙ ap (λ (y : ℤ). bytes_by y d.month d.day ms) year_is in
+    record {
+      date = d;
+      day = civil.day;
+      year = year;
+      shown = shown;
+      size = ap length shown;
+      year_is = year_is ∙ sym (ap (λ (t : List ℕ). pos (year_at t)) shown
+          ∙ ap pos (year_back year d.month d.day ms));
+      month_is = sym (ap (λ (t : List ℕ). two_at t 5) shown ∙ two_back d.month);
+      day_is = sym (ap (λ (t : List ℕ). two_at t 8) shown ∙ two_back d.day);
+      clock_is = ap clock_at shown ∙ clock_back year d.month d.day ms;
+    }
 
 pub moment_number : (moment day ms : ℕ) → day ≡ moment / 86_400_000 → ms ≡ moment % 86_400_000
     → day * 86_400_000 + ms ≡ moment
 moment_number moment day ms d m = omega arith
+
+-- a text is that of one moment
+pub moment_exact : (m n : ℕ) (text : List ℕ) → m < 4_102_444_800_000 → n < 4_102_444_800_000
+    → IsMomentText m text → IsMomentText n text → m ≡ n
+moment_exact m n text small_m small_n is_m is_n =
+    let a = moment_parts m text (omega arith) is_m in
+    let b = moment_parts n text (omega arith) is_n in
+    let same : pos (m / 86_400_000) ≡ pos (n / 86_400_000) =
+    sym a.day ∙ epoch_day_same a.date b.date (a.year_is ∙ sym b.year_is) (a.month_is ∙ sym b.month_is)
+    (a.day_is ∙ sym b.day_is) ∙ b.day in
+    let days : m / 86_400_000 ≡ n / 86_400_000 = cc in
+    let clocks : m % 86_400_000 ≡ n % 86_400_000 = sym a.clock_is ∙ b.clock_is in
+    omega (arith, days, clocks)

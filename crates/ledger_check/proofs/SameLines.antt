@@ -10,8 +10,8 @@ use Rattle.fare_caps.specs.CapMeanings.{capped_rules_of}
 use Rattle.fare_caps.specs.CappedReplies.{capped_reply}
 use Rattle.fare_caps.specs.declared.cap_charge.CapCharge.{CapCharge}
 use Rattle.fare_caps.specs.declared.capped_reason.CappedReason.{CappedReason}
-use Rattle.fare_caps.specs.declared.capped_reason.CappedReason.TheVariants.{Ride, Stale, Transfer}
-use Rattle.fare_caps.specs.declared.capped_reason.CappedReason.TheVariants.{Unknown}
+use Rattle.fare_caps.specs.declared.capped_reason.CappedReason.TheVariants.{PaidTransfer, Ride}
+use Rattle.fare_caps.specs.declared.capped_reason.CappedReason.TheVariants.{Stale, Transfer, Unknown}
 use Rattle.account_rule.specs.declared.reply.Answer.{Answer}
 use Rattle.account_rule.specs.declared.reply.Reply.{Reply}
 use Rattle.account_rule.specs.declared.tap.TapIn.{TapIn}
@@ -21,7 +21,7 @@ use Rattle.tap_views.specs.Token.{bytes_of}
 use Rattle.histories.specs.declared.entry.Entry.{Entry}
 use Rattle.tap_views.specs.declared.token.Token.{Token}
 use Rattle.fare_texts.specs.Moments.{IsCivilText, IsMomentText, clock_text}
-use Rattle.fare_texts.specs.LedgerLines.{IsReasonFields, IsLedgerLine, IsPointing, IsRideFields}
+use Rattle.fare_texts.specs.LedgerLines.{IsReasonFields, IsLedgerLine, IsPointing, IsWindowFields}
 use Rattle.fare_texts.specs.LedgerLines.{entry_fields, line_head, ride_rest}
 use Rattle.ledger_check.specs.Ledger.{IsNextLine, IsNext}
 
@@ -58,10 +58,9 @@ pointing_same words at a b is also =
     is.shown ∙ ap (λ (t : List ℕ). words ++ t) (moment_same at is.moment also.moment is.is also.is)
     ∙ sym also.shown
 
-ride_same : (caps : List (List ℕ)) (start until : ℕ) (charge : CapCharge) (a b : List ℕ)
-    → IsRideFields caps start until charge a → IsRideFields caps start until charge b → a ≡ b
-ride_same caps start until charge a b is also =
-    let rest = ride_rest caps charge in
+window_same : (start until : ℕ) (rest a b : List ℕ) → IsWindowFields start until rest a
+    → IsWindowFields start until rest b → a ≡ b
+window_same start until rest a b is also =
     is.shown
     ∙ ap (λ (t : List ℕ). t ++ (44 ∷ [] ++ (is.to ++ rest)))
     (moment_same start is.from also.from is.starts also.starts)
@@ -74,8 +73,12 @@ reason_fields_same : (caps : List (List ℕ)) (why : CappedReason) (a b : List �
 reason_fields_same caps Unknown a b is also = is ∙ sym also
 reason_fields_same caps (Stale latest) a b is also = pointing_same _ latest a b is also
 reason_fields_same caps (Transfer moment mode) a b is also = pointing_same _ moment a b is also
+reason_fields_same caps (PaidTransfer start until moment mode charge) a b is also =
+    window_same start until also.0 a b
+    (subst (λ (rest : List ℕ). IsWindowFields start until rest a)
+    (pointing_same _ moment is.0 also.0 is.1 also.1) is.2) also.2
 reason_fields_same caps (Ride start until charge) a b is also =
-    ride_same caps start until charge a b is also
+    window_same start until (ride_rest caps charge) a b is also
 
 -- an entry has one line
 pub line_same : (fares : Fares) (token : Token) (number : ℕ) (entry : Entry) (why : CappedReason)

@@ -3,4 +3,5 @@ pub mod Fronts
 pub mod OpenSums
 pub mod Positions
 pub mod FullChecks
+pub mod Moments
 pub mod Taps

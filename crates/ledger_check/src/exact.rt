@@ -1,8 +1,7 @@
 //! The tap that a line names, whatever it says of the tap's reply.
 
-ghost use Rattle.std.specs.Prelude.{◌≡◌, ◌<◌, ◌≤◌, ◌^◌, ◌∷◌, ◌++◌, [], ℕ, List, IfOk};
+ghost use Rattle.std.specs.Prelude.{◌≡◌, ◌≤◌, ◌∷◌, ◌++◌, [], ℕ, List, IfOk};
 ghost use Rattle.std.specs.Prelude.{IsTrue, ◌↔◌, MatchOption, None, length};
-ghost use Rattle.std.specs.Fmt.{decimal};
 ghost use Rattle.hex.specs.Hex.{encode_lower};
 ghost use Rattle.fare_texts.specs.Moments.{IsMomentText};
 ghost use Rattle.tap_views.specs.Token.{Fits, bytes_of};
@@ -100,14 +99,6 @@ fn exact_token(digits: &[u8]) -> Option<Token>
     }
 }
 
-fn exact_number(digits: &[u8]) -> Option<u32>
-    ensures { MatchOption result
-        ((number : ℕ) → number < 2 ^ 32 → ¬ (digits.now ≡ decimal number))
-        (λ number. (number < 2 ^ 32) × (digits.now ≡ decimal number)) }
-{
-    number_32_of(digits)
-}
-
 fn is_moment_text(text: &[u8], moment: u64, again: &mut String) -> Result<bool, AllocError>
     ensures { IfOk result (λ same. IsTrue same ↔ IsMomentText moment text.now) }
 {
@@ -137,7 +128,7 @@ pub(crate) fn exact_tap<'a>(
     let Some(moment) = read_moment(front.moment) else {
         return Ok(None);
     };
-    let Some(validator) = exact_number(front.validator) else {
+    let Some(validator) = number_32_of(front.validator) else {
         return Ok(None);
     };
     let is_exact = is_moment_text(front.moment, moment, again)?;

@@ -26,5 +26,5 @@ fits Moment text = is_moment 2100 text
 fits PastMoment text = (length text == 0) || is_moment 2100 text
 fits LaterMoment text = (length text == 0) || is_moment 10000 text
 fits Word text = nat_le (length text) 16 && list_all is_word_byte text
-fits Reason text = nat_le (length text) 24 && list_all is_reason_byte text
+fits Reason text = nat_le (length text) 32 && list_all is_reason_byte text
 fits Ride text = (length text == 0) || is_some (number_in (2 ^ 32) text)

@@ -19,7 +19,7 @@ const YEAR_LIMIT: u64 = 10_000;
 const MAX_WORD_BYTES: usize = 16;
 
 /// How many bytes a reason has at most: a word, a colon and the name of a cap.
-const MAX_REASON_BYTES: usize = 24;
+const MAX_REASON_BYTES: usize = 32;
 
 /// What a field has.
 #[derive(Clone, Copy)]
@@ -34,7 +34,7 @@ pub(crate) enum Field {
     LaterMoment,
     /// At most 16 letters and hyphens.
     Word,
-    /// At most 24 letters, hyphens and colons.
+    /// At most 32 letters, hyphens and colons.
     Reason,
     /// A number of at most 32 bits, or nothing.
     Ride,

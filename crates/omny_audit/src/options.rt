@@ -260,7 +260,7 @@ fn unless_both_input<'a>(
 ) -> Result<Option<ListWords<'a>>, ListFault>
     ensures { IfOk result (λ named. named ≡ Some list.entry) }
 {
-    let is_input = list.is_input();
+    let is_input = list.name == "-";
     let has_ledger = ledger.is_some();
     if is_input && !has_ledger {
         return Err(ListFault::InputTwice);

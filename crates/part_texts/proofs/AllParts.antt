@@ -8,8 +8,7 @@ use Rattle.std.specs.List.{AllZip}
 use Rattle.std.proofs.lemmas.Bool.Decides.{nat_tests}
 use Rattle.std.proofs.lemmas.List.{drop-drop, drop-set-lt, drop_all, drop_more, take_all}
 use Rattle.std.proofs.lemmas.List.{take_more_set}
-use Rattle.std.proofs.lemmas.List.Elements.{All-drop, All-head, All-map, All-push}
-use Rattle.std.proofs.lemmas.List.Elements.{All-weaker}
+use Rattle.std.proofs.lemmas.List.Elements.{All-drop, All-head, All-map, All-push, All-weaker}
 use Rattle.tap_views.specs.declared.token.Token.{Token}
 use Rattle.recorded_lines.specs.Texts.{CanBe, Follows, IsEndAt, IsFresh, calls_of, left}
 use Rattle.recorded_lines.specs.declared.text.Lines.{Lines}
@@ -274,10 +273,7 @@ module _ {parts : List Open} {start from : List Lines} {i : ℕ} {last : Option 
         let t = text_here from next i inside texts can in
         let (s, section, last_is, lines) = said t.text t.can in
         at.lines texts (can_before from (set from i next) texts on can)
-        ∙ ap (λ views. at.text ++ lines_left views) (split texts t.text t.here)
-        ∙ ap (λ l. at.text ++ (l ++ lines_left (later texts))) lines
-        ∙ sym (append_assoc at.text more (lines_left (later texts)))
-        ∙ ap (λ views. (at.text ++ more) ++ lines_left views) (passed texts);
+        ∙ rw (split texts t.text t.here, lines, passed texts) (sym (append_assoc at.text more _));
   }
 
   pub not_copied : (after : Run) (fault : MergeFault) → Copies i last part old next now after (Err fault)
@@ -296,9 +292,7 @@ module _ {parts : List Open} {start from : List Lines} {i : ℕ} {last : Option 
               (at.same texts back ∙ ap (sections_of i last) (split texts t.text t.here)) wrong,
           rest ++ lines_left (later texts),
           at.lines texts back
-              ∙ ap (λ views. at.text ++ lines_left views) (split texts t.text t.here)
-              ∙ ap (λ l. at.text ++ (l ++ lines_left (later texts))) lines
-              ∙ simp append_assoc,
+              ∙ rw (split texts t.text t.here, lines) (simp append_assoc),
         ),
   )
 
@@ -409,9 +403,7 @@ module _ (from next : List Lines) (first s : FrontsView) (parts : List Open) (r 
             (λ l end. end.whole) next ends),
         whole_front s ++ text,
         whole_is texts (can_before from next texts follow can)
-            ∙ ap (λ r. and_then r (λ (last : Option Token).
-            Ok (whole_front s ++ lines_left (views_of parts from texts)))) sections
-            ∙ ap (λ l. Ok (whole_front s ++ l)) lines,
+            ∙ rw (sections, lines),
         written_on r now after (whole_front s) text wrote more,
       )
   lines_merged after (Err fault) follow wrote (text, leaves, copied) = (

@@ -1,8 +1,7 @@
 -- Reports of parts of a history follow each other, and are merged into the report of the whole.
-use Rattle.std.proofs.Common.{◌≡◌, ◌∙◌, ◌+◌, ◌<◌, ◌≤◌, ◌^◌, ◌||◌, ℕ, Bool, true, false, List}
-use Rattle.std.proofs.Common.{[], ◌∷◌, ◌++◌, length, map}
-use Rattle.std.proofs.Common.{Option, Some, None, Ok, refl, sym, ap, subst, arith}
-use Rattle.std.proofs.Common.{append_assoc, append-nil, length-append, All}
+use Rattle.std.proofs.Common.{◌≡◌, ◌∙◌, ◌+◌, ◌<◌, ◌≤◌, ◌^◌, ◌||◌, ℕ, Bool, true, false, List, []}
+use Rattle.std.proofs.Common.{◌∷◌, ◌++◌, length, map, Option, Some, None, Ok, refl, sym, ap, subst}
+use Rattle.std.proofs.Common.{arith, append_assoc, append-nil, length-append, All}
 use Rattle.std.specs.Prelude.{nat_eq, nat_lt}
 use Rattle.std.specs.BTreeSet.{insert_key}
 use Rattle.std.specs.List.{AllByRecursion}
@@ -13,13 +12,14 @@ use Rattle.std.specs.declared.cmp.Ordering.TheVariants.{Less, Equal, Greater}
 use Rattle.std.proofs.lemmas.Bool.Decides.{nat_tests}
 use Rattle.std.proofs.lemmas.Cmp.{nat_cmp_total}
 use Rattle.std.proofs.lemmas.List.{length-map, map-append}
-use Rattle.std.proofs.lemmas.List.Elements.{All-head, All-tail, All-nil, All-cons}
-use Rattle.std.proofs.lemmas.List.Elements.{recursion_from_All}
+use Rattle.std.proofs.lemmas.List.Elements.{All-append, All-head, All-nil, All-tail, All-weaker}
+use Rattle.std.proofs.lemmas.List.Elements.{All-from_recursion, recursion_from_All}
 use Rattle.std.proofs.lemmas.Map.Views.{All-insert_key}
 use Rattle.tap_views.specs.Token.{token_cmp}
 use Rattle.tap_views.specs.TokenOrder.{AreBelow}
 use Rattle.tap_views.specs.declared.token.Token.{Token}
 use Rattle.tap_views.specs.declared.upload_end.UploadEnd.TheVariants.{Posted}
+use Rattle.tap_views.proofs.Lists.{All-back, All-front, each-back, each-front}
 use Rattle.tap_views.proofs.TokenLemmas.{token_cmp-total, token_cmp-ties}
 use Rattle.histories.specs.Increasing.{increasing}
 use Rattle.histories.specs.Sums.{Sums, add_sums, sums, sums_of_replies}
@@ -38,10 +38,9 @@ use Rattle.part_texts.specs.Merged.{merge_of}
 use Rattle.sorted_taps.specs.Positions.{DoJoin, first_position}
 use Rattle.part_texts.specs.Sections.{is_token_above}
 use Rattle.part_texts.specs.Shown.{part_text, sum_up}
-use Rattle.part_texts.specs.inside.Shown.{are_joined, is_none_after}
-use Rattle.part_texts.specs.inside.Shown.{IsNextPart, IsRight, SoFar, adds_to, are_next}
-use Rattle.part_texts.specs.inside.Shown.{are_posted_to, are_increasing, are_tokens_increasing}
-use Rattle.part_texts.specs.inside.Shown.{last_of, nothing_so_far, tokens_of}
+use Rattle.part_texts.specs.inside.Shown.{are_joined, is_none_after, IsNextPart, IsRight, SoFar}
+use Rattle.part_texts.specs.inside.Shown.{adds_to, are_next, are_posted_to, are_increasing}
+use Rattle.part_texts.specs.inside.Shown.{are_tokens_increasing, last_of, nothing_so_far, tokens_of}
 use Rattle.sorted_taps.specs.declared.positions.Position.{Position}
 use Rattle.sorted_taps.specs.declared.positions.FileSpan.{FileSpan}
 use Rattle.part_texts.proofs.KeySums.{all_added, tokens_add, validators_add}
@@ -123,9 +122,10 @@ all_ascending cmp P (key ∷ keys) all =
 pub below_front : (last : Option Token) (xs ys : List Token) → LastIsBelow last (xs ++ ys)
     → LastIsBelow last xs × LastIsBelow last ys
 below_front None xs ys below = (tt, tt)
-below_front (Some last) [] ys below = (tt, below)
-below_front (Some last) (x ∷ xs) ys below =
-    let (front, back) = below_front (Some last) xs ys below.1 in ((below.0, front), back)
+below_front (Some last) xs ys below = (
+  each-front (λ t. token_cmp last t ≡ Less) xs ys below,
+  each-back (λ t. token_cmp last t ≡ Less) xs ys below,
+)
 
 -- what is below all tokens is below them in their order
 pub below_increasing : (last : Option Token) (keys : List Token) → LastIsBelow last keys
@@ -133,13 +133,8 @@ pub below_increasing : (last : Option Token) (keys : List Token) → LastIsBelow
 below_increasing None keys below = tt
 below_increasing (Some last) keys below =
     recursion_from_All (λ t. token_cmp last t ≡ Less) (increasing token_cmp keys)
-    (all_ascending token_cmp (λ t. token_cmp last t ≡ Less) keys (from_recursion keys below))
-  where
-    from_recursion : (ks : List Token) → AllByRecursion (λ t. token_cmp last t ≡ Less) ks
-        → All (λ t. token_cmp last t ≡ Less) ks
-    from_recursion [] all = All-nil (λ t. token_cmp last t ≡ Less)
-    from_recursion (k ∷ ks) all =
-        All-cons (λ t. token_cmp last t ≡ Less) k ks all.0 (from_recursion ks all.1)
+    (all_ascending token_cmp (λ t. token_cmp last t ≡ Less) keys
+    (All-from_recursion (λ t. token_cmp last t ≡ Less) keys below))
 
 pub tokens_increase : (last : Option Token) (history : List Entry)
     → LastIsBelow last (map token_of history) → are_tokens_increasing last (sums_by_token history)
@@ -356,29 +351,13 @@ part_right p fits few =
     }
 
 -- ---- all parts
-below_append : (xs ys zs : List Token) → AreBelow xs zs → AreBelow ys zs → AreBelow (xs ++ ys) zs
-below_append [] ys zs front back = back
-below_append (x ∷ xs) ys zs front back =
-    All-cons (λ t. All (λ u. token_cmp t u ≡ Less) zs) x (xs ++ ys)
-    (All-head (λ t. All (λ u. token_cmp t u ≡ Less) zs) x xs front)
-    (below_append xs ys zs (All-tail (λ t. All (λ u. token_cmp t u ≡ Less) zs) x xs front) back)
-
-all_front : (P : Token → Type 0) (xs ys : List Token) → All P (xs ++ ys) → All P xs × All P ys
-all_front P [] ys all = (All-nil P, all)
-all_front P (x ∷ xs) ys all =
-    let (front, back) = all_front P xs ys (All-tail P x (xs ++ ys) all) in
-    (All-cons P x xs (All-head P x (xs ++ ys) all) front, back)
-
 below_both : (xs ys zs : List Token) → AreBelow xs (ys ++ zs) → AreBelow xs ys × AreBelow xs zs
-below_both [] ys zs below = (All-nil _, All-nil _)
-below_both (x ∷ xs) ys zs below =
-    let (front, back) = all_front (λ u. token_cmp x u ≡ Less) ys zs
-    (All-head (λ t. All (λ u. token_cmp t u ≡ Less) (ys ++ zs)) x xs below) in
-    let (fronts, backs) = below_both xs ys zs
-    (All-tail (λ t. All (λ u. token_cmp t u ≡ Less) (ys ++ zs)) x xs below) in (
-      All-cons (λ t. All (λ u. token_cmp t u ≡ Less) ys) x xs front fronts,
-      All-cons (λ t. All (λ u. token_cmp t u ≡ Less) zs) x xs back backs,
-    )
+below_both xs ys zs below = (
+  All-weaker (λ t. All (λ u. token_cmp t u ≡ Less) (ys ++ zs)) (λ t. All (λ u. token_cmp t u ≡ Less) ys)
+      (λ t all. All-front (λ u. token_cmp t u ≡ Less) ys zs all) xs below,
+  All-weaker (λ t. All (λ u. token_cmp t u ≡ Less) (ys ++ zs)) (λ t. All (λ u. token_cmp t u ≡ Less) zs)
+      (λ t all. All-back (λ u. token_cmp t u ≡ Less) ys zs all) xs below,
+)
 
 abbrev pub spans_of : List HistoryPart → List (List FileSpan)
 spans_of parts = map (λ (p : HistoryPart). p.spans) parts
@@ -446,8 +425,8 @@ module _ {files : ℕ} {taps : List ℕ} {history : List Entry} {last : Option T
     increase = goes.increase.1;
     above = subst (λ (ts : List Token). AreBelow ts (map token_of (whole_history ps)))
         (sym (tokens_both history p.history))
-        (below_append (map token_of history) (map token_of p.history)
-        (map token_of (whole_history ps)) aboves.1 goes.increase.0);
+        (All-append (λ t. All (λ u. token_cmp t u ≡ Less) (map token_of (whole_history ps)))
+        (map token_of history) (map token_of p.history) aboves.1 goes.increase.0);
     below = next_last last p.history (map token_of (whole_history ps)) belows.1 goes.increase.0;
     fit = goes.fit.1;
     few = subst (λ n. n < 2 ^ 64)

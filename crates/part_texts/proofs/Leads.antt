@@ -1,7 +1,6 @@
 -- Runs over texts whose lines are known.
 use Rattle.std.proofs.Common.{◌≡◌, ◌∙◌, ◌+◌, ◌==◌, ℕ, Bool, false, cond, List, [], ◌∷◌, ◌++◌}
-use Rattle.std.proofs.Common.{length}
-use Rattle.std.proofs.Common.{Result, Ok, refl, sym, ap, arith, append_assoc, length-append}
+use Rattle.std.proofs.Common.{length, Result, Ok, refl, sym, ap, arith, append_assoc, length-append}
 use Rattle.std.specs.Prelude.{nat_lt}
 use Rattle.std.proofs.lemmas.Bool.Decides.{nat_tests}
 use Rattle.line_folds.specs.Folds.{bounded, lines_of, run, to_first}

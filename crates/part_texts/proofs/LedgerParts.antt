@@ -1,6 +1,5 @@
 -- What is merged of ledgers of parts of a history is the ledger of the whole history.
-use Rattle.std.proofs.Common.{◌≡◌, ◌∙◌, ◌<◌, ◌^◌, ℕ, true, false, List, [], ◌∷◌}
-use Rattle.std.proofs.Common.{◌++◌, length, map}
+use Rattle.std.proofs.Common.{◌≡◌, ◌∙◌, ◌<◌, ◌^◌, ℕ, true, false, List, [], ◌∷◌, ◌++◌, length, map}
 use Rattle.std.proofs.Common.{Option, None, Ok, refl, sym, ap, subst, arith, append_assoc}
 use Rattle.std.proofs.Common.{append-nil, All, Bool}
 use Rattle.std.specs.List.{AllByRecursion, AllZip}
@@ -23,14 +22,12 @@ use Rattle.fare_texts.specs.Ledger.{AreLinesOfEach, IsLedgerOver}
 use Rattle.fare_texts.specs.LedgerLines.{AreLedgerLines}
 use Rattle.sorted_taps.specs.Positions.{DoJoin}
 use Rattle.sorted_taps.specs.declared.positions.Position.{Position}
-use Rattle.part_texts.specs.Heads.{part_head}
 use Rattle.part_texts.specs.HistoryParts.{AreIncreasing, HistoryPart, histories_of, whole_history}
 use Rattle.part_texts.specs.LedgerParts.{DoJoinUp, IsPartLedger}
 use Rattle.part_texts.specs.Merged.{merge_of}
 use Rattle.part_texts.specs.Shown.{SpanFits}
 use Rattle.part_texts.specs.inside.Shown.{are_next, is_none_after}
-use Rattle.part_texts.specs.inside.ShownLedgers.{IsNextLedger, PartLedger, all_lines}
-use Rattle.part_texts.specs.inside.ShownLedgers.{ledger_text}
+use Rattle.part_texts.specs.inside.ShownLedgers.{IsNextLedger, PartLedger, all_lines, ledger_text}
 use Rattle.part_texts.proofs.HistoryParts.{all_ascending, ends_length, from_ends, joined_first}
 use Rattle.part_texts.proofs.HistoryParts.{joined_next, may_end_all, same_number, spans_of, to_ends}
 use Rattle.part_texts.proofs.ShownLedgers.{ledgers_merge}
@@ -145,10 +142,7 @@ module _ (fares : Fares) where
   texts_are [] (t ∷ ts) are = absurd are
   texts_are (p ∷ ps) [] are = absurd are
   texts_are (p ∷ ps) (t ∷ ts) are =
-      ap (λ (x : List ℕ). (part_head p.spans ++ x) ∷ map ledger_text (ledgers_of ps ts are.1))
-      (sym are.0.over.whole)
-      ∙ ap (λ (x : List ℕ). x ∷ map ledger_text (ledgers_of ps ts are.1)) (sym are.0.shown)
-      ∙ ap (λ (l : List (List ℕ)). t ∷ l) (texts_are ps ts are.1)
+      rw (← are.0.over.whole, ← are.0.shown, texts_are ps ts are.1)
 
   none_after_too : (parts : List HistoryPart) (texts : List (List ℕ))
       (are : AllZip (IsPartLedger fares) parts texts)

@@ -16,4 +16,3 @@ pub mod ShownReports
 pub mod HistoryParts
 pub mod ShownLedgers
 pub mod LedgerParts
-pub mod ReadLedgers

@@ -2,7 +2,8 @@
 use Rattle.std.proofs.Common.{subst, ◌≡◌, ◌∙◌, ◌+◌, ◌<◌, ◌≤◌, ℕ, suc, zero, List, [], ◌∷◌, ◌++◌, ap, arith}
 use Rattle.std.proofs.Common.{append-nil, drop, get_or, length, map, refl, set, sym}
 use Rattle.std.specs.List.{AllZip}
-use Rattle.std.proofs.lemmas.List.{drop_more, length-set}
+use Rattle.std.proofs.lemmas.List.{drop_more, length-map, length-set}
+use Rattle.std.proofs.lemmas.Slice.Zip.{AllZip-long}
 use Rattle.std.proofs.Common.{get_or-set_same}
 use Rattle.recorded_lines.specs.Texts.{CanBe, Follows, calls_of}
 use Rattle.recorded_lines.specs.declared.text.Lines.{Lines}
@@ -35,10 +36,7 @@ follow_set (one ∷ from) (suc i) next d within after =
     (follows_self one, follow_set from i next d (omega (arith, within)) after)
 
 pub follow_length : (a b : List Lines) → AllZip Follows a b → length b ≡ length a
-follow_length [] [] follow = refl
-follow_length [] (y ∷ b) follow = absurd follow
-follow_length (x ∷ a) [] follow = absurd follow
-follow_length (x ∷ a) (y ∷ b) follow = let l = follow_length a b follow.1 in omega (arith, l)
+follow_length a b follow = AllZip-long Follows a b follow
 
 pub can_before : (a b : List Lines) (texts : List (List ℕ)) → AllZip Follows a b
     → AllZip CanBe (map calls_of b) texts → AllZip CanBe (map calls_of a) texts
@@ -76,16 +74,10 @@ text_at (one ∷ from) (text ∷ texts) zero d within can = record {
   text = text;
   here = refl;
   can = can.0;
-  number = let l = same_length from texts can.1 in omega (arith, l);
+  number =
+      let l = AllZip-long CanBe (map calls_of from) texts can.1 in
+      let m = length-map from calls_of in omega (arith, l, m);
 }
-  where
-    same_length : (from : List Lines) (texts : List (List ℕ))
-        → AllZip CanBe (map calls_of from) texts → length from ≡ length texts
-    same_length [] [] can = refl
-    same_length [] (text ∷ texts) can = absurd can
-    same_length (one ∷ from) [] can = absurd can
-    same_length (one ∷ from) (text ∷ texts) can =
-        let l = same_length from texts can.1 in omega (arith, l)
 text_at (one ∷ from) (text ∷ texts) (suc i) d within can =
     let rest = text_at from texts i d (omega (arith, within)) can.1 in
     let same : suc (i + 1) ≡ suc i + 1 = omega arith in record {

@@ -89,8 +89,7 @@ module _ {first now : FrontsView} {start from : Lines} {number : ℕ}
         → front_end position (front_run 1 first (lines_at start whole))
         ≡ Err (position, (number, Form))
     front_short none =
-        ap (front_end position) (at.same whole (read_on.back whole can) ∙ ap (front_run number now) none)
-        ∙ rw goes
+        ap (front_end position) (at.same whole (read_on.back whole can)) ∙ rw (none, goes)
 
     pub front_unread : (line : List ℕ) (why : MergeFault)
         → LineRead (lines_at from whole) line (lines_at next whole) (position, number)
@@ -146,9 +145,7 @@ module _ {part : Open} {last : Option Token} {now : SectionView} {start from nex
         → section_of position last (view_of part (lines_at start whole))
         ≡ end_or (position, (number, Form)) now end
     section_done is whole can none =
-        ap (section_ended position) (at.same whole (read_on.back whole can)
-        ∙ ap (section_run number now) none)
-        ∙ ap (end_or (position, (number, Form)) now) is
+        ap (section_ended position) (at.same whole (read_on.back whole can)) ∙ rw (none, is)
 
     pub copied_whole : section_end now ≡ None → IsEndAt next
         → ((whole : List ℕ) → CanBe (calls_of next) whole → lines_at from whole ≡ [])
@@ -198,8 +195,7 @@ module _ {part : Open} {last : Option Token} {now : SectionView} {start from nex
         same = λ whole can. at.same whole (read_on.back whole can)
             ∙ run_line never section_step number now refl (read whole can) taken;
         lines = λ whole can. at.lines whole (read_on.back whole can)
-            ∙ ap (λ l. at.text ++ joined l) (read whole can).0
-            ∙ sym (append_assoc at.text line (joined (lines_at next whole)));
+            ∙ rw (read whole can).0 (sym (append_assoc at.text line _));
       }
 
       pub copied_cut : {now_after : Run} (why : WriteFault) → IsCut after now_after line why
@@ -211,8 +207,6 @@ module _ {part : Open} {last : Option Token} {now : SectionView} {start from nex
           tt,
           cut.rest ++ joined (lines_at next whole),
           at.lines whole (read_on.back whole can)
-              ∙ ap (λ l. at.text ++ joined l) (read whole can).0
-              ∙ ap (λ l. at.text ++ (l ++ joined (lines_at next whole))) cut.whole
-              ∙ simp append_assoc,
+              ∙ rw ((read whole can).0, cut.whole) (simp append_assoc),
         ),
       )

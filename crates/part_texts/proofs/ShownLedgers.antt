@@ -1,10 +1,7 @@
 -- Ledgers of parts, as they are printed, are merged into the ledger of the whole.
-use Rattle.std.proofs.Common.{◌≡◌, ◌∙◌, ◌+◌, ℕ, Bool, true, false, List}
-use Rattle.std.proofs.Common.{[], ◌∷◌, ◌++◌, length, map}
-use Rattle.std.proofs.Common.{Option, Some, None, Result, Ok, Err, refl, sym, ap, arith}
-use Rattle.std.proofs.Common.{append_assoc, append-nil, codes, cond}
-use Rattle.std.proofs.lemmas.List.Elements.{recursion_from_All}
-use Rattle.std.specs.List.{AllByRecursion}
+use Rattle.std.proofs.Common.{◌≡◌, ◌∙◌, ◌+◌, ℕ, Bool, true, false, List, [], ◌∷◌, ◌++◌, length, map}
+use Rattle.std.proofs.Common.{Option, None, Result, Ok, Err, refl, sym, ap, arith, append_assoc}
+use Rattle.std.proofs.Common.{codes, cond}
 use Rattle.tap_views.specs.declared.token.Token.{Token}
 use Rattle.fare_texts.specs.LedgerLines.{head_text}
 use Rattle.fare_texts.specs.ReportLines.{number_line}
@@ -13,22 +10,17 @@ use Rattle.report_texts.specs.declared.wrong.Wrong.TheVariants.{Form}
 use Rattle.report_texts.proofs.OneLine.{IsOneLine, tested}
 use Rattle.part_texts.specs.Fronts.{FrontsView, no_fronts, no_sums}
 use Rattle.part_texts.specs.FrontSteps.{front_done, front_step}
-use Rattle.part_texts.specs.Sections.{SectionView, section_step}
-use Rattle.part_texts.specs.Merged.{OpenView, and_then, front_end, front_of}
-use Rattle.part_texts.specs.Merged.{lines_left, merge_of, merged}
-use Rattle.part_texts.specs.Merged.{report_front, section_ended, section_of, sections_of}
+use Rattle.part_texts.specs.Merged.{OpenView, and_then, front_end, front_of, lines_left, merge_of}
+use Rattle.part_texts.specs.Merged.{merged, report_front, sections_of}
 use Rattle.part_texts.specs.Heads.{span_lines}
 use Rattle.part_texts.specs.inside.Shown.{are_next}
-use Rattle.part_texts.specs.inside.ShownLedgers.{EntryLine, IsEntryLine, PartLedger, all_lines}
-use Rattle.part_texts.specs.inside.ShownLedgers.{IsNextLedger, are_read, do_follow, last_entry}
-use Rattle.part_texts.specs.inside.ShownLedgers.{ledger_text, lines_of_entries}
+use Rattle.part_texts.specs.inside.ShownLedgers.{PartLedger, all_lines, IsNextLedger, ledger_text}
 use Rattle.sorted_taps.specs.declared.positions.Position.{Position}
 use Rattle.part_texts.specs.declared.fronts.Stage.{Stage}
 use Rattle.part_texts.specs.declared.fronts.Stage.TheVariants.{Head, Entries}
-use Rattle.part_texts.proofs.Leads.{Leads, by_both, by_line, by_nothing}
+use Rattle.part_texts.proofs.Leads.{by_both, by_line}
 use Rattle.part_texts.proofs.ShownFronts.{FrontLeads, head_taken, spans_taken}
 use Rattle.part_texts.proofs.ShownParts.{IsFrontRead, are_opened, fronts_shown, left_shown, stopped}
-use Rattle.part_texts.proofs.ShownSections.{never}
 
 -- ---- one front
 -- where the fold stands behind ledgers (if so) that end so
@@ -138,69 +130,3 @@ pub ledgers_merge : (p : PartLedger) (ps : List PartLedger) (all : Bool × List 
 ledgers_merge p ps all are text is =
     let (opens, opened_all, same) = fronts_merge p ps all are in
     is_ok (sections_of 0 None opens) (head_text ++ all_lines (p ∷ ps)) text (sym same ∙ is)
-
--- ---- all sections
-abbrev entries_at : Bool → Option Token → SectionView
-entries_at first last = record {
-  is_ledger = true;
-  is_first = first;
-  left = 0;
-  last = last;
-  part = no_sums;
-  so_far = no_sums;
-}
-
-one_line : (entry : EntryLine) → IsEntryLine entry → IsOneLine 1000 entry.line
-one_line entry is = record {
-  front = is.front;
-  no_feed = recursion_from_All (λ byte. ¬ (byte ≡ 10)) is.front is.no_feed;
-  short = is.short;
-  shown = is.shown;
-}
-
-abbrev after_entries : Bool → List EntryLine → Bool
-after_entries first [] = first
-after_entries first (entry ∷ more) = after_entries false more
-
-entries_taken : (first : Bool) (last : Option Token) (entries : List EntryLine)
-    → AllByRecursion IsEntryLine entries → do_follow first last entries
-    → Leads never Form section_step (entries_at first last) (lines_of_entries entries)
-    (entries_at (after_entries first entries) (last_entry last entries))
-entries_taken first last [] fit follow = by_nothing
-entries_taken first last (entry ∷ more) fit follow =
-    by_both (by_line (one_line entry fit.0) refl (rw (fit.0.form, follow.0)))
-    (entries_taken false (Some entry.token) more fit.1 follow.1)
-
-one_section : (position number : ℕ) (last : Option Token) (p : PartLedger)
-    (entries : List EntryLine)
-    → p.lines ≡ lines_of_entries entries
-    → AllByRecursion IsEntryLine entries → do_follow true last entries
-    → section_of position last (ledger_opened number p)
-    ≡ Ok (entries_at (after_entries true entries) (last_entry last entries))
-one_section position number last p entries shown fit follow =
-    let (end, read) = (entries_taken true last entries fit follow).on number [] in
-    ap (λ (l : List ℕ). section_ended position (run never (bounded Form section_step) number
-    (entries_at true last) (lines_of l))) (shown ∙ sym (append-nil (lines_of_entries entries)))
-    ∙ ap (section_ended position) read
-
-sections_shown : (position : ℕ) (last : Option Token) (parts : List PartLedger)
-    (opens : List OpenView) → are_read last parts
-    → are_opened ledger_text (λ p. p.lines) ledger_opened IsNextLedger IsAfter parts opens
-    → (end : Option Token) × (sections_of position last opens ≡ Ok end)
-sections_shown position last [] [] are opened_all = (last, refl)
-sections_shown position last [] (opening ∷ opens) are opened_all = absurd opened_all
-sections_shown position last (p ∷ ps) [] are opened_all = absurd opened_all
-sections_shown position last (p ∷ ps) (opening ∷ opens) (entries, lines, fit, follow, more)
-    (number, shown, others) =
-    let (end, rest) = sections_shown (position + 1) (last_entry last entries) ps opens more
-    others in
-    (end, rw (shown, one_section position number last p entries lines fit follow) rest)
-
--- THE law: the parts' ledgers are merged, if their lines are read
-pub ledgers_read : (p : PartLedger) (ps : List PartLedger) (all : Bool × List (Option Position))
-    → are_next IsNextLedger true (false, []) (p ∷ ps) all → are_read None (p ∷ ps)
-    → merge_of (map ledger_text (p ∷ ps)) ≡ Ok (head_text ++ all_lines (p ∷ ps))
-ledgers_read p ps all are read =
-    let (opens, opened_all, same) = fronts_merge p ps all are in
-    let (end, sections) = sections_shown 0 None (p ∷ ps) opens read opened_all in
-    same ∙ rw sections

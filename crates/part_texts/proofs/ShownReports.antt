@@ -1,8 +1,7 @@
 -- Reports of parts, as they are printed, are merged into the report of the whole.
-use Rattle.std.proofs.Common.{◌≡◌, ◌∙◌, ◌+◌, ℕ, Bool, true, false, List, [], ◌∷◌}
-use Rattle.std.proofs.Common.{◌++◌, length, map}
-use Rattle.std.proofs.Common.{None, Ok, refl, sym, ap, arith}
-use Rattle.std.proofs.Common.{append_assoc, append-nil, length-append, codes}
+use Rattle.std.proofs.Common.{◌≡◌, ◌∙◌, ◌+◌, ℕ, Bool, true, false, List, [], ◌∷◌, ◌++◌, length, map}
+use Rattle.std.proofs.Common.{None, Ok, refl, sym, ap, arith, append_assoc, append-nil}
+use Rattle.std.proofs.Common.{length-append, codes}
 use Rattle.std.specs.Prelude.{flat_map}
 use Rattle.std.proofs.lemmas.List.Concat.{flat_map-append}
 use Rattle.histories.specs.Sums.{Sums}
@@ -16,24 +15,20 @@ use Rattle.part_texts.specs.Fronts.{FrontsView, no_fronts, no_sums}
 use Rattle.std.proofs.Math.Bool.{or-true}
 use Rattle.part_texts.proofs.ShownParts.{IsFrontRead, are_opened, fronts_shown, left_shown, stopped}
 use Rattle.part_texts.specs.FrontSteps.{front_done, front_step}
-use Rattle.part_texts.specs.Sections.{section_step}
-use Rattle.part_texts.specs.Merged.{OpenView, and_then, end_or, front_end, front_of}
-use Rattle.part_texts.specs.Merged.{lines_left, merge_of, merged}
-use Rattle.part_texts.specs.Merged.{report_front, section_ended, section_of, sections_of}
+use Rattle.part_texts.specs.Merged.{OpenView, front_end, front_of, merge_of, section_of}
+use Rattle.part_texts.specs.Merged.{sections_of}
 use Rattle.part_texts.specs.Heads.{span_lines}
 use Rattle.part_texts.specs.Shown.{PartReport, part_text}
-use Rattle.part_texts.specs.inside.Shown.{is_none_after}
-use Rattle.part_texts.specs.inside.Shown.{IsNextPart, SoFar, are_next, last_of}
+use Rattle.part_texts.specs.inside.Shown.{is_none_after, IsNextPart, SoFar, are_next, last_of}
 use Rattle.part_texts.specs.inside.Shown.{nothing_so_far, tokens_of, whole_text}
 use Rattle.part_texts.specs.declared.fronts.Stage.{Stage}
-use Rattle.part_texts.specs.declared.fronts.Stage.TheVariants.{Head}
-use Rattle.part_texts.specs.declared.fronts.Stage.TheVariants.{Tokens}
+use Rattle.part_texts.specs.declared.fronts.Stage.TheVariants.{Head, Tokens}
 use Rattle.part_texts.proofs.Leads.{by_both}
 use Rattle.part_texts.proofs.ShownFronts.{FrontLeads, head_taken, last_key, posted_taken}
 use Rattle.part_texts.proofs.ShownFronts.{spans_taken, tokens_head_taken, totals_taken}
 use Rattle.part_texts.proofs.ShownFronts.{uploads_taken, validators_head_taken, validators_taken}
-use Rattle.part_texts.proofs.ShownSections.{never, tokens_at, tokens_end, tokens_taken}
-use Rattle.part_texts.proofs.WholeTexts.{map_length}
+use Rattle.part_texts.proofs.ShownSections.{tokens_at, tokens_end, tokens_taken}
+use Rattle.std.proofs.lemmas.List.{length-map}
 
 -- where the fold stands behind the parts so far, at this stage
 abbrev pub trailing : Bool → Bool → Stage → Sums → Sums → SoFar → FrontsView
@@ -63,16 +58,12 @@ front_lines p =
 text_parts : (p : PartReport) → length p.taps ≡ length p.spans
     → part_text p ≡ front_lines p ++ flat_map token_line p.tokens
 text_parts p same =
-    ap (λ n. (number_line (codes "part files ") (length p.spans) ++ span_lines 0 p.spans)
-    ++ ((number_line (codes "uploads ") n ++ upload_lines 0 (map Posted p.taps))
-    ++ (totals_line p.totals ++ ((number_line (codes "validators ") (length p.validators)
-    ++ flat_map validator_line p.validators) ++ (number_line (codes "tokens ") (length p.tokens)
-    ++ flat_map token_line p.tokens))))) (map_length Posted p.taps ∙ same)
-    ∙ joined (number_line (codes "part files ") (length p.spans) ++ span_lines 0 p.spans)
+    rw (length-map p.taps Posted, same)
+    (joined (number_line (codes "part files ") (length p.spans) ++ span_lines 0 p.spans)
     (number_line (codes "uploads ") (length p.spans) ++ upload_lines 0 (map Posted p.taps))
     (totals_line p.totals) (number_line (codes "validators ") (length p.validators)
     ++ flat_map validator_line p.validators) (number_line (codes "tokens ") (length p.tokens))
-    (flat_map token_line p.tokens)
+    (flat_map token_line p.tokens))
   where
     joined : (a b c d e t : List ℕ) → a ++ (b ++ (c ++ (d ++ (e ++ t)))) ≡ (a ++ (b ++ (c ++ (d ++ e)))) ++ t
     joined a b c d e t = simp append_assoc
@@ -144,14 +135,13 @@ one_section : (position number : ℕ) (first last : Bool) (before after : SoFar)
     ≡ Ok (tokens_at 0 (last_of before.last p.tokens) p.totals p.totals)
 one_section position number first last before after p is =
     let r = is.right in
-    let t = tokens_at 0 (last_of before.last p.tokens) p.totals p.totals in
     let (end, read) = (tokens_taken before.last p.totals no_sums p.totals p.tokens r.tokens
     is.increase r.tokens_add).on number [] in
-    ap (λ (l : List ℕ). section_ended position (run never (bounded Form section_step) number
-    (tokens_at (length p.tokens) before.last p.totals no_sums) (lines_of l)))
-    (sym (append-nil (token_lines p)))
-    ∙ ap (section_ended position) read
-    ∙ ap (end_or (position, (end, Form)) t) (tokens_end (last_of before.last p.tokens) p.totals)
+    rw (
+      ← (append-nil (token_lines p)),
+      read,
+      tokens_end (last_of before.last p.tokens) p.totals,
+    )
 
 sections_shown : (position : ℕ) (first : Bool) (before after : SoFar) (parts : List PartReport)
     (opens : List OpenView) → are_next IsNextPart first before parts after
@@ -193,20 +183,18 @@ reports_merge p ps all are =
     let (f, l, stage, part, so_far, same) = fronts.now in
     let number : all.tokens ≡ length (tokens_of (p ∷ ps)) =
     (let n = tokens_counted true nothing_so_far all (p ∷ ps) are in omega (arith, n)) in
-    ap (λ r. and_then r merged)
-    (fronts.read ∙ ap (λ (s : FrontsView). Ok (s, fronts.more)) same)
-    ∙ ap (λ r. and_then r (λ last. Ok (report_front (trailing f l stage part so_far all)
-    ++ lines_left fronts.more)))
-    (sections_shown 0 true nothing_so_far all (p ∷ ps) fronts.more are fronts.opened)
-    ∙ ap (λ (t : List ℕ). Ok (report_front (trailing f l stage part so_far all) ++ t))
-    (left_shown part_text token_lines opened_at IsNextPart IsAfter (λ number p. refl) (p ∷ ps)
-    fronts.more fronts.opened ∙ tokens_flat (p ∷ ps))
-    ∙ ap (λ (n : ℕ). Ok ((uploads_section (map Posted all.taps) ++ (totals_line all.totals
-    ++ (validators_section all.validators ++ number_line (codes "tokens ") n)))
-    ++ token_text)) number
-    ∙ ap Ok (joined (uploads_section (map Posted all.taps)) (totals_line all.totals)
+    rw (
+      fronts.read,
+      same,
+      sections_shown 0 true nothing_so_far all (p ∷ ps) fronts.more are fronts.opened,
+      left_shown part_text token_lines opened_at IsNextPart IsAfter (λ number p. refl) (p ∷ ps)
+          fronts.more fronts.opened
+          ∙ tokens_flat (p ∷ ps),
+      number,
+    )
+    (ap Ok (joined (uploads_section (map Posted all.taps)) (totals_line all.totals)
     (validators_section all.validators)
-    (number_line (codes "tokens ") (length (tokens_of (p ∷ ps)))) token_text)
+    (number_line (codes "tokens ") (length (tokens_of (p ∷ ps)))) token_text))
   where
     token_text : List ℕ
     token_text = flat_map token_line (tokens_of (p ∷ ps))

@@ -3,8 +3,7 @@ use Rattle.std.proofs.Common.{◌≡◌, ◌∙◌, ◌+◌, ◌≤◌, ◌^◌,
 use Rattle.std.proofs.Common.{◌∷◌, ◌++◌, length, map, filter}
 use Rattle.std.proofs.Common.{Some, None, refl, sym, ap, subst, arith}
 use Rattle.std.specs.Prelude.{nat_le, unwrap_or}
-use Rattle.std.specs.BTreeMap.{insert_entry}
-use Rattle.std.specs.BTreeMap.{is_at as is_key}
+use Rattle.std.specs.BTreeMap.{insert_entry, is_at as is_key}
 use Rattle.std.specs.BTreeSet.{insert_key}
 use Rattle.std.specs.List.{AllByRecursion}
 use Rattle.std.specs.List.Sorted.{IsStrictlySortedBy}
@@ -13,7 +12,7 @@ use Rattle.std.specs.Ordering.{eq_by_cmp, is_eq, match_ordering, nat_cmp}
 use Rattle.std.specs.Set.{is_member}
 use Rattle.std.specs.declared.cmp.Ordering.{Ordering}
 use Rattle.std.specs.declared.cmp.Ordering.TheVariants.{Less, Equal, Greater}
-use Rattle.std.proofs.Math.Bool.{or-false}
+use Rattle.std.proofs.Math.Bool.{or-false, or-true}
 use Rattle.std.proofs.lemmas.Bool.{false≢true}
 use Rattle.std.proofs.lemmas.Bool.Decides.{nat_tests}
 use Rattle.std.proofs.lemmas.Cmp.{nat_cmp_total}
@@ -29,28 +28,10 @@ use Rattle.histories.proofs.IncreasingLemmas.{below_all, increasing-is, increasi
 use Rattle.histories.proofs.SumsLemmas.{add_none, sums-append, sums-taps}
 use Rattle.part_texts.specs.Fronts.{no_sums, sums_within, with_validator}
 use Rattle.part_texts.specs.inside.Shown.{are_added}
-use Rattle.part_texts.proofs.KeySums.{number_ties}
+use Rattle.part_texts.proofs.KeySums.{above_same, no_entries, number_reports, number_ties, table, table_same}
 
 abbrev has : List ℕ → ℕ → Bool
 has keys key = is_member (eq_by_cmp nat_cmp) keys key
-
--- each of the keys, with what it has
-abbrev pub table : (ℕ → Sums) → List ℕ → List (ℕ × Sums)
-table f keys = map (λ k. (k, f k)) keys
-
-table_same : (f g : ℕ → Sums) (keys : List ℕ) → AllByRecursion (λ k. f k ≡ g k) keys
-    → table f keys ≡ table g keys
-table_same f g [] all = refl
-table_same f g (k ∷ keys) all =
-    ap (λ (s : Sums). (k, s) ∷ table f keys) all.0
-    ∙ ap (λ (t : List (ℕ × Sums)). (k, g k) ∷ t) (table_same f g keys all.1)
-
-above_same : (f g : ℕ → Sums) (v : ℕ) (keys : List ℕ) → ((k : ℕ) → ¬ (k ≡ v) → f k ≡ g k)
-    → AllByRecursion (λ k. nat_cmp v k ≡ Less) keys → AllByRecursion (λ k. f k ≡ g k) keys
-above_same f g v [] other above = tt
-above_same f g v (k ∷ keys) other above =
-    let less = above.0 in
-    (other k (λ same. grind (arith, nat_tests, less, same)), above_same f g v keys other above.1)
 
 -- one key's sums are set
 set_one : (f g : ℕ → Sums) (v : ℕ) (x : Sums) (keys : List ℕ) → g v ≡ x
@@ -70,13 +51,13 @@ set_one f g v x (k ∷ keys) here other increases =
         ap (λ (s : Sums). (v, s) ∷ (k, f k) ∷ table f keys) (sym here)
         ∙ ap (λ (t : List (ℕ × Sums)). (v, g v) ∷ t) (table_same f g (k ∷ keys) (
           other k (λ same. grind (arith, nat_tests, less, same)),
-          above_same f g v keys other (below_all nat_cmp_total number_ties v k keys less increases.0),
+          above_same nat_cmp_total number_ties f g v keys other (below_all nat_cmp_total number_ties v k keys less increases.0),
         ))
     set_at Equal tied more =
         let same = number_ties v k tied in
         ap (λ (s : Sums). (k, s) ∷ table f keys) (sym here ∙ ap g same)
         ∙ ap (λ (t : List (ℕ × Sums)). (k, g k) ∷ t) (table_same f g keys
-        (above_same f g v keys other
+        (above_same nat_cmp_total number_ties f g v keys other
         (subst (λ (n : ℕ). AllByRecursion (λ z. nat_cmp n z ≡ Less) keys) (sym same) increases.0)))
     set_at Greater greater more =
         ap (λ (s : Sums). (k, s) ∷ insert_entry nat_cmp (table f keys) v x)
@@ -119,10 +100,8 @@ done_has done (v ∷ vs) k =
     done_has (v ∷ done) vs k ∙ or_moved (eq_by_cmp nat_cmp k v) (has done k) (has vs k)
   where
     or_moved : (a b c : Bool) → ((a || b) || c) ≡ (b || (a || c))
-    or_moved true true c = refl
-    or_moved true false c = refl
-    or_moved false true c = refl
-    or_moved false false c = refl
+    or_moved true b c = sym (or-true b)
+    or_moved false b c = refl
 
 has_append : (xs ys : List ℕ) (q : ℕ) → has (xs ++ ys) q ≡ (has xs q || has ys q)
 has_append [] ys q = refl
@@ -150,34 +129,17 @@ keys_inserted xs ys =
     ∙ ap (λ keys. has keys q) (sym (map-append validator_of xs ys))
     ∙ sym (whole.same q))
 
--- a validator that is none of the history's has no entries
-other_at : (v : ℕ) (e : Entry) → is_eq (nat_cmp v (validator_of e)) ≡ false → is_at v e ≡ false
-other_at v e other = grind (arith, nat_tests, other)
-
-no_entries : (v : ℕ) (entries : List Entry) → has (map validator_of entries) v ≡ false
-    → entries_of_validator v entries ≡ []
-unfolding entries_of_validator
-no_entries v [] none = refl
-no_entries v (e ∷ entries) none =
-    none_so (is_eq (nat_cmp v (validator_of e))) refl none (no_entries v entries)
-  where
-    none_so : (b : Bool) → is_eq (nat_cmp v (validator_of e)) ≡ b
-        → (b || has (map validator_of entries) v) ≡ false
-        → (has (map validator_of entries) v ≡ false → entries_of_validator v entries ≡ [])
-        → filter (is_at v) (e ∷ entries) ≡ []
-    none_so true is none more = absurd (false≢true (sym none))
-    none_so false is none more = rw (other_at v e is) (more none)
-
 nothing_summed : (entries : List Entry) → entries ≡ [] → sums entries ≡ no_sums
 unfolding sums_of_replies
 nothing_summed entries none = ap sums none
 
+-- a validator that is none of the history's has no sums
 pub none_at : (v : ℕ) (entries : List Entry) → has (validators entries) v ≡ false
     → at_validator v entries ≡ no_sums
-unfolding validators
+unfolding validators entries_of_validator
 none_at v entries none =
-    nothing_summed (entries_of_validator v entries)
-    (no_entries v entries
+    nothing_summed (filter (is_at v) entries)
+    (no_entries nat_cmp_total number_ties validator_of is_at number_reports v entries
     (sym ((increasing-is nat_cmp_total number_ties (map validator_of entries)).same v) ∙ none))
 
 both_at : (v : ℕ) (xs ys : List Entry)

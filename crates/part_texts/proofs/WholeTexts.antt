@@ -1,8 +1,7 @@
 -- The front of the whole's report, written line by line.
 use Rattle.std.proofs.Common.{◌≡◌, ◌∙◌, ◌+◌, ◌<◌, ℕ, List, [], ◌∷◌, ◌++◌, length, take, get_or}
-use Rattle.std.proofs.Common.{length-take}
-use Rattle.std.proofs.Common.{refl, sym, ap, append_assoc, append-nil, arith, codes, map}
-use Rattle.std.proofs.lemmas.List.{map-append, take_more}
+use Rattle.std.proofs.Common.{length-take, sym, ap, append_assoc, append-nil, arith, codes, map}
+use Rattle.std.proofs.lemmas.List.{length-map, map-append, take_more}
 use Rattle.std.specs.Prelude.{flat_map}
 use Rattle.std.specs.Fmt.{decimal}
 use Rattle.std.specs.Map.Iter.{deref_pair}
@@ -19,10 +18,6 @@ use Rattle.part_texts.specs.inside.Fronts.{shown_sums}
 use Rattle.part_texts.specs.Merged.{report_front}
 use denote.Ref.{Bor}
 
-pub map_length : {A B : Type 0} (f : A → B) (xs : List A) → length (map f xs) ≡ length xs
-map_length f [] = refl
-map_length f (x ∷ xs) = let rest = map_length f xs in omega (arith, rest)
-
 -- what was written of the uploads before one, and the line of that one
 uploads_more : (start : List ℕ) (taps : List ℕ) (d i : ℕ) → i < length taps
     → (start ++ upload_lines 0 (map Posted (take i taps))) ++ upload_line i
@@ -31,7 +26,7 @@ uploads_more : (start : List ℕ) (taps : List ℕ) (d i : ℕ) → i < length t
 uploads_more start taps d i within =
     let one = get_or taps i d in
     let count : 0 + length (map Posted (take i taps)) ≡ i =
-    (let l = map_length Posted (take i taps) in omega (arith, l, length-take {A = ℕ})) in
+    (let l = length-map (take i taps) Posted in omega (arith, l, length-take {A = ℕ})) in
     rw (
       take_more taps i d within,
       map-append Posted (take i taps) (one ∷ []),
@@ -79,7 +74,7 @@ pub front_joined : (s : FrontsView) (uploads validators : ℕ) (none a b c d e w
     → e ≡ d ++ flat_map validator_line s.validators
     → whole ≡ e ++ number_line (codes "tokens ") s.tokens → whole ≡ report_front s
 front_joined s uploads validators none a b c d e whole n m p0 p1 p2 p3 p4 p5 p6 =
-    rw (p6, p5, p4, p3, p2, p1, p0, n, m, map_length Posted s.taps)
+    rw (p6, p5, p4, p3, p2, p1, p0, n, m, length-map s.taps Posted)
     (joined (number_line (codes "uploads ") (length s.taps)) (upload_lines 0 (map Posted s.taps))
     (totals_line s.totals) (number_line (codes "validators ") (length s.validators))
     (flat_map validator_line s.validators) (number_line (codes "tokens ") s.tokens))

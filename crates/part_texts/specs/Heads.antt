@@ -5,20 +5,17 @@ use Rattle.fare_texts.specs.ReportLines.{number_line}
 use Rattle.sorted_taps.specs.declared.positions.Position.{Position}
 use Rattle.sorted_taps.specs.declared.positions.FileSpan.{FileSpan}
 
--- `14344 skip 25`
-abbrev pub position_text : Position → List ℕ
-position_text position = decimal position.offset ++ (codes " skip " ++ decimal position.skip)
-
--- `14344 skip 25`, or `end`
-abbrev pub to_text : Option Position → List ℕ
-to_text None = codes "end"
-to_text (Some position) = position_text position
+-- ` to 14344 skip 25`, or ` to end`, with the line feed
+abbrev pub to_line : Option Position → List ℕ
+to_line None = codes " to end\n"
+to_line (Some to) =
+    codes " to " ++ (decimal to.offset ++ (codes " skip " ++ (decimal to.skip ++ codes "\n")))
 
 -- `file 0 from 0 skip 0 to 14344 skip 25`
 unfoldable pub span_line : ℕ → FileSpan → List ℕ
 span_line file span =
-    codes "file " ++ (decimal file ++ (codes " from " ++ (position_text span.from
-    ++ (codes " to " ++ (to_text span.to ++ codes "\n")))))
+    codes "file " ++ (decimal file ++ (codes " from " ++ (decimal span.from.offset
+    ++ (codes " skip " ++ (decimal span.from.skip ++ to_line span.to)))))
 
 -- a line for each file, the first of which has the number `file`
 abbrev pub span_lines : ℕ → List FileSpan → List ℕ

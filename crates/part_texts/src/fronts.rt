@@ -268,9 +268,7 @@ impl Fronts {
     fn take_head(&mut self, line: &[u8]) -> Result<(), Refusal>
         ensures { TakesAs (head_step (fronts_view self.old) line.now) (fronts_view self.new) result }
     {
-        let Some(files) = head_in(line, b"part files ") else {
-            return Err(Refusal::Wrong(Wrong::Form));
-        };
+        let files = head_in(line, b"part files ").ok_or(Refusal::Wrong(Wrong::Form))?;
         if !(self.is_first || files == self.ends.len() as u64) {
             return Err(Refusal::Wrong(Wrong::Form));
         }
@@ -283,15 +281,11 @@ impl Fronts {
         ensures { TakesAs (span_step files left (fronts_view self.old) line.now)
             (fronts_view self.new) result }
     {
-        let Some((file, span)) = span_in(line) else {
-            return Err(Refusal::Wrong(Wrong::Form));
-        };
+        let (file, span) = span_in(line).ok_or(Refusal::Wrong(Wrong::Form))?;
         if file != files.saturating_sub(left) {
             return Err(Refusal::Wrong(Wrong::Form));
         }
-        let Some(start) = next_start(self.is_first, &mut self.ends) else {
-            return Err(Refusal::Wrong(Wrong::Order));
-        };
+        let start = next_start(self.is_first, &mut self.ends).ok_or(Refusal::Wrong(Wrong::Order))?;
         if !(is_same_position(start, span.from) && may_end(self.is_last, span.to)) {
             return Err(Refusal::Wrong(Wrong::Order));
         }
@@ -320,9 +314,7 @@ impl Fronts {
         ensures { TakesAs (uploads_step files (fronts_view self.old) line.now)
             (fronts_view self.new) result }
     {
-        let Some(uploads) = head_in(line, b"uploads ") else {
-            return Err(Refusal::Wrong(Wrong::Form));
-        };
+        let uploads = head_in(line, b"uploads ").ok_or(Refusal::Wrong(Wrong::Form))?;
         if !(uploads == files && (self.is_first || !self.is_ledger)) {
             return Err(Refusal::Wrong(Wrong::Form));
         }
@@ -357,24 +349,14 @@ impl Fronts {
         ensures { TakesAs (upload_step uploads left posted (fronts_view self.old) line.now)
             (fronts_view self.new) result }
     {
-        let Some((upload, end)) = upload_in(line) else {
-            return Err(Refusal::Wrong(Wrong::Form));
-        };
+        let (upload, end) = upload_in(line).ok_or(Refusal::Wrong(Wrong::Form))?;
         if upload != uploads.saturating_sub(left) {
             return Err(Refusal::Wrong(Wrong::Form));
         }
-        let Some(taps) = posted_in(&end) else {
-            return Err(Refusal::Wrong(Wrong::NotPosted));
-        };
-        let Some(before) = next_taps(self.is_first, &mut self.taps) else {
-            return Err(Refusal::Wrong(Wrong::Form));
-        };
-        let Some(all) = plus(before, taps) else {
-            return Err(Refusal::Wrong(Wrong::Totals));
-        };
-        let Some(posted) = plus(posted, taps) else {
-            return Err(Refusal::Wrong(Wrong::Totals));
-        };
+        let taps = posted_in(&end).ok_or(Refusal::Wrong(Wrong::NotPosted))?;
+        let before = next_taps(self.is_first, &mut self.taps).ok_or(Refusal::Wrong(Wrong::Form))?;
+        let all = plus(before, taps).ok_or(Refusal::Wrong(Wrong::Totals))?;
+        let posted = plus(posted, taps).ok_or(Refusal::Wrong(Wrong::Totals))?;
         let Ok(()) = self.taps.push_back(all) else {
             return Err(Refusal::NoMemory);
         };
@@ -390,15 +372,11 @@ impl Fronts {
         ensures { TakesAs (totals_step posted (fronts_view self.old) line.now)
             (fronts_view self.new) result }
     {
-        let Some(part) = totals_in(line) else {
-            return Err(Refusal::Wrong(Wrong::Form));
-        };
+        let part = totals_in(line).ok_or(Refusal::Wrong(Wrong::Form))?;
         if part.taps != u128::from(posted) {
             return Err(Refusal::Wrong(Wrong::Totals));
         }
-        let Some(all) = added(&self.totals, &part) else {
-            return Err(Refusal::Wrong(Wrong::Totals));
-        };
+        let all = added(&self.totals, &part).ok_or(Refusal::Wrong(Wrong::Totals))?;
         self.stage = Stage::AfterTotals;
         self.part = part;
         self.so_far = no_totals();
@@ -410,9 +388,7 @@ impl Fronts {
         ensures { TakesAs (validators_step (fronts_view self.old) line.now)
             (fronts_view self.new) result }
     {
-        let Some(left) = head_in(line, b"validators ") else {
-            return Err(Refusal::Wrong(Wrong::Form));
-        };
+        let left = head_in(line, b"validators ").ok_or(Refusal::Wrong(Wrong::Form))?;
         self.stage = Stage::Validators { left, last: None };
         Ok(())
     }
@@ -422,15 +398,11 @@ impl Fronts {
         ensures { TakesAs (validator_step left last (fronts_view self.old) line.now)
             (fronts_view self.new) result }
     {
-        let Some(sum) = validator_in(line) else {
-            return Err(Refusal::Wrong(Wrong::Form));
-        };
+        let sum = validator_in(line).ok_or(Refusal::Wrong(Wrong::Form))?;
         if !is_above(last, sum.validator) {
             return Err(Refusal::Wrong(Wrong::Order));
         }
-        let Some(so_far) = added(&self.so_far, &sum.totals) else {
-            return Err(Refusal::Wrong(Wrong::Totals));
-        };
+        let so_far = added(&self.so_far, &sum.totals).ok_or(Refusal::Wrong(Wrong::Totals))?;
         if !add_validator(&mut self.validators, &sum)? {
             return Err(Refusal::Wrong(Wrong::Totals));
         }
@@ -446,15 +418,11 @@ impl Fronts {
         ensures { TakesAs (tokens_step (fronts_view self.old) line.now)
             (fronts_view self.new) result }
     {
-        let Some(left) = head_in(line, b"tokens ") else {
-            return Err(Refusal::Wrong(Wrong::Form));
-        };
+        let left = head_in(line, b"tokens ").ok_or(Refusal::Wrong(Wrong::Form))?;
         if !are_same(&self.part, &self.so_far) {
             return Err(Refusal::Wrong(Wrong::Totals));
         }
-        let Some(all) = plus(self.tokens, left) else {
-            return Err(Refusal::Wrong(Wrong::Totals));
-        };
+        let all = plus(self.tokens, left).ok_or(Refusal::Wrong(Wrong::Totals))?;
         self.stage = Stage::Tokens { left };
         self.tokens = all;
         Ok(())

@@ -1,8 +1,7 @@
 //! Theorems about texts of parts: what they are merged into.
 
 ghost use Rattle.std.specs.Prelude.{◌≡◌, ◌∷◌, ℕ, List, None, Ok, map};
-ghost use Rattle.std.specs.List.{AllByRecursion, AllZip};
-ghost use Rattle.histories.specs.Entry.{TokensFit};
+ghost use Rattle.std.specs.List.{AllZip};
 ghost use Rattle.tariffs.specs.Fares.{Fares};
 ghost use Rattle.fare_texts.specs.Ledger.{IsLedgerOver};
 ghost use Rattle.histories.specs.Sums.{sums};
@@ -11,7 +10,7 @@ ghost use Rattle.tap_views.specs.declared.upload_end.UploadEnd.TheVariants.{Post
 ghost use Rattle.report_texts.specs.Report.{report};
 ghost use Rattle.part_texts.specs.HistoryParts.{AreRight, HistoryPart, numbers_of, report_of};
 ghost use Rattle.part_texts.specs.HistoryParts.{whole_history};
-ghost use Rattle.part_texts.specs.LedgerParts.{AreReadable, DoJoinUp, IsPartLedger};
+ghost use Rattle.part_texts.specs.LedgerParts.{DoJoinUp, IsPartLedger};
 ghost use Rattle.part_texts.specs.Merged.{merge_of};
 ghost use Rattle.part_texts.specs.Shown.{part_text};
 
@@ -25,17 +24,11 @@ pub fn reports_are_merged()
         (sums_by_token (whole_history (part ∷ parts)))) }
 {}
 
-/// What is merged of the ledgers of parts that join and rise by token is that of all parts'
-/// history. They are merged if each line of them has the form of a ledger's line.
+/// What is merged of the ledgers of parts that join and rise by token is that of all parts' history.
 pub fn ledgers_are_merged()
     ensures whole { (fares : Fares) (files : ℕ) (part : HistoryPart) (parts : List HistoryPart)
         (texts : List (List ℕ)) → DoJoinUp files (part ∷ parts)
         → AllZip (IsPartLedger fares) (part ∷ parts) texts
         → (text : List ℕ) → merge_of texts ≡ Ok text
         → IsLedgerOver fares (whole_history (part ∷ parts)) None text }
-    ensures merged { (fares : Fares) (files : ℕ) (part : HistoryPart) (parts : List HistoryPart)
-        (texts : List (List ℕ)) → DoJoinUp files (part ∷ parts)
-        → AllZip (IsPartLedger fares) (part ∷ parts) texts
-        → AllByRecursion (λ p. TokensFit p.history × AreReadable fares p.history) (part ∷ parts)
-        → (text : List ℕ) × (merge_of texts ≡ Ok text) }
 {}

@@ -76,9 +76,7 @@ impl Section {
     fn after_entry(self, line: &[u8]) -> Result<Section, Wrong>
         ensures { IsNext (entry_step (section_view self) line.now) result }
     {
-        let Some(token) = entry_token_in(line) else {
-            return Err(Wrong::Form);
-        };
+        let token = entry_token_in(line).ok_or(Wrong::Form)?;
         if !may_follow(self.is_first, self.last, token) {
             return Err(Wrong::Order);
         }
@@ -98,15 +96,11 @@ impl Section {
         if self.left == 0 {
             return Err(Wrong::Form);
         }
-        let Some(sum) = token_line_in(line) else {
-            return Err(Wrong::Form);
-        };
+        let sum = token_line_in(line).ok_or(Wrong::Form)?;
         if !is_token_above(self.last, sum.token) {
             return Err(Wrong::Order);
         }
-        let Some(so_far) = added(&self.so_far, &sum.totals) else {
-            return Err(Wrong::Totals);
-        };
+        let so_far = added(&self.so_far, &sum.totals).ok_or(Wrong::Totals)?;
         Ok(Section {
             is_ledger: self.is_ledger,
             is_first: self.is_first,

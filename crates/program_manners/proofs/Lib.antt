@@ -9,4 +9,3 @@ pub mod Refusals
 pub mod Shown
 pub mod TablesFaults
 pub mod TablesRefused
-pub mod WordLists

@@ -5,8 +5,7 @@ use Rattle.std.proofs.Common.{inr, arith, append_assoc, append-nil}
 use Rattle.std.proofs.lemmas.List.{get_or-take, length-take}
 use Rattle.std.proofs.lemmas.List.Concat.{flat_map-append}
 use Rattle.std.proofs.lemmas.List.Elements.{All-push}
-use Rattle.program_manners.specs.FileLists.{IsFirstWrong, IsListedName, IsWrongBy, Lacks, ended_by}
-use Rattle.program_manners.specs.declared.file_list.WrongName.{WrongName}
+use Rattle.program_manners.specs.FileLists.{IsListedName, Lacks, ended_by}
 use Rattle.program_manners.specs.inside.FileLists.{AreReadFrom}
 
 -- what stands before a place lacks a byte that does not stand before it
@@ -64,35 +63,6 @@ name_read end text names rest piece trailing read some name split = record {
     )
   ];
 }
-
-pub wrong_read : (end : ℕ) (text : List ℕ) (names : List (List ℕ)) (rest piece trailing : List ℕ)
-    (number : ℕ) (wrong : WrongName)
-    → AreReadFrom end text names rest → rest ≢ [] → number ≡ length names + 1 → Lacks end piece
-    → IsWrongBy wrong piece
-    → (rest ≡ piece ++ end ∷ trailing) ⊎ ((rest ≡ piece) × (trailing ≡ []))
-    → IsFirstWrong end text number wrong
-wrong_read end text names rest piece trailing number wrong read some is_number lacks is_wrong
-    split =
-    record {
-      before = names;
-      are_names = read.are_names;
-      is_number = is_number;
-      piece = piece;
-      no_end = lacks;
-      is_wrong = is_wrong;
-      whole = elim split [
-        | inl ended ↦ inl (
-          trailing,
-          read_whole end text names rest read some
-              ∙ ap (λ (t : List ℕ). ended_by end names ++ t) ended,
-        )
-        | inr last ↦ inr (
-          read_whole end text names rest read some
-              ∙ ap (λ (t : List ℕ). ended_by end names ++ t) last.0,
-          λ empty. some (last.0 ∙ empty),
-        )
-      ];
-    }
 
 -- what the test of a text's length says of it
 pub some_left : (text : List ℕ) → (length text == 0) ≡ false → text ≢ []

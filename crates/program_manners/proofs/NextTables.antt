@@ -3,11 +3,8 @@ use Rattle.std.proofs.Common.{◌≡◌, ◌∙◌, ◌+◌, ◌<◌, ℕ, List,
 use Rattle.std.proofs.Common.{arith}
 use Rattle.std.proofs.Common.{drop, get_or, length, length-append, map, refl, subst, suc, sym, take}
 use Rattle.std.proofs.Common.{zero}
-use Rattle.std.specs.Prelude.{IsUtf8, Ok, slice_get}
 use Rattle.std.proofs.lemmas.List.{map_more}
 use Rattle.tariffs.specs.Fares.{Fares}
-use Rattle.tariffs.specs.TableMeaning.{TableMeaning}
-use Rattle.fare_table.specs.TableMeaning.{meaning_in}
 use Rattle.program_manners.specs.Loads.{Loaded, LoadsOne}
 use Rattle.program_manners.specs.TableLoads.{Follows, LoadsLater, LoadsTables}
 use Rattle.program_manners.specs.TableWords.{TableNames, file_named}
@@ -125,55 +122,6 @@ tables_counted tables loaded_before loaded_before' texts fares loads =
     let none : length loads.alone.later ≡ 0 = ap length loads.means.2 in
     let all : length texts ≡ suc (length loads.rest) = ap length loads.are_texts in
     (omega (arith, one, two, none, all), omega (arith, one, all))
-
-later_read : (fares : Fares) (words : List (List ℕ))
-    (loaded_before loaded_before' : Option (List Loaded))
-    (texts : List (List ℕ)) (all : Fares)
-    → LoadsLater fares words loaded_before loaded_before' texts all
-    → (position : ℕ) (text : List ℕ) → slice_get texts position ≡ Some text
-    → IsUtf8 text × ((meaning : TableMeaning) × (meaning_in text ≡ Ok meaning))
-later_read fares [] loaded_before loaded_before' texts all (none, same, still) position text at =
-    absurd (no_position position (rw none at at))
-  where
-    no_position : (k : ℕ) → slice_get [] k ≡ Some text → ⊥
-    no_position k is = cc
-later_read fares (word ∷ words) loaded_before loaded_before' texts all
-    (first, rest, between, next, loaded, follows, more, whole) zero text at =
-    let same : first ≡ text = some_same (rw whole at at) in (
-      subst IsUtf8 same follows.follows.utf8,
-      (
-        follows.follows.next.meaning,
-        ap meaning_in (sym same) ∙ follows.follows.means.0,
-      ),
-    )
-  where
-    some_same : Some first ≡ Some text → first ≡ text
-    some_same is = cc
-later_read fares (word ∷ words) loaded_before loaded_before' texts all
-    (first, rest, between, next, loaded, follows, more, whole) (suc position) text at =
-    later_read next words between loaded_before' rest all more position text (rw whole at at)
-
--- each text is UTF-8, and means a table
-pub tables_read : (tables : TableNames) (loaded_before loaded_before' : Option (List Loaded))
-    (texts : List (List ℕ)) (fares : Fares)
-    → LoadsTables tables loaded_before loaded_before' texts fares
-    → (position : ℕ) (text : List ℕ) → slice_get texts position ≡ Some text
-    → IsUtf8 text × ((meaning : TableMeaning) × (meaning_in text ≡ Ok meaning))
-tables_read tables loaded_before loaded_before' texts fares loads zero text at =
-    let same : loads.text ≡ text = some_same (rw loads.are_texts at at) in (
-      subst IsUtf8 same loads.utf8,
-      (
-        loads.alone.meaning,
-        ap meaning_in (sym same) ∙ loads.means.0,
-      ),
-    )
-  where
-    some_same : Some loads.text ≡ Some text → loads.text ≡ text
-    some_same is = cc
-tables_read tables loaded_before loaded_before' texts fares loads (suc position) text at =
-    later_read loads.alone tables.later loads.between loaded_before' loads.rest fares
-    loads.loads_later position
-    text (rw loads.are_texts at at)
 
 -- the words before one, that one, and those behind it
 pub words_at : (words : List (Bor (List ℕ))) (position : ℕ) (other : Bor (List ℕ))

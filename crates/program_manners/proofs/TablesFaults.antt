@@ -11,7 +11,7 @@ use Rattle.program_manners.specs.Refusals.{IsFirstTableFault, IsOneOf, Refuses}
 use Rattle.program_manners.specs.TableLoads.{LoadsTables}
 use Rattle.program_manners.specs.TableRefusals.{RefusesNamed, RefusesOnly, RefusesToFollow}
 use Rattle.program_manners.specs.TableWords.{TableNames, file_named, table_files, written_date}
-use Rattle.program_manners.specs.TablesFaults.{IsTablesFault, SameRefusals}
+use Rattle.program_manners.specs.TablesFaults.{IsTablesFault}
 use Rattle.program_manners.specs.declared.following.NextFault.{NextFault}
 use Rattle.program_manners.specs.declared.following.NextFault.TheVariants as next
 use Rattle.program_manners.specs.declared.loading.FileFault.{FileFault}
@@ -82,25 +82,3 @@ module _ (tables : TableNames) (loaded loaded' loaded'' : Option (List Loaded))
         (not_following tables loaded loaded' loaded'' before trailing word text holds texts fares
         loads is_loaded date dated why wrong))
     next_is_right date dated (next.Follow why) wrong _ is = absurd is
-
-module _ (refused refused' : Option (Option (List ℕ) × LoadFault)) (same : refused' ≡ refused) where
-  -- behind a file that was loaded, nothing was refused
-  pub named_kept : (name : List ℕ) (alone : Bool) (why : TableFault) (fault : TablesFault)
-      → IsRightNamed name alone why fault → SameRefusals refused refused' fault
-  named_kept name alone why (Table fault) is = same
-  named_kept name alone why (NamedTable line) is = same
-  named_kept name alone why NoMemory is = same
-  named_kept name alone why _ is = absurd is
-
-  pub later_kept : (word name : List ℕ) (why : NextFault) (fault : TablesFault)
-      → IsRightLater word name why fault → SameRefusals refused refused' fault
-  later_kept word name (next.Table why) fault is = named_kept name false why fault is
-  later_kept word name (next.Follow why) (Follow line) is = same
-  later_kept word name (next.Follow why) _ is = absurd is
-
--- what was refused behind what was not
-pub kept_on : (refused between refused' : Option (Option (List ℕ) × LoadFault))
-    (fault : TablesFault) → between ≡ refused → SameRefusals between refused' fault
-    → SameRefusals refused refused' fault
-kept_on refused between refused' fault same kept =
-    subst (λ (r : Option (Option (List ℕ) × LoadFault)). SameRefusals r refused' fault) same kept

@@ -1,9 +1,7 @@
-pub mod Arguments
 pub mod FileLists
 pub mod LineWritten
 pub mod Lines
 pub mod ListWords
-pub mod ListedWords
 pub mod Loads
 pub mod NextFaults
 pub mod Refusals
@@ -12,6 +10,5 @@ pub mod TableRefusals
 pub mod TableViews
 pub mod TableWords
 pub mod TablesFaults
-pub mod TerminalLine
 pub mod Words
 pub mod inside

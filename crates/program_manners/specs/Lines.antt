@@ -5,12 +5,6 @@ use Rattle.fare_table.specs.declared.fault.TableFault.{TableFault}
 use Rattle.fare_table.specs.declared.fault.TableFault.TheVariants as table
 use Rattle.tariffs.specs.declared.follow_fault.FollowFault.{FollowFault}
 use Rattle.tariffs.specs.declared.follow_fault.FollowFault.TheVariants as follow
-use Rattle.program_manners.specs.declared.file_list.ListFault.{ListFault}
-use Rattle.program_manners.specs.declared.file_list.ListFault.TheVariants as listed
-use Rattle.program_manners.specs.declared.file_list.NameEnd.{NameEnd}
-use Rattle.program_manners.specs.declared.file_list.NameEnd.TheVariants.{LineFeed, Nul}
-use Rattle.program_manners.specs.declared.file_list.WrongName.{WrongName}
-use Rattle.program_manners.specs.declared.file_list.WrongName.TheVariants as wrong
 use Rattle.world.specs.declared.faults.LoadFault.{LoadFault}
 use Rattle.world.specs.declared.faults.LoadFault.TheVariants as load
 
@@ -63,31 +57,3 @@ abbrev pub load_text : List ℕ → LoadFault → List ℕ
 load_text name load.Unread = codes "fault: cannot read " ++ name
 load_text name load.TooLong = codes "fault: " ++ (name ++ codes " is too long")
 load_text name load.NoMemory = codes "fault: out of memory"
-
--- what a piece of a list of files is called
-abbrev pub piece_word : NameEnd → List ℕ
-piece_word LineFeed = codes "line"
-piece_word Nul = codes "name"
-
--- what is wrong with a name of a list
-abbrev pub wrong_text : WrongName → List ℕ
-wrong_text wrong.Empty = codes "it is empty"
-wrong_text wrong.HasNul = codes "it has a NUL"
-wrong_text wrong.NotUtf8 = codes "it is not UTF-8"
-
--- the exit status if a list gives no names of files: 2 for a mistake in the words
-abbrev pub list_status : ListFault → ℕ
-list_status listed.NullAlone = 2
-list_status listed.InputTwice = 2
-list_status _ = 1
-
--- the line of a list of this name that gives no names of files
-abbrev pub list_text : List ℕ → NameEnd → ListFault → List ℕ
-list_text list end listed.NullAlone = codes "error: -0 needs --files-from"
-list_text list end listed.InputTwice = codes "error: - can be named only once"
-list_text list end listed.Unread = codes "fault: cannot read " ++ list
-list_text list end listed.TooLong = codes "fault: " ++ (list ++ codes " is too long")
-list_text list end listed.NoNames = codes "fault: " ++ (list ++ codes " has no names")
-list_text list end (listed.Name number why) = codes "fault: " ++ (list ++ (codes " "
-    ++ (piece_word end ++ (codes " " ++ (decimal number ++ (codes ": " ++ wrong_text why))))))
-list_text list end listed.NoMemory = codes "fault: out of memory"

@@ -23,9 +23,3 @@ IsTablesFault tables loaded loaded' refused (NamedTable line) =
 IsTablesFault tables loaded loaded' refused (Follow line) =
     RefusesToFollow tables loaded loaded' line.word.now line.fault
 IsTablesFault tables loaded loaded' refused NoMemory = ⊤
-
--- unless the fault is that a file was not loaded, the source has refused nothing meanwhile
-abbrev pub SameRefusals : Option (Option (List ℕ) × LoadFault)
-    → Option (Option (List ℕ) × LoadFault) → TablesFault → Type 0
-SameRefusals refused refused' (File file) = ⊤
-SameRefusals refused refused' fault = refused' ≡ refused

@@ -1,4 +1,3 @@
 -- What only private functions cite. Who reads the contracts of public calls need not read it.
-pub mod Arguments
 pub mod FileLists
 pub mod TableLoads

@@ -1,8 +1,4 @@
 //! The words of the command line, and why they could not be read.
-ghost use Rattle.std.specs.Prelude.{◌≡◌, ◌<◌, ◌++◌, IfOk, OnOk, Some, flat_map, string_bytes};
-ghost use Rattle.program_manners.specs.Arguments.{unread_status, unread_text};
-ghost use Rattle.program_manners.specs.inside.Arguments.{escaped_byte, hex_digit};
-ghost use Rattle.program_manners.specs.LineWritten.{LineWritten};
 
 use crate::complaints::Complaints;
 use std::alloc::{AllocError, Global};
@@ -13,7 +9,8 @@ use std::{env, fmt};
 /// The longest word that Linux gives a program, in bytes with its NUL.
 const MAX_WORD_BYTES: usize = 131_072;
 
-/// Why the words of the command line could not be read.
+/// Why the words of the command line could not be read. Its `Display` is the line without its line
+/// feed.
 #[derive(Debug, Drop)]
 pub enum WordsFault {
     /// This word is not UTF-8: printable ASCII is shown as it is, each other byte as `\xHH`.
@@ -23,18 +20,12 @@ pub enum WordsFault {
 }
 
 impl From<AllocError> for WordsFault {
-    ghost use Rattle.program_manners.specs.declared.arguments.WordsFault.TheVariants.{NoMemory};
-
-    ghost from_gives = { λ _ fault. fault ≡ NoMemory };
-
     fn from(_refused: AllocError) -> WordsFault {
         WordsFault::NoMemory
     }
 }
 
 impl fmt::Display for WordsFault {
-    ghost output = { λ fault. Some (unread_text fault) };
-
     fn fmt<W: fmt::Write>(&self, f: &mut fmt::Formatter<W>) -> fmt::Result {
         match self {
             WordsFault::NotUtf8(shown) => write!(f, "error: an argument is not UTF-8: {shown}"),
@@ -44,11 +35,7 @@ impl fmt::Display for WordsFault {
 }
 
 /// Reports why the words could not be read. The status is 1 out of memory, and else 2.
-pub fn unread_words<E: Write>(fault: &WordsFault, err: &mut Complaints<E>) -> u8
-    ensures status { result ≡ unread_status fault.now }
-    ensures line { LineWritten (E.contents err.old.writer) (E.contents err.new.writer)
-        err.new.failed (unread_text fault.now) }
-{
+pub fn unread_words<E: Write>(fault: &WordsFault, err: &mut Complaints<E>) -> u8 {
     err.report_line(fault);
     match fault {
         WordsFault::NotUtf8(_) => 2,
@@ -81,37 +68,13 @@ fn first_wrong_word<R: Env + AllocGlobal>(rt: &R) -> Result<String, AllocError> 
     Ok(String::new(rt.alloc()))
 }
 
-fn hex_digit(number: u8) -> char
-    requires { number < 16 }
-    ensures { result ≡ hex_digit number }
-{
-    let digit = if number < 10 {
-        b'0' + number
-    } else {
-        b'a' + (number - 10)
-    };
-    digit as char
-}
-
-fn push_escaped(shown: &mut String, byte: u8) -> Result<(), AllocError>
-    ensures { OnOk result (string_bytes shown.new ≡ string_bytes shown.old ++ escaped_byte byte) }
-{
-    if byte >= b' ' && byte <= b'~' {
-        return shown.push(byte as char);
-    }
-    shown.push('\\')?;
-    shown.push('x')?;
-    shown.push(hex_digit(byte / 16))?;
-    shown.push(hex_digit(byte % 16))
-}
-
-/// Printable ASCII is shown as it is, each other byte as `\xHH`.
-fn escaped(alloc: Global, bytes: &[u8]) -> Result<String, AllocError>
-    ensures { IfOk result (λ shown. string_bytes shown ≡ flat_map escaped_byte bytes.now) }
-{
+fn escaped(alloc: Global, bytes: &[u8]) -> Result<String, AllocError> {
     let mut shown = String::new(alloc);
     for byte in bytes {
-        push_escaped(&mut shown, *byte)?;
+        match *byte {
+            b' '..=b'~' => shown.push(*byte as char)?,
+            other => write!(shown, "\\x{other:02x}")?,
+        }
     }
     Ok(shown)
 }

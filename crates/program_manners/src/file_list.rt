@@ -1,7 +1,6 @@
 //! The names of files that a text lists.
-ghost use Rattle.std.specs.Prelude.{◌≡◌, ◌≢◌, ◌⊎◌, ◌++◌, ◌∷◌, [], IfErr, IfOk, IsUtf8, OnOk, map};
-ghost use Rattle.program_manners.specs.FileLists.{AreNamesOf, IsRefusedList, IsWrongBy, Lacks};
-ghost use Rattle.program_manners.specs.FileLists.{end_byte};
+ghost use Rattle.std.specs.Prelude.{◌≡◌, ◌≢◌, ◌⊎◌, ◌++◌, ◌∷◌, [], IfOk, IsUtf8, OnOk, map};
+ghost use Rattle.program_manners.specs.FileLists.{AreNamesOf, Lacks, end_byte};
 
 use memchr::memchr;
 use std::alloc::{AllocError, AllocFailed, Global};
@@ -55,10 +54,6 @@ pub enum ListFault {
 }
 
 impl From<LoadFault> for ListFault {
-    ghost use Rattle.program_manners.specs.FileLists.{list_fault_of};
-
-    ghost from_gives = { λ load fault. fault ≡ list_fault_of load };
-
     fn from(fault: LoadFault) -> ListFault {
         match fault {
             LoadFault::Unread => ListFault::Unread,
@@ -69,20 +64,12 @@ impl From<LoadFault> for ListFault {
 }
 
 impl From<AllocError> for ListFault {
-    ghost use Rattle.program_manners.specs.declared.file_list.ListFault.TheVariants.{NoMemory};
-
-    ghost from_gives = { λ _ fault. fault ≡ NoMemory };
-
     fn from(_refused: AllocError) -> ListFault {
         ListFault::NoMemory
     }
 }
 
 impl<T: Drop> From<AllocFailed<T>> for ListFault {
-    ghost use Rattle.program_manners.specs.declared.file_list.ListFault.TheVariants.{NoMemory};
-
-    ghost from_gives = { λ _ fault. fault ≡ NoMemory };
-
     fn from(_refused: AllocFailed<T>) -> ListFault {
         ListFault::NoMemory
     }
@@ -103,7 +90,6 @@ fn split_name(text: &[u8], end: u8) -> (&[u8], &[u8])
 fn name_of(bytes: &[u8]) -> Result<&str, WrongName>
     ensures name { IfOk result (λ name. name.now ≡ bytes.now) }
     ensures right { OnOk result ((bytes.now ≢ []) × Lacks 0 bytes.now × IsUtf8 bytes.now) }
-    ensures wrong { IfErr result (λ wrong. IsWrongBy wrong bytes.now) }
 {
     if bytes.is_empty() {
         return Err(WrongName::Empty);
@@ -124,9 +110,8 @@ pub fn names_of_list<'a>(
     text: &'a [u8],
     end: NameEnd,
 ) -> Result<Vec<&'a str>, ListFault>
-    ensures names { IfOk result (λ names. AreNamesOf (end_byte end) text.entry.now
+    ensures { IfOk result (λ names. AreNamesOf (end_byte end) text.entry.now
         (map (λ n. n.now) names.items)) }
-    ensures refused { IfErr result (λ fault. IsRefusedList (end_byte end) text.entry.now fault) }
 {
     if text.is_empty() {
         return Err(ListFault::NoNames);

@@ -6,7 +6,7 @@ ghost use Rattle.program_manners.specs.Refusals.{Refuses};
 ghost use Rattle.program_manners.specs.TableLoads.{Follows, LoadsTables};
 ghost use Rattle.program_manners.specs.TableViews.{names_of};
 ghost use Rattle.program_manners.specs.TableWords.{TableNames, date_fault, file_named, wrong_word};
-ghost use Rattle.program_manners.specs.TablesFaults.{IsTablesFault, SameRefusals};
+ghost use Rattle.program_manners.specs.TablesFaults.{IsTablesFault};
 ghost use Rattle.program_manners.specs.inside.TableLoads.{IsRightLater, IsRightNamed};
 
 use crate::file_source::FileSource;
@@ -63,7 +63,6 @@ pub struct Tables {
 fn load_named<'a, S: FileSource>(source: &mut S, name: &'a str) -> Result<Vec<u8>, FileFault<'a>>
     ensures ok { IfOk result (λ bytes. LoadsOne (S.loaded source.old) (S.loaded source.new)
         (Some name.entry.now) bytes.items) }
-    ensures success { IfOk result (λ _. S.refused source.new ≡ S.refused source.old) }
     ensures named { IfErr result (λ file. file.name.now ≡ name.entry.now) }
     ensures refused { IfErr result
         (λ file. Refuses (S.refused source.new) (Some name.entry.now) file.fault) }
@@ -116,13 +115,11 @@ fn load_next<'a, S: FileSource>(
         × Follows tables.fares word.entry.now text all.fares
         × (map (λ t. t.items) all.texts.items
         ≡ map (λ t. t.items) tables.texts.items ++ text ∷ [])) }
-    ensures success { IfOk result (λ _. S.refused source.new ≡ S.refused source.old) }
     ensures right { IfErr result (λ fault. (loaded : Option (List Loaded)) (words : TableNames)
         (before trailing texts : List (List ℕ)) → words.later ≡ before ++ word.entry.now ∷ trailing
         → LoadsTables (record { first = words.first; later = before }) loaded (S.loaded source.old)
         texts tables.fares
         → IsTablesFault words loaded (S.loaded source.new) (S.refused source.new) fault) }
-    ensures kept { IfErr result (SameRefusals (S.refused source.old) (S.refused source.new)) }
 {
     let parts = TableWord::of(word);
     let Some(date) = parts.date else {
@@ -148,10 +145,8 @@ fn load_first<'a, S: FileSource>(
         LoadsTables (record { first = words.now.first.now; later = [] })
         (S.loaded source.old) (S.loaded source.new) (map (λ t. t.items) tables.texts.items)
         tables.fares) }
-    ensures success { IfOk result (λ _. S.refused source.new ≡ S.refused source.old) }
     ensures right { IfErr result (IsTablesFault (names_of words.now) (S.loaded source.old)
         (S.loaded source.new) (S.refused source.new)) }
-    ensures kept { IfErr result (SameRefusals (S.refused source.old) (S.refused source.new)) }
 {
     let name = words.first;
     let text = load_named(source, name)?;
@@ -176,10 +171,8 @@ pub fn load_tables<'a, S: FileSource>(
     requires { wrong_word (names_of words.now) ≡ None }
     ensures ok { IfOk result (λ tables. LoadsTables (names_of words.now) (S.loaded source.old)
         (S.loaded source.new) (map (λ t. t.items) tables.texts.items) tables.fares) }
-    ensures success { IfOk result (λ _. S.refused source.new ≡ S.refused source.old) }
     ensures right { IfErr result (IsTablesFault (names_of words.now) (S.loaded source.old)
         (S.loaded source.new) (S.refused source.new)) }
-    ensures kept { IfErr result (SameRefusals (S.refused source.old) (S.refused source.new)) }
 {
     let mut tables = load_first(alloc, words, source)?;
     for word in &words.later {

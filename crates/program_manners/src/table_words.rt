@@ -76,28 +76,13 @@ impl<'a> TableWord<'a> {
         ensures name { result.name.now ≡ file_named word.entry.now }
         ensures date { result.date ≡ written_date word.entry.now }
     {
-        let Some(start) = word.len().checked_sub(DATE_BYTES) else {
-            return TableWord {
-                name: word,
-                date: None,
-            };
+        let start = word.len().saturating_sub(DATE_BYTES);
+        let date = written_in(&word.as_bytes()[start..]);
+        let name = match date {
+            Some(_) => &word[..start],
+            None => word,
         };
-        let Some((name, end)) = word.split_at_checked(start) else {
-            return TableWord {
-                name: word,
-                date: None,
-            };
-        };
-        match written_in(end.as_bytes()) {
-            Some(date) => TableWord {
-                name,
-                date: Some(date),
-            },
-            None => TableWord {
-                name: word,
-                date: None,
-            },
-        }
+        TableWord { name, date }
     }
 }
 
@@ -241,7 +226,8 @@ fn wrong_date(is_first: bool, date: WrittenDate) -> Option<DateFault>
     }
 }
 
-fn date_fault(is_first: bool, word: &str) -> Option<DateFault>
+/// What is wrong with the date of a word of `--table`, which is the first one or a later one.
+pub fn date_fault(is_first: bool, word: &str) -> Option<DateFault>
     ensures { result ≡ date_fault is_first word.now }
 {
     match TableWord::of(word).date {

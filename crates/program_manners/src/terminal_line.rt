@@ -1,6 +1,4 @@
 //! A line on a terminal that says how far a long run is.
-ghost use Rattle.std.specs.Prelude.{◌≡◌, [], IfOk, IfSome, false};
-ghost use Rattle.program_manners.specs.TerminalLine.{line_with, IsWrittenOnce};
 
 use arrayvec::ArrayString;
 use std::fmt;
@@ -14,10 +12,7 @@ pub const QUIET_MS: u64 = 1_000;
 pub const PACE_MS: u64 = 200;
 
 /// An error if it has more than 80 bytes.
-fn line_of<D: Display + Drop>(text: D) -> Result<ArrayString<80>, fmt::Error>
-    ensures { IfOk result (λ line. IfSome (D.output text) (λ shown.
-        line.bytes ≡ line_with shown)) }
-{
+fn line_of<D: Display + Drop>(text: D) -> Result<ArrayString<80>, fmt::Error> {
     let mut line = ArrayString::new();
     write!(line, "\r{text}\x1b[K")?;
     Ok(line)
@@ -34,9 +29,7 @@ pub struct TerminalLine<W: Write + Drop> {
 
 impl<W: Write + Drop> TerminalLine<W> {
     /// A line with no text.
-    pub fn new(to: W) -> TerminalLine<W>
-        ensures { result ≡ record { to = to; is_shown = false } }
-    {
+    pub fn new(to: W) -> TerminalLine<W> {
         TerminalLine {
             to,
             is_shown: false,
@@ -45,10 +38,7 @@ impl<W: Write + Drop> TerminalLine<W> {
 
     /// Shows a text in place of the one there, by one write. One of more than 76 bytes is not
     /// shown.
-    pub fn show<D: Display + Drop>(&mut self, text: D)
-        ensures { IfSome (D.output text) (λ shown. IsWrittenOnce (W.contents self.old.to)
-            (W.contents self.new.to) (line_with shown)) }
-    {
+    pub fn show<D: Display + Drop>(&mut self, text: D) {
         if let Ok(line) = line_of(text) {
             let _ = self.to.write(line.as_bytes());
             self.is_shown = true;
@@ -56,11 +46,7 @@ impl<W: Write + Drop> TerminalLine<W> {
     }
 
     /// Takes the text away.
-    pub fn clear(&mut self)
-        ensures written { IsWrittenOnce (W.contents self.old.to) (W.contents self.new.to)
-            (line_with []) }
-        ensures none { self.new.is_shown ≡ false }
-    {
+    pub fn clear(&mut self) {
         if self.is_shown {
             let _ = self.to.write(b"\r\x1b[K");
             self.is_shown = false;

@@ -1,6 +1,5 @@
 -- A true verdict says that a report is the ledger's exactly if it is.
-use Rattle.std.proofs.Common.{◌≡◌, ◌∙◌, ℕ, Bool, true, false, List, ◌++◌, length, Option, Some}
-use Rattle.std.proofs.Common.{None}
+use Rattle.std.proofs.Common.{◌≡◌, ◌∙◌, ℕ, Bool, true, false, List, ◌++◌, length, Some, None}
 use Rattle.std.proofs.Common.{Result, Ok, Err, append_assoc, codes, refl, sym, ap, eq-eqb, eqb-true}
 use Rattle.std.specs.Prelude.{◌↔◌, nat_eq, sum_by}
 use Rattle.std.proofs.lemmas.Bool.{false≢true}
@@ -20,7 +19,7 @@ use Rattle.report_check.specs.declared.verdict.ReportVerdict.{ReportVerdict}
 use Rattle.report_check.specs.declared.verdict.ReportVerdict.TheVariants.{OfLedger, Wants, NoLine}
 use Rattle.report_check.specs.declared.verdict.ReportVerdict.TheVariants.{Taps}
 use Rattle.report_check.proofs.Differences.{none_same, same_none}
-use Rattle.report_check.proofs.EndLines.{AreRead, uploads_complete, uploads_sound}
+use Rattle.report_check.proofs.EndLines.{uploads_complete, uploads_sound}
 
 other : (Is : Type 0) → ¬ Is → (false ≡ true) ↔ Is
 other Is not = (λ is. absurd (false≢true is), λ own. absurd (not own))

@@ -1,8 +1,6 @@
 -- The lines of uploads say how these ended, and nothing else.
 use Rattle.std.proofs.Common.{◌≡◌, ◌∙◌, ℕ, zero, suc, ◌+◌, ◌<◌, ◌^◌, All, Bool, true, false, List}
-use Rattle.std.proofs.Common.{[]}
-use Rattle.std.proofs.Common.{◌∷◌, ◌++◌, length, Option, Some, None, Result, Ok, Err, codes, refl}
-use Rattle.std.proofs.Common.{sym}
+use Rattle.std.proofs.Common.{[], ◌∷◌, ◌++◌, length, Option, Some, None, Ok, Err, codes, refl, sym}
 use Rattle.std.proofs.Common.{ap, subst, arith, append_assoc, append-nil, length-append, option_map}
 use Rattle.std.proofs.Common.{◌-◌, ◌≤◌, eq-eqb, nat_eq}
 use Rattle.std.specs.Fmt.{decimal}
@@ -18,7 +16,7 @@ use Rattle.line_forms.specs.Forms.{value_if}
 use Rattle.report_texts.proofs.EndTexts.{line_words, refused_spelled, small_number}
 use Rattle.report_texts.proofs.Lines.{head_complete, head_sound, upload_complete, upload_sound}
 use Rattle.report_texts.specs.FormLaws.{count_form, some_one}
-use Rattle.report_texts.specs.Forms.{count_at, head_in, upload_if, upload_in}
+use Rattle.report_texts.specs.Forms.{count_at, head_in, upload_in}
 use Rattle.report_texts.specs.Numbers.{IsUploadEnd}
 use Rattle.report_texts.specs.Report.{upload_line, upload_lines}
 use Rattle.report_texts.specs.inside.EndWords.{end_words, fault_number}
@@ -26,8 +24,7 @@ use Rattle.tap_views.specs.declared.upload_end.UploadEnd.{UploadEnd}
 use Rattle.tap_views.specs.declared.upload_end.UploadEnd.TheVariants.{Posted, Refused, Cut, Undrawn}
 use Rattle.report_check.specs.Reports.{IsReportEnd}
 use Rattle.report_check.specs.Uploads.{cut_or, end_at, end_if, end_in, ends_from, found_or}
-use Rattle.report_check.specs.Uploads.{numbered}
-use Rattle.report_check.specs.Uploads.{or_else, unfinished_in, uploads_in}
+use Rattle.report_check.specs.Uploads.{numbered, or_else, unfinished_in, uploads_in}
 
 -- ---- one line
 count_upload : (number : ℕ) (end : UploadEnd) → number < 2 ^ 64
@@ -39,22 +36,12 @@ count_upload number end small =
 
 pub end_complete : (number : ℕ) (end : UploadEnd) → number < 2 ^ 64 → IsReportEnd end
     → end_in (upload_line number end) ≡ Some (number, end)
-end_complete number (Posted taps) small fits =
-    ap (λ (o : Option (ℕ × UploadEnd)). or_else o
-    (unfinished_in (upload_line number (Posted taps))))
-    (upload_complete number (Posted taps) small fits)
+end_complete number (Posted taps) small fits = rw (upload_complete number (Posted taps) small fits)
 end_complete number (Refused taps offset fault) small fits =
-    ap (λ (o : Option (ℕ × UploadEnd)). or_else o
-    (unfinished_in (upload_line number (Refused taps offset fault))))
-    (upload_complete number (Refused taps offset fault) small fits)
+    rw (upload_complete number (Refused taps offset fault) small fits)
 end_complete number (Cut taps) small fits =
-    let count = count_upload number (Cut taps) small in
-    ap (λ (o : Option (ℕ × List ℕ)). or_else (upload_if o) (numbered o)) count
-    ∙ ap (λ (o : Option ℕ). option_map (λ end. (number, end)) (cut_or o (end_words (Cut taps))))
-    (head_complete (codes " cut ") taps fits)
-end_complete number Undrawn small fits =
-    ap (λ (o : Option (ℕ × List ℕ)). or_else (upload_if o) (numbered o))
-    (count_upload number Undrawn small)
+    rw (count_upload number (Cut taps) small, head_complete (codes " cut ") taps fits)
+end_complete number Undrawn small fits = rw (count_upload number Undrawn small)
 
 finished : (end : UploadEnd) → IsUploadEnd end → IsReportEnd end
 finished (Posted taps) fits = fits
@@ -203,28 +190,22 @@ ends_complete (end ∷ more) ends trailing each small =
     ap (end_if n) (end_complete n end here each.0)
     ∙ ap (λ (b : Bool). value_if b end) (eq-eqb n n refl) in
     let next : n + 1 ≡ length (ends ++ end ∷ []) = omega (arith, length-append ends (end ∷ [])) in
-    ap (ends_from (suc (length more)) ends) split
-    ∙ ap (λ (o : Option UploadEnd). found_or (n + 2) o
-    (λ e. ends_from (length more) (ends ++ e ∷ []) (lines_of rest))) at
-    ∙ ap (λ (k : ℕ). ends_from (length more) (ends ++ end ∷ [])
-    (lines_of (upload_lines k more ++ trailing))) next
-    ∙ ends_complete more (ends ++ end ∷ []) trailing each.1 (omega (arith, small, next))
-    ∙ ap (λ (es : List UploadEnd). Ok es) (append_assoc ends (end ∷ []) more)
+    rw (split, at, next)
+    (ends_complete more (ends ++ end ∷ []) trailing each.1 (omega (arith, small, next))
+    ∙ ap (λ (es : List UploadEnd). Ok es) (append_assoc ends (end ∷ []) more))
 
 pub uploads_complete : (ends : List UploadEnd) (trailing : List ℕ) → All IsReportEnd ends
     → length ends < 2 ^ 64
     → uploads_in (lines_of (number_line (codes "uploads ") (length ends)
     ++ (upload_lines 0 ends ++ trailing))) ≡ Ok ends
 uploads_complete ends trailing each small =
-    let lines = lines_of (upload_lines 0 ends ++ trailing) in
-    ap uploads_in (line_first (number_line (codes "uploads ") (length ends))
-    (upload_lines 0 ends ++ trailing)
-    (number_line_is (codes "uploads ") (length ends) (lacks-tested 10 (codes "uploads ") refl)
-    small))
-    ∙ ap (λ (o : Option ℕ). found_or 1 o (λ uploads. ends_from uploads [] lines))
-    (head_complete (codes "uploads ") (length ends) small)
-    ∙ ends_complete ends [] trailing (recursion_from_All IsReportEnd ends each)
-    (omega (arith, small))
+    rw (
+      line_first (number_line (codes "uploads ") (length ends)) (upload_lines 0 ends ++ trailing)
+          (number_line_is (codes "uploads ") (length ends) (lacks-tested 10 (codes "uploads ") refl)
+          small),
+      head_complete (codes "uploads ") (length ends) small,
+    )
+    (ends_complete ends [] trailing (recursion_from_All IsReportEnd ends each) (omega (arith, small)))
 
 -- ---- the next line of a loop
 pub next_line : (uploads upload : ℕ) (ends : List UploadEnd) (line : List ℕ)
@@ -235,15 +216,13 @@ pub next_line : (uploads upload : ℕ) (ends : List UploadEnd) (line : List ℕ)
     (λ end. ends_from (uploads - (upload + 1)) (ends ++ end ∷ []) lines)
 next_line uploads upload ends line lines o below is =
     let left : uploads - upload ≡ suc (uploads - (upload + 1)) = omega (arith, below) in
-    ap (λ (n : ℕ). ends_from n ends (line ∷ lines)) left
-    ∙ ap (λ (found : Option UploadEnd). found_or (length ends + 2) found
-    (λ end. ends_from (uploads - (upload + 1)) (ends ++ end ∷ []) lines)) is
+    rw (left, is)
 
 pub no_line : (uploads upload : ℕ) (ends : List UploadEnd) → upload < uploads
     → ends_from (uploads - upload) ends [] ≡ Err (length ends + 2)
 no_line uploads upload ends below =
     let left : uploads - upload ≡ suc (uploads - (upload + 1)) = omega (arith, below) in
-    ap (λ (n : ℕ). ends_from n ends []) left
+    rw left
 
 pub no_uploads : (text : List ℕ) → length text ≤ 0 → uploads_in (lines_of text) ≡ Err 1
 unfolding lines_of

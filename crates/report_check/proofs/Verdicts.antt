@@ -1,7 +1,7 @@
 -- The verdict by what the lines of the uploads say.
 use Rattle.std.proofs.Common.{◌≡◌, ◌≢◌, ◌∙◌, ℕ, ◌+◌, Bool, List, length, Result, Ok, sym, ap, subst}
 use Rattle.std.proofs.Common.{eq-eqb}
-use Rattle.std.specs.Prelude.{nat_eq, sum_by}
+use Rattle.std.specs.Prelude.{sum_by}
 use Rattle.std.proofs.lemmas.Bool.{ne_eqb}
 use Rattle.histories.specs.Sums.{Sums}
 use Rattle.histories.specs.declared.entry.Entry.{Entry}

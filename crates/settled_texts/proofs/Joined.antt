@@ -1,6 +1,6 @@
 -- Lists one behind the other, and what goes out at once.
 use Rattle.std.proofs.Common.{◌≡◌, ℕ, ◌+◌, ◌<◌, List, [], ◌∷◌, ◌++◌, All, Option, Some, None}
-use Rattle.std.proofs.Common.{length, take, drop, get_or, flat_map, refl, sym, ap, subst, ◌∙◌}
+use Rattle.std.proofs.Common.{length, take, drop, get_or, flat_map, sym, ap, subst, ◌∙◌}
 use Rattle.std.proofs.Common.{append-nil, add-one, drop-cons, Vec, Global, Bor}
 use Rattle.std.specs.Prelude.{IfSome, slice_get}
 use Rattle.std.specs.Slice.{IsItemAt}
@@ -13,7 +13,7 @@ use Rattle.tap_views.specs.declared.encoder.TapFields.{TapFields}
 use Rattle.tap_views.proofs.Lists.{All-split}
 use Rattle.settled_texts.specs.inside.WorkerSlots.{IsSoundList}
 use Rattle.settlement.specs.Nondecreasing.{TapsNondecreasingFrom, last_token}
-use Rattle.settled_texts.proofs.TapsExplained.{nondecreasing_within}
+use Rattle.settlement.proofs.Nondecreasing.{nondecreasing_append}
 
 -- the taps of lists, one list behind the other
 abbrev pub joined : List (Vec TapFields Global) → List TapFields
@@ -58,13 +58,13 @@ sound_at token lists position other within early nondecreasing =
     let before = joined (take position lists) in
     let here = (get_or lists position other).items in
     let trailing = joined (drop (position + 1) lists) in
+    let rest = nondecreasing_append token before (here ++ trailing)
+    (subst (TapsNondecreasingFrom token) (sym whole) nondecreasing) in
     record {
       early = (All-split Early here trailing (All-split Early before (here ++ trailing)
           (subst (λ (ts : List TapFields). All Early ts) (sym whole) early)).1).0;
       from = last_token token before;
-      nondecreasing = nondecreasing_within token (last_token token before) before here trailing
-          (joined lists) whole
-          nondecreasing refl;
+      nondecreasing = (nondecreasing_append (last_token token before) here trailing rest.1).0;
     }
 
 pub joined_append : (xs ys : List (Vec TapFields Global))

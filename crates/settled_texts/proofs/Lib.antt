@@ -3,6 +3,5 @@ pub mod Numbering
 pub mod OwnEntries
 pub mod Rows
 pub mod Settled
-pub mod Strides
 pub mod TapsExplained
 pub mod TracedLines

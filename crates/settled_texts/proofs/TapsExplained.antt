@@ -1,6 +1,7 @@
 -- The lines of taps, and of more taps behind them.
 use Rattle.std.proofs.Common.{◌≡◌, ℕ, List, [], ◌∷◌, ◌++◌, take, drop}
 use Rattle.std.proofs.Common.{Option, Some, refl, sym, ap, subst, ◌∙◌, append-nil, append_assoc}
+use Rattle.std.proofs.Common.{◌<◌, All, arith, false, length, length-append}
 use Rattle.std.specs.Prelude.{slice_get}
 use Rattle.std.proofs.lemmas.List.{take-append-drop}
 use Rattle.tariffs.specs.Fares.{Fares}
@@ -12,17 +13,20 @@ use Rattle.fare_texts.specs.Explainers.{HasExplained, next_entry}
 use Rattle.fare_texts.specs.LedgerLines.{IsLedgerLineAfter}
 use Rattle.fare_texts.specs.declared.explainer.Explainer.{Explainer}
 use Rattle.histories.specs.Plain.{answered}
-use Rattle.fare_texts.specs.Lines.{AreLinesAlong, AreUpTo, HasConsumed}
+use Rattle.fare_texts.specs.Lines.{AreLinesAlong, HasConsumed}
 use Rattle.tap_views.specs.TokenOrder.{IsUpTo}
-use Rattle.fare_texts.specs.WrittenOut.{Begins, GoesOut}
-use Rattle.fare_texts.proofs.Beginnings.{goes_begins_on, goes_then_on}
+use Rattle.fare_texts.specs.WrittenOut.{Begins}
+use Rattle.fare_texts.proofs.Beginnings.{begins_front}
+use Rattle.tap_views.specs.Layout.{moment_limit}
+use Rattle.tap_views.specs.Token.{token_eq}
+use Rattle.tap_views.proofs.Lists.{All-split}
 use Rattle.tap_views.proofs.TokensUp.{up_itself}
-use Rattle.fare_texts.proofs.PieceWriting.{along_append, consumed_next}
+use Rattle.fare_texts.proofs.PieceWriting.{along_append, consumed_next, consumed_on}
 use Rattle.fare_texts.proofs.TextsExist.{along_exist}
 use Rattle.settlement.specs.Posted.{posted_after, token_of_tap, unposted}
 use Rattle.settlement.proofs.Concats.{posted_append}
-use Rattle.settlement.proofs.Nondecreasing.{nondecreasing_append}
-use Rattle.settled_texts.specs.ExplainedTaps.{AreExplained}
+use Rattle.settlement.proofs.Nondecreasing.{last_append, nondecreasing_append}
+use Rattle.settled_texts.specs.ExplainedTaps.{AreExplained, Explains, HaveLines, MayExplain}
 use Rattle.settlement.specs.Nondecreasing.{TapsNondecreasingFrom, last_token}
 
 -- ---- the lines
@@ -56,89 +60,156 @@ reported_append fares earlier xs ys explainer next lines more front back =
           back.consumed);
     }
 
--- explained taps have lines, and so have those behind them
-pub reported_then : (fares : Fares) (earlier : List Entry)
-    (done next trailing taps : List TapFields)
-    (explainer : Explainer) (lines others : List ℕ) → done ++ (next ++ trailing) ≡ taps
-    → AreExplained fares earlier done explainer lines
-    → AreLinesAlong fares (earlier ++ posted_after fares earlier done)
-    (posted_after fares (earlier ++ posted_after fares earlier done) next) others
-    → (more : List ℕ)
-    × AreLinesAlong fares earlier (posted_after fares earlier taps) (lines ++ (others ++ more))
-reported_then fares earlier done next trailing taps explainer lines others whole explained along =
-    let first = posted_after fares earlier done in
-    let second = posted_after fares (earlier ++ first) next in
-    let third = posted_after fares ((earlier ++ first) ++ second) trailing in
-    let last = along_exist fares ((earlier ++ first) ++ second) third in
-    let back = subst
-    (λ (es : List Entry). AreLinesAlong fares (earlier ++ first) es (others ++ last.0))
-    (sym (posted_append fares (earlier ++ first) next trailing))
-    (along_append fares (earlier ++ first) second third others last.0 along last.1) in
-    let all = along_append fares earlier first
-    (posted_after fares (earlier ++ first) (next ++ trailing)) lines (others ++ last.0)
-    explained.are
-    back in (
-      last.0,
-      subst (λ (ts : List TapFields). AreLinesAlong fares earlier (posted_after fares earlier ts)
-          (lines ++ (others ++ last.0))) whole
-          (subst (λ (es : List Entry). AreLinesAlong fares earlier es (lines ++ (others ++ last.0)))
-          (sym (posted_append fares earlier done (next ++ trailing))) all),
+-- ---- taps that can be explained
+abbrev Early : TapFields → Type 0
+Early tap = tap.moment < moment_limit
+
+-- those in front can be
+pub may_front : (fares : Fares) (old : Explainer) (xs ys taps : List TapFields) → xs ++ ys ≡ taps
+    → MayExplain fares old taps → MayExplain fares old xs
+may_front fares old xs ys taps whole may =
+    let long = ap length whole in
+    let parts = length-append xs ys in
+    let room = may.room in
+    record {
+      early = (All-split Early xs ys
+          (subst (λ (ts : List TapFields). All Early ts) (sym whole) may.early)).0;
+      nondecreasing = (nondecreasing_append old.token xs ys
+          (subst (TapsNondecreasingFrom old.token) (sym whole) may.nondecreasing)).0;
+      earlier = may.earlier;
+      consumed = may.consumed;
+      room = omega (arith, long, parts, room);
+    }
+
+-- and when they were, the others
+pub may_rest : (fares : Fares) (old mid : Explainer) (xs ys taps : List TapFields)
+    (said : List ℕ → Type 0) → xs ++ ys ≡ taps → MayExplain fares old taps
+    → Explains fares old xs mid said → MayExplain fares mid ys
+may_rest fares old mid xs ys taps said whole may is =
+    let long = ap length whole in
+    let parts = length-append xs ys in
+    let room = may.room in
+    let few = is.few in
+    record {
+      early = (All-split Early xs ys
+          (subst (λ (ts : List TapFields). All Early ts) (sym whole) may.early)).1;
+      nondecreasing = subst (λ (t : Token). TapsNondecreasingFrom t ys) (sym is.token)
+          (nondecreasing_append old.token xs ys
+          (subst (TapsNondecreasingFrom old.token) (sym whole) may.nondecreasing)).1;
+      earlier = may.earlier ++ posted_after fares may.earlier xs;
+      consumed = (is.lines may.earlier may.consumed).1.consumed;
+      room = omega (arith, long, parts, room, few);
+    }
+
+-- ---- an explainer that goes on
+pub explains_none : (fares : Fares) (explainer : Explainer) (said : List ℕ → Type 0) → said []
+    → Explains fares explainer [] explainer said
+explains_none fares explainer said none = record {
+  lines = λ earlier consumed. ([], none_reported fares earlier explainer consumed, none);
+  token = refl;
+  few = omega arith;
+}
+
+pub explains_then : (fares : Fares) (old mid new : Explainer) (xs ys : List TapFields)
+    (first next both : List ℕ → Type 0) → Explains fares old xs mid first
+    → Explains fares mid ys new next → ((l m : List ℕ) → first l → next m → both (l ++ m))
+    → Explains fares old (xs ++ ys) new both
+explains_then fares old mid new xs ys first next both front back join =
+    let long = length-append xs ys in
+    let few = front.few in
+    let more = back.few in
+    record {
+      lines = λ earlier consumed.
+          let one = front.lines earlier consumed in
+          let other = back.lines (earlier ++ posted_after fares earlier xs) one.1.consumed in (
+            one.0 ++ other.0,
+            reported_append fares earlier xs ys mid new one.0 other.0 one.1 other.1,
+            join one.0 other.0 one.2 other.2,
+          );
+      token = back.token ∙ ap (λ (t : Token). last_token t ys) front.token
+          ∙ sym (last_append old.token xs ys);
+      few = omega (arith, long, few, more);
+    }
+
+-- what else can be said of the lines
+pub explains_as : (fares : Fares) (old new : Explainer) (taps : List TapFields)
+    (first next : List ℕ → Type 0) → Explains fares old taps new first
+    → ((l : List ℕ) → first l → next l) → Explains fares old taps new next
+explains_as fares old new taps first next is too = record {
+  lines = λ earlier consumed.
+      let one = is.lines earlier consumed in (one.0, one.1, too one.0 one.2);
+  token = is.token;
+  few = is.few;
+}
+
+-- ---- lines, whatever becomes of them
+pub lines_exist : (fares : Fares) (old : Explainer) (taps : List TapFields)
+    (said : List ℕ → Type 0) → ((l : List ℕ) → said l) → HaveLines fares old taps said
+lines_exist fares old taps said all = λ earlier consumed.
+    let some = along_exist fares earlier (posted_after fares earlier taps) in
+    (some.0, some.1, all some.0)
+
+lines_both : (fares : Fares) (earlier : List Entry) (xs ys taps : List TapFields)
+    (lines more : List ℕ) → xs ++ ys ≡ taps
+    → AreLinesAlong fares earlier (posted_after fares earlier xs) lines
+    → AreLinesAlong fares (earlier ++ posted_after fares earlier xs)
+    (posted_after fares (earlier ++ posted_after fares earlier xs) ys) more
+    → AreLinesAlong fares earlier (posted_after fares earlier taps) (lines ++ more)
+lines_both fares earlier xs ys taps lines more whole front back =
+    let first = posted_after fares earlier xs in
+    subst (λ (ts : List TapFields). AreLinesAlong fares earlier (posted_after fares earlier ts)
+    (lines ++ more)) whole
+    (subst (λ (es : List Entry). AreLinesAlong fares earlier es (lines ++ more))
+    (sym (posted_append fares earlier xs ys))
+    (along_append fares earlier first (posted_after fares (earlier ++ first) ys) lines more front
+    back))
+
+-- explained taps, and more
+pub lines_then : (fares : Fares) (old mid : Explainer) (xs ys taps : List TapFields)
+    (first next both : List ℕ → Type 0) → xs ++ ys ≡ taps → Explains fares old xs mid first
+    → HaveLines fares mid ys next → ((l m : List ℕ) → first l → next m → both (l ++ m))
+    → HaveLines fares old taps both
+lines_then fares old mid xs ys taps first next both whole front back join = λ earlier consumed.
+    let one = front.lines earlier consumed in
+    let other = back (earlier ++ posted_after fares earlier xs) one.1.consumed in (
+      one.0 ++ other.0,
+      lines_both fares earlier xs ys taps one.0 other.0 whole one.1.are other.1,
+      join one.0 other.0 one.2 other.2,
     )
 
--- all lines of taps of which the first were explained
-pub reported_all : (fares : Fares) (earlier : List Entry) (done left taps : List TapFields)
-    (explainer : Explainer) (lines : List ℕ) → done ++ left ≡ taps
-    → AreExplained fares earlier done explainer lines
-    → (more : List ℕ)
-    × AreLinesAlong fares earlier (posted_after fares earlier taps) (lines ++ more)
-reported_all fares earlier done left taps explainer lines whole explained =
-    let first = posted_after fares earlier done in
-    let second = posted_after fares (earlier ++ first) left in
-    let last = along_exist fares (earlier ++ first) second in
-    let all = along_append fares earlier first second lines last.0 explained.are last.1 in (
-      last.0,
-      subst (λ (ts : List TapFields). AreLinesAlong fares earlier (posted_after fares earlier ts)
-          (lines ++ last.0)) whole
-          (subst (λ (es : List Entry). AreLinesAlong fares earlier es (lines ++ last.0))
-          (sym (posted_append fares earlier done left)) all),
+-- more taps have lines too
+pub lines_front : (fares : Fares) (old : Explainer) (xs ys taps : List TapFields)
+    (first both : List ℕ → Type 0) → xs ++ ys ≡ taps → HaveLines fares old xs first
+    → ((l m : List ℕ) → first l → both (l ++ m)) → HaveLines fares old taps both
+lines_front fares old xs ys taps first both whole front join = λ earlier consumed.
+    let entries = earlier ++ posted_after fares earlier xs in
+    let one = front earlier consumed in
+    let other = along_exist fares entries (posted_after fares entries ys) in (
+      one.0 ++ other.0,
+      lines_both fares earlier xs ys taps one.0 other.0 whole one.1 other.1,
+      join one.0 other.0 one.2,
     )
 
--- if a beginning of what waits goes out, what has gone out is a beginning of all lines
-pub explained_started : (fares : Fares) (earlier : List Entry) (done left taps : List TapFields)
-    (explainer : Explainer) (lines : List ℕ) (a b c : Option (List ℕ)) (old new : List ℕ)
-    → done ++ left ≡ taps → AreExplained fares earlier done explainer lines
-    → GoesOut a old b new lines
-    → Begins b c new
-    → (all : List ℕ) × AreLinesAlong fares earlier (posted_after fares earlier taps) all
-    × Begins a c (old ++ all)
-explained_started fares earlier done left taps explainer lines a b c old new whole explained gone
-    started =
-    let all = reported_all fares earlier done left taps explainer lines whole explained in
-    (lines ++ all.0, all.1, goes_then_on a b c old new lines all.0 gone started)
+-- the lines of explained taps
+pub explained_lines : (fares : Fares) (old new : Explainer) (taps : List TapFields)
+    (said : List ℕ → Type 0) → Explains fares old taps new said → HaveLines fares old taps said
+explained_lines fares old new taps said is = λ earlier consumed.
+    let one = is.lines earlier consumed in (one.0, one.1.are, one.2)
 
--- so it is if a beginning of the next lines goes out too
-pub explained_started_on : (fares : Fares) (earlier : List Entry)
-    (done next trailing taps : List TapFields)
-    (explainer : Explainer) (lines others : List ℕ) (a b c : Option (List ℕ)) (old new : List ℕ)
-    → done ++ (next ++ trailing) ≡ taps → AreExplained fares earlier done explainer lines
-    → AreLinesAlong fares (earlier ++ posted_after fares earlier done)
-    (posted_after fares (earlier ++ posted_after fares earlier done) next) others
-    → GoesOut a old b new lines → Begins b c (new ++ others)
-    → (all : List ℕ) × AreLinesAlong fares earlier (posted_after fares earlier taps) all
-    × Begins a c (old ++ all)
-explained_started_on fares earlier done next trailing taps explainer lines others a b c old new
-    whole
-    explained along
-    gone started
-    =
-    let all =
-    reported_then fares earlier done next trailing taps explainer lines others whole explained
-    along in (
-      lines ++ (others ++ all.0),
-      all.1,
-      goes_begins_on a b c old new lines others all.0 gone started,
-    )
+-- a beginning of a text that goes on
+pub begins_longer : (a b : Option (List ℕ)) (x y z : List ℕ) → Begins a b (x ++ y)
+    → Begins a b (x ++ (y ++ z))
+begins_longer a b x y z started =
+    subst (λ t. Begins a b t) (append_assoc x y z) (begins_front a b (x ++ y) z started)
 
+-- all that was appended to nothing
+pub all_out : (old first new lines : List ℕ) → old ≡ [] → first ≡ [] → new ≡ old ++ (first ++ lines)
+    → new ≡ lines
+all_out old first new lines none empty is =
+    is ∙ ap (λ (bytes : List ℕ). bytes ++ (first ++ lines)) none
+    ∙ ap (λ (bytes : List ℕ). bytes ++ lines) empty
+
+-- ---- one tap
 -- the next entry of the token is what the tap is answered
 next_answered : (fares : Fares) (earlier : List Entry) (tap : TapFields) (token : Token)
     → token ≡ token_of_tap tap
@@ -185,17 +256,6 @@ one_reported fares earlier tap explainer next line its same consumed is explaine
           explained);
     }
 
--- taps in the middle do not fall from the token before them
-pub nondecreasing_within : (from token : Token) (done some trailing taps : List TapFields)
-    → done ++ (some ++ trailing) ≡ taps → TapsNondecreasingFrom from taps
-    → token ≡ last_token from done
-    → TapsNondecreasingFrom token some
-nondecreasing_within from token done some trailing taps whole nondecreasing is =
-    let rest = nondecreasing_append from done (some ++ trailing)
-    (subst (λ (ts : List TapFields). TapsNondecreasingFrom from ts) (sym whole) nondecreasing) in
-    subst (λ (t : Token). TapsNondecreasingFrom t some) (sym is)
-    (nondecreasing_append (last_token from done) some trailing rest.1).0
-
 -- the front of a list and what stands behind it
 pub halves_of : {A : Type 0} (n : ℕ) (xs front back : List A) → front ≡ take n xs → back ≡ drop n xs
     → front ++ back ≡ xs
@@ -219,12 +279,17 @@ pub last_first : (token other : Token) (taps : List TapFields) (first : TapField
 last_first token other [] first is = cc
 last_first token other (tap ∷ taps) first is = refl
 
--- a fresh explainer has come past entries that are none of its token, and not above it
-pub consumed_fresh : (fares : Fares) (explainer : Explainer) (earlier : List Entry)
-    → own explainer.token earlier ≡ [] → AreUpTo earlier explainer.token
-    → HasExplained fares explainer []
-    → HasConsumed fares explainer earlier
-consumed_fresh fares explainer earlier none up fresh = record {
-  explained = subst (λ (es : List Entry). HasExplained fares explainer es) (sym none) fresh;
-  up = up;
-}
+-- what a fresh explainer made is as well made by one of a lower token
+pub explains_later : (fares : Fares) (old fresh new : Explainer) (taps : List TapFields)
+    (first : TapFields) (said : List ℕ → Type 0) → slice_get taps 0 ≡ Some first
+    → HasExplained fares fresh [] → fresh.number ≡ 0 → IsUpTo old.token fresh.token
+    → token_eq old.token fresh.token ≡ false → Explains fares fresh taps new said
+    → Explains fares old taps new said
+explains_later fares old fresh new taps first said some none zero up apart is =
+    let few = is.few in
+    record {
+      lines = λ earlier consumed. is.lines earlier
+          (consumed_on fares old fresh earlier consumed up apart none);
+      token = is.token ∙ last_first fresh.token old.token taps first some;
+      few = omega (arith, few, zero);
+    }

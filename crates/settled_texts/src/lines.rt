@@ -1,16 +1,14 @@
 //! The lines of taps whose tokens are nondecreasing.
 
-ghost use Rattle.std.specs.Prelude.{◌≡◌, ◌+◌, ◌^◌, ◌<◌, ◌≤◌, ◌++◌, ◌∷◌, [], ℕ, List, IfErr, OnErr};
-ghost use Rattle.std.specs.Prelude.{OnOk, length, string_bytes};
-ghost use Rattle.tap_views.specs.Encoding.{AreEarly};
+ghost use Rattle.std.specs.Prelude.{◌≡◌, ◌+◌, ◌^◌, ◌<◌, ◌++◌, ◌∷◌, [], List, IfErr, OnErr, OnOk};
+ghost use Rattle.std.specs.Prelude.{string_bytes};
 ghost use Rattle.histories.specs.declared.entry.Entry.{Entry};
 ghost use Rattle.fare_texts.specs.declared.print_fault.PrintFault.TheVariants.{Write as ForWrite};
-ghost use Rattle.fare_texts.specs.Lines.{AreLinesAlong, HasConsumed};
+ghost use Rattle.fare_texts.specs.Lines.{HasConsumed};
 ghost use Rattle.tap_views.specs.TokenOrder.{IsUpTo};
 ghost use Rattle.fare_texts.specs.WrittenOut.{Begins, GoesOut};
-ghost use Rattle.settlement.specs.Posted.{posted_after, token_of_tap};
-ghost use Rattle.settled_texts.specs.ExplainedTaps.{AreExplained};
-ghost use Rattle.settlement.specs.Nondecreasing.{TapsNondecreasingFrom, last_token};
+ghost use Rattle.settlement.specs.Posted.{token_of_tap};
+ghost use Rattle.settled_texts.specs.ExplainedTaps.{Explains, HaveLines, MayExplain};
 
 use fare_texts::{Explainer, LINE_ROOM_BYTES, PrintFault, go_on_to, pass_piece};
 use std::alloc::AllocError;
@@ -46,14 +44,8 @@ fn explain_tap(
     requires up { IsUpTo explainer.old.token (token_of_tap tap.now) }
     requires consumed { (earlier : List Entry) × HasConsumed table.now explainer.old earlier }
     requires room { explainer.old.number + 1 < 2 ^ 64 }
-
-    // After all entries that the explainer has consumed.
-    ensures explained { OnOk result
-        ((earlier : List Entry) → HasConsumed table.now explainer.old earlier
-        → (line : List ℕ) × AreExplained table.now earlier (tap.now ∷ []) explainer.new line
-        × (string_bytes text.new ≡ string_bytes text.old ++ line)) }
-    ensures token { explainer.new.token ≡ token_of_tap tap.now }
-    ensures few { explainer.new.number ≤ explainer.old.number + 1 }
+    ensures { OnOk result (Explains table.now explainer.old (tap.now ∷ []) explainer.new
+        (λ line. string_bytes text.new ≡ string_bytes text.old ++ line)) }
 {
     go_on_to(explainer, token_of(tap));
     explainer.write_posted(text, table, clock, tap.validator, tap.moment)?;
@@ -69,18 +61,9 @@ pub(crate) fn explain_taps(
     taps: &[TapFields],
 ) -> Result<(), AllocError>
     requires clock { clock.now ≡ table.now.zone }
-    requires early { AreEarly (λ tap. tap.moment) taps.now }
-    requires nondecreasing { TapsNondecreasingFrom explainer.old.token taps.now }
-    requires consumed { (earlier : List Entry) × HasConsumed table.now explainer.old earlier }
-    requires room { explainer.old.number + length taps.now < 2 ^ 64 }
-
-    // After all entries that the explainer has consumed.
-    ensures explained { OnOk result
-        ((earlier : List Entry) → HasConsumed table.now explainer.old earlier
-        → (lines : List ℕ) × AreExplained table.now earlier taps.now explainer.new lines
-        × (string_bytes text.new ≡ string_bytes text.old ++ lines)) }
-    ensures token { OnOk result (explainer.new.token ≡ last_token explainer.old.token taps.now) }
-    ensures few { OnOk result (explainer.new.number ≤ explainer.old.number + length taps.now) }
+    requires may { MayExplain table.now explainer.old taps.now }
+    ensures { OnOk result (Explains table.now explainer.old taps.now explainer.new
+        (λ lines. string_bytes text.new ≡ string_bytes text.old ++ lines)) }
 {
     for tap in taps {
         explain_tap(text, table, clock, explainer, tap)?;
@@ -100,23 +83,13 @@ pub fn write_taps<W: Write>(
     out: &mut W,
 ) -> Result<(), PrintFault>
     requires clock { clock.now ≡ table.now.zone }
-    requires early { AreEarly (λ tap. tap.moment) taps.now }
-    requires nondecreasing { TapsNondecreasingFrom explainer.old.token taps.now }
-    requires consumed { (earlier : List Entry) × HasConsumed table.now explainer.old earlier }
-    requires room { explainer.old.number + length taps.now < 2 ^ 64 }
-
-    // After all entries that the explainer has consumed.
-    ensures explained { OnOk result
-        ((earlier : List Entry) → HasConsumed table.now explainer.old earlier
-        → (lines : List ℕ) × AreExplained table.now earlier taps.now explainer.new lines
-        × GoesOut (W.contents out.old) (string_bytes text.old) (W.contents out.new)
-        (string_bytes text.new) lines) }
-    ensures started { OnErr result ((earlier : List Entry) → HasConsumed table.now explainer.old earlier
-        → (lines : List ℕ)
-        × AreLinesAlong table.now earlier (posted_after table.now earlier taps.now) lines
-        × Begins (W.contents out.old) (W.contents out.new) (string_bytes text.old ++ lines)) }
-    ensures token { OnOk result (explainer.new.token ≡ last_token explainer.old.token taps.now) }
-    ensures few { OnOk result (explainer.new.number ≤ explainer.old.number + length taps.now) }
+    requires may { MayExplain table.now explainer.old taps.now }
+    ensures explained { OnOk result (Explains table.now explainer.old taps.now explainer.new
+        (GoesOut (W.contents out.old) (string_bytes text.old) (W.contents out.new)
+        (string_bytes text.new))) }
+    ensures started { OnErr result (HaveLines table.now explainer.old taps.now
+        (λ lines. Begins (W.contents out.old) (W.contents out.new)
+        (string_bytes text.old ++ lines))) }
     ensures fault { IfErr result (λ fault. fault ≡ ForWrite) }
 {
     let mut rest = taps;

@@ -1,19 +1,13 @@
 //! The lines of lists, in rounds of a list a thread.
 
-ghost use Rattle.std.specs.Prelude.{◌≡◌, ◌+◌, ◌^◌, ◌<◌, ◌≤◌, ◌++◌, [], ℕ, All, List, IfErr, IfSome};
-ghost use Rattle.std.specs.Prelude.{OnErr, OnOk, Some, flat_map, length, map, slice_get};
-ghost use Rattle.std.specs.Prelude.{string_bytes};
-ghost use Rattle.tap_views.specs.Encoding.{AreEarly};
+ghost use Rattle.std.specs.Prelude.{◌≡◌, ◌++◌, All, List, IfErr, IfSome, OnErr, OnOk, Some};
+ghost use Rattle.std.specs.Prelude.{flat_map, length, map, slice_get, string_bytes, ℕ};
 ghost use Rattle.tap_views.specs.declared.encoder.TapFields.{TapFields};
-ghost use Rattle.histories.specs.declared.entry.Entry.{Entry};
 ghost use Rattle.fare_texts.specs.declared.print_fault.PrintFault.TheVariants.{Write as ForWrite};
-ghost use Rattle.fare_texts.specs.Lines.{AreLinesAlong, HasConsumed};
 ghost use Rattle.fare_texts.specs.WrittenOut.{Begins, GoesOut};
-ghost use Rattle.settlement.specs.Posted.{posted_after};
 ghost use Rattle.settled_texts.specs.declared.slot.WorkerSlot.{WorkerSlot};
 ghost use Rattle.settled_texts.specs.inside.WorkerSlots.{HasSat, IsSoundList};
-ghost use Rattle.settled_texts.specs.ExplainedTaps.{AreExplained};
-ghost use Rattle.settlement.specs.Nondecreasing.{TapsNondecreasingFrom, last_token};
+ghost use Rattle.settled_texts.specs.ExplainedTaps.{Explains, HaveLines, MayExplain};
 
 use crate::lines::write_taps;
 use crate::slot::WorkerSlot;
@@ -67,24 +61,16 @@ fn write_list<W: Write>(
     out: &mut W,
 ) -> Result<(), PrintFault>
     requires clock { clock.now ≡ table.now.zone }
-    requires early { AreEarly (λ tap. tap.moment) list.now }
-    requires nondecreasing { TapsNondecreasingFrom explainer.old.token list.now }
-    requires consumed { (earlier : List Entry) × HasConsumed table.now explainer.old earlier }
-    requires room { explainer.old.number + length list.now < 2 ^ 64 }
+    requires may { MayExplain table.now explainer.old list.now }
     requires sat { IfSome slot (λ slot. HasSat table.now list.now slot.now) }
-
-    // After all entries that the explainer has consumed.
-    ensures explained { OnOk result
-        ((earlier : List Entry) → HasConsumed table.now explainer.old earlier
-        → (lines : List ℕ) × AreExplained table.now earlier list.now explainer.new lines
-        × GoesOut (W.contents out.old) (string_bytes text.old) (W.contents out.new)
-        (string_bytes text.new) lines) }
-    ensures started { OnErr result ((earlier : List Entry) → HasConsumed table.now explainer.old earlier
-        → (lines : List ℕ)
-        × AreLinesAlong table.now earlier (posted_after table.now earlier list.now) lines
-        × Begins (W.contents out.old) (W.contents out.new) (string_bytes text.old ++ lines)) }
-    ensures token { OnOk result (explainer.new.token ≡ last_token explainer.old.token list.now) }
-    ensures few { OnOk result (explainer.new.number ≤ explainer.old.number + length list.now) }
+    ensures explained { OnOk result (Explains table.now explainer.old
+        list.now explainer.new
+        (GoesOut (W.contents out.old) (string_bytes text.old) (W.contents out.new)
+        (string_bytes text.new))) }
+    ensures started { OnErr result (HaveLines table.now explainer.old
+        list.now
+        (λ lines. Begins (W.contents out.old) (W.contents out.new)
+        (string_bytes text.old ++ lines))) }
     ensures fault { IfErr result (λ fault. fault ≡ ForWrite) }
 {
     let Some(slot) = slot else {
@@ -110,31 +96,16 @@ fn write_round<R: Threads + Sync, W: Write>(
     out: &mut W,
 ) -> Result<(), PrintFault>
     requires clock { clock.now ≡ table.now.zone }
-    requires early { AreEarly (λ tap. tap.moment) (flat_map (λ list. list.items) round.now) }
-    requires nondecreasing { TapsNondecreasingFrom explainer.old.token
+    requires may { MayExplain table.now explainer.old
         (flat_map (λ list. list.items) round.now) }
-    requires consumed { (earlier : List Entry) × HasConsumed table.now explainer.old earlier }
-    requires room { explainer.old.number
-        + length (flat_map (λ list. list.items) round.now) < 2 ^ 64 }
-
-    // After all entries that the explainer has consumed.
-    ensures explained { OnOk result
-        ((earlier : List Entry) → HasConsumed table.now explainer.old earlier
-        → (lines : List ℕ) × AreExplained table.now earlier
-        (flat_map (λ list. list.items) round.now) explainer.new lines
-        × GoesOut (W.contents out.old) (string_bytes text.old) (W.contents out.new)
-        (string_bytes text.new) lines) }
-    ensures started { OnErr result ((earlier : List Entry) → HasConsumed table.now explainer.old earlier
-        → (lines : List ℕ)
-        × AreLinesAlong table.now earlier
-        (posted_after table.now earlier (flat_map (λ list. list.items) round.now)) lines
-        × Begins (W.contents out.old) (W.contents out.new) (string_bytes text.old ++ lines)) }
-    ensures token { OnOk result
-        (explainer.new.token
-        ≡ last_token explainer.old.token (flat_map (λ list. list.items) round.now)) }
-    ensures few { OnOk result
-        (explainer.new.number
-        ≤ explainer.old.number + length (flat_map (λ list. list.items) round.now)) }
+    ensures explained { OnOk result (Explains table.now explainer.old
+        (flat_map (λ list. list.items) round.now) explainer.new
+        (GoesOut (W.contents out.old) (string_bytes text.old) (W.contents out.new)
+        (string_bytes text.new))) }
+    ensures started { OnErr result (HaveLines table.now explainer.old
+        (flat_map (λ list. list.items) round.now)
+        (λ lines. Begins (W.contents out.old) (W.contents out.new)
+        (string_bytes text.old ++ lines))) }
     ensures fault { IfErr result (λ fault. fault ≡ ForWrite) }
 {
     sit(rt, table, clock, slots, round);
@@ -156,25 +127,16 @@ pub(crate) fn write_lists<R: Threads + Sync, W: Write>(
     out: &mut W,
 ) -> Result<(), PrintFault>
     requires clock { clock.now ≡ table.now.zone }
-    requires early { AreEarly (λ tap. tap.moment) (flat_map (λ list. list.items) lists.now) }
-    requires nondecreasing { TapsNondecreasingFrom explainer.old.token
+    requires may { MayExplain table.now explainer.old
         (flat_map (λ list. list.items) lists.now) }
-    requires consumed { (earlier : List Entry) × HasConsumed table.now explainer.old earlier }
-    requires room { explainer.old.number
-        + length (flat_map (λ list. list.items) lists.now) < 2 ^ 64 }
-
-    // After all entries that the explainer has consumed.
-    ensures explained { OnOk result
-        ((earlier : List Entry) → HasConsumed table.now explainer.old earlier
-        → (lines : List ℕ) × AreExplained table.now earlier
-        (flat_map (λ list. list.items) lists.now) explainer.new lines
-        × GoesOut (W.contents out.old) (string_bytes text.old) (W.contents out.new)
-        (string_bytes text.new) lines) }
-    ensures started { OnErr result ((earlier : List Entry) → HasConsumed table.now explainer.old earlier
-        → (lines : List ℕ)
-        × AreLinesAlong table.now earlier
-        (posted_after table.now earlier (flat_map (λ list. list.items) lists.now)) lines
-        × Begins (W.contents out.old) (W.contents out.new) (string_bytes text.old ++ lines)) }
+    ensures explained { OnOk result (Explains table.now explainer.old
+        (flat_map (λ list. list.items) lists.now) explainer.new
+        (GoesOut (W.contents out.old) (string_bytes text.old) (W.contents out.new)
+        (string_bytes text.new))) }
+    ensures started { OnErr result (HaveLines table.now explainer.old
+        (flat_map (λ list. list.items) lists.now)
+        (λ lines. Begins (W.contents out.old) (W.contents out.new)
+        (string_bytes text.old ++ lines))) }
     ensures fault { IfErr result (λ fault. fault ≡ ForWrite) }
 {
     let mut rest = lists;

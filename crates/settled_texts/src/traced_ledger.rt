@@ -1,22 +1,18 @@
 //! The traced ledger of uploads.
 
-ghost use Rattle.std.specs.Prelude.{◌≡◌, ◌+◌, ◌^◌, ◌<◌, ◌≤◌, ◌++◌, ◌∷◌, [], ℕ, All, List, None};
-ghost use Rattle.std.specs.Prelude.{Bool, IfErr, IfOk, OnErr, OnOk, drop, length, map};
+ghost use Rattle.std.specs.Prelude.{◌≡◌, ◌++◌, ◌∷◌, [], ℕ, All, List, None};
+ghost use Rattle.std.specs.Prelude.{Bool, IfErr, IfOk, OnErr, OnOk, drop, map};
 ghost use Rattle.std.specs.Prelude.{string_bytes};
 ghost use Rattle.std.specs.List.Sorted.{IsSorted};
 ghost use Rattle.std.specs.Io.KnownBytes.{Appends};
 ghost use Rattle.tap_views.specs.Encoding.{AreEarly};
 ghost use Rattle.tap_views.specs.TapOrder.{tap_cmp};
-ghost use Rattle.histories.specs.declared.entry.Entry.{Entry};
 ghost use Rattle.fare_texts.specs.PrintFaults.{UnchangedUnlessWrite};
 ghost use Rattle.fare_texts.specs.WrittenOut.{Begins};
 ghost use Rattle.fare_texts.specs.declared.print_fault.PrintFault.TheVariants.{Write as ForWrite};
-ghost use Rattle.fare_texts.specs.declared.print_fault.PrintFault.TheVariants.{Write as ForWrite};
 ghost use Rattle.fare_texts.specs.Ledger.{IsLedgerOver};
-ghost use Rattle.fare_texts.specs.Lines.{AreLinesAlong, HasConsumed};
 ghost use Rattle.settlement.specs.Posted.{HasName, posted};
-ghost use Rattle.settled_texts.specs.ExplainedTaps.{AreExplained};
-ghost use Rattle.settlement.specs.Nondecreasing.{TapsNondecreasingFrom, last_token};
+ghost use Rattle.settled_texts.specs.ExplainedTaps.{Explains, HaveLines, MayExplain};
 ghost use Rattle.settled_texts.specs.Columns.{columns_by, head_columns, with_columns};
 ghost use Rattle.settled_texts.specs.inside.Feeds.{feeds};
 ghost use Rattle.settled_texts.specs.Ledgers.{IsTracedLedger};
@@ -96,19 +92,10 @@ impl Room {
         stride: &[TracedTap],
     ) -> Result<(), PrintFault>
         requires clock { clock.now ≡ table.now.zone }
-        requires early { AreEarly (λ tap. tap.moment) (taps_of_trace stride.now) }
-        requires nondecreasing { TapsNondecreasingFrom explainer.old.token (taps_of_trace stride.now) }
-        requires consumed { (earlier : List Entry) × HasConsumed table.now explainer.old earlier }
-        requires room { explainer.old.number + length (taps_of_trace stride.now) < 2 ^ 64 }
+        requires may { MayExplain table.now explainer.old (taps_of_trace stride.now) }
         requires empty { string_bytes self.old.text ≡ [] }
-        ensures explained { OnOk result
-            ((earlier : List Entry) → HasConsumed table.now explainer.old earlier
-            → AreExplained table.now earlier (taps_of_trace stride.now) explainer.new
-            self.new.lines.items) }
-        ensures token { OnOk result
-            (explainer.new.token ≡ last_token explainer.old.token (taps_of_trace stride.now)) }
-        ensures few { OnOk result
-            (explainer.new.number ≤ explainer.old.number + length (taps_of_trace stride.now)) }
+        ensures explained { OnOk result (Explains table.now explainer.old
+            (taps_of_trace stride.now) explainer.new (λ lines. self.new.lines.items ≡ lines)) }
         ensures empty { OnOk result (string_bytes self.new.text ≡ []) }
         ensures fault { IfErr result (λ fault. fault ≡ ForWrite) }
     {
@@ -125,7 +112,8 @@ impl Room {
             &self.taps,
             &mut self.lines,
         )?;
-        pass_on(&mut self.text, &mut self.lines)
+        pass_on(&mut self.text, &mut self.lines)?;
+        Ok(())
     }
 
     /// Returns the taps that are left.
@@ -163,20 +151,14 @@ fn write_lines<W: Write>(
     out: &mut W,
 ) -> Result<(), PrintFault>
     requires clock { clock.now ≡ table.now.zone }
-    requires early { AreEarly (λ tap. tap.moment) (taps_of_trace trace.now) }
-    requires nondecreasing { TapsNondecreasingFrom explainer.old.token (taps_of_trace trace.now) }
-    requires consumed { HasConsumed table.now explainer.old [] }
-    requires none { explainer.old.number ≡ 0 }
-    requires room { length trace.now < 2 ^ 64 }
+    requires may { MayExplain table.now explainer.old (taps_of_trace trace.now) }
     requires empty { string_bytes room.old.text ≡ [] }
-    ensures explained { OnOk result ((lines : List ℕ)
-        × AreExplained table.now [] (taps_of_trace trace.now) explainer.new lines
-        × Appends (W.contents out.old) (W.contents out.new)
-        (with_columns lines (columns_by (class_by names.now) trace.now))) }
-    ensures started { OnErr result ((lines : List ℕ)
-        × AreLinesAlong table.now [] (posted table.now (taps_of_trace trace.now)) lines
-        × Begins (W.contents out.old) (W.contents out.new)
-        (with_columns lines (columns_by (class_by names.now) trace.now))) }
+    ensures explained { OnOk result (Explains table.now explainer.old (taps_of_trace trace.now)
+        explainer.new (λ lines. Appends (W.contents out.old) (W.contents out.new)
+        (with_columns lines (columns_by (class_by names.now) trace.now)))) }
+    ensures started { OnErr result (HaveLines table.now explainer.old (taps_of_trace trace.now)
+        (λ lines. Begins (W.contents out.old) (W.contents out.new)
+        (with_columns lines (columns_by (class_by names.now) trace.now)))) }
     ensures fault { IfErr result (λ fault. fault ≡ ForWrite) }
 {
     let mut rest = trace;

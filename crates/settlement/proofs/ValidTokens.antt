@@ -23,6 +23,7 @@ some_fares = record {
   meaning = record {
     modes = [];
     transfers = [];
+    prices = [];
     classes = [];
     names = [];
     caps = [];

@@ -1,6 +1,6 @@
 -- What holds of the windows of a token's taps.
-use Rattle.std.specs.Prelude.{◌≡◌, ◌≤◌, ℕ, List, [], map, filter, flat_map, All, length, sum_by}
-use Rattle.tariffs.specs.Fares.{Fares, terms_at}
+use Rattle.std.specs.Prelude.{◌≡◌, ◌≤◌, ℕ, false, List, [], map, filter, flat_map, All, sum_by}
+use Rattle.tariffs.specs.Fares.{Fares, has_caps_or_prices, terms_at}
 use Rattle.tariffs.specs.TableMeaning.{TableMeaning}
 use Rattle.tariffs.specs.declared.terms.Terms.{Terms}
 use Rattle.account_rule.specs.declared.reply.Reply.{Reply}
@@ -41,8 +41,8 @@ pub record BlocksAreLimited (terms : LiveTap → Terms) (limits : Terms)
   pub paid : (sums_of_replies replied).paid ≡ sum_by (paid_rides terms) blocks
   pub cents : (sums_of_replies replied).cents ≡ sum_by (window_cents terms) blocks
 
--- No window of a cap, or of `window`, counts more than the highest ceiling of its rides. The rides
--- cost what the replies say, and the windows of each cap add up to what it counts of them.
+-- No window of a cap, or of `window`, counts more than the highest ceiling of its taps. The rides and
+-- transfers cost what the replies say, and the windows of each cap add up to what it counts of them.
 pub record CapsAreLimited (rules : CappedRules) (taps : List TapIn) (replied : List Reply)
     : Type 0 where
   pub ceilings : All (KeepsCeiling (charged rules taps)) (all_caps rules)
@@ -53,10 +53,10 @@ pub record CapsAreLimited (rules : CappedRules) (taps : List TapIn) (replied : L
       ≡ sum_by (λ (one : Charged). one.cents) (charged rules taps)
 
 -- The windows of the token's taps keep the limits of its terms, and share what its entries were
--- charged: without caps the windows of `window`, and with caps those of each.
+-- charged: without caps and prices the windows of `window`, and with them those of each cap.
 pub record WindowsKeepLimits (table : Fares) (entries : List Entry) (token : Token)
     : Type 0 where
-  pub alone : length table.meaning.caps ≡ 0
+  pub alone : has_caps_or_prices table ≡ false
       → BlocksAreLimited (rules_of table (bytes_of token)).terms
       (terms_at table.meaning (bytes_of token)) table.later
       (windows (rules_of table (bytes_of token)) (taps_of table token entries))

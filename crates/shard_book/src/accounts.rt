@@ -7,7 +7,7 @@ ghost use Rattle.std.specs.Option.{ForSome};
 ghost use Rattle.account_rule.specs.declared.tap.TapIn.{TapIn};
 ghost use Rattle.fare_caps.specs.CapMeanings.{capped_rules_of};
 ghost use Rattle.fare_caps.specs.Represents.{Represents, no_further};
-ghost use Rattle.tariffs.specs.Fares.{Fares};
+ghost use Rattle.tariffs.specs.Fares.{Fares, has_caps_or_prices};
 ghost use Rattle.shard_book.specs.inside.Accounts.{further_at, kept_at, pairs_of, HasKept, IsKept};
 ghost use Rattle.shard_book.specs.inside.Accounts.{HasPositionFor, IsPosition, StaysKept, Steps};
 ghost use Rattle.shard_book.specs.inside.Accounts.{IsCounting, StillKept, capped_of};
@@ -42,8 +42,8 @@ pub(crate) struct KeptAccount {
 #[derive(Drop)]
 pub(crate) struct Accounts {
     pub(crate) map: IndexMap<Token, KeptAccount, HashSeed>,
-    /// What the accounts store if the table has caps. Empty otherwise, so that an account fills a
-    /// cache line.
+    /// What the accounts store if the table has caps or prices. Empty otherwise, so that an account
+    /// fills a cache line.
     further: IndexMap<Token, Further, HashSeed>,
     /// False once one of the counts would be too large.
     counting: bool,
@@ -190,7 +190,7 @@ impl Accounts {
         ensures positions { KeepPositions (tokens_of self.old) (tokens_of self.new) }
         ensures err { OnErr result ((other : Token) → StillKept self.old self.new other) }
     {
-        if table.has_caps_at(tap.moment) {
+        if table.has_caps_or_prices_at(tap.moment) {
             return self.step_under_caps(table, clock, token, bytes, tap.mode, tap.moment, known);
         }
         let position = self.position(token, known)?;
@@ -198,7 +198,7 @@ impl Accounts {
         Ok((position, reply))
     }
 
-    /// The table has no caps.
+    /// The table has neither caps nor prices.
     #[inline(always)]
     #[tactic(auto, unfolding(crate::specs::inside::Accounts::kept_at))]
     fn plain_step(
@@ -210,7 +210,7 @@ impl Accounts {
         tap: TapIn,
         position: u32,
     ) -> Reply
-        requires none { length table.now.meaning.caps ≡ 0 }
+        requires none { has_caps_or_prices table.now ≡ false }
         requires there { IsPosition self.old token position }
         requires bytes { bytes.now ≡ bytes_of token }
         requires clock { clock.now ≡ table.now.zone }
@@ -228,7 +228,7 @@ impl Accounts {
     }
 
     /// Kept out of `step`, with scalars for the tap: a local of `step`, or a tap whose address is
-    /// taken, would cost a run without caps some stores at each tap.
+    /// taken, would cost a run without caps and prices some stores at each tap.
     #[cold]
     #[inline(never)]
     fn step_under_caps(

@@ -21,7 +21,10 @@ use Rattle.sorted_taps.specs.declared.fault.SortedFault.{SortedFault}
 use Rattle.sorted_taps.specs.declared.fault.SortedFault.TheVariants.{Layout, NoMemory, OutOfOrder}
 use Rattle.sorted_taps.specs.declared.fault.SortedFault.TheVariants.{Unread}
 use Rattle.sorted_bills.specs.Faults.{HaveTooManyTaps, IsBeforeText, IsBillFault, late_fault}
-use Rattle.sorted_bills.specs.declared.fault.BillFault.TheVariants.{Write}
+use Rattle.sorted_bills.specs.declared.fault.BillFault.{BillFault}
+use Rattle.sorted_bills.specs.declared.fault.BillFault.TheVariants.{Changed, File, Late}
+use Rattle.sorted_bills.specs.declared.fault.BillFault.TheVariants.{TooManyTaps, Write}
+use Rattle.sorted_bills.specs.declared.fault.BillFault.TheVariants as bill
 
 -- files whose taps were all posted
 pub all_posted : (numbers : List ℕ) → are_posted (map Posted numbers) ≡ true
@@ -98,6 +101,16 @@ late_is_late (OutOfOrder tap) before = before
 late_is_late (Layout offset fault) before = before
 late_is_late Unread before = before
 late_is_late NoMemory before = before
+
+-- what comes after the first byte says nothing of the files
+pub late_is_no_fault : (files : List (List ℕ)) (fault : BillFault) → (IsBeforeText fault → ⊥)
+    → IsBillFault files fault
+late_is_no_fault files (File fault) late = absurd (late tt)
+late_is_no_fault files TooManyTaps late = absurd (late tt)
+late_is_no_fault files bill.NoMemory late = tt
+late_is_no_fault files Changed late = tt
+late_is_no_fault files (Late fault) late = tt
+late_is_no_fault files Write late = tt
 
 -- sorted files with more taps than are counted
 pub too_many : (files : List (List ℕ)) (numbers : List ℕ) → AreCountedFiles files numbers

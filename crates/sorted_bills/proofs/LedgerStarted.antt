@@ -1,7 +1,7 @@
 -- A ledger of which a beginning was written.
 use Rattle.std.proofs.Common.{◌≡◌, ◌∙◌, ℕ, suc, zero, ◌<◌, List, [], ◌∷◌, ◌++◌, All, Option}
 use Rattle.std.proofs.Common.{Some}
-use Rattle.std.proofs.Common.{◌⊎◌, None, append_assoc, ap, arith, inl, inr, map}
+use Rattle.std.proofs.Common.{◌⊎◌, None, ap, arith, inl, inr, map}
 use Rattle.std.proofs.Common.{refl, subst, sym}
 use Rattle.std.specs.Prelude.{flat_map, slice_index_or}
 use Rattle.std.specs.List.{AllByRecursion}
@@ -16,30 +16,28 @@ use Rattle.tap_views.specs.Files.{IsFile, taps_of_batches}
 use Rattle.tap_views.specs.Layout.{IsBatchIn, IsTapOf, Layout, Tap, Tap1, Tap2, magic, shared}
 use Rattle.tap_views.specs.Layout.{spelling}
 use Rattle.tap_views.specs.declared.encoder.TapFields.{TapFields}
-use Rattle.tap_views.specs.declared.token.Token.{Token}
 use Rattle.tap_views.proofs.Lists.{All-back, All-front}
 use Rattle.tap_parts.specs.Canonical.{HasTokenBytes, IsCanonical, tap_cmp}
 use Rattle.sorted_taps.specs.Merged.{IsMerged}
 use Rattle.fare_texts.specs.LedgerLines.{head_text}
 use Rattle.fare_texts.specs.WrittenOut.{Begins}
 use Rattle.fare_texts.proofs.Along.{ledger_along}
-use Rattle.fare_texts.proofs.Beginnings.{begins_front}
-use Rattle.fare_texts.proofs.PieceWriting.{along_append}
-use Rattle.fare_texts.proofs.TextsExist.{along_exist}
-use Rattle.fare_texts.specs.Lines.{AreLinesAlong}
-use Rattle.histories.specs.declared.entry.Entry.{Entry}
-use Rattle.settlement.specs.Posted.{HasName, posted, posted_after}
+use Rattle.fare_texts.specs.Explainers.{HasExplained}
+use Rattle.fare_texts.specs.declared.explainer.Explainer.{Explainer}
+use Rattle.fare_texts.proofs.PieceWriting.{consumed_first}
+use Rattle.settlement.specs.Posted.{HasName, posted}
 use Rattle.settlement.specs.Settled.{IsSettledHistory}
 use Rattle.settlement.specs.SettledTaps.{AreSettledTaps}
-use Rattle.settlement.proofs.Concats.{posted_append}
 use Rattle.settlement.proofs.Ranges.{has_name}
 use Rattle.settled_texts.proofs.Rows.{posted_nondecreasing}
+use Rattle.settled_texts.proofs.TapsExplained.{begins_longer, lines_front}
 use Rattle.settlement.proofs.Nondecreasing.{canonical_nondecreasing}
 use Rattle.sorted_taps.specs.Checked.{AreCountedFiles}
 use Rattle.sorted_taps.specs.Merges.{AreStarted, AreSortedFiles}
 use Rattle.sorted_taps.specs.declared.reader.TapReader.{TapReader}
 use Rattle.sorted_bills.specs.Ledgers.{AreBytes, IsLedgerOfFiles}
-use Rattle.sorted_bills.specs.inside.Explained.{IsStartedSoFar}
+use Rattle.sorted_bills.specs.inside.Explained.{HasTaken}
+use Rattle.sorted_bills.proofs.Explained.{consumed_none}
 use Rattle.sorted_bills.proofs.Rest.{goes_on}
 use Rattle.sorted_bills.proofs.Settled.{settled_list}
 
@@ -164,29 +162,28 @@ HasStartedLedger fares known start after = (text : List ℕ)
     × Begins start after text
 
 known_started : (fares : Fares) (known : List (Option (List ℕ))) (all : List (List ℕ))
-    (lists : List (List TapFields)) (started : List TapReader) (least : Token)
+    (lists : List (List TapFields)) (started : List TapReader) (explainer : Explainer)
     (start after : Option (List ℕ)) → MergedAreCanonical → known ≡ map Some all
-    → AreSortedFiles all lists → AreStarted all started → least ≡ record { high = 0; low = 0 }
+    → AreSortedFiles all lists → AreStarted all started
+    → explainer.token ≡ record { high = 0; low = 0 } → HasExplained fares explainer []
     → ((taps : List TapFields) → AreSettledTaps all taps
     → IsSettledHistory fares all (posted fares taps))
-    → IsStartedSoFar fares known [] started least start head_text after
+    → HasTaken fares known started explainer (λ lines. Begins start after (head_text ++ lines))
     → HasStartedLedger fares known start after
-known_started fares known all lists started least start after law are sorted is least_is settled
-    so_far =
-    let (readers, consumed) = so_far.consumed all are in
+known_started fares known all lists started explainer start after law are sorted is least fresh
+    settled taken =
+    let (readers, way) = taken.goes_on all are in
+    let consumed = way started [] (consumed_none all started) in
     let (rest, merged) =
-    goes_on all lists started consumed.to so_far.taps sorted is consumed.taken in
-    let taps = so_far.taps ++ rest in
+    goes_on all lists started consumed.to taken.taps sorted is consumed.taken in
+    let taps = taken.taps ++ rest in
     let canonical = law lists taps (λ k d inside.
     subst (λ list. IsSorted tap_cmp list) (get_or_default lists k [] d inside)
     (sorted.each k (let number = sorted.number in omega (arith, inside, number))).sorted) merged in
-    let first = posted_after fares [] so_far.taps in
-    let second = posted_after fares ([] ++ first) rest in
-    let more = along_exist fares ([] ++ first) second in
-    let lines = so_far.lines ++ more.0 in
-    let along = subst (λ (es : List Entry). AreLinesAlong fares [] es lines)
-    (sym (posted_append fares [] so_far.taps rest))
-    (along_append fares [] first second so_far.lines more.0 so_far.are more.1) in (
+    let (lines, along, begins) = lines_front fares explainer taken.taps rest taps
+    (λ lines. Begins start after (head_text ++ lines))
+    (λ lines. Begins start after (head_text ++ lines)) refl taken.lines
+    (λ l m. begins_longer start after head_text l m) [] (consumed_first fares explainer fresh) in (
       head_text ++ lines,
       λ others others_are bytes.
           let same = same_files all others (sym are ∙ others_are) in
@@ -197,33 +194,33 @@ known_started fares known all lists started least start after law are sorted is 
             history = posted fares taps;
             is_settled = settled taps (settled_list all lists taps sorted canonical named);
             over = ledger_along fares (posted fares taps) lines
-                (posted_nondecreasing fares least taps
-                (canonical_nondecreasing least taps least_is named canonical.sorted)) along;
+                (posted_nondecreasing fares explainer.token taps
+                (canonical_nondecreasing explainer.token taps least named canonical.sorted)) along;
           }),
-      subst (λ text. Begins start after text) (append_assoc head_text so_far.lines more.0)
-          (begins_front start after (head_text ++ so_far.lines) more.0 so_far.written),
+      begins,
     )
 
 pub ledger_started : (fares : Fares) (known : List (Option (List ℕ))) (numbers : List ℕ)
-    (started : List TapReader) (least : Token) (start after : Option (List ℕ)) → MergedAreCanonical
+    (started : List TapReader) (explainer : Explainer) (start after : Option (List ℕ))
+    → MergedAreCanonical
     → ((all : List (List ℕ)) → known ≡ map Some all → AreCountedFiles all numbers)
     → ((all : List (List ℕ)) → known ≡ map Some all → AreStarted all started)
-    → least ≡ record { high = 0; low = 0 }
+    → explainer.token ≡ record { high = 0; low = 0 } → HasExplained fares explainer []
     → ((all : List (List ℕ)) (taps : List TapFields) → AreSettledTaps all taps
     → IsSettledHistory fares all (posted fares taps))
-    → IsStartedSoFar fares known [] started least start head_text after
+    → HasTaken fares known started explainer (λ lines. Begins start after (head_text ++ lines))
     → HasStartedLedger fares known start after
-ledger_started fares known numbers started least start after law counted is least_is settled
-    so_far =
+ledger_started fares known numbers started explainer start after law counted is least fresh settled
+    taken =
     elim (known_or_not known) [
       | inl are ↦
           let files = counted are.0 are.1 in
-          known_started fares known are.0 files.lists started least start after law are.1
-          files.sorted
-          (is are.0 are.1) least_is (settled are.0) so_far
-      | inr none ↦ (
-        head_text ++ so_far.lines,
-        λ all are bytes. absurd (none all are),
-        so_far.written,
-      )
+          known_started fares known are.0 files.lists started explainer start after law are.1
+          files.sorted (is are.0 are.1) least fresh (settled are.0) taken
+      | inr none ↦
+          let lines = taken.lines [] (consumed_first fares explainer fresh) in (
+            head_text ++ lines.0,
+            λ all are bytes. absurd (none all are),
+            lines.2,
+          )
     ]

@@ -1,20 +1,20 @@
 -- The taps of one token, collected from sorted files.
 use Rattle.std.proofs.Common.{◌≡◌, ℕ, ◌+◌, Bool, true, false, List, [], ◌∷◌, ◌++◌, All, length, map}
 use Rattle.std.proofs.Common.{◌<◌, get_or, flat_map, cond, refl, sym, ap, subst, ◌∙◌, append-nil}
-use Rattle.std.proofs.Common.{option_map, Option, None, Some, append_assoc, arith}
-use Rattle.std.specs.Prelude.{slice_get}
+use Rattle.std.proofs.Common.{option_map, Option, None, Some, arith}
+use Rattle.std.specs.Prelude.{Err, IfErr, IfOk, IfSome, Ok, Result, slice_get}
 use Rattle.std.proofs.lemmas.List.Concat.{flat_map-append}
 use Rattle.std.proofs.lemmas.List.Elements.{All-append, All-cons, All-nil, filter-append}
 use Rattle.std.proofs.lemmas.List.Elements.{All-weaker}
-use Rattle.std.proofs.lemmas.List.Sorted.{All-permutation}
 use Rattle.std.proofs.lemmas.Option.{same_Some, slice_get-get_or, slice_get-map}
 use Rattle.tap_views.specs.Token.{token_eq}
 use Rattle.tap_views.specs.declared.encoder.TapFields.{TapFields}
 use Rattle.tap_views.specs.declared.token.Token.{Token}
+use Rattle.tap_views.specs.TokenOrder.{IsUpTo}
+use Rattle.tap_views.proofs.TokensUp.{up_both}
 use Rattle.tap_parts.specs.Canonical.{HasTokenBytes, IsCanonical}
 use Rattle.tap_views.specs.UploadEnds.{ArePlainEnds}
 use Rattle.tap_views.specs.declared.upload_end.UploadEnd.TheVariants.{Posted}
-use Rattle.tap_views.proofs.TokenLemmas.{same_token}
 use Rattle.settlement.specs.Posted.{HasName, only, token_of_tap}
 use Rattle.settlement.specs.SettledTaps.{AreSettledTapsOf}
 use Rattle.settlement.proofs.Ranges.{has_token_bytes}
@@ -25,11 +25,12 @@ use Rattle.sorted_taps.specs.declared.reader.TapReader.{TapReader}
 use Rattle.sorted_taps.proofs.Checking.{AreCounted, counted_more, counted_none}
 use Rattle.sorted_taps.proofs.Files.{known_number}
 use Rattle.sorted_taps.proofs.Standing.{sorted_at_end, holds_on}
-use Rattle.sorted_bills.specs.inside.OwnTaps.{AreOwnAdded, AreOwnOf, AreSound, IsOwnPushed}
-use Rattle.sorted_bills.specs.inside.OwnTaps.{own_of}
+use Rattle.sorted_bills.specs.declared.own_by_threads.OwnTaps.{OwnTaps}
+use Rattle.sorted_bills.specs.inside.OwnTaps.{AreOwnOf, IsOwnOf, IsOwnPushed, own_of}
+use Rattle.sorted_bills.specs.inside.Taken.{AreFollowing}
 use Rattle.sorted_bills.proofs.Counted.{counted_ends}
+use Rattle.sorted_bills.proofs.Parts.{nondecreasing_between}
 use Rattle.sorted_bills.proofs.Settled.{file_taps}
-use Rattle.sorted_bills.proofs.Takings.{Early}
 
 only_both : (token : Option Token) (xs ys : List TapFields)
     → own_of token (xs ++ ys) ≡ own_of token xs ++ own_of token ys
@@ -53,74 +54,60 @@ not_own own token tap taps some apart named = record {
   pushed = sym (append-nil taps) ∙ ap (λ (ts : List TapFields). taps ++ ts)
       (sym (ap (λ (t : Option Token). own_of t (tap ∷ [])) some
       ∙ only_one token tap false apart));
-  sound = λ sound. sound;
 }
 
 pub is_own : (own : Option Token) (token : Token) (tap : TapFields) (old new : List TapFields)
-    → own ≡ Some token → token_eq (token_of_tap tap) token ≡ true → HasName tap → Early tap
+    → own ≡ Some token → token_eq (token_of_tap tap) token ≡ true → HasName tap
     → new ≡ old ++ tap ∷ [] → IsOwnPushed own tap old new
-is_own own token tap old new some same named early more = record {
+is_own own token tap old new some same named more = record {
   named = named;
   pushed = more ∙ ap (λ (ts : List TapFields). old ++ ts)
       (sym (ap (λ (t : Option Token). own_of t (tap ∷ [])) some
       ∙ only_one token tap true same));
-  sound = λ sound. record {
-    early = subst (λ (ts : List TapFields). All Early ts) (sym more)
-        (All-append Early old (tap ∷ []) sound.early
-        (All-cons Early tap [] early (All-nil Early)));
-    its = λ t is.
-        let its : TapFields → Type 0 = λ (x : TapFields). token_of_tap x ≡ t in
-        subst (λ (ts : List TapFields). All its ts) (sym more)
-        (All-append its old (tap ∷ []) (sound.its t is)
-        (All-cons its tap [] (same_token (token_of_tap tap) token same
-        ∙ same_Some token t (sym some ∙ is)) (All-nil its)));
-  };
 }
 
--- the token's taps among those that the reader has passed were added
-pub record IsOwnRead (token : Option Token) (all : List ℕ) (old now : List TapFields) (reader : TapReader)
-    : Type 0 where
+-- these are the token's taps among those that the reader has passed
+pub record IsOwnRead (token : Option Token) (all : List ℕ) (own : List TapFields)
+    (reader : TapReader) : Type 0 where
   pub passed : List TapFields
   pub holds : IsPositionedIn all 0 passed reader
   pub named : All HasName passed
-  pub added : now ≡ old ++ own_of token passed
+  pub are : own ≡ own_of token passed
 
 pub none_read : (token : Option Token) (all : List ℕ) (taps : List TapFields) (reader : TapReader)
-    → IsPositionedIn all 0 [] reader → IsOwnRead token all taps taps reader
-none_read token all taps reader holds = record {
+    → taps ≡ [] → IsPositionedIn all 0 [] reader → IsOwnRead token all taps reader
+none_read token all taps reader none holds = record {
   passed = [];
   holds = holds;
   named = All-nil HasName;
-  added = sym (append-nil taps) ∙ ap (λ (ts : List TapFields). taps ++ ts) (sym (own_of_none token));
+  are = none ∙ sym (own_of_none token);
 }
 
-pub one_read : (token : Option Token) (all : List ℕ) (old now more : List TapFields) (was is : TapReader)
-    → IsOwnRead token all old now was
+pub one_read : (token : Option Token) (all : List ℕ) (own more : List TapFields)
+    (was is : TapReader) → IsOwnRead token all own was
     → ((tap : TapFields) (rest : List TapFields) → ahead was ≡ tap ∷ rest
-    → IsOwnPushed token tap now more)
-    → IsAdvanced all was is → IsOwnRead token all old more is
-one_read token all old now more was is read pushed step =
+    → IsOwnPushed token tap own more)
+    → IsAdvanced all was is → IsOwnRead token all more is
+one_read token all own more was is read pushed step =
     let one = pushed step.tap step.trailing step.stood in record {
       passed = read.passed ++ step.tap ∷ [];
       holds = holds_on all 0 read.passed was is read.holds step;
       named = All-append HasName read.passed (step.tap ∷ []) read.named
           (All-cons HasName step.tap [] one.named (All-nil HasName));
-      added = one.pushed
-          ∙ ap (λ (ts : List TapFields). ts ++ own_of token (step.tap ∷ [])) read.added
-          ∙ append_assoc old (own_of token read.passed) (own_of token (step.tap ∷ []))
-          ∙ ap (λ (ts : List TapFields). old ++ ts)
-          (sym (only_both token read.passed (step.tap ∷ [])));
+      are = one.pushed
+          ∙ ap (λ (ts : List TapFields). ts ++ own_of token (step.tap ∷ [])) read.are
+          ∙ sym (only_both token read.passed (step.tap ∷ []));
     }
 
-pub whole_read : (token : Option Token) (all : List ℕ) (old now : List TapFields) (reader : TapReader)
-    (numbers more : List ℕ) → IsOwnRead token all old now reader → ahead reader ≡ []
-    → more ≡ numbers ++ reader.passed ∷ [] → AreOwnAdded token all old now numbers more
-whole_read token all old now reader numbers more read none counted = record {
+pub whole_read : (token : Option Token) (all : List ℕ) (own : OwnTaps) (reader : TapReader)
+    → IsOwnRead token all own.taps.items reader → ahead reader ≡ []
+    → own.number ≡ reader.passed → IsOwnOf token all own
+whole_read token all own reader read none counted = record {
   list = read.passed;
   of_file = sorted_at_end all read.passed reader read.holds none;
   named = read.named;
-  added = read.added;
-  counted = counted ∙ ap (λ n. numbers ++ n ∷ []) read.holds.number;
+  are = read.are;
+  counted = counted ∙ read.holds.number;
 }
 
 -- the token's taps of the first files
@@ -135,32 +122,27 @@ unfolding counted_none
 none_so_far token files =
     record { counted = counted_none files; named = All-nil HasName; are = sym (own_of_none token) }
 
-pub none_sound : (token : Option Token) → AreSound token []
-none_sound token = record {
-  early = All-nil Early;
-  its = λ t is. All-nil (λ (x : TapFields). token_of_tap x ≡ t);
-}
-
-pub one_file_more : (token : Option Token) (files : List (List ℕ)) (count : ℕ) (own next : List TapFields)
-    (numbers more : List ℕ) → AreOwnSoFar token files count own numbers
-    → AreOwnAdded token (get_or files count []) own next numbers more
+pub one_file_more : (token : Option Token) (files : List (List ℕ)) (count : ℕ)
+    (own next : List TapFields) (numbers more : List ℕ) (made : OwnTaps)
+    → AreOwnSoFar token files count own numbers → IsOwnOf token (get_or files count []) made
+    → next ≡ own ++ made.taps.items → more ≡ numbers ++ made.number ∷ []
     → AreOwnSoFar token files (count + 1) next more
 unfolding counted_more
-one_file_more token files count own next numbers more so_far added =
+one_file_more token files count own next numbers more made so_far is added counted =
     let lists = so_far.counted.lists in
-    let joined : flat_map (λ list. list) (lists ++ added.list ∷ [])
-    ≡ flat_map (λ list. list) lists ++ added.list =
-    flat_map-append (λ (list : List TapFields). list) lists (added.list ∷ [])
-    ∙ ap (λ (ts : List TapFields). flat_map (λ list. list) lists ++ ts) (append-nil added.list) in
+    let joined : flat_map (λ list. list) (lists ++ is.list ∷ [])
+    ≡ flat_map (λ list. list) lists ++ is.list =
+    flat_map-append (λ (list : List TapFields). list) lists (is.list ∷ [])
+    ∙ ap (λ (ts : List TapFields). flat_map (λ list. list) lists ++ ts) (append-nil is.list) in
     record {
-      counted = counted_more files count numbers more added.list so_far.counted added.of_file
-          added.counted;
+      counted = counted_more files count numbers more is.list so_far.counted is.of_file
+          (counted ∙ ap (λ n. numbers ++ n ∷ []) is.counted);
       named = subst (λ (ts : List TapFields). All HasName ts) (sym joined)
-          (All-append HasName (flat_map (λ list. list) lists) added.list so_far.named added.named);
-      are = added.added
-          ∙ ap (λ (ts : List TapFields). ts ++ own_of token added.list) so_far.are
+          (All-append HasName (flat_map (λ list. list) lists) is.list so_far.named is.named);
+      are = added ∙ ap (λ (ts : List TapFields). ts ++ made.taps.items) so_far.are
+          ∙ ap (λ (ts : List TapFields). own_of token (flat_map (λ list. list) lists) ++ ts) is.are
           ∙ sym (ap (own_of token) joined
-          ∙ only_both token (flat_map (λ list. list) lists) added.list);
+          ∙ only_both token (flat_map (λ list. list) lists) is.list);
     }
 
 pub own_of_all : (token : Option Token) (files : List (List ℕ)) (count : ℕ) (own : List TapFields)
@@ -206,15 +188,6 @@ own_in_order token files own list numbers are canonical =
     (All-weaker HasName HasTokenBytes (λ tap name. has_token_bytes tap name.named)
     (flat_map (λ list. list) are.lists) are.named)) canonical
 
--- they stay the token's, with moments before 2100
-pub sound_list : (token : Option Token) (taps list : List TapFields) → AreSound token taps
-    → IsCanonical taps list → AreSound token list
-sound_list token taps list sound canonical = record {
-  early = All-permutation Early taps list canonical.moved sound.early;
-  its = λ t is. All-permutation (λ (x : TapFields). token_of_tap x ≡ t) taps list canonical.moved
-      (sound.its t is);
-}
-
 -- the bytes of one of the files, as a slice gives them
 pub known_slice : {X : Type 0} (known : X → Option (List ℕ)) (files : List X) (all : List (List ℕ))
     (k : ℕ) → map known files ≡ map Some all → k < length files
@@ -233,23 +206,21 @@ known_there known files k file bytes within is there =
     same_Some (known file) bytes (sym (slice_get-map known files k
     ∙ ap (option_map known) (slice_get-get_or files k file within ∙ ap Some (sym is))) ∙ there)
 
--- the token's taps of one file, behind those of others
-pub own_after : (token : Option Token) (all : List ℕ) (taps own : List TapFields)
-    (numbers counts : List ℕ)
-    → AreOwnAdded token all [] own [] counts
-    → AreOwnAdded token all taps (taps ++ own) numbers (numbers ++ counts)
-own_after token all taps own numbers counts added = record {
-  list = added.list;
-  of_file = added.of_file;
-  named = added.named;
-  added = ap (λ (ts : List TapFields). taps ++ ts) added.added;
-  counted = ap (λ (ns : List ℕ). numbers ++ ns) added.counted;
-}
+-- what a file has, by its bytes if they are known
+pub both_known : {A B : Type 0} (bytes : Option (List ℕ)) (result : Result A B)
+    (P : List ℕ → A → Type 0) (Q : List ℕ → B → Type 0)
+    → IfOk result (λ a. IfSome bytes (λ all. P all a))
+    → IfErr result (λ b. IfSome bytes (λ all. Q all b))
+    → IfSome bytes (λ all. IfOk result (P all) × IfErr result (Q all))
+both_known None result P Q ok err = tt
+both_known (Some all) (Ok a) P Q ok err = (ok, tt)
+both_known (Some all) (Err b) P Q ok err = (tt, err)
 
-pub sound_both : (token : Option Token) (taps own : List TapFields) → AreSound token taps
-    → AreSound token own → AreSound token (taps ++ own)
-sound_both token taps own first rest = record {
-  early = All-append Early taps own first.early rest.early;
-  its = λ t is. All-append (λ (x : TapFields). token_of_tap x ≡ t) taps own (first.its t is)
-      (rest.its t is);
-}
+-- tokens that do not fall, from one to the same
+pub all_its : (token : Token) (taps : List TapFields) → AreFollowing token taps token
+    → All (λ tap. token_of_tap tap ≡ token) taps
+all_its token taps are =
+    let (least, most, up) = nondecreasing_between token taps are.nondecreasing in λ k d inside.
+    up_both (token_of_tap (get_or taps k d)) token
+    (subst (λ (t : Token). IsUpTo (token_of_tap (get_or taps k d)) t) (sym are.is_last)
+    (most k d inside)) (least k d inside)

@@ -1,7 +1,6 @@
 -- What only private functions cite. Who reads the contracts of public calls need not read it.
 pub mod Billed
 pub mod Charged
-pub mod Following
 pub mod OwnTaps
 pub mod Printed
 pub mod Ranges

@@ -1,13 +1,13 @@
 //! The lines of taps of merged files, one after the other.
 
-ghost use Rattle.std.specs.Prelude.{◌≡◌, ◌+◌, ◌≤◌, ◌<◌, ◌^◌, ℕ, List, Option, IfErr, OnErr, OnOk};
+ghost use Rattle.std.specs.Prelude.{◌≡◌, ◌+◌, ◌++◌, ◌<◌, ◌^◌, ℕ, List, IfErr, OnErr, OnOk};
 ghost use Rattle.std.specs.Prelude.{length, map, string_bytes};
-ghost use Rattle.tap_views.specs.declared.token.Token.{Token};
+ghost use Rattle.fare_texts.specs.Lines.{HasConsumed};
+ghost use Rattle.fare_texts.specs.WrittenOut.{Begins, GoesOut};
 ghost use Rattle.histories.specs.declared.entry.Entry.{Entry};
-ghost use Rattle.sorted_taps.specs.declared.reader.TapReader.{TapReader};
-ghost use Rattle.sorted_bills.specs.Faults.{IsBeforeText, IsBillFault};
+ghost use Rattle.sorted_bills.specs.Faults.{IsBeforeText};
 ghost use Rattle.sorted_bills.specs.inside.Taken.{IsReady};
-ghost use Rattle.sorted_bills.specs.inside.Explained.{AreExplainedSoFar, IsStartedSoFar};
+ghost use Rattle.sorted_bills.specs.inside.Explained.{HasTaken, TakesLines};
 
 use crate::fault::BillFault;
 use crate::taker::Taker;
@@ -33,29 +33,16 @@ pub(crate) fn explain_below<F: Placed, W: Write>(
     requires clock { clock.now ≡ table.now.zone }
     requires ready { IsReady (length files.now) taker.old }
     requires room { explainer.old.number + left.old < 2 ^ 64 }
-    requires explained { (earlier : List Entry) × (started : List TapReader) × (from : Token)
-        × (start : Option (List ℕ)) × (waited : List ℕ)
-        × AreExplainedSoFar table.now (map F.bytes files.now) earlier started from start waited
-        taker.old.merge.readers.items explainer.old
-        (W.contents out.old) (string_bytes text.old) }
+    requires consumed { (earlier : List Entry) × HasConsumed table.now explainer.old earlier }
     ensures ready { OnOk result (IsReady (length files.now) taker.new) }
-    ensures few { OnOk result (explainer.new.number + left.new ≤ explainer.old.number + left.old) }
-    ensures explained { OnOk result ((earlier : List Entry) (started : List TapReader) (from : Token)
-        (start : Option (List ℕ)) (waited : List ℕ)
-        → AreExplainedSoFar table.now (map F.bytes files.now) earlier started from start waited
-        taker.old.merge.readers.items explainer.old
-        (W.contents out.old) (string_bytes text.old)
-        → AreExplainedSoFar table.now (map F.bytes files.now) earlier started from start waited
-        taker.new.merge.readers.items explainer.new
-        (W.contents out.new) (string_bytes text.new)) }
-    ensures started { OnErr result ((earlier : List Entry) (started : List TapReader) (from : Token)
-        (start : Option (List ℕ)) (waited : List ℕ)
-        → AreExplainedSoFar table.now (map F.bytes files.now) earlier started from start waited
-        taker.old.merge.readers.items explainer.old (W.contents out.old) (string_bytes text.old)
-        → IsStartedSoFar table.now (map F.bytes files.now) earlier started from start waited
-        (W.contents out.new)) }
+    ensures explained { OnOk result (TakesLines table.now (map F.bytes files.now)
+        taker.old.merge.readers.items explainer.old left.old taker.new.merge.readers.items
+        explainer.new left.new (GoesOut (W.contents out.old) (string_bytes text.old)
+        (W.contents out.new) (string_bytes text.new))) }
+    ensures started { OnErr result (HasTaken table.now (map F.bytes files.now)
+        taker.old.merge.readers.items explainer.old (λ lines. Begins (W.contents out.old)
+        (W.contents out.new) (string_bytes text.old ++ lines))) }
     ensures fault { IfErr result (λ fault. IsBeforeText fault → ⊥) }
-    ensures of_files { IfErr result (λ fault. (all : List (List ℕ)) → IsBillFault all fault) }
 {
     for _ in 0..u64::MAX {
         taker.take(files, explainer.token, below)?;

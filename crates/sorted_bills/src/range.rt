@@ -1,10 +1,8 @@
 //! The lines of the taps of a range of the tokens, made by a thread of its own.
 
-ghost use Rattle.std.specs.Prelude.{◌≡◌, ◌+◌, ◌≤◌, [], All, IfOk, None, OnOk, length, map};
+ghost use Rattle.std.specs.Prelude.{◌≡◌, ◌-◌, ◌≤◌, [], All, IfOk, None, OnOk, length, map};
 ghost use Rattle.std.specs.Prelude.{string_bytes};
-ghost use Rattle.tariffs.specs.Fares.{Fares};
-ghost use Rattle.fare_texts.specs.Explainers.{HasExplained};
-ghost use Rattle.sorted_bills.specs.inside.Ranges.{AreLinesAnywhere, IsRange};
+ghost use Rattle.sorted_bills.specs.inside.Ranges.{AreLinesOf, IsFresh, IsRange};
 
 use crate::fault::BillFault;
 use crate::lines_below::explain_below;
@@ -40,7 +38,7 @@ pub(crate) struct Range {
     pub(crate) span: Option<Span>,
     /// It has consumed the taps.
     pub(crate) explainer: Explainer,
-    /// The number of the taps, at least that of those of the last token.
+    /// The number of the taps.
     pub(crate) number: u64,
     /// Lines that wait.
     text: String,
@@ -62,12 +60,11 @@ fn explain_span<F: Placed>(
 ) -> Result<Span, BillFault>
     requires clock { clock.now ≡ table.now.zone }
     requires none { (lines.old.items ≡ []) × (string_bytes text.old ≡ []) }
-    requires fresh { (fares : Fares) → HasExplained fares explainer.old [] }
-    requires number { explainer.old.number ≡ 0 }
+    requires fresh { IsFresh explainer.old }
     requires most { left.old ≤ 65_536 }
-    ensures few { OnOk result (explainer.new.number + left.new ≤ left.old) }
-    ensures lines { IfOk result (λ span. AreLinesAnywhere table.now (map F.bytes files.now)
-        explainer.old.token span explainer.new lines.new.items) }
+    ensures few { OnOk result (left.new ≤ left.old) }
+    ensures lines { IfOk result (λ span. AreLinesOf table.now (map F.bytes files.now)
+        explainer.old span explainer.new (left.old - left.new) lines.new.items) }
 {
     let window = vec![in alloc; 0u8; WINDOW_BYTES]?;
     let mut taker = Taker::near(alloc, files, from, window)?;
@@ -94,7 +91,7 @@ impl Range {
         }
     }
 
-    /// If they are too many, or something is refused, the range is not made.
+    /// If there is none, if they are too many, or if something is refused, the range is not made.
     fn make<F: Placed>(
         &mut self,
         alloc: Global,
@@ -128,8 +125,11 @@ impl Range {
         ) else {
             return;
         };
-        self.number = MOST_TAPS - left;
-        self.span = Some(span);
+        let number = MOST_TAPS - left;
+        if number > 0 {
+            self.number = number;
+            self.span = Some(span);
+        }
     }
 
     fn make_at<F: Placed>(

@@ -1,18 +1,18 @@
 //! The lines of all taps of merged files, in rounds of a range of the tokens a thread.
 
-ghost use Rattle.std.specs.Prelude.{◌≡◌, ◌+◌, ◌≤◌, ◌<◌, ◌^◌, ℕ, All, List, Option, IfErr, IfOk};
-ghost use Rattle.std.specs.Prelude.{IfSome, None, OnErr, OnOk, length, map, string_bytes};
+ghost use Rattle.std.specs.Prelude.{◌≡◌, ◌+◌, ◌-◌, ◌++◌, ◌≤◌, ◌<◌, ◌^◌, ℕ, All, List, Option};
+ghost use Rattle.std.specs.Prelude.{IfErr, IfOk, IfSome, None, OnErr, OnOk, length, map, string_bytes};
 ghost use Rattle.tariffs.specs.Fares.{Fares};
-ghost use Rattle.tap_views.specs.declared.token.Token.{Token};
+ghost use Rattle.fare_texts.specs.Lines.{HasConsumed};
+ghost use Rattle.fare_texts.specs.WrittenOut.{Begins, GoesOut};
+ghost use Rattle.fare_texts.specs.declared.explainer.Explainer.{Explainer as AnExplainer};
 ghost use Rattle.histories.specs.declared.entry.Entry.{Entry};
 ghost use Rattle.sorted_taps.specs.Heads.{IsRanked};
 ghost use Rattle.sorted_taps.specs.Merges.{AreAtEnd};
-ghost use Rattle.sorted_taps.specs.declared.reader.TapReader.{TapReader};
-ghost use Rattle.sorted_bills.specs.Faults.{IsBeforeText, IsBillFault};
-ghost use Rattle.sorted_bills.specs.inside.Following.{DoesFollow};
+ghost use Rattle.sorted_bills.specs.Faults.{IsBeforeText};
 ghost use Rattle.sorted_bills.specs.inside.Ranges.{IsAfter, IsRange};
 ghost use Rattle.sorted_bills.specs.inside.Taken.{IsReady};
-ghost use Rattle.sorted_bills.specs.inside.Explained.{AreExplainedSoFar, IsStartedSoFar};
+ghost use Rattle.sorted_bills.specs.inside.Explained.{HasTaken, TakesLines};
 
 use crate::by_threads::MAX_WORKERS;
 use crate::fault::BillFault;
@@ -112,11 +112,11 @@ fn next_merge(
         → IsRange fares known range.new }
     ensures ranked { IfSome result (λ next. IsRanked next.readers.items next.heads.items) }
     ensures number { IfSome result (λ next. length next.readers.items ≡ files) }
-    ensures same { IfSome result (λ next. (range.new.lines ≡ range.old.lines)
-        × (range.new.explainer ≡ range.old.explainer) × (range.new.number ≡ range.old.number)) }
+    ensures fits { IfSome result (λ next. range.new.number ≤ left) }
     ensures follows { IfSome result (λ next. (fares : Fares) (known : List (Option (List ℕ)))
-        → IsRange fares known range.old
-        → DoesFollow fares known merge.now.readers.items token left range.old next) }
+        (old : AnExplainer) → old.token ≡ token → IsRange fares known range.old
+        → TakesLines fares known merge.now.readers.items old left next.readers.items
+        range.new.explainer (left - range.new.number) (λ lines. range.new.lines.items ≡ lines)) }
 {
     let span = range.span.take()?;
     if range.number > left || !is_below(token, range.first) {
@@ -143,31 +143,18 @@ fn write_range<F: Placed, W: Write>(
     requires clock { clock.now ≡ table.now.zone }
     requires ready { IsReady (length files.now) taker.old }
     requires room { explainer.old.number + left.old < 2 ^ 64 }
-    requires explained { (earlier : List Entry) × (started : List TapReader) × (from : Token)
-        × (start : Option (List ℕ)) × (waited : List ℕ)
-        × AreExplainedSoFar table.now (map F.bytes files.now) earlier started from start waited
-        taker.old.merge.readers.items explainer.old
-        (W.contents out.old) (string_bytes text.old) }
+    requires consumed { (earlier : List Entry) × HasConsumed table.now explainer.old earlier }
     requires range { IsRange table.now (map F.bytes files.now) range.old }
     ensures range { IsRange table.now (map F.bytes files.now) range.new }
     ensures ready { OnOk result (IsReady (length files.now) taker.new) }
-    ensures few { OnOk result (explainer.new.number + left.new ≤ explainer.old.number + left.old) }
-    ensures explained { OnOk result ((earlier : List Entry) (started : List TapReader) (from : Token)
-        (start : Option (List ℕ)) (waited : List ℕ)
-        → AreExplainedSoFar table.now (map F.bytes files.now) earlier started from start waited
-        taker.old.merge.readers.items explainer.old
-        (W.contents out.old) (string_bytes text.old)
-        → AreExplainedSoFar table.now (map F.bytes files.now) earlier started from start waited
-        taker.new.merge.readers.items explainer.new
-        (W.contents out.new) (string_bytes text.new)) }
-    ensures started { OnErr result ((earlier : List Entry) (started : List TapReader) (from : Token)
-        (start : Option (List ℕ)) (waited : List ℕ)
-        → AreExplainedSoFar table.now (map F.bytes files.now) earlier started from start waited
-        taker.old.merge.readers.items explainer.old (W.contents out.old) (string_bytes text.old)
-        → IsStartedSoFar table.now (map F.bytes files.now) earlier started from start waited
-        (W.contents out.new)) }
+    ensures explained { OnOk result (TakesLines table.now (map F.bytes files.now)
+        taker.old.merge.readers.items explainer.old left.old taker.new.merge.readers.items
+        explainer.new left.new (GoesOut (W.contents out.old) (string_bytes text.old)
+        (W.contents out.new) (string_bytes text.new))) }
+    ensures started { OnErr result (HasTaken table.now (map F.bytes files.now)
+        taker.old.merge.readers.items explainer.old (λ lines. Begins (W.contents out.old)
+        (W.contents out.new) (string_bytes text.old ++ lines))) }
     ensures fault { IfErr result (λ fault. IsBeforeText fault → ⊥) }
-    ensures of_files { IfErr result (λ fault. (all : List (List ℕ)) → IsBillFault all fault) }
 {
     match next_merge(
         alloc,
@@ -234,31 +221,18 @@ fn write_position<R: Threads + Sync, F: Placed + Sync, W: Write>(
     requires clock { clock.now ≡ table.now.zone }
     requires ready { IsReady (length files.now) taker.old }
     requires room { explainer.old.number + left.old < 2 ^ 64 }
-    requires explained { (earlier : List Entry) × (started : List TapReader) × (from : Token)
-        × (start : Option (List ℕ)) × (waited : List ℕ)
-        × AreExplainedSoFar table.now (map F.bytes files.now) earlier started from start waited
-        taker.old.merge.readers.items explainer.old
-        (W.contents out.old) (string_bytes text.old) }
+    requires consumed { (earlier : List Entry) × HasConsumed table.now explainer.old earlier }
     requires ranges { All (IsRange table.now (map F.bytes files.now)) ranges.old }
     ensures ranges { OnOk result (All (IsRange table.now (map F.bytes files.now)) ranges.new) }
     ensures ready { OnOk result (IsReady (length files.now) taker.new) }
-    ensures few { OnOk result (explainer.new.number + left.new ≤ explainer.old.number + left.old) }
-    ensures explained { OnOk result ((earlier : List Entry) (started : List TapReader) (from : Token)
-        (start : Option (List ℕ)) (waited : List ℕ)
-        → AreExplainedSoFar table.now (map F.bytes files.now) earlier started from start waited
-        taker.old.merge.readers.items explainer.old
-        (W.contents out.old) (string_bytes text.old)
-        → AreExplainedSoFar table.now (map F.bytes files.now) earlier started from start waited
-        taker.new.merge.readers.items explainer.new
-        (W.contents out.new) (string_bytes text.new)) }
-    ensures started { OnErr result ((earlier : List Entry) (started : List TapReader) (from : Token)
-        (start : Option (List ℕ)) (waited : List ℕ)
-        → AreExplainedSoFar table.now (map F.bytes files.now) earlier started from start waited
-        taker.old.merge.readers.items explainer.old (W.contents out.old) (string_bytes text.old)
-        → IsStartedSoFar table.now (map F.bytes files.now) earlier started from start waited
-        (W.contents out.new)) }
+    ensures explained { OnOk result (TakesLines table.now (map F.bytes files.now)
+        taker.old.merge.readers.items explainer.old left.old taker.new.merge.readers.items
+        explainer.new left.new (GoesOut (W.contents out.old) (string_bytes text.old)
+        (W.contents out.new) (string_bytes text.new))) }
+    ensures started { OnErr result (HasTaken table.now (map F.bytes files.now)
+        taker.old.merge.readers.items explainer.old (λ lines. Begins (W.contents out.old)
+        (W.contents out.new) (string_bytes text.old ++ lines))) }
     ensures fault { IfErr result (λ fault. IsBeforeText fault → ⊥) }
-    ensures of_files { IfErr result (λ fault. (all : List (List ℕ)) → IsBillFault all fault) }
 {
     let below = bounds.get(position).copied();
     if ranges.is_empty() {
@@ -291,29 +265,17 @@ pub(crate) fn write_ranges<R: Threads + Sync, F: Placed + Sync, W: Write>(
     requires clock { clock.now ≡ table.now.zone }
     requires ready { IsReady (length files.now) taker.old }
     requires room { explainer.old.number + counted < 2 ^ 64 }
-    requires explained { (earlier : List Entry) × (started : List TapReader) × (from : Token)
-        × (start : Option (List ℕ)) × (waited : List ℕ)
-        × AreExplainedSoFar table.now (map F.bytes files.now) earlier started from start waited
-        taker.old.merge.readers.items explainer.old
-        (W.contents out.old) (string_bytes text.old) }
+    requires consumed { (earlier : List Entry) × HasConsumed table.now explainer.old earlier }
     requires ranges { All (IsRange table.now (map F.bytes files.now)) ranges.old }
     ensures end { OnOk result (AreAtEnd taker.new.merge.readers.items) }
-    ensures explained { OnOk result ((earlier : List Entry) (started : List TapReader) (from : Token)
-        (start : Option (List ℕ)) (waited : List ℕ)
-        → AreExplainedSoFar table.now (map F.bytes files.now) earlier started from start waited
-        taker.old.merge.readers.items explainer.old
-        (W.contents out.old) (string_bytes text.old)
-        → AreExplainedSoFar table.now (map F.bytes files.now) earlier started from start waited
-        taker.new.merge.readers.items explainer.new
-        (W.contents out.new) (string_bytes text.new)) }
-    ensures started { OnErr result ((earlier : List Entry) (started : List TapReader) (from : Token)
-        (start : Option (List ℕ)) (waited : List ℕ)
-        → AreExplainedSoFar table.now (map F.bytes files.now) earlier started from start waited
-        taker.old.merge.readers.items explainer.old (W.contents out.old) (string_bytes text.old)
-        → IsStartedSoFar table.now (map F.bytes files.now) earlier started from start waited
-        (W.contents out.new)) }
+    ensures explained { OnOk result (TakesLines table.now (map F.bytes files.now)
+        taker.old.merge.readers.items explainer.old counted taker.new.merge.readers.items
+        explainer.new 0 (GoesOut (W.contents out.old) (string_bytes text.old)
+        (W.contents out.new) (string_bytes text.new))) }
+    ensures started { OnErr result (HasTaken table.now (map F.bytes files.now)
+        taker.old.merge.readers.items explainer.old (λ lines. Begins (W.contents out.old)
+        (W.contents out.new) (string_bytes text.old ++ lines))) }
     ensures fault { IfErr result (λ fault. IsBeforeText fault → ⊥) }
-    ensures of_files { IfErr result (λ fault. (all : List (List ℕ)) → IsBillFault all fault) }
 {
     let mut left = counted;
     for position in 0..bounds.len() + 1 {

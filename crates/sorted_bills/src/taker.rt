@@ -36,7 +36,7 @@ pub(crate) fn name_of(tap: &TapFields) -> Token
 }
 
 #[inline(always)]
-pub(crate) fn is_early(tap: &TapFields) -> bool
+fn is_early(tap: &TapFields) -> bool
     ensures { IsTrue result → tap.now.moment < 4_102_444_800_000 }
 {
     tap.moment < MOMENT_LIMIT_MS
@@ -54,7 +54,7 @@ fn may_follow(tap: &TapFields, last: Token, token: Token) -> bool
 }
 
 /// None if a tap cannot come next after the one before it.
-fn last_of(taps: &[TapFields], last: Token) -> Option<Token>
+pub(crate) fn last_of(taps: &[TapFields], last: Token) -> Option<Token>
     ensures { IfSome result (AreFollowing last taps.now) }
 {
     let mut last = last;

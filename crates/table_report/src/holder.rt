@@ -10,6 +10,8 @@ pub enum KeyHolder {
     Class(usize),
     /// The cap at this place in the order of the names.
     Cap(usize),
+    /// The element of `transfers` at this place.
+    Pair(usize),
     /// The element of `validators` at this place.
     Range(usize),
 }
@@ -39,6 +41,8 @@ const CLASS: [Key; 7] = [
 
 const CAP: [Key; 2] = [Key::CapWindow, Key::CapModes];
 
+const PAIR: [Key; 3] = [Key::From, Key::To, Key::Pays];
+
 const RANGE: [Key; 3] = [Key::First, Key::Last, Key::ModeName];
 
 pub(crate) fn known_keys(holder: KeyHolder) -> &'static [Key] {
@@ -46,6 +50,7 @@ pub(crate) fn known_keys(holder: KeyHolder) -> &'static [Key] {
         KeyHolder::Top => &TOP,
         KeyHolder::Class(_) => &CLASS,
         KeyHolder::Cap(_) => &CAP,
+        KeyHolder::Pair(_) => &PAIR,
         KeyHolder::Range(_) => &RANGE,
     }
 }

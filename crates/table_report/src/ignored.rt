@@ -37,15 +37,40 @@ fn add_of_tables<'a, F: Fn(usize) -> KeyHolder>(
     Ok(())
 }
 
+/// Those of the elements of an array at the top that are tables.
+fn add_of_elements<'a, F: Fn(usize) -> KeyHolder>(
+    found: &mut Vec<(KeyHolder, &'a str)>,
+    table: &'a Table,
+    key: &str,
+    holder: F,
+) -> Result<(), AllocError>
+    requires { F.IsAlwaysCallable holder }
+{
+    if let Some(Value::Array(elements)) = table.get(key) {
+        for (position, value) in elements.iter().enumerate() {
+            if let Value::Table(keys) = value {
+                add_ignored(found, holder(position), keys)?;
+            }
+        }
+    }
+    Ok(())
+}
+
 /// The keys of a text that its rules ignore, each with its holder: those at the top, then those of
-/// the caps and of the classes in the order of their names, then those of the elements of
-/// `validators`.
+/// the elements of `transfers`, then those of the caps and of the classes in the order of their
+/// names, then those of the elements of `validators`.
 pub(crate) fn ignored_keys(
     alloc: Global,
     table: &Table,
 ) -> Result<Vec<(KeyHolder, &str)>, AllocError> {
     let mut found = Vec::new(alloc);
     add_ignored(&mut found, KeyHolder::Top, table)?;
+    add_of_elements(
+        &mut found,
+        table,
+        "transfers",
+        |position| KeyHolder::Pair(position),
+    )?;
     add_of_tables(
         &mut found,
         table,
@@ -58,12 +83,11 @@ pub(crate) fn ignored_keys(
         "classes",
         |position| KeyHolder::Class(position),
     )?;
-    if let Some(Value::Array(elements)) = table.get("validators") {
-        for (position, value) in elements.iter().enumerate() {
-            if let Value::Table(keys) = value {
-                add_ignored(&mut found, KeyHolder::Range(position), keys)?;
-            }
-        }
-    }
+    add_of_elements(
+        &mut found,
+        table,
+        "validators",
+        |position| KeyHolder::Range(position),
+    )?;
     Ok(found)
 }

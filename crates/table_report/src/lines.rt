@@ -11,6 +11,7 @@ use fare_table::{Class, FareTable, Terms};
 use fare_texts::write_moment;
 use jiff::Timestamp;
 use std::alloc::{AllocError, Global};
+use tariffs::Pays;
 use toml::Table;
 
 /// The table at a key, or `None` if the key is not there or is not a table.
@@ -51,15 +52,35 @@ fn push_modes(text: &mut String, fares: &FareTable) -> Result<(), AllocError> {
     Ok(())
 }
 
+/// What a transfer pays, if it is not free.
+fn pays_of(fares: &FareTable, from: u8, to: u8) -> Option<Pays> {
+    for price in fares.prices() {
+        if price.from == from && price.to == to {
+            return Some(price.pays);
+        }
+    }
+    None
+}
+
+/// A pair of modes, and what it pays.
+fn push_transfer(text: &mut String, fares: &FareTable, from: u8, to: u8) -> Result<(), AllocError> {
+    let first = mode_name(fares, from as usize);
+    let second = mode_name(fares, to as usize);
+    write!(text, "transfer {first} {second}")?;
+    match pays_of(fares, from, to) {
+        Some(Pays::More { cents }) => write!(text, " pays {cents}\n"),
+        Some(Pays::Difference) => text.push_str(" pays difference\n"),
+        None => text.push_str("\n"),
+    }
+}
+
 /// Each pair of modes once.
 fn push_transfers(text: &mut String, fares: &FareTable) -> Result<(), AllocError> {
     let pairs = fares.pairs();
     let count = pairs.len();
     write!(text, "transfers {count}\n")?;
     for (from, to) in pairs {
-        let from = mode_name(fares, *from as usize);
-        let to = mode_name(fares, *to as usize);
-        write!(text, "transfer {from} {to}\n")?;
+        push_transfer(text, fares, *from, *to)?;
     }
     Ok(())
 }

@@ -34,6 +34,7 @@ fn holder_path(alloc: Global, fares: &FareTable, holder: KeyHolder) -> Result<St
             key_path(alloc, "classes", name_at(fares.class_names(), position))
         }
         KeyHolder::Cap(position) => key_path(alloc, "caps", name_at(fares.cap_names(), position)),
+        KeyHolder::Pair(position) => item_path(alloc, "transfers", position),
         KeyHolder::Range(position) => item_path(alloc, "validators", position),
     }
 }

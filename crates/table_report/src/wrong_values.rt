@@ -5,6 +5,7 @@ mod caps;
 mod checks;
 mod people;
 mod ranges;
+mod transfers;
 mod wrong;
 
 use crate::positions::Positions;

@@ -1,14 +1,16 @@
 -- A fare table, as contracts see it, and what is looked up in it.
-use Rattle.std.specs.Prelude.{ℕ, ◌&&◌, Bool, if◌then◌else◌, List, [], ◌∷◌, Option, option_map}
-use Rattle.std.specs.Prelude.{unwrap_or, nat_le, slice_index, slice_index_or}
+use Rattle.std.specs.Prelude.{ℕ, ◌&&◌, ◌||◌, ◌==◌, Bool, not, if◌then◌else◌, List, [], ◌∷◌, length}
+use Rattle.std.specs.Prelude.{Option, option_map, unwrap_or, nat_le, slice_index, slice_index_or}
 use Rattle.std.specs.Cmp.Lexicographic.{slice_cmp}
-use Rattle.std.specs.List.{find}
+use Rattle.std.specs.List.{find, list_any}
 use Rattle.std.specs.Map.{lookup}
 use Rattle.std.specs.Ordering.{nat_cmp, is_eq}
 use Rattle.tariffs.specs.ClockView.{ClockView}
+use Rattle.tariffs.specs.Prices.{price_in}
 use Rattle.tariffs.specs.TableMeaning.{TableMeaning}
 use Rattle.tariffs.specs.Transfers.{has_pair}
 use Rattle.tariffs.specs.declared.class.Class.{Class}
+use Rattle.tariffs.specs.declared.price.Pays.{Pays}
 use Rattle.tariffs.specs.declared.terms.Terms.{Terms}
 use Rattle.tariffs.specs.declared.transfer_terms.TransferTerms.{TransferTerms}
 use Rattle.tariffs.specs.declared.validators.RangeRest.{RangeRest}
@@ -49,6 +51,22 @@ mode_at fares moment validator = mode_in (meaning_at fares moment) validator
 -- whether a ride includes a transfer from the one mode to the other
 abbrev pub is_permitted : TableMeaning → ℕ → ℕ → Bool
 is_permitted meaning from to = has_pair meaning.transfers from to
+
+-- what a transfer from the one mode to the other pays, if it is not free
+abbrev pub price_of : TableMeaning → ℕ → ℕ → Option Pays
+price_of meaning from to = price_in meaning.prices from to
+
+-- whether the table names the price of a transfer
+abbrev pub names_price : TableMeaning → Bool
+names_price meaning = not (length meaning.prices == 0)
+
+-- whether one of the tables does
+abbrev pub has_prices : Fares → Bool
+has_prices fares = names_price fares.meaning || list_any (λ next. names_price next.1) fares.later
+
+-- whether there are caps beside `window` or prices (all tables have as many caps)
+abbrev pub has_caps_or_prices : Fares → Bool
+has_caps_or_prices fares = not (length fares.meaning.caps == 0) || has_prices fares
 
 -- the place of the rider's class: of the rider's own, else of the default class
 abbrev pub class_of : TableMeaning → List ℕ → ℕ

@@ -3,6 +3,7 @@ pub mod Fares
 pub mod Following
 pub mod Names
 pub mod PosixRule
+pub mod Prices
 pub mod RiderFilter
 pub mod Riders
 pub mod TableMeaning

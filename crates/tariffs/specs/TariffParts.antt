@@ -1,6 +1,7 @@
 -- What holds of the parts of every tariff, and what contracts see of them.
 use Rattle.std.specs.Prelude.{◌≡◌, ◌<◌, ◌≤◌, true, All, length, map, string_bytes}
 use Rattle.std.specs.Map.{values_of}
+use Rattle.tariffs.specs.Prices.{IsBoundedPrice}
 use Rattle.tariffs.specs.Terms.{IsBoundedClass}
 use Rattle.tariffs.specs.Zone.{zone_rule, zone_text}
 use Rattle.tariffs.specs.declared.tariff.TariffParts.{TariffParts}
@@ -14,6 +15,7 @@ view_of parts = record {
   meaning = record {
     modes = map string_bytes parts.modes.items;
     transfers = parts.transfers;
+    prices = parts.prices.items;
     classes = parts.classes.items;
     names = map string_bytes parts.names.items;
     caps = parts.caps.items;
@@ -27,11 +29,12 @@ view_of parts = record {
   zone = record { rule = zone_rule parts.zone };
 }
 
--- at most 32 modes and three caps, ranges of modes of the tariff, classes and days of windows
--- within their bounds, a name of each class and cap, and places that have a class
+-- at most 32 modes and three caps, ranges of modes of the tariff, prices, classes and days of
+-- windows within their bounds, a name of each class and cap, and places that have a class
 pub record AreSound (parts : TariffParts) : Type 0 where
   pub few : length parts.modes.items ≤ 32
   pub known : are_modes_below (length parts.modes.items) parts.ranges ≡ true
+  pub prices : All IsBoundedPrice parts.prices.items
   pub classes : All IsBoundedClass parts.classes.items
   pub named : length parts.names.items ≡ length parts.classes.items
   pub caps : All (λ cap. IsBoundedLength cap.length) parts.caps.items

@@ -1,12 +1,13 @@
 //! The fare table and its look-ups.
-ghost use Rattle.std.specs.Prelude.{◌≡◌, ◌≢◌, ℕ, ◌<◌, ◌≤◌, [], length, option_map, IfSome, IfErr};
-ghost use Rattle.std.specs.Prelude.{IfOk, IsTrue, IsOk, None, Some, All, false, map, slice_get};
-ghost use Rattle.std.specs.Prelude.{string_bytes, true};
-ghost use Rattle.tariffs.specs.Fares.{meaning_at, mode_at, terms_at};
+ghost use Rattle.std.specs.Prelude.{◌≡◌, ℕ, ◌<◌, ◌≤◌, [], length, option_map, IfSome, IfErr};
+ghost use Rattle.std.specs.Prelude.{IfOk, IsTrue, IsOk, None, Some, All, map, slice_get};
+ghost use Rattle.std.specs.Prelude.{string_bytes};
+ghost use Rattle.tariffs.specs.Fares.{has_caps_or_prices, meaning_at, mode_at, terms_at};
 ghost use Rattle.tariffs.specs.Following.{CanFollow, IsFollowFault, with_next};
 ghost use Rattle.tariffs.specs.Following as spec;
 ghost use Rattle.tariffs.specs.inside.Table.{started, dated_meaning, same_names, same_zone};
 ghost use Rattle.std.specs.Arc.{arc_value};
+ghost use Rattle.tariffs.specs.Prices.{IsBoundedPrice};
 ghost use Rattle.tariffs.specs.Riders.{by_bytes};
 ghost use Rattle.tariffs.specs.Terms.{AreBoundedTerms, IsBoundedClass};
 ghost use Rattle.tariffs.specs.WindowSpan.{IsBoundedLength, IsBoundedSpan};
@@ -16,6 +17,7 @@ use crate::class::Class;
 use crate::clock::Clock;
 use crate::follow_fault::FollowFault;
 use crate::mode::Mode;
+use crate::price::Price;
 use crate::tariff::Tariff;
 use crate::terms::Terms;
 use crate::validators::RangeRest;
@@ -32,8 +34,10 @@ pub struct FareTable {
     /// One for all clones: each book has a clone, and none changes it.
     first: Arc<Tariff>,
     /// The moment from which the next tariff is valid, for one compare. `u64::MAX` if none follows,
-    /// and 0 if there are caps.
+    /// and 0 if there are caps or prices.
     until: u64,
+    /// Whether one of the tariffs names the price of a transfer.
+    priced: bool,
     /// The tariffs that follow, in the order of their dates.
     later: Vec<DatedTariff>,
 }
@@ -49,7 +53,7 @@ impl Model for FareTable {
 
     ghost view = { λ t. fares_of (arc_value t.first) t.later.items };
 
-    ghost invariant = { λ t. AreDated (arc_value t.first).meaning t.until
+    ghost invariant = { λ t. AreDated (arc_value t.first).meaning t.priced t.until
         (map dated_meaning t.later.items) };
 }
 
@@ -66,14 +70,16 @@ impl FareTable {
         ensures zone { IfOk result (λ t. t.zone ≡ tariff.zone) }
         ensures alone { IfOk result (λ t. t.later ≡ []) }
     {
-        let until = if tariff.caps().len() == 0 {
-            u64::MAX
-        } else {
+        let priced = !tariff.prices().is_empty();
+        let until = if !tariff.caps().is_empty() || priced {
             0
+        } else {
+            u64::MAX
         };
         Ok(FareTable {
             first: Arc::new(alloc, tariff)?,
             until,
+            priced,
             later: Vec::new(alloc),
         })
     }
@@ -115,6 +121,7 @@ impl FareTable {
         Ok(FareTable {
             first: Arc::try_clone(&self.first)?,
             until: self.until,
+            priced: self.priced,
             later,
         })
     }
@@ -235,22 +242,20 @@ impl FareTable {
         self.first.caps()
     }
 
-    /// Whether there are caps beside `window`. All tariffs have as many.
+    /// Whether there are caps beside `window`, or a tariff names the price of a transfer.
     #[inline(always)]
-    pub fn has_caps(&self) -> bool
-        ensures none { result ≡ false → length self.now.meaning.caps ≡ 0 }
-        ensures some { result ≡ true → length self.now.meaning.caps ≢ 0 }
+    pub fn has_caps_or_prices(&self) -> bool
+        ensures { result ≡ has_caps_or_prices self.now }
     {
-        self.first.caps().len() != 0
+        !self.first.caps().is_empty() || self.priced
     }
 
     /// The same: at a moment of the first tariff by the compare of `is_first_at` alone.
     #[inline(always)]
-    pub fn has_caps_at(&self, moment: u64) -> bool
-        ensures none { result ≡ false → length self.now.meaning.caps ≡ 0 }
-        ensures some { result ≡ true → length self.now.meaning.caps ≢ 0 }
+    pub fn has_caps_or_prices_at(&self, moment: u64) -> bool
+        ensures { result ≡ has_caps_or_prices self.now }
     {
-        self.until <= moment && self.has_caps()
+        self.until <= moment && self.has_caps_or_prices()
     }
 
     /// The names of the caps by index, in their byte order. All tariffs have the same.
@@ -266,6 +271,14 @@ impl FareTable {
         ensures { result.now ≡ self.now.meaning.transfers }
     {
         self.first.pairs()
+    }
+
+    /// The prices of the first tariff's transfers that are not free, in the order of the text.
+    pub fn prices(&self) -> &[Price]
+        ensures prices { result.now ≡ self.now.meaning.prices }
+        ensures bounds { All IsBoundedPrice result.now }
+    {
+        self.first.prices()
     }
 
     /// The ranges of validators, each by its first number, strictly increasing.
@@ -368,7 +381,12 @@ impl FareTable {
         requires { (arc_value tariff).meaning.modes ≡ self.old.meaning.modes }
         ensures { IfOk result (λ _. self.new ≡ with_next self.old from (arc_value tariff).meaning) }
     {
+        let priced = self.priced || !tariff.prices().is_empty();
         self.later.push(DatedTariff { from, tariff })?;
+        self.priced = priced;
+        if priced {
+            self.until = 0;
+        }
         if self.until > 0 {
             self.until = self.later[0].from;
         }

@@ -1,9 +1,10 @@
 //! A tariff: what one text of a fare table says, and its look-ups.
 ghost use Rattle.std.specs.Prelude.{◌≡◌, ◌<◌, ◌≤◌, length, option_map, IfSome, Some, map};
 ghost use Rattle.std.specs.Prelude.{All, slice_get, string_bytes};
-ghost use Rattle.tariffs.specs.Fares.{cap_ceiling, class_of, is_permitted, mode_in, ride_terms};
-ghost use Rattle.tariffs.specs.Fares.{terms_at, transfer_terms};
+ghost use Rattle.tariffs.specs.Fares.{cap_ceiling, class_of, is_permitted, mode_in, price_of};
+ghost use Rattle.tariffs.specs.Fares.{ride_terms, terms_at, transfer_terms};
 ghost use Rattle.tariffs.specs.inside.PosixRule.{HasRule, rule_of};
+ghost use Rattle.tariffs.specs.Prices.{IsBoundedPays, IsBoundedPrice, price_in};
 ghost use Rattle.tariffs.specs.Riders.{by_bytes};
 ghost use Rattle.tariffs.specs.WindowSpan.{IsBoundedLength, IsBoundedSpan};
 ghost use Rattle.tariffs.specs.Zone.{zone_rule, zone_text};
@@ -14,6 +15,7 @@ use crate::cap_terms::{CapTerms, NO_CEILING};
 use crate::class::Class;
 use crate::clock::Clock;
 use crate::mode::Mode;
+use crate::price::{Pays, Price};
 use crate::riders::Riders;
 use crate::terms::Terms;
 use crate::transfer_terms::TransferTerms;
@@ -51,6 +53,8 @@ pub struct TariffParts {
     pub modes: Vec<String>,
     /// The permitted transfers.
     pub transfers: Transfers,
+    /// The prices of transfers that are not free.
+    pub prices: Vec<Price>,
     /// The classes by index.
     pub classes: Vec<Class>,
     /// The names of the classes by index.
@@ -106,6 +110,14 @@ impl Tariff {
         ensures { result ≡ is_permitted self.now.meaning from.position to.position }
     {
         self.parts.transfers.permits(from.position, to.position)
+    }
+
+    /// What a transfer from the first mode to the second pays, if it is not free.
+    pub fn price_of(&self, from: Mode, to: Mode) -> Option<Pays>
+        ensures price { result ≡ price_of self.now.meaning from.position to.position }
+        ensures bounds { IfSome result IsBoundedPays }
+    {
+        price_in(&self.parts.prices, from.position, to.position)
     }
 
     /// The mode's name.
@@ -221,6 +233,14 @@ impl Tariff {
         self.parts.transfers.all()
     }
 
+    /// The prices of transfers that are not free, in the order of the text.
+    pub fn prices(&self) -> &[Price]
+        ensures prices { result.now ≡ self.now.meaning.prices }
+        ensures bounds { All IsBoundedPrice result.now }
+    {
+        self.parts.prices.as_slice()
+    }
+
     /// The ranges of validators, each by its first number, strictly increasing.
     pub fn ranges(&self) -> &[(u32, RangeRest)]
         ensures { result.now ≡ self.now.meaning.ranges }
@@ -258,6 +278,19 @@ impl Tariff {
     {
         self.parts.classes[self.class_of(token) as usize].terms
     }
+}
+
+fn price_in(prices: &[Price], from: u8, to: u8) -> Option<Pays>
+    requires { All IsBoundedPrice prices.now }
+    ensures price { result ≡ price_in prices.now from to }
+    ensures bounds { IfSome result IsBoundedPays }
+{
+    for price in prices {
+        if price.from == from && price.to == to {
+            return Some(price.pays);
+        }
+    }
+    None
 }
 
 fn text_of(zone: &Option<Zone>) -> Option<&str>

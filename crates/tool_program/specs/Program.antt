@@ -1,24 +1,21 @@
 -- The whole program: how what is asked for ends.
-use Rattle.std.specs.Prelude.{◌≡◌, ◌⊎◌, ℕ, MatchBool, List, ◌∷◌, [], ◌++◌, Option, codes, map}
-use Rattle.frame.specs.Ends.{Ends}
-use Rattle.frame.specs.Making.{EndsMaking}
-use Rattle.world.specs.Run.{Calls, Run, with_flushed, with_said, with_written}
+use Rattle.std.specs.Prelude.{◌≡◌, ◌⊎◌, ⊤, ℕ, MatchBool, List, Option, map}
+use Rattle.frame.specs.Outcome.{Ends}
+use Rattle.world.specs.Run.{Calls, Run, with_flushed, with_written}
 use Rattle.world.specs.Writes.{IsSaid}
-use Rattle.tool_tasks.specs.Corrections.{EndsCorrecting}
-use Rattle.tool_tasks.specs.Decode.{IsTapTableOf}
-use Rattle.tool_tasks.specs.Encode.{EncodesTable}
+use Rattle.tool_tasks.specs.Corrections.{corrections_rule}
+use Rattle.tool_tasks.specs.Decode.{decode_rule}
+use Rattle.tool_tasks.specs.Encode.{encode_rule}
 use Rattle.tool_tasks.specs.EncodeRows.{EndsRows}
-use Rattle.tool_tasks.specs.Informs.{EndsInforming}
-use Rattle.tool_tasks.specs.Merge.{EndsMerging}
-use Rattle.tool_tasks.specs.ValidPrefix.{HasValidPrefix}
-use Rattle.tool_tasks.specs.MergeSorted.{MergesOrRefuses}
-use Rattle.tool_tasks.specs.Sort.{Sorts, names_of}
-use Rattle.tool_words.specs.Request.{Request, corrections, decode, encode}
-use Rattle.tool_words.specs.Request.{encode_rows, valid_prefix, merge, usage_error, shows, sort}
-use Rattle.tool_words.specs.UsageErrors.{usage_error_text}
+use Rattle.tool_tasks.specs.Merge.{merge_rule}
+use Rattle.tool_tasks.specs.ValidPrefix.{valid_prefix_rule}
+use Rattle.tool_tasks.specs.MergeSorted.{merge_sorted_rule}
+use Rattle.tool_tasks.specs.Sort.{sort_rule}
+use Rattle.tool_words.specs.Request.{Request, corrections, decode, encode, encode_rows, merge}
+use Rattle.tool_words.specs.Request.{misused, request_by, shows, sort, valid_prefix}
 use Rattle.tool_words.specs.Tasks.{rows_words_of}
+use Rattle.tool_words.specs.ToolLine.{AsksForText, Parses}
 use Rattle.tool_words.specs.declared.task.RowsWords.{RowsWords}
-use Rattle.tool_words.specs.declared.usage_error.UsageError.{UsageError}
 
 -- a text was written and flushed, and nothing else was done
 abbrev pub IsPrinted : Run → Run → Type 0
@@ -28,32 +25,35 @@ IsPrinted old new = (text : List ℕ) × (new ≡ with_flushed (with_written old
 abbrev pub IsRefused : Run → Run → ℕ → Type 0
 IsRefused old new status = ((status ≡ 2) ⊎ (status ≡ 1)) × IsSaid old new
 
--- the line of a mistake was said, with status 2, or an allocation failed
-abbrev pub IsMisused : UsageError → Run → Run → ℕ → Type 0
-IsMisused why old new status =
-    ((status ≡ 2) × (new ≡ with_said old (usage_error_text why ++ codes "\n")))
-    ⊎ ((status ≡ 1) × IsSaid old new)
-
 -- THE rule of the program: what is asked for ends so. Files that are read in pieces are read by these
 -- calls, which follow those before, and `placed` is what is known of files that are read at any
--- offset.
+-- offset. Nothing is said of what only informs.
 abbrev pub IsFramed : (before after : List Calls) → (placed : List ℕ → Option (List ℕ)) → Request
     → Run → Run → ℕ → Type 0
 IsFramed before after placed (corrections ledgers) old new status =
-    EndsCorrecting ledgers before after old new status
+    Ends (corrections_rule ledgers before after) old new status
 IsFramed before after placed (merge parts) old new status =
-    EndsMerging parts before after old new status
-IsFramed before after placed (encode word) old new status =
-    EndsMaking (EncodesTable word) (word ∷ []) old new status
+    Ends (merge_rule parts before after) old new status
+IsFramed before after placed (encode word) old new status = Ends (encode_rule word) old new status
 IsFramed before after placed (encode_rows csvs request) old new status = (words : RowsWords)
     × (rows_words_of words ≡ request) × EndsRows words csvs old new status
-IsFramed before after placed (decode words) old new status = Ends (IsTapTableOf words) words old new status
+IsFramed before after placed (decode words) old new status = Ends (decode_rule words) old new status
 IsFramed before after placed (valid_prefix request) old new status =
-    EndsMaking (HasValidPrefix request) (request.upload ∷ request.out ∷ []) old new status
+    Ends (valid_prefix_rule request) old new status
 IsFramed before after placed (sort request) old new status = MatchBool request.is_merge
-    (EndsMaking (MergesOrRefuses request (map placed request.uploads)) (names_of request) old new status)
-    (EndsMaking (Sorts request) (names_of request) old new status)
-IsFramed before after placed (usage_error why) old new status =
-    (after ≡ before) × IsMisused why old new status
-IsFramed before after placed shows old new status =
-    EndsInforming old new status ⊎ IsRefused old new status
+    (Ends (merge_sorted_rule request (map placed request.uploads)) old new status)
+    (Ends (sort_rule request) old new status)
+IsFramed before after placed misused old new status =
+    (after ≡ before) × IsRefused old new status
+IsFramed before after placed shows old new status = ⊤
+
+-- THE outcome of a run of these words: what they ask for ends as it says. Only running out of memory,
+-- while the words are read, may come before it. Words that are no command line have status 2, and
+-- nothing is read or written, unless they ask for help or the version, which is printed with status 0.
+pub record EndsTools (words : List (List ℕ)) (before after : List Calls)
+    (placed : List ℕ → Option (List ℕ)) (old new : Run) (status : ℕ) : Type 0 where
+  pub command : Parses words → IsFramed before after placed (request_by words) old new status
+      ⊎ ((status ≡ 1) × IsSaid old new)
+  pub helped : ¬ Parses words → status ≡ 0 → AsksForText words × IsPrinted old new
+  pub refused : ¬ Parses words → (¬ AsksForText words)
+      → IsRefused old new status × (after ≡ before)

@@ -7,7 +7,7 @@ ghost use Rattle.world.specs.Writes.{IsSaid};
 
 use clap::Error;
 use clap::error::ErrorKind;
-use frame::{Stop, report};
+use frame::{Outside, report};
 use std::alloc::{AllocError, Global};
 use tool_tasks::{Escaped, Fault};
 use world::{World, WriteFault};
@@ -54,7 +54,7 @@ pub(crate) fn show<W: World>(alloc: Global, error: &Error, world: &mut W) -> u8
             match print(text.as_bytes(), world) {
                 Ok(()) => 0,
                 Err(why) => {
-                    report(Stop::Unwritten(why), Fault::Write, world);
+                    report(Outside::Unwritten(why), Fault::Write, world);
                     1
                 }
             }

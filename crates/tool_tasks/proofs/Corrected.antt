@@ -1,44 +1,30 @@
--- Corrections that are written: what was written of them, and what stopped them.
-use Rattle.std.proofs.Common.{◌≡◌, ◌∙◌, ◌⊎◌, ◌++◌, ◌∷◌, [], Bool, Some, None, ℕ, List, Option, ap}
-use Rattle.std.proofs.Common.{append-nil, append_assoc, arith, inl, inr, refl, subst, sym}
-use Rattle.std.specs.Prelude.{Contains, slice_get}
-use Rattle.frame.specs.Ends.{did}
-use Rattle.frame.specs.declared.stop.Stop.{Stop}
-use Rattle.frame.specs.declared.stop.Stop.TheVariants.{NoMemory, Unmade, Unread, Unwritten}
+-- Corrections that are written: what was written of them, and what is noted.
+use Rattle.std.proofs.Common.{◌≡◌, ◌∙◌, ◌⊎◌, ◌++◌, ◌∷◌, [], Bool, Err, None, Ok, Option, Result, Some, ℕ}
+use Rattle.std.proofs.Common.{List, ap, append-nil, append_assoc, arith, inl, inr, refl, subst, sym}
+use Rattle.std.specs.Prelude.{Contains}
+use Rattle.frame.specs.declared.outside.Outside.{Outside}
 use Rattle.ledger_changes.specs.Given.{HasStarted, HasGiven, IsAllGiven, IsStarted, IsFaultOf}
 use Rattle.ledger_changes.specs.Given.{IsGivenAfter, new_calls, old_calls}
+use Rattle.ledger_changes.specs.Ledgers.{rows_of}
 use Rattle.ledger_changes.specs.Tokens.{corrections_of, head_of}
 use Rattle.ledger_changes.specs.declared.changes.Corrections.{Corrections}
+use Rattle.ledger_changes.specs.declared.fault.Bill.{Bill}
 use Rattle.ledger_changes.specs.declared.fault.Bill.TheVariants.{New, Old}
-use Rattle.ledger_changes.specs.declared.fault.CorrectionsFault.{CorrectionsFault}
-use Rattle.ledger_changes.specs.declared.fault.CorrectionsFault.TheVariants as fault
+use Rattle.ledger_changes.specs.declared.fault.CorrectionsFault.TheVariants.{Line, Unread, NoMemory}
+use Rattle.ledger_changes.specs.declared.fault.WrongLine.{WrongLine}
 use Rattle.ledger_changes.proofs.Walking.{started}
-use Rattle.part_texts.proofs.Written.{written_none}
-use Rattle.recorded_lines.specs.Texts.{CanBe, Follows, calls_of}
-use Rattle.recorded_lines.specs.declared.text.Lines.{Lines}
-use Rattle.world.specs.Run.{Calls, Run, with_cut, with_flushed, with_said, with_written}
-use Rattle.world.specs.declared.faults.WriteFault.{WriteFault}
-use Rattle.tool_tasks.specs.Corrections.{AreRead, IsCalled, IsPart, IsStopped}
-use Rattle.tool_tasks.specs.Names.{file_named}
-use Rattle.tool_tasks.specs.inside.Corrections.{IsHalt, IsStopBy, IsUnopenedAt, Stopped, halt_of}
+use Rattle.recorded_lines.specs.Texts.{CanBe}
+use Rattle.world.specs.Run.{Calls, Run, with_written}
+use Rattle.tool_tasks.proofs.Streaming.{all_read}
+use Rattle.tool_tasks.specs.Corrections.{AreRead, Corrects, IsPart, of_bill}
+use Rattle.tool_tasks.specs.Streams.{HasFailed, LeavesOf}
+use Rattle.tool_tasks.specs.declared.corrections.Stopped.{Stopped}
+use Rattle.tool_tasks.specs.declared.corrections.Stopped.TheVariants.{Fault, Write}
+use Rattle.tool_tasks.specs.declared.stops.Halt.{Halt}
+use Rattle.tool_tasks.specs.declared.streams.Noted.{Noted}
+use Rattle.tool_tasks.specs.inside.Corrections.{IsNoted, IsWritten}
+use Rattle.tool_tasks.specs.inside.Streams.{IsStreamed}
 use Rattle.tool_words.specs.Request.{CorrectionsRequest}
-
--- what was written and said
-pub flushed_said : (r now next : Run) (text said note : List ℕ) → now ≡ with_written r text
-    → said ≡ note → next ≡ with_said (with_flushed now) said
-    → next ≡ with_flushed (did r [] (record { text = text; note = note }))
-flushed_said r now next text said note is same more =
-    more ∙ ap (λ (t : List ℕ). with_said (with_flushed now) t) same
-    ∙ ap (λ (x : Run). with_said (with_flushed x) note) is
-    ∙ ap (λ l. record (with_flushed (with_said (with_written r text) note)) { loads = l })
-    (sym (append-nil r.loads))
-
-pub did_written : (r : Run) (text : List ℕ)
-    → with_written r text ≡ did r [] (record { text = text; note = [] })
-did_written r text =
-    ap (λ l. record (with_written r text) { loads = l }) (sym (append-nil r.loads))
-    ∙ ap (λ s. record (with_written r text) { loads = r.loads ++ []; said = s })
-    (sym (append-nil r.said))
 
 -- ---- what was started
 pub started_part : (by_token : Bool) (text piece front rest : List ℕ) (old new : Calls)
@@ -57,12 +43,6 @@ started_part by_token text piece front rest old new is has o n can_o can_n =
           ∙ append_assoc (text ++ front) rest more),
     )
     by (inr wrong) = inr wrong
-
-pub all_read : (calls : Calls) (whole : List ℕ) → calls.run.loads ≡ calls.reading ∷ []
-    → CanBe calls whole → whole ≡ calls.reading.bytes
-all_read calls whole is can =
-    can.begins ∙ ap (λ (l : List ℕ). calls.reading.bytes ++ l) (can.ends is)
-    ∙ append-nil calls.reading.bytes
 
 pub all_started : (by_token : Bool) (old new : Calls) (text : List ℕ) (removed : ℕ)
     → IsAllGiven by_token old new text removed → HasStarted by_token text old new
@@ -86,147 +66,78 @@ pub given_head : (c : Corrections) (is by_token : Bool) → is ≡ by_token
     → HasGiven c is (head_of is) → HasGiven c by_token (head_of by_token)
 given_head c is by_token same has = subst (λ (b : Bool). HasGiven c b (head_of b)) same has
 
--- ---- a fault of a ledger
-pub halt_faulted : (fault : CorrectionsFault) (old new : Calls) (before after : Run)
-    → after ≡ before → IsFaultOf fault old new → IsHalt (halt_of fault) old new before after
-halt_faulted (fault.Line Old number why) old new before after same is = (same, is)
-halt_faulted (fault.Line New number why) old new before after same is = (same, is)
-halt_faulted (fault.Unread Old) old new before after same is = (same, inl (refl, is))
-halt_faulted (fault.Unread New) old new before after same is = (same, inr (refl, is))
-halt_faulted fault.NoMemory old new before after same is = same
+-- ---- what is noted
+module _ (request : CorrectionsRequest) (calls : List Calls) (old new : Calls)
+    (read : AreRead request calls old new) where
+  first_wrong : (bill : Bill) (number : ℕ) (why : WrongLine)
+      → IsFaultOf (Line bill number why) old new → (whole : List ℕ)
+      → CanBe (of_bill old new bill) whole → rows_of whole ≡ Err (number, why)
+  first_wrong Old number why is = is
+  first_wrong New number why is = is
 
--- ---- both ledgers
-pub are_read : (request : CorrectionsRequest) (r0 r1 r2 r3 r4 : List Calls) (o n old new : Calls)
-    → r1 ≡ r0 → r2 ≡ r1 → r3 ≡ r2 ++ old ∷ [] → r4 ≡ r3 ++ new ∷ []
-    → o.reading.name ≡ file_named request.old → n.reading.name ≡ file_named request.new
-    → old.reading.name ≡ o.reading.name → new.reading.name ≡ n.reading.name
-    → AreRead request r0 r4 old new
-are_read request r0 r1 r2 r3 r4 o n old new first second third fourth is_o is_n same_o same_n =
-    record {
-      all = fourth ∙ ap (λ (l : List Calls). l ++ new ∷ []) third
-          ∙ append_assoc r2 (old ∷ []) (new ∷ [])
-          ∙ ap (λ (l : List Calls). l ++ old ∷ new ∷ []) (second ∙ first);
-      old_name = same_o ∙ is_o;
-      new_name = same_n ∙ is_n;
-    }
+  has_failed : (bill : Bill) → IsFaultOf (Unread bill) old new
+      → HasFailed (request.old ∷ request.new ∷ []) calls
+  has_failed Old unread = (
+    request.old,
+    (0, omega arith, refl),
+    old,
+    subst (λ cs. Contains cs old) (sym read.all) (0, omega arith, refl),
+    unread ∙ ap (λ (name : Option (List ℕ)). name ∷ []) read.old_name,
+  )
+  has_failed New unread = (
+    request.new,
+    (1, omega arith, refl),
+    new,
+    subst (λ cs. Contains cs new) (sym read.all) (1, omega arith, refl),
+    unread ∙ ap (λ (name : Option (List ℕ)). name ∷ []) read.new_name,
+  )
 
--- what stopped it is in the calls
-pub called_by : (request : CorrectionsRequest) (before after : List Calls) (old new : Calls)
-    (why : Stop) (run run' : Run) → AreRead request before after old new
-    → IsStopBy why old new run run' → IsCalled (request.old ∷ request.new ∷ []) (old ∷ new ∷ []) why
-called_by request before after old new (Unread number why) run run' read (same, inl (at, unread)) = (
-  request.old,
-  old,
-  ap (slice_get (request.old ∷ request.new ∷ [])) at,
-  (0, omega arith, refl),
-  unread ∙ ap (λ (name : Option (List ℕ)). name ∷ []) read.old_name,
-)
-called_by request before after old new (Unread number why) run run' read (same, inr (at, unread)) = (
-  request.new,
-  new,
-  ap (slice_get (request.old ∷ request.new ∷ [])) at,
-  (1, omega arith, refl),
-  unread ∙ ap (λ (name : Option (List ℕ)). name ∷ []) read.new_name,
-)
-called_by request before after old new (Unwritten why) run run' read is = tt
-called_by request before after old new (Unmade number why) run run' read is = absurd is
-called_by request before after old new NoMemory run run' read is = tt
+  part_by : (text : List ℕ) → (text ≡ []) ⊎ HasStarted request.is_by_token text old new
+      → (text ≡ []) ⊎ IsPart request calls text
+  part_by text (inl none) = inl none
+  part_by text (inr has) = inr (old, new, read, has)
 
-pub stopped_by : (why : Stop) (old new : Calls) (run run' : Run) (r : Run) (text : List ℕ)
-    → run ≡ with_written r text → IsStopBy why old new run run'
-    → IsStopped why (did r [] (record { text = text; note = [] })) run'
-stopped_by (Unread number why) old new run run' r text is (same, where_is) =
-    same ∙ is ∙ did_written r text
-stopped_by (Unwritten why) old new run run' r text is cut =
-    cut ∙ ap (λ (x : Run). with_cut x why) (is ∙ did_written r text)
-stopped_by (Unmade number why) old new run run' r text is no_such = absurd no_such
-stopped_by NoMemory old new run run' r text is same = same ∙ is ∙ did_written r text
+  left_by : (run run' : Run) (text : List ℕ) (why is : Outside) → is ≡ why
+      → LeavesOf (request.old ∷ request.new ∷ []) calls why (with_written run text) run'
+      → LeavesOf (request.old ∷ request.new ∷ []) calls is (with_written run text) run'
+  left_by run run' text why is same leaves = subst (λ w.
+      LeavesOf (request.old ∷ request.new ∷ []) calls w (with_written run text) run') (sym same) leaves
 
--- the ledgers were not both opened
-pub called_unopened : (request : CorrectionsRequest) (calls : List Calls) (number : ℕ)
-    (name : List ℕ) (failed : Calls) (why : Stop)
-    → slice_get (request.old ∷ request.new ∷ []) number ≡ Some name → Contains calls failed
-    → IsUnopenedAt number (file_named name) failed why → IsCalled (request.old ∷ request.new ∷ []) calls why
-called_unopened request calls number name failed (Unread at why) is has (same, unread) = (
-  name,
-  failed,
-  ap (slice_get (request.old ∷ request.new ∷ [])) same ∙ is,
-  has,
-  unread,
-)
-called_unopened request calls number name failed (Unwritten why) is has no_such = absurd no_such
-called_unopened request calls number name failed (Unmade at why) is has no_such = absurd no_such
-called_unopened request calls number name failed NoMemory is has none = tt
-
-pub not_opened : (request : CorrectionsRequest) (before after calls : List Calls) (number : ℕ)
-    (name : List ℕ) (failed : Calls) (why : Stop) (run : Run) → after ≡ before ++ calls
-    → slice_get (request.old ∷ request.new ∷ []) number ≡ Some name → Contains calls failed
-    → IsUnopenedAt number (file_named name) failed why → Stopped request before after run run why
-not_opened request before after calls number name failed why run all is has unopened = record {
-  calls = calls;
-  all = all;
-  event = called_unopened request calls number name failed why is has unopened;
-  text = [];
-  part = inl refl;
-  stopped = by why unopened;
-}
-  where
-    same : run ≡ did run [] (record { text = []; note = [] })
-    same = written_none run ∙ did_written run []
-
-    by : (w : Stop) → IsUnopenedAt number (file_named name) failed w
-        → IsStopped w (did run [] (record { text = []; note = [] })) run
-    by (Unread at cause) it = same
-    by (Unwritten cause) no_such = absurd no_such
-    by (Unmade at cause) no_such = absurd no_such
-    by NoMemory it = same
-
-pub not_both : (r0 r1 r2 r3 : List Calls) (a b : Calls) → r1 ≡ r0 → r2 ≡ r1 ++ a ∷ []
-    → r3 ≡ r2 ++ b ∷ [] → r3 ≡ r0 ++ a ∷ b ∷ []
-not_both r0 r1 r2 r3 a b first second third =
-    third ∙ ap (λ (l : List Calls). l ++ b ∷ []) second ∙ append_assoc r1 (a ∷ []) (b ∷ [])
-    ∙ ap (λ (l : List Calls). l ++ a ∷ b ∷ []) first
-
--- both were opened, read on and closed
-pub both_read : (request : CorrectionsRequest) (r0 r1 r2 r3 r4 : List Calls) (o n : Lines)
-    (c c' : Corrections) (texts : Lines × Lines) → r1 ≡ r0 → r2 ≡ r1
-    → texts ≡ (c'.old.from, c'.new.from) → r3 ≡ r2 ++ calls_of texts.0 ∷ []
-    → r4 ≡ r3 ++ calls_of texts.1 ∷ [] → (calls_of o).reading.name ≡ file_named request.old
-    → (calls_of n).reading.name ≡ file_named request.new → c.old.from ≡ o → c.new.from ≡ n
-    → Follows c.old.from c'.old.from × Follows c.new.from c'.new.from
-    → AreRead request r0 r4 (old_calls c') (new_calls c')
-both_read request r0 r1 r2 r3 r4 o n c c' texts first second are third fourth is_o is_n at_o at_n
-    (old, new) =
-    are_read request r0 r1 r2 r3 r4 (old_calls c) (new_calls c) (old_calls c') (new_calls c') first
-    second (third ∙ ap (λ (t : Lines × Lines). r2 ++ calls_of t.0 ∷ []) are)
-    (fourth ∙ ap (λ (t : Lines × Lines). r3 ++ calls_of t.1 ∷ []) are)
-    (ap (λ (l : Lines). (calls_of l).reading.name) at_o ∙ is_o)
-    (ap (λ (l : Lines). (calls_of l).reading.name) at_n ∙ is_n) old.name new.name
-
-pub part_of : (request : CorrectionsRequest) (before after : List Calls) (old new : Calls)
-    (text : List ℕ) → AreRead request before after old new
-    → (text ≡ []) ⊎ HasStarted request.is_by_token text old new → IsPart request before after text
-part_of request before after old new text read (inl none) = inl none
-part_of request before after old new text read (inr has) = inr (old, new, read, has)
-
-pub stops : (request : CorrectionsRequest) (before after : List Calls) (old new : Calls) (why : Stop)
-    (run run' : Run) (text : List ℕ) → AreRead request before after old new
-    → (text ≡ []) ⊎ HasStarted request.is_by_token text old new
-    → IsStopBy why old new (with_written run text) run' → Stopped request before after run run' why
-stops request before after old new why run run' text read part is = record {
-  calls = old ∷ new ∷ [];
-  all = read.all;
-  event = called_by request before after old new why (with_written run text) run' read is;
-  text = text;
-  part = part_of request before after old new text read part;
-  stopped = stopped_by why old new (with_written run text) run' run text refl is;
-}
-
--- what was written is not flushed
-pub not_flushed : (why : Stop) (old new : Calls) (run run' run'' : Run) (text : List ℕ)
-    → run' ≡ with_written run text
-    → (fault : WriteFault) × (why ≡ Unwritten fault) × (run'' ≡ with_cut run' fault)
-    → IsStopBy why old new (with_written run text) run''
-not_flushed why old new run run' run'' text is (fault, same, cut) =
-    subst (λ (w : Stop). IsStopBy w old new (with_written run text) run'') (sym same)
-    (cut ∙ ap (λ (x : Run). with_cut x fault) is)
+  pub corrected : (run run' : Run) (written : Result ℕ Stopped) (result : Result Noted Halt)
+      → IsWritten request.is_by_token old new run run' written → IsNoted request written result
+      → IsStreamed (Corrects request) (IsPart request) (request.old ∷ request.new ∷ []) calls run
+      run' result
+  corrected run run' (Ok removed) (Ok noted) (text, is, all) (note, status) = (
+    text,
+    is,
+    inr (old, new, read, all_started request.is_by_token old new text removed all),
+    (old, new, read, inl (removed, all, note, status)),
+  )
+  corrected run run' (Ok removed) (Err halt) (text, is, all) none = (
+    text,
+    inr (old, new, read, all_started request.is_by_token old new text removed all),
+    left_by run run' text _ halt.why none (inl is),
+  )
+  corrected run run' (Err (Fault (Line bill number why))) (Ok noted) (text, part, (same, first))
+      (note, status) = (
+        text,
+        same,
+        part_by text part,
+        (
+          old,
+          new,
+          read,
+          inr ((bill, number, why, first_wrong bill number why first, note, status), part_by text part),
+        ),
+      )
+  corrected run run' (Err (Fault (Line bill number why))) (Err halt) (text, part, (same, first)) none =
+      (text, part_by text part, left_by run run' text _ halt.why none (inl same))
+  corrected run run' (Err (Fault (Unread bill))) (Ok noted) w bad = absurd bad
+  corrected run run' (Err (Fault (Unread bill))) (Err halt) (text, part, (same, unread)) why =
+      (text, part_by text part, left_by run run' text _ halt.why why (has_failed bill unread, inl same))
+  corrected run run' (Err (Fault NoMemory)) (Ok noted) w bad = absurd bad
+  corrected run run' (Err (Fault NoMemory)) (Err halt) (text, part, (same, none)) why =
+      (text, part_by text part, left_by run run' text _ halt.why why (inl same))
+  corrected run run' (Err (Write fault)) (Ok noted) w bad = absurd bad
+  corrected run run' (Err (Write fault)) (Err halt) (text, part, cut) why =
+      (text, part_by text part, left_by run run' text _ halt.why why (inl cut))

@@ -1,13 +1,11 @@
-mod Informing
 pub mod KnownBytes
 mod Loading
 pub mod Corrected
 pub mod Decoding
-mod Encoding
 pub mod Making
 pub mod MergedUploads
 pub mod PartsRead
 pub mod Preparing
 pub mod Sorting
 pub mod EncodingRows
-pub mod ValidPrefixes
+pub mod Streaming

@@ -1,8 +1,7 @@
 -- Sorted uploads that are merged, and those that are refused.
-use Rattle.std.proofs.Common.{◌≡◌, ◌≤◌, ◌∙◌, ◌++◌, ℕ, List, [], ◌∷◌, Option, Some, ap, arith, codes}
+use Rattle.std.proofs.Common.{◌≡◌, ◌∙◌, ℕ, List, [], ◌∷◌, Option, Some, ap}
 use Rattle.std.proofs.Common.{inl, inr, length, map, refl, subst, suc, sym, zero}
 use Rattle.std.specs.Prelude.{slice_get}
-use Rattle.frame.specs.Making.{IsDoneMaking}
 use Rattle.program_manners.specs.Refusals.{IsOneOf}
 use Rattle.tap_views.specs.declared.upload_end.UploadEnd.{UploadEnd}
 use Rattle.tap_views.specs.declared.upload_end.UploadEnd.TheVariants.{Posted}
@@ -12,17 +11,12 @@ use Rattle.sorted_taps.specs.declared.fault.SortedFault.{SortedFault}
 use Rattle.sorted_taps.specs.declared.fault.SortedFault.TheVariants as sorted
 use Rattle.tap_views.specs.declared.encoder.TapFields.{TapFields}
 use Rattle.tap_views.specs.declared.fault.LayoutFault.{LayoutFault}
-use Rattle.report_texts.specs.Report.{upload_lines}
-use Rattle.tool_tasks.proofs.Making.{known_whole}
-use Rattle.tool_tasks.specs.Fault.{fault_text}
-use Rattle.tool_tasks.specs.MergeSorted.{IsMergeOf, IsRightFileFault, MergesOrRefuses}
-use Rattle.tool_tasks.specs.Sort.{files_of}
-use Rattle.tool_words.specs.Request.{SortRequest}
+use Rattle.frame.proofs.Giving.{known_whole}
+use Rattle.tool_tasks.specs.MergeSorted.{IsMergeOf, IsRightFileFault}
 use Rattle.tool_tasks.specs.declared.fault.Fault.{Fault}
 use Rattle.tool_tasks.specs.declared.fault.Fault.TheVariants.{Layout, NoMemory, OutOfOrder}
 use Rattle.tool_tasks.specs.declared.fault.Fault.TheVariants.{TooManyOpen, Unread}
 use Rattle.tool_tasks.specs.inside.Sort.{IsFileFault, IsOpenFault, IsUnopened}
-use Rattle.world.specs.Run.{Run}
 
 -- the ends of uploads by the numbers of their taps
 posted_lists : (lists : List (List TapFields))
@@ -90,35 +84,6 @@ right_unopened words word (TooManyOpen named) one is =
 right_unopened words word NoMemory one is = tt
 right_unopened words word said one is = absurd is
 
--- the files of these ends and of these taps are right
-pub merges_right : (request : SortRequest) (known : List (Option (List ℕ))) (ends : List UploadEnd)
-    (lines note file : List ℕ) (status : ℕ)
-    → ((uploads : List (List ℕ)) → known ≡ map Some uploads → IsMergeOf uploads ends file)
-    → lines ≡ upload_lines 0 ends → note ≡ [] → status ≡ 0
-    → MergesOrRefuses request known [] (record { text = []; note = note })
-    (files_of request lines file) status
-merges_right request known ends lines note file status whole is_lines is_note success = (
-  refl,
-  inl (record {
-    ends = ends;
-    file = file;
-    whole = whole;
-    made = ap (λ ls. files_of request ls file) is_lines;
-    answered = ap (λ n. record { text = []; note = n }) is_note;
-    success = success;
-  }),
-)
-
--- the fault of an upload is right
-pub refuses_right : (request : SortRequest) (known : List (Option (List ℕ))) (fault : Fault)
-    (status : ℕ) → IsRightFileFault request.uploads known fault → status ≡ 1
-    → MergesOrRefuses request known []
-    (record { text = []; note = fault_text fault ++ codes "\n" }) [] status
-refuses_right request known fault status right failed = (
-  refl,
-  inr (record { fault = fault; right = right; unmade = refl; answered = refl; failed = failed }),
-)
-
 -- the bytes of the file that was written
 pub whole_file : (uploads : List (List ℕ)) (numbers : List ℕ) (ends : List UploadEnd)
     (empty written : Option (List ℕ)) (bytes : List ℕ) (merged : IsMergedFile uploads numbers empty written)
@@ -130,8 +95,3 @@ whole_file uploads numbers ends empty written bytes merged ended is_empty is =
     let file : merged.written.file ≡ bytes = cc in
     subst (λ b. IsMergeOf uploads ends b) file
     (merge_of uploads numbers ends empty written merged ended)
-
-pub merge_status : (request : SortRequest) (known : List (Option (List ℕ))) (old new : Run)
-    (status : ℕ) → IsDoneMaking (MergesOrRefuses request known) old new status → status ≤ 1
-merge_status request known old new status done =
-    elim done.right.1 [ inl made ↦ omega arith | inr refused ↦ omega arith ]

@@ -4,8 +4,9 @@ use Rattle.std.specs.Prelude.{◌≡◌, ◌⊎◌, ⊤, ◌+◌, ◌==◌, ◌|
 use Rattle.std.specs.Prelude.{◌++◌, Option, None, Some, IfSome, if◌then◌else◌, codes, decimal, false}
 use Rattle.std.specs.Prelude.{length, map, nat_lt, not, option_map, slice_get, true, unwrap_or}
 use Rattle.std.specs.Borrow.{Bor}
-use Rattle.frame.specs.Ends.{Answer}
-use Rattle.frame.specs.Making.{EndsMaking}
+use Rattle.frame.specs.Given.{Given, file_of, load_of}
+use Rattle.frame.specs.Names.{file_named}
+use Rattle.frame.specs.Outcome.{Ends, Rule, rule_of}
 use Rattle.tap_rows.specs.Agencies.{IsFirstRefused, IsRowsEncoded, IsWanting}
 use Rattle.tap_rows.specs.AgencyTexts.{first_record}
 use Rattle.tap_rows.specs.Devices.{AreDevices, Device, IsDevicesFault, devices_of}
@@ -20,10 +21,10 @@ use Rattle.tap_rows.specs.declared.agency.fault.Wanted.TheVariants as wanted
 use Rattle.tap_rows.specs.declared.agency.key.WrongKey.{WrongKey}
 use Rattle.tap_rows.specs.declared.agency.summary.Summary.{Summary}
 use Rattle.tap_rows.specs.declared.devices.fault.DevicesFault.TheVariants as devices
-use Rattle.tool_tasks.specs.Encode.{Refuses, load_of}
+use Rattle.tool_tasks.specs.Encode.{Refuses}
 use Rattle.tool_tasks.specs.EncodeTables.{IsClock, IsKey, IsNoZone, zone_file, zone_loaded}
 use Rattle.tool_tasks.specs.Fault.{key_line, wrong_line}
-use Rattle.tool_tasks.specs.Names.{called, file_named}
+use Rattle.tool_tasks.specs.Names.{called}
 use Rattle.tool_tasks.specs.Uploads.{IsMomentOrDash}
 use Rattle.tool_tasks.specs.WrongTables.{devices_text, rows_text}
 use Rattle.tool_tasks.specs.declared.wrong_tables.WrongDevices.{WrongDevices}
@@ -202,17 +203,17 @@ upload_text (Some name) upload = []
 abbrev pub upload_files : Option (List ℕ) → List ℕ → List Named
 upload_files None upload = []
 upload_files (Some name) [] = []
-upload_files (Some name) (byte ∷ bytes) = record { name = name; bytes = byte ∷ bytes } ∷ []
+upload_files (Some name) (byte ∷ bytes) = file_of name (byte ∷ bytes) ∷ []
 
 -- the file of the refused rows, if it has a name
 abbrev pub refused_files : Option (List ℕ) → List ℕ → List Named
 refused_files None rows = []
-refused_files (Some name) rows = record { name = name; bytes = rows } ∷ []
+refused_files (Some name) rows = file_of name rows ∷ []
 
 -- the device table, if it is made
 abbrev pub device_files : Bool → Option (List ℕ) → Option (List Device) → List Named
 device_files true (Some name) (Some devices) =
-    record { name = name; bytes = device_table_text devices } ∷ []
+    file_of name (device_table_text devices) ∷ []
 device_files makes name devices = []
 
 -- the files that are made, in order
@@ -223,13 +224,13 @@ files_made words choice all = (device_files words.makes_devices (word_in words.d
     ++ refused_files (word_in words.refused) all.rows
 
 -- The upload of all CSVs is written or made, the other files are made, and the lines are noted.
-pub record IsRowsUpload (words : RowsWords) (choice : Choice) (csvs : List Csv) (answer : Answer)
-    (files : List Named) (status : ℕ) : Type 0 where
+pub record IsRowsUpload (words : RowsWords) (choice : Choice) (csvs : List Csv) (given : Given)
+    (status : ℕ) : Type 0 where
   pub all : Encoded
   pub encoded : AddsCsvs words (nat_lt 1 (length csvs)) choice csvs nothing_encoded all
-  pub answered : answer
-      ≡ record { text = upload_text (word_in words.out) all.upload; note = all.note }
-  pub made : files ≡ files_made words choice all
+  pub text : given.text ≡ upload_text (word_in words.out) all.upload
+  pub note : given.note ≡ all.note
+  pub made : given.files ≡ files_made words choice all
   pub status_is : status ≡ rows_status all
 
 -- ---- a wrong file
@@ -265,70 +266,38 @@ IsWrongDevices separator text wrong_devices.Head = IsDevicesFault separator text
 IsWrongDevices separator text (wrong_devices.Row number why) =
     IsDevicesFault separator text (devices.Row number why)
 
+-- the line says that the words name a device table that is there and is none, a key whose file is
+-- none, or a zone that is none
+abbrev pub IsWrongTable : RowsWords → Bool → Texts → List ℕ → Type 0
+IsWrongTable words is_there texts line =
+    ((name : List ℕ) × (word_in words.devices ≡ Some name) × (is_there ≡ true)
+    × (wrong : WrongDevices) × IsWrongDevices words.columns.separator texts.devices wrong
+    × (line ≡ wrong_line name (devices_text wrong)))
+    ⊎ (((name : List ℕ) × (word_in words.key ≡ Some name) × (wrong : WrongKey)
+    × (key_of texts.key ≡ Err wrong) × (line ≡ key_line name wrong))
+    ⊎ ((name : List ℕ) × (word_in words.zone ≡ Some name) × IsNoZone name texts.zone line))
+
 -- ---- THE rule
 -- it is the upload of the rows; or one of the CSVs is wrong: its line is noted, with more after it
-abbrev pub IsRowsAnswer : RowsWords → Choice → List Csv → Answer → List Named → ℕ → Type 0
-IsRowsAnswer words choice csvs answer files status =
-    IsRowsUpload words choice csvs answer files status
+abbrev pub IsRowsAnswer : RowsWords → Choice → List Csv → Given → ℕ → Type 0
+IsRowsAnswer words choice csvs given status = IsRowsUpload words choice csvs given status
     ⊎ ((csv : Csv) × Contains csvs csv × (wrong : WrongRows) × IsWrongRows words choice csv.1 wrong
-    × (more : List ℕ) × Refuses (wrong_line csv.0 (rows_text wrong)) more answer files status)
+    × (more : List ℕ) × Refuses (wrong_line csv.0 (rows_text wrong)) more given status)
 
--- the rows are read as the words say, and this is the answer
-pub record EncodesCsvs (words : RowsWords) (is_there : Bool) (texts : Texts) (answer : Answer)
-    (files : List Named) (status : ℕ) : Type 0 where
-  pub choice : Choice
-  pub is_choice : IsChoice words is_there texts choice
-  pub answered : IsRowsAnswer words choice texts.csvs answer files status
-
--- the words name a device table that is there, and is none
-pub record RefusesDevices (words : RowsWords) (is_there : Bool) (texts : Texts) (answer : Answer)
-    (files : List Named) (status : ℕ) : Type 0 where
-  pub name : List ℕ
-  pub named : word_in words.devices ≡ Some name
-  pub there : is_there ≡ true
-  pub wrong : WrongDevices
-  pub is_wrong : IsWrongDevices words.columns.separator texts.devices wrong
-  pub answered : Refuses (wrong_line name (devices_text wrong)) [] answer files status
-
--- the devices are right, the words name a key, and its file is none
-pub record RefusesKey (words : RowsWords) (is_there : Bool) (texts : Texts) (answer : Answer)
-    (files : List Named) (status : ℕ) : Type 0 where
-  pub devices : Option (List Device)
-  pub has_devices : HasDevices words is_there texts devices
-  pub name : List ℕ
-  pub named : word_in words.key ≡ Some name
-  pub wrong : WrongKey
-  pub is_wrong : key_of texts.key ≡ Err wrong
-  pub answered : Refuses (key_line name wrong) [] answer files status
-
--- the devices and the key are right, the words name a zone, and there is none
-pub record RefusesZone (words : RowsWords) (is_there : Bool) (texts : Texts) (answer : Answer)
-    (files : List Named) (status : ℕ) : Type 0 where
-  pub devices : Option (List Device)
-  pub has_devices : HasDevices words is_there texts devices
-  pub block : Option (List ℕ)
-  pub is_key : IsKey (word_in words.key) texts.key block
-  pub name : List ℕ
-  pub named : word_in words.zone ≡ Some name
-  pub line : List ℕ
-  pub is_none : IsNoZone name texts.zone line
-  pub answered : Refuses line [] answer files status
-
--- the answer to the texts
-abbrev pub AnswersTexts : RowsWords → Bool → Texts → Answer → List Named → ℕ → Type 0
-AnswersTexts words is_there texts answer files status =
-    EncodesCsvs words is_there texts answer files status
-    ⊎ (RefusesDevices words is_there texts answer files status
-    ⊎ (RefusesKey words is_there texts answer files status
-    ⊎ RefusesZone words is_there texts answer files status))
+-- the rows are read as the words say, and this is the answer; or a table is wrong, and its line noted
+abbrev pub AnswersTexts : RowsWords → Bool → Texts → Given → ℕ → Type 0
+AnswersTexts words is_there texts given status =
+    ((choice : Choice) × IsChoice words is_there texts choice
+    × IsRowsAnswer words choice texts.csvs given status)
+    ⊎ ((line : List ℕ) × IsWrongTable words is_there texts line × Refuses line [] given status)
 
 -- what the words name was read to its end, in order, and this is the answer
-pub record EncodesRows (words : RowsWords) (csvs : List (List ℕ)) (is_there : Bool)
-    (loads : List Load) (answer : Answer) (files : List Named) (status : ℕ) : Type 0 where
+pub record EncodesRows (words : RowsWords) (csvs : List (List ℕ)) (is_there : Bool) (given : Given)
+    (status : ℕ) : Type 0 where
   pub texts : Texts
-  pub loaded : loads ≡ loads_of words is_there texts
+  pub loaded : given.loads ≡ loads_of words is_there texts
   pub named : map (λ csv. csv.0) texts.csvs ≡ csvs
-  pub answered : AnswersTexts words is_there texts answer files status
+  pub answered : AnswersTexts words is_there texts (record given { loads = [] }) status
 
 -- A device table that is made may be missing: then its load was refused before anything else.
 abbrev pub HasTried : RowsWords → Bool → Run → Run → Type 0
@@ -336,10 +305,13 @@ HasTried words true old new = new ≡ old
 HasTried words false old new = (words.makes_devices ≡ true) × (name : List ℕ)
     × (word_in words.devices ≡ Some name) × (new ≡ with_unread old (file_named name))
 
+abbrev pub rows_rule : RowsWords → List (List ℕ) → Bool → Rule
+rows_rule words csvs is_there = rule_of (EncodesRows words csvs is_there) (names_of words csvs)
+
 -- THE rule of `encode` of an agency's own CSVs
 pub record EndsRows (words : RowsWords) (csvs : List (List ℕ)) (old new : Run) (status : ℕ)
     : Type 0 where
   pub is_there : Bool
   pub started : Run
   pub tried : HasTried words is_there old started
-  pub ends : EndsMaking (EncodesRows words csvs is_there) (names_of words csvs) started new status
+  pub ends : Ends (rows_rule words csvs is_there) started new status

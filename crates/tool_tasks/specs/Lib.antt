@@ -5,12 +5,12 @@ pub mod EncodeRows
 pub mod EncodeTables
 pub mod Fault
 pub mod ValidPrefix
-pub mod Informs
 pub mod Layout
 pub mod Merge
 pub mod MergeSorted
 pub mod Names
 pub mod Sort
+pub mod Streams
 pub mod Uploads
 pub mod WrongTables
 pub mod inside

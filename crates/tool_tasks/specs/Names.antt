@@ -1,5 +1,5 @@
 -- Words of the command line that name files, as they are opened and as they are shown.
-use Rattle.std.specs.Prelude.{ℕ, ◌/◌, ◌%◌, if◌then◌else◌, List, [], ◌∷◌, ◌++◌, Option, None, Some}
+use Rattle.std.specs.Prelude.{ℕ, ◌/◌, ◌%◌, if◌then◌else◌, List, [], ◌∷◌, ◌++◌}
 use Rattle.std.specs.Prelude.{codes, false, flat_map}
 use Rattle.std.specs.Char.{encode_utf8, is_control}
 use Rattle.std.specs.Fmt.{digit_glyph}
@@ -18,7 +18,3 @@ escaped text = flat_map shown_letter (chars text)
 -- what the file is called that a word names; `-` represents standard input
 abbrev pub called : List ℕ → List ℕ
 called word = if bytes_eq word (codes "-") then codes "standard input" else escaped word
-
--- the name of the file that a word names; none of standard input
-abbrev pub file_named : List ℕ → Option (List ℕ)
-file_named word = if bytes_eq word (codes "-") then None else Some word

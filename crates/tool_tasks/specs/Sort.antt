@@ -1,7 +1,7 @@
 -- What `sort` does.
 use Rattle.std.specs.Prelude.{◌≡◌, ℕ, List, [], ◌∷◌, ◌++◌, Option, None, Some}
 use Rattle.std.specs.Prelude.{codes, if◌then◌else◌, map, unwrap_or}
-use Rattle.frame.specs.Ends.{Answer}
+use Rattle.frame.specs.Given.{Given, file_of}
 use Rattle.report_texts.specs.Report.{upload_lines}
 use Rattle.tap_views.specs.UploadEnds.{ArePlainEnds, are_posted}
 use Rattle.tap_views.specs.declared.upload_end.UploadEnd.{UploadEnd}
@@ -10,9 +10,10 @@ use Rattle.settlement.specs.SettledTaps.{AreSettledTaps}
 use Rattle.sorted_taps.specs.Written.{IsInBatchesOf512}
 use Rattle.tap_views.specs.declared.encoder.TapFields.{TapFields}
 use Rattle.tool_tasks.specs.Fault.{layout_text}
-use Rattle.tool_tasks.specs.Names.{file_named}
+use Rattle.frame.specs.Names.{file_named}
+use Rattle.frame.specs.Outcome.{Rule, rule_of}
 use Rattle.tool_words.specs.Request.{SortRequest}
-use Rattle.world.specs.Run.{Load, Named}
+use Rattle.world.specs.Run.{Named}
 
 -- The file has exactly the valid taps of the uploads, in canonical order and in batches of 512, the
 -- last of fewer if need be. None is empty.
@@ -28,12 +29,11 @@ names_of request = request.out ∷ unwrap_or request.ends request.out ∷ reques
 -- the file of these lines of uploads' ends, if it has a name
 abbrev pub ends_files : Option (List ℕ) → List ℕ → List Named
 ends_files None lines = []
-ends_files (Some name) lines = record { name = name; bytes = lines } ∷ []
+ends_files (Some name) lines = file_of name lines ∷ []
 
 -- the file of the lines of the uploads' ends, if it has a name, and then that of their taps
 abbrev pub files_of : SortRequest → List ℕ → List ℕ → List Named
-files_of request lines file =
-    ends_files request.ends lines ++ record { name = request.out; bytes = file } ∷ []
+files_of request lines file = ends_files request.ends lines ++ file_of request.out file ∷ []
 
 -- the line that reports an upload's layout fault, with its line feed; nothing if it has none
 abbrev pub refused_line : List ℕ → UploadEnd → List ℕ
@@ -46,15 +46,19 @@ refused_lines words [] = []
 refused_lines [] (end ∷ ends) = []
 refused_lines (word ∷ words) (end ∷ ends) = refused_line word end ++ refused_lines words ends
 
--- THE rule of `sort`: the uploads were loaded. The file of the lines of their ends is made, if it has
--- a name, and then the file of exactly their valid taps. Each layout fault is noted.
-pub record Sorts (request : SortRequest) (loads : List Load) (answer : Answer) (files : List Named)
-    (status : ℕ) : Type 0 where
-  pub named : map (λ load. load.name) loads ≡ map file_named request.uploads
+-- The uploads were loaded. The file of the lines of their ends is made, if it has a name, and then the
+-- file of exactly their valid taps. Each layout fault is noted.
+pub record Sorts (request : SortRequest) (given : Given) (status : ℕ) : Type 0 where
+  pub named : map (λ load. load.name) given.loads ≡ map file_named request.uploads
   pub ends : List UploadEnd
-  pub plain : ArePlainEnds (map (λ load. load.bytes) loads) ends
+  pub plain : ArePlainEnds (map (λ load. load.bytes) given.loads) ends
   pub file : List ℕ
-  pub sorted : IsSortedOf (map (λ load. load.bytes) loads) file
-  pub made : files ≡ files_of request (upload_lines 0 ends) file
-  pub answered : answer ≡ record { text = []; note = refused_lines request.uploads ends }
+  pub sorted : IsSortedOf (map (λ load. load.bytes) given.loads) file
+  pub made : given.files ≡ files_of request (upload_lines 0 ends) file
+  pub text : given.text ≡ []
+  pub note : given.note ≡ refused_lines request.uploads ends
   pub success : status ≡ (if are_posted ends then 0 else 3)
+
+-- THE rule of `sort`
+abbrev pub sort_rule : SortRequest → Rule
+sort_rule request = rule_of (Sorts request) (names_of request)

@@ -1,13 +1,11 @@
 //! `bounds`: the tokens at which to divide a run over sorted uploads into parts.
 ghost use Rattle.std.specs.Prelude.{◌≤◌};
-ghost use Rattle.tool_tasks.specs.Informs.{EndsInforming};
 
 use crate::counted::Counted;
 use crate::fault::Fault;
 use crate::informs::{Informed, Informs, WordFile, inform, push_line};
 use crate::placed::{PlacedFiles, open_placed};
 use fare_texts::Digits;
-use frame::For;
 use sorted_taps::{SortedFault, bounds_of_parts};
 use std::alloc::Global;
 use tool_words::BoundsWords;
@@ -48,7 +46,7 @@ impl<'a, D: PlacedFiles> Informs<'a> for Bounds<'_, 'a, D> {
             push_line(alloc, Digits(*bound), piece)?;
         }
         self.is_given = true;
-        Ok(Informed::More(For::Text))
+        Ok(Informed::Text)
     }
 }
 
@@ -60,8 +58,7 @@ pub fn bounds_over<D: PlacedFiles, W: World + Counted>(
     disk: &D,
     world: &mut W,
 ) -> u8
-    ensures status { result ≤ 1 }
-    ensures ends { EndsInforming (W.run world.old) (W.run world.new) result }
+    ensures { result ≤ 1 }
 {
     let bounds = Bounds {
         words,

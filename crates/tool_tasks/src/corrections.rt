@@ -1,43 +1,31 @@
 //! `corrections`.
-ghost use Rattle.std.specs.Prelude.{◌≡◌, ◌≤◌, ◌⊎◌, ◌++◌, ◌∷◌, [], ℕ, List, IfErr, IfOk, OnOk};
-ghost use Rattle.ledger_changes.specs.Given.{HasStarted, IsAllGiven, IsUnbegun, new_calls, old_calls};
+ghost use Rattle.std.specs.Prelude.{◌≡◌, ◌++◌, ◌∷◌, [], List, IfOk};
+ghost use Rattle.frame.specs.Outcome.{Ends};
+ghost use Rattle.ledger_changes.specs.Given.{IsUnbegun, new_calls, old_calls};
 ghost use Rattle.recorded_lines.specs.Texts.{Follows, IsFresh, calls_of};
-ghost use Rattle.tool_tasks.specs.Corrections.{EndsCorrecting, of_bill, removed_note, wrong_note};
-ghost use Rattle.tool_tasks.specs.Corrections.{wrong_text};
-ghost use Rattle.tool_tasks.specs.Names.{file_named};
-ghost use Rattle.tool_tasks.specs.inside.Corrections.{Ended, IsHalt, IsUnopenedAt, Stopped, halt_of};
+ghost use Rattle.tool_tasks.specs.Corrections.{Corrects, IsPart, corrections_rule, of_bill};
+ghost use Rattle.tool_tasks.specs.Corrections.{removed_note, wrong_note, wrong_text};
+ghost use Rattle.tool_tasks.specs.inside.Corrections.{IsNoted, IsWritten};
+ghost use Rattle.tool_tasks.specs.inside.Streams.{IsStreamed};
 ghost use Rattle.tool_words.specs.Tasks.{corrections_of};
-ghost use Rattle.frame.specs.declared.stop.Stop.TheVariants.{Unwritten};
-ghost use Rattle.world.specs.declared.faults.WriteFault.{WriteFault as AWriteFault};
-ghost use Rattle.world.specs.Run.{Calls, with_cut, with_flushed, with_said, with_written};
+ghost use Rattle.world.specs.Run.{Calls};
 
-use crate::names::{Name, file_of};
-use crate::stops::fault_of;
-use crate::streams::Streams;
-use frame::{Stop, report};
+use crate::fault::Fault;
+use crate::names::Name;
+use crate::stops::{Halt, ended, line_of};
+use crate::streams::{Noted, Streams, finish, open};
+use frame::Outside;
 use ledger_changes::{Bill, Corrections, CorrectionsFault, WrongLine, corrections_head};
 use recorded_lines::Lines;
 use std::alloc::{AllocError, Global};
 use tool_words::CorrectionsWords;
-use world::{LoadFault, World};
+use world::{LoadFault, World, WriteFault};
 
 /// Why the text was not written whole.
 #[derive(Clone, Copy, Debug)]
-enum Halt {
-    /// This line of this bill's ledger is the first wrong one.
-    Wrong(Bill, u64, WrongLine),
-    Stopped(Stop),
-}
-
-fn halt_of(fault: CorrectionsFault) -> Halt
-    ensures { result ≡ halt_of fault }
-{
-    match fault {
-        CorrectionsFault::Line(bill, number, why) => Halt::Wrong(bill, number, why),
-        CorrectionsFault::Unread(Bill::Old) => Halt::Stopped(Stop::Unread(0, LoadFault::Unread)),
-        CorrectionsFault::Unread(Bill::New) => Halt::Stopped(Stop::Unread(1, LoadFault::Unread)),
-        CorrectionsFault::NoMemory => Halt::Stopped(Stop::NoMemory),
-    }
+enum Stopped {
+    Fault(CorrectionsFault),
+    Write(WriteFault),
 }
 
 fn word_of<'a>(words: &CorrectionsWords<'a>, bill: Bill) -> &'a str
@@ -49,66 +37,44 @@ fn word_of<'a>(words: &CorrectionsWords<'a>, bill: Bill) -> &'a str
     }
 }
 
-fn open<F: Streams>(files: &mut F, word: &str, number: usize) -> Result<Lines, Stop>
-    ensures fresh { IfOk result IsFresh }
-    ensures named { IfOk result (λ lines. (calls_of lines).reading.name ≡ file_named word.now) }
-    ensures unchanged { OnOk result (F.readings files.new ≡ F.readings files.old) }
-    ensures stopped { IfErr result (λ why. (calls : Calls)
-        × (F.readings files.new ≡ F.readings files.old ++ calls ∷ [])
-        × IsUnopenedAt number (file_named word.now) calls why) }
-{
-    match files.open(file_of(word)) {
-        Ok(lines) => Ok(lines),
-        Err(LoadFault::Unread) => Err(Stop::Unread(number, LoadFault::Unread)),
-        Err(_) => Err(Stop::NoMemory),
-    }
-}
-
 /// Writes the whole text, and gives how many lines are removed.
 fn write_all<W: World>(
     alloc: Global,
     is_by_token: bool,
     corrections: &mut Corrections,
     world: &mut W,
-) -> Result<u64, Halt>
+) -> Result<u64, Stopped>
     requires unbegun { IsUnbegun corrections.now }
     requires by { corrections.now.is_by_token ≡ is_by_token }
     ensures follow { Follows corrections.entry.now.old.from corrections.exit.now.old.from
         × Follows corrections.entry.now.new.from corrections.exit.now.new.from }
-    ensures done { IfOk result (λ removed. (text : List ℕ)
-        × (W.run world.new ≡ with_written (W.run world.old) text)
-        × IsAllGiven is_by_token (old_calls corrections.exit.now) (new_calls corrections.exit.now)
-        text removed) }
-    ensures halted { IfErr result (λ halt. (text : List ℕ)
-        × ((text ≡ []) ⊎ HasStarted is_by_token text (old_calls corrections.exit.now)
-        (new_calls corrections.exit.now))
-        × IsHalt halt (old_calls corrections.exit.now) (new_calls corrections.exit.now)
-        (with_written (W.run world.old) text) (W.run world.new)) }
+    ensures written { IsWritten is_by_token (old_calls corrections.exit.now)
+        (new_calls corrections.exit.now) (W.run world.old) (W.run world.new) result }
 {
     match corrections.begin(alloc) {
         Ok(()) => {}
-        Err(fault) => return Err(halt_of(fault)),
+        Err(fault) => return Err(Stopped::Fault(fault)),
     }
     match world.write(corrections_head(is_by_token)) {
         Ok(()) => {}
-        Err(why) => return Err(Halt::Stopped(Stop::Unwritten(why))),
+        Err(why) => return Err(Stopped::Write(why)),
     }
     let mut piece = Vec::new(alloc);
     for _ in 0..u64::MAX {
         piece.clear();
         let next = match corrections.next(alloc, &mut piece) {
             Ok(next) => next,
-            Err(fault) => return Err(halt_of(fault)),
+            Err(fault) => return Err(Stopped::Fault(fault)),
         };
         match world.write(&piece) {
             Ok(()) => {}
-            Err(why) => return Err(Halt::Stopped(Stop::Unwritten(why))),
+            Err(why) => return Err(Stopped::Write(why)),
         }
         if let Some(removed) = next {
             return Ok(removed);
         }
     }
-    Err(Halt::Stopped(Stop::NoMemory))
+    Err(Stopped::Fault(CorrectionsFault::NoMemory))
 }
 
 /// Nothing, if no line is removed.
@@ -151,62 +117,99 @@ fn wrong_line(
     Ok(line.into_bytes())
 }
 
-/// Flushes the output and then says the note.
-pub(crate) fn finish<W: World>(note: &[u8], status: u8, world: &mut W) -> Result<u8, Stop>
-    ensures done { IfOk result (λ end. (end ≡ status)
-        × (W.run world.new ≡ with_said (with_flushed (W.run world.old)) note.now)) }
-    ensures halted { IfErr result (λ why. (fault : AWriteFault) × (why ≡ Unwritten fault)
-        × (W.run world.new ≡ with_cut (W.run world.old) fault)) }
+/// What is noted of what was written.
+fn noted<'a>(
+    alloc: Global,
+    words: &CorrectionsWords<'a>,
+    written: Result<u64, Stopped>,
+) -> Result<Noted, Halt<'a>>
+    ensures { IsNoted (corrections_of words.now) written result }
 {
-    match world.flush() {
-        Ok(()) => {
-            world.say(note);
-            Ok(status)
-        }
-        Err(why) => Err(Stop::Unwritten(why)),
+    match written {
+        Ok(removed) => match removed_line(alloc, words, removed) {
+            Ok(note) => Ok(Noted { note, status: 0 }),
+            Err(AllocError) => Err(Halt {
+                why: Outside::NoMemory,
+                line: Fault::NoMemory,
+            }),
+        },
+        Err(stopped) => match stopped {
+            Stopped::Write(why) => Err(Halt {
+                why: Outside::Unwritten(why),
+                line: line_of(Outside::Unwritten(why), "", Fault::Write),
+            }),
+            Stopped::Fault(fault) => match fault {
+                CorrectionsFault::Line(bill, number, why) => {
+                    match wrong_line(alloc, words, bill, number, why) {
+                        Ok(note) => Ok(Noted { note, status: 1 }),
+                        Err(AllocError) => Err(Halt {
+                            why: Outside::NoMemory,
+                            line: Fault::NoMemory,
+                        }),
+                    }
+                }
+                CorrectionsFault::Unread(bill) => Err(Halt {
+                    why: Outside::Unread(LoadFault::Unread),
+                    line: Fault::Unread(word_of(words, bill)),
+                }),
+                CorrectionsFault::NoMemory => Err(Halt {
+                    why: Outside::NoMemory,
+                    line: Fault::NoMemory,
+                }),
+            },
+        },
     }
 }
 
-fn correct<F: Streams, W: World>(
+/// Writes the corrections of these ledgers, and closes them.
+fn write_closed<F: Streams, W: World>(
     alloc: Global,
-    words: &CorrectionsWords<'_>,
+    is_by_token: bool,
+    old: Lines,
+    new: Lines,
     files: &mut F,
     world: &mut W,
-) -> Result<u8, Stop>
-    ensures done { IfOk result (Ended (corrections_of words.now) (F.readings files.old)
-        (F.readings files.new) (W.run world.old) (W.run world.new)) }
-    ensures halted { IfErr result (Stopped (corrections_of words.now) (F.readings files.old)
-        (F.readings files.new) (W.run world.old) (W.run world.new)) }
+) -> Result<u64, Stopped>
+    requires fresh_old { IsFresh old }
+    requires fresh_new { IsFresh new }
+    ensures { (first : Calls) × (second : Calls)
+        × (F.readings files.new ≡ F.readings files.old ++ first ∷ second ∷ [])
+        × (first.reading.name ≡ (calls_of old).reading.name)
+        × (second.reading.name ≡ (calls_of new).reading.name)
+        × IsWritten is_by_token first second (W.run world.old) (W.run world.new) result }
 {
-    let old = match open(files, words.old, 0) {
-        Ok(lines) => lines,
-        Err(why) => return Err(why),
-    };
-    let new = match open(files, words.new, 1) {
-        Ok(lines) => lines,
-        Err(why) => {
-            files.close(old);
-            return Err(why);
-        }
-    };
-    let mut corrections = Corrections::new(alloc, words.is_by_token, old, new);
-    let written = write_all(alloc, words.is_by_token, &mut corrections, world);
+    let mut corrections = Corrections::new(alloc, is_by_token, old, new);
+    let written = write_all(alloc, is_by_token, &mut corrections, world);
     let (old, new) = corrections.into_texts();
     files.close(old);
     files.close(new);
-    match written {
-        Ok(removed) => match removed_line(alloc, words, removed) {
-            Ok(note) => finish(&note, 0, world),
-            Err(AllocError) => Err(Stop::NoMemory),
-        },
-        Err(halt) => match halt {
-            Halt::Wrong(bill, number, why) => match wrong_line(alloc, words, bill, number, why) {
-                Ok(note) => finish(&note, 1, world),
-                Err(AllocError) => Err(Stop::NoMemory),
-            },
-            Halt::Stopped(why) => Err(why),
-        },
-    }
+    written
+}
+
+fn correct<'a, F: Streams, W: World>(
+    alloc: Global,
+    words: &CorrectionsWords<'a>,
+    files: &mut F,
+    world: &mut W,
+) -> Result<Noted, Halt<'a>>
+    ensures { (calls : List Calls) × (F.readings files.new ≡ F.readings files.old ++ calls)
+        × IsStreamed (Corrects (corrections_of words.now)) (IsPart (corrections_of words.now))
+        (words.now.old.now ∷ words.now.new.now ∷ []) calls (W.run world.old) (W.run world.new)
+        result }
+{
+    let old = match open(files, words.old) {
+        Ok(lines) => lines,
+        Err(halt) => return Err(halt),
+    };
+    let new = match open(files, words.new) {
+        Ok(lines) => lines,
+        Err(halt) => {
+            files.close(old);
+            return Err(halt);
+        }
+    };
+    let written = write_closed(alloc, words.is_by_token, old, new, files, world);
+    noted(alloc, words, written)
 }
 
 /// Writes the corrections from the old ledger to the new one, or their sums by token: opens both,
@@ -219,15 +222,10 @@ pub fn corrections_over<F: Streams, W: World>(
     files: &mut F,
     world: &mut W,
 ) -> u8
-    ensures status { result ≤ 1 }
-    ensures ends { EndsCorrecting (corrections_of words.now) (F.readings files.old)
-        (F.readings files.new) (W.run world.old) (W.run world.new) result }
+    ensures { Ends (corrections_rule (corrections_of words.now) (F.readings files.old)
+        (F.readings files.new)) (W.run world.old) (W.run world.new) result }
 {
-    match correct(alloc, words, files, world) {
-        Ok(status) => status,
-        Err(why) => {
-            report(why, fault_of(why, &[words.old, words.new]), world);
-            1
-        }
-    }
+    let streamed = correct(alloc, words, files, world);
+    let done = finish(streamed, world);
+    ended(done, world)
 }

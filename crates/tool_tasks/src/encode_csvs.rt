@@ -1,5 +1,5 @@
 //! What `encode` makes of an agency's own CSVs, once they are loaded and it is known how they are read.
-ghost use Rattle.std.specs.Prelude.{◌≡◌, ◌++◌, ℕ, IfOk, IfSome, List, None, OnOk, map, option_map};
+ghost use Rattle.std.specs.Prelude.{◌≡◌, ◌++◌, [], ℕ, IfOk, IfSome, List, None, OnOk, map, option_map};
 ghost use Rattle.std.specs.Prelude.{string_bytes};
 ghost use Rattle.tap_rows.specs.Devices.{devices_of};
 ghost use Rattle.tool_tasks.specs.EncodeRows.{AddsCsv, IsColumnName, IsConditionName};
@@ -11,7 +11,7 @@ ghost use Rattle.tool_tasks.specs.Fault.{wrong_line};
 ghost use Rattle.tool_tasks.specs.WrongTables.{rows_text};
 ghost use Rattle.tool_tasks.specs.inside.EncodeRows.{AreOf, IsWrongCsv, PreparesCsvs, csv_of};
 ghost use Rattle.tool_tasks.specs.inside.EncodeRows.{encoded_of};
-ghost use Rattle.tool_tasks.specs.inside.Prepared.{IsRefusal, answer_of, files_in, files_of};
+ghost use Rattle.tool_tasks.specs.inside.Prepared.{IsRefusal, files_in, whole_of};
 
 use crate::encode_loads::Csv;
 use crate::fault::Fault;
@@ -182,6 +182,7 @@ fn refused_file<'a>(name: Option<&'a str>, rows: Vec<u8>) -> Option<NewFile<'a>>
             name,
             bytes: rows,
             is_new: true,
+            unmade: Fault::Write,
         }),
         None => None,
     }
@@ -204,6 +205,7 @@ fn upload_file<'a>(
                 name,
                 bytes: upload,
                 is_new: false,
+                unmade: Fault::Write,
             };
             (Vec::new(alloc), Some(file))
         }
@@ -229,6 +231,7 @@ fn device_file<'a>(
             name,
             bytes: device_text(alloc, devices)?,
             is_new: !is_there,
+            unmade: Fault::Write,
         })),
         _ => Ok(None),
     }
@@ -255,13 +258,12 @@ fn prepare_encoded<'a>(
     all: Encoded,
 ) -> Result<Prepared<'a>, AllocError>
     ensures named { IfOk result (AreOf words.now) }
-    ensures answered { IfOk result (λ prepared. answer_of prepared
-        ≡ record {
-          text = upload_text (word_in words.now.out) (encoded_of all).upload;
-          note = (encoded_of all).note;
-        }) }
-    ensures made { IfOk result
-        (λ prepared. files_of prepared ≡ files_made words.now choice.now (encoded_of all)) }
+    ensures text { IfOk result (λ prepared. (whole_of [] prepared).text
+        ≡ upload_text (word_in words.now.out) (encoded_of all).upload) }
+    ensures note { IfOk result
+        (λ prepared. (whole_of [] prepared).note ≡ (encoded_of all).note) }
+    ensures made { IfOk result (λ prepared. (whole_of [] prepared).files
+        ≡ files_made words.now choice.now (encoded_of all)) }
     ensures status { IfOk result
         (λ prepared. prepared.status ≡ rows_status (encoded_of all)) }
 {
@@ -277,9 +279,9 @@ fn prepare_encoded<'a>(
     let (text, upload) = upload_file(alloc, words.out, upload);
     Ok(Prepared {
         text,
-        devices,
+        first: devices,
         upload,
-        refused: refused_file(words.refused, rows),
+        held: refused_file(words.refused, rows),
         note,
         status,
     })

@@ -1,36 +1,27 @@
 //! What `encode` of an agency's own CSVs loads, in order: a device table, a key, a zone, the CSVs.
-ghost use Rattle.std.specs.Prelude.{◌≡◌, ◌∷◌, ◌++◌, ℕ, IfErr, IfOk, List, OnOk, Some, [], length};
-ghost use Rattle.std.specs.Prelude.{map, option_map, string_bytes};
+ghost use Rattle.std.specs.Prelude.{◌≡◌, ◌∷◌, ◌++◌, ℕ, Contains, IfErr, IfOk, List, OnOk, [], map};
+ghost use Rattle.std.specs.Prelude.{option_map, string_bytes};
+ghost use Rattle.frame.specs.Outsides.{Leaves};
 ghost use Rattle.jiff_tz.specs.PosixReader.{read_whole};
 ghost use Rattle.jiff_tz.specs.PosixText.{tz_view};
 ghost use Rattle.tool_tasks.specs.EncodeRows.{HasTried, devices_word};
 ghost use Rattle.tool_tasks.specs.EncodeRows.{loads_in, names_of, word_in};
 ghost use Rattle.tool_tasks.specs.EncodeTables.{is_name_byte, is_zone_name, zone_file};
 ghost use Rattle.tool_tasks.specs.EncodeTables.{zone_loaded};
-ghost use Rattle.tool_tasks.specs.Names.{file_named};
 ghost use Rattle.tool_tasks.specs.inside.EncodeRows.{AreLoaded, HasLoaded, csv_of, texts_in};
-ghost use Rattle.tool_tasks.specs.inside.Sort.{HaltsLoading};
-ghost use Rattle.world.specs.Loads.{IsRefused};
+ghost use Rattle.tool_tasks.specs.inside.Loads.{IsNameIn, StopsLoading};
 ghost use Rattle.world.specs.Origins.{with_loads};
 ghost use Rattle.world.specs.Run.{Run};
 
 use crate::counted::Counted;
 use crate::fault::Fault;
-use crate::loads::load_word;
-use crate::names::file_of;
+use crate::loads::{load_whole, load_word};
 use crate::stops::Halt;
-use frame::Stop;
+use frame::Outside;
 use jiff_tz::posix;
 use std::alloc::{AllocError, Global};
 use tool_words::RowsWords;
 use world::{LoadFault, World};
-
-/// The numbers of these files among the names, and how many names are before those of the CSVs.
-const KEY_NUMBER: usize = 2;
-
-const ZONE_NUMBER: usize = 3;
-
-const NAMES_BEFORE: usize = 5;
 
 /// A CSV that was loaded.
 #[derive(Drop)]
@@ -49,24 +40,26 @@ pub(crate) struct Texts<'a> {
 }
 
 /// The device table, and whether it is there: one that is made need not be.
-pub(crate) fn load_devices<W: World>(
+pub(crate) fn load_devices<'a, W: World>(
     alloc: Global,
-    words: &RowsWords<'_>,
+    words: &RowsWords<'a>,
     world: &mut W,
-) -> Result<(bool, Vec<u8>), LoadFault>
+) -> Result<(bool, Vec<u8>), Halt<'a>>
     ensures loaded { IfOk result (λ found. (started : Run)
         × HasTried words.now found.0 (W.run world.old) started × (W.run world.new
         ≡ with_loads started (loads_in (devices_word words.now found.0) found.1.items))) }
-    ensures refused { IfErr result (λ why. (name : List ℕ)
-        × (word_in words.now.devices ≡ Some name)
-        × IsRefused (W.run world.old) (W.run world.new) (file_named name) why) }
+    ensures stopped { (names : List (List ℕ)) → IsNameIn names (word_in words.now.devices)
+        → IfErr result (λ halt. Leaves names halt.why (W.run world.old) (W.run world.new)) }
 {
     match words.devices {
         None => Ok((true, Vec::new(alloc))),
         Some(name) => match load_word(world, name) {
             Ok(text) => Ok((true, text)),
             Err(LoadFault::Unread) if words.makes_devices => Ok((false, Vec::new(alloc))),
-            Err(why) => Err(why),
+            Err(why) => Err(Halt {
+                why: Outside::Unread(why),
+                line: Fault::of_load(name, why),
+            }),
         },
     }
 }
@@ -120,19 +113,13 @@ fn name_in<'p>(path: &'p Option<String>) -> Option<&'p str>
     }
 }
 
-/// The file of the zone was not loaded.
-fn unread_zone<'a>(word: Option<&'a str>, why: LoadFault) -> Halt<'a>
-    ensures { result.why ≡ Stop.Unread ZONE_NUMBER why }
-{
+/// The line of a zone whose file was not loaded.
+fn zone_line<'a>(word: Option<&'a str>, why: LoadFault) -> Fault<'a> {
     let word = word.unwrap_or("");
-    let line = match why {
+    match why {
         LoadFault::Unread => Fault::Zone(word),
         LoadFault::TooLong => Fault::ZoneFile(word),
         LoadFault::NoMemory => Fault::NoMemory,
-    };
-    Halt {
-        why: Stop::Unread(ZONE_NUMBER, why),
-        line,
     }
 }
 
@@ -145,8 +132,8 @@ fn load_named<W: World>(
 ) -> Result<Vec<u8>, LoadFault>
     ensures loaded { IfOk result (λ text. W.run world.new
         ≡ with_loads (W.run world.old) (loads_in (word_in name.entry) text.items)) }
-    ensures refused { IfErr result (λ why. (word : List ℕ) × (word_in name.entry ≡ Some word)
-        × IsRefused (W.run world.old) (W.run world.new) (file_named word) why) }
+    ensures refused { (names : List (List ℕ)) → IsNameIn names (word_in name.entry) → IfErr result
+        (λ why. Leaves names (Outside.Unread why) (W.run world.old) (W.run world.new)) }
 {
     match name {
         Some(name) => load_word(world, name),
@@ -169,21 +156,22 @@ fn load_csvs<'a, W: Counted>(
 ) -> Result<Vec<Csv<'a>>, Halt<'a>>
     ensures loaded { IfOk result (λ csvs. AreLoaded (map (λ w. w.now) words.now)
         (map csv_of csvs.items) (W.run world.old) (W.run world.new)) }
-    ensures halted { (front : List (List ℕ)) → length front ≡ NAMES_BEFORE → IfErr result
-        (λ halt. HaltsLoading (front ++ map (λ w. w.now) words.now) halt.why (W.run world.old)
-        (W.run world.new)) }
+    ensures stopped { (names : List (List ℕ)) → ((word : List ℕ)
+        → Contains (map (λ w. w.now) words.now) word → Contains names word) → IfErr result
+        (λ halt. StopsLoading names halt.why (W.run world.old) (W.run world.new)) }
 {
     let mut csvs = Vec::new(alloc);
     for number in 0..words.len() {
         let word = words[number];
-        let text = match world.load_whole(file_of(word)) {
+        let text = match load_whole(world, word) {
             Ok(text) => text,
-            Err(why) => {
-                return Err(Halt::of(Stop::Unread(number + NAMES_BEFORE, why), Some(word)));
-            }
+            Err(halt) => return Err(halt),
         };
         if let Err(AllocError) = push(&mut csvs, word, text) {
-            return Err(Halt::of(Stop::NoMemory, None));
+            return Err(Halt {
+                why: Outside::NoMemory,
+                line: Fault::NoMemory,
+            });
         }
     }
     Ok(csvs)
@@ -199,21 +187,36 @@ pub(crate) fn load_later<'a, W: World + Counted>(
 ) -> Result<Texts<'a>, Halt<'a>>
     ensures loaded { IfOk result (λ texts. HasLoaded words.now (map (λ w. w.now) csvs.now)
         devices.items (texts_in texts) (W.run world.old) (W.run world.new)) }
-    ensures halted { IfErr result (λ halt. HaltsLoading
+    ensures stopped { IfErr result (λ halt. StopsLoading
         (names_of words.now (map (λ w. w.now) csvs.now)) halt.why (W.run world.old)
         (W.run world.new)) }
 {
     let path = match zone_loaded(alloc, words.zone) {
         Ok(path) => path,
-        Err(AllocError) => return Err(Halt::of(Stop::NoMemory, None)),
+        Err(AllocError) => {
+            return Err(Halt {
+                why: Outside::NoMemory,
+                line: Fault::NoMemory,
+            });
+        }
     };
     let key = match load_named(alloc, words.key, world) {
         Ok(key) => key,
-        Err(why) => return Err(Halt::of(Stop::Unread(KEY_NUMBER, why), words.key)),
+        Err(why) => {
+            return Err(Halt {
+                why: Outside::Unread(why),
+                line: Fault::of_load(words.key.unwrap_or(""), why),
+            });
+        }
     };
     let zone = match load_named(alloc, name_in(&path), world) {
         Ok(zone) => zone,
-        Err(why) => return Err(unread_zone(words.zone, why)),
+        Err(why) => {
+            return Err(Halt {
+                why: Outside::Unread(why),
+                line: zone_line(words.zone, why),
+            });
+        }
     };
     match load_csvs(alloc, csvs, world) {
         Ok(csvs) => Ok(Texts {

@@ -1,17 +1,17 @@
 //! `encode` of an agency's own CSVs.
-ghost use Rattle.std.specs.Prelude.{◌≡◌, ◌⊎◌, IfErr, IfOk, map};
-ghost use Rattle.frame.specs.Making.{IsDoneMaking, IsHaltedMaking};
-ghost use Rattle.tool_tasks.specs.EncodeRows.{EncodesRows, EndsRows, devices_word, loads_in};
-ghost use Rattle.tool_tasks.specs.EncodeRows.{names_of};
+ghost use Rattle.std.specs.Prelude.{◌≡◌, map};
+ghost use Rattle.tool_tasks.specs.EncodeRows.{EndsRows, devices_word, loads_in, rows_rule};
+ghost use Rattle.tool_tasks.specs.inside.Does.{Does};
 ghost use Rattle.world.specs.Origins.{with_loads};
 ghost use Rattle.world.specs.Run.{Run};
 
 use crate::counted::Counted;
 use crate::encode_loads::{load_devices, load_later};
 use crate::encode_tables::prepare;
-use crate::prepared::{DEVICES_NUMBER, carry_out};
-use crate::stops::Halt;
-use frame::{Stop, report};
+use crate::fault::Fault;
+use crate::prepared::carry_out;
+use crate::stops::{Halt, ended};
+use frame::{Outside, report};
 use std::alloc::{AllocError, Global};
 use std::hash::RandomState;
 use tool_words::RowsWords;
@@ -27,19 +27,18 @@ fn encode<'a, W: World + Counted>(
     devices: Vec<u8>,
     world: &mut W,
 ) -> Result<u8, Halt<'a>>
-    ensures done { IfOk result (λ status. (started : Run) → W.run world.old
+    ensures { (started : Run) → W.run world.old
         ≡ with_loads started (loads_in (devices_word words.now is_there) devices.items)
-        → IsDoneMaking (EncodesRows words.now (map (λ w. w.now) csvs.now) is_there) started
-        (W.run world.new) status) }
-    ensures halted { IfErr result (λ halt. (started : Run) → W.run world.old
-        ≡ with_loads started (loads_in (devices_word words.now is_there) devices.items)
-        → IsHaltedMaking (EncodesRows words.now (map (λ w. w.now) csvs.now) is_there)
-        (names_of words.now (map (λ w. w.now) csvs.now)) started (W.run world.new) halt.why) }
+        → Does (rows_rule words.now (map (λ w. w.now) csvs.now) is_there) started
+        (W.run world.new) result }
 {
     match load_later(alloc, words, csvs, devices, world) {
         Err(halt) => Err(halt),
         Ok(texts) => match prepare(alloc, seed, words, is_there, &texts) {
-            Err(AllocError) => Err(Halt::of(Stop::NoMemory, None)),
+            Err(AllocError) => Err(Halt {
+                why: Outside::NoMemory,
+                line: Fault::NoMemory,
+            }),
             Ok(prepared) => carry_out(&prepared, world),
         },
     }
@@ -59,24 +58,17 @@ pub fn encode_rows_over<W: World + Counted>(
     csvs: &[&str],
     world: &mut W,
 ) -> u8
-    ensures status { (result ≡ 0) ⊎ ((result ≡ 1) ⊎ (result ≡ 3)) }
-    ensures ends { EndsRows words.now (map (λ w. w.now) csvs.now) (W.run world.old)
-        (W.run world.new) result }
+    ensures { EndsRows words.now (map (λ w. w.now) csvs.now) (W.run world.old) (W.run world.new)
+        result }
 {
     match load_devices(alloc, words, world) {
-        Err(why) => {
-            let halt = Halt::of(Stop::Unread(DEVICES_NUMBER, why), words.devices);
+        Err(halt) => {
             report(halt.why, halt.line, world);
             1
         }
-        Ok((is_there, devices)) => match encode(
-            alloc, seed, words, csvs, is_there, devices, world,
-        ) {
-            Ok(status) => status,
-            Err(halt) => {
-                report(halt.why, halt.line, world);
-                1
-            }
-        },
+        Ok((is_there, devices)) => {
+            let done = encode(alloc, seed, words, csvs, is_there, devices, world);
+            ended(done, world)
+        }
     }
 }

@@ -5,11 +5,11 @@
 //! |---|---|
 //! | `names` | words that name files, as they are opened and shown |
 //! | `loads`, `counted` | files that a task loads, and what is shown of them |
-//! | `informs` | what only informs, as a task |
-//! | `prepared` | what is written, made and noted of what `encode` reads |
+//! | `informs` | what only informs |
+//! | `prepared` | what is written, made and noted, once all is prepared |
 //! | `quotes` | a quote of a CSV that nothing closes |
 //! | `fault` | why a subcommand is given up, and the line that says so |
-//! | `stops` | fault lines of what stops a task from outside |
+//! | `stops` | what stops a subcommand from outside, and its fault line |
 //! | `layout`, `wrong_tables` | what is wrong with an upload, or with a table, in words |
 //! | `encode` | `encode` of a tap table |
 //! | `encode_rows` | `encode` of an agency's own CSVs |
@@ -25,7 +25,7 @@
 //! | `upload_tokens` | `uploads --tokens` |
 //! | `valid_prefix` | `uploads --good-part` |
 //! | `look` | `uploads --look`: what each upload has, and what is found in them |
-//! | `streams` | files that are read in pieces |
+//! | `streams` | files that are read in pieces, and texts that are made of them |
 //! | `corrections` | `corrections` |
 //! | `merge` | `merge` of parts |
 //! | `table` | `table` |

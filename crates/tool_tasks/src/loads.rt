@@ -1,13 +1,14 @@
 //! Files that a task loads, by their words.
-ghost use Rattle.std.specs.Prelude.{◌≡◌, ◌<◌, IfErr, IfOk, length, map};
-ghost use Rattle.frame.specs.Stops.{IsNamed, Leaves};
+ghost use Rattle.std.specs.Prelude.{◌≡◌, ℕ, Contains, IfErr, IfOk, List};
+ghost use Rattle.frame.specs.Names.{file_named};
+ghost use Rattle.frame.specs.Outsides.{Leaves};
 ghost use Rattle.world.specs.Loads.{IsRefused};
 ghost use Rattle.world.specs.Run.{with_load};
-ghost use Rattle.tool_tasks.specs.inside.Loads.{LoadsAt};
-ghost use Rattle.tool_tasks.specs.Names.{file_named};
 
-use crate::names::file_of;
-use frame::Stop;
+use crate::counted::Counted;
+use crate::fault::Fault;
+use crate::stops::Halt;
+use frame::{Outside, file_of};
 use world::{Inputs, LoadFault};
 
 /// All bytes of the file that the word names, `-` being standard input.
@@ -23,20 +24,34 @@ pub(crate) fn load_word<I: Inputs>(files: &mut I, word: &str) -> Result<Vec<u8>,
     }
 }
 
-/// The same of the word of this number.
-pub(crate) fn load_at<I: Inputs>(
-    files: &mut I,
-    words: &[&str],
-    number: usize,
-) -> Result<Vec<u8>, Stop>
-    requires { number < length words.now }
-    ensures loaded { IfOk result (λ bytes. LoadsAt (map (λ w. w.now) words.now) number
-        (I.run files.old) (I.run files.new) bytes.items) }
-    ensures stopped { IfErr result (λ why. Leaves (map (λ w. w.now) words.now) why
-        (I.run files.old) (I.run files.new) × IsNamed (map (λ w. w.now) words.now) why) }
+/// The same.
+pub(crate) fn load<'a, I: Inputs>(files: &mut I, word: &'a str) -> Result<Vec<u8>, Halt<'a>>
+    ensures loaded { IfOk result (λ bytes. I.run files.new
+        ≡ with_load (I.run files.old) (file_named word.entry.now) bytes.items) }
+    ensures stopped { (words : List (List ℕ)) → Contains words word.entry.now → IfErr result
+        (λ halt. Leaves words halt.why (I.run files.old) (I.run files.new)) }
 {
-    match load_word(files, words[number]) {
+    match load_word(files, word) {
         Ok(bytes) => Ok(bytes),
-        Err(why) => Err(Stop::Unread(number, why)),
+        Err(why) => Err(Halt {
+            why: Outside::Unread(why),
+            line: Fault::of_load(word, why),
+        }),
+    }
+}
+
+/// The same of a file of any size.
+pub(crate) fn load_whole<'a, I: Counted>(files: &mut I, word: &'a str) -> Result<Vec<u8>, Halt<'a>>
+    ensures loaded { IfOk result (λ bytes. I.run files.new
+        ≡ with_load (I.run files.old) (file_named word.entry.now) bytes.items) }
+    ensures stopped { (words : List (List ℕ)) → Contains words word.entry.now → IfErr result
+        (λ halt. Leaves words halt.why (I.run files.old) (I.run files.new)) }
+{
+    match files.load_whole(file_of(word)) {
+        Ok(bytes) => Ok(bytes),
+        Err(why) => Err(Halt {
+            why: Outside::Unread(why),
+            line: Fault::of_load(word, why),
+        }),
     }
 }

@@ -1,6 +1,5 @@
 //! `uploads --look`: what uploads have, and what is found in them.
 ghost use Rattle.std.specs.Prelude.{◌≤◌};
-ghost use Rattle.tool_tasks.specs.Informs.{EndsInforming};
 
 use crate::counted::Counted;
 use crate::fault::Fault;
@@ -9,7 +8,6 @@ use crate::look::counts::counts_of;
 use crate::look::rows::push_table;
 use crate::uploads::upload_text;
 use fare_table::{FareTable, ReadFareTable, TableFault};
-use frame::For;
 use std::alloc::{AllocError, Global};
 use tap_views::{MOMENT_LIMIT_MS, MomentSpan, NoMemory, TapFields, facts_of};
 use tool_words::LookWords;
@@ -91,12 +89,12 @@ impl<'a> Look<'_, 'a> {
         if !self.words.has_list {
             let text = upload_text(alloc, number, word, &facts)?;
             piece.extend_from_slice(text.as_bytes())?;
-            return Ok(Informed::More(For::Text));
+            return Ok(Informed::Text);
         }
         if let Some((offset, fault)) = facts.fault {
             push_line(alloc, Fault::Layout(word, offset, fault), piece)?;
         }
-        Ok(Informed::More(For::Note))
+        Ok(Informed::Note)
     }
 }
 
@@ -118,7 +116,7 @@ impl<'a> Informs<'a> for Look<'_, 'a> {
         } = file;
         if number == 0 && self.words.table.is_some() {
             self.table = Some(read_table(alloc, word, &bytes)?);
-            return Ok(Informed::More(For::Text));
+            return Ok(Informed::Text);
         }
         self.push_upload(alloc, word, bytes, piece)
     }
@@ -144,7 +142,7 @@ impl<'a> Informs<'a> for Look<'_, 'a> {
             piece.extend_from_slice(text.as_bytes())?;
         }
         self.is_given = true;
-        Ok(Informed::More(For::Text))
+        Ok(Informed::Text)
     }
 }
 
@@ -157,8 +155,7 @@ pub fn look_over<W: World + Counted>(
     names: &[&str],
     world: &mut W,
 ) -> u8
-    ensures status { result ≤ 1 }
-    ensures ends { EndsInforming (W.run world.old) (W.run world.new) result }
+    ensures { result ≤ 1 }
 {
     let files = files_of(alloc, words, names);
     let others = if words.table.is_some() { 1 } else { 0 };

@@ -1,19 +1,19 @@
 //! `merge`.
-ghost use Rattle.std.specs.Prelude.{◌≡◌, ◌≤◌, ◌++◌, [], List, IfErr, IfOk, OnOk, Some, All, map};
-ghost use Rattle.std.specs.Prelude.{ℕ, slice_get};
+ghost use Rattle.std.specs.Prelude.{◌≡◌, ◌++◌, [], ℕ, List, IfErr, IfOk, OnOk, Some, All, map};
+ghost use Rattle.std.specs.Prelude.{slice_get};
+ghost use Rattle.frame.specs.Names.{file_named};
+ghost use Rattle.frame.specs.Outcome.{Ends};
 ghost use Rattle.recorded_lines.specs.Texts.{IsFresh, calls_of};
-ghost use Rattle.tool_tasks.specs.Merge.{EndsMerging, part_note};
-ghost use Rattle.tool_tasks.specs.Names.{file_named};
-ghost use Rattle.tool_tasks.specs.inside.Merge.{HasStopped, IsEnded, IsStoppedBy, IsUnopened};
-ghost use Rattle.tool_tasks.specs.inside.Merge.{MergesWords, names_of};
+ghost use Rattle.tool_tasks.specs.Merge.{IsPrefix, Merges, merge_rule, part_note};
+ghost use Rattle.tool_tasks.specs.inside.Merge.{IsNoted, names_of};
+ghost use Rattle.tool_tasks.specs.inside.Streams.{IsStreamed, IsUnopenedIn};
 ghost use Rattle.world.specs.Run.{Calls};
 
-use crate::corrections::finish;
-use crate::fault::wrong_text;
-use crate::names::{Name, file_of, word_at};
-use crate::stops::fault_of;
-use crate::streams::Streams;
-use frame::{Stop, report};
+use crate::fault::{Fault, wrong_text};
+use crate::names::{Name, word_at};
+use crate::stops::{Halt, ended, line_of};
+use crate::streams::{Noted, Streams, finish, open};
+use frame::Outside;
 use part_texts::MergeFault;
 use recorded_lines::Lines;
 use report_texts::Wrong;
@@ -21,29 +21,31 @@ use std::alloc::{AllocError, Global};
 use world::{LoadFault, World};
 
 /// Opens what each word names, in their order.
-fn open_all<F: Streams>(
-    words: &[&str],
+fn open_all<'a, F: Streams>(
+    words: &[&'a str],
     files: &mut F,
     parts: &mut Vec<Lines>,
-) -> Result<(), MergeFault>
+) -> Result<(), Halt<'a>>
     requires { parts.old.items ≡ [] }
     ensures fresh { OnOk result (All IsFresh parts.new.items) }
     ensures named { OnOk result
         (names_of (map calls_of parts.new.items) ≡ map file_named (map (λ w. w.now) words.now)) }
     ensures unchanged { OnOk result (F.readings files.new ≡ F.readings files.old) }
-    ensures stopped { IfErr result (λ fault. (calls : List Calls)
+    ensures stopped { IfErr result (λ halt. (calls : List Calls)
         × (F.readings files.new ≡ F.readings files.old ++ calls)
-        × IsUnopened (map (λ w. w.now) words.now) calls fault) }
+        × IsUnopenedIn (map (λ w. w.now) words.now) calls halt.why) }
 {
-    for (number, word) in words.iter().enumerate() {
-        match files.open(file_of(word)) {
+    for word in words {
+        match open(files, word) {
             Ok(lines) => {
                 let Ok(()) = parts.push(lines) else {
-                    return Err(MergeFault::NoMemory);
+                    return Err(Halt {
+                        why: Outside::NoMemory,
+                        line: Fault::NoMemory,
+                    });
                 };
             }
-            Err(LoadFault::Unread) => return Err(MergeFault::Unread(number)),
-            Err(_) => return Err(MergeFault::NoMemory),
+            Err(halt) => return Err(halt),
         }
     }
     Ok(())
@@ -55,24 +57,6 @@ fn close_all<F: Streams>(parts: Vec<Lines>, files: &mut F)
     for part in parts {
         files.close(part);
     }
-}
-
-fn merge_parts<F: Streams, W: World>(
-    alloc: Global,
-    words: &[&str],
-    files: &mut F,
-    world: &mut W,
-) -> Result<(), MergeFault>
-    ensures { MergesWords (map (λ w. w.now) words.now) (F.readings files.old) (F.readings files.new)
-        (W.run world.old) (W.run world.new) result }
-{
-    let mut parts = Vec::new(alloc);
-    let merged = match open_all(words, files, &mut parts) {
-        Ok(()) => part_texts::merge(alloc, &mut parts, world),
-        Err(fault) => Err(fault),
-    };
-    close_all(parts, files);
-    merged
 }
 
 fn wrong_line(
@@ -94,42 +78,66 @@ fn wrong_line(
     Ok(line.into_bytes())
 }
 
-/// Flushes what was written before this stopped the run.
-fn stopped<W: World>(why: Stop, world: &mut W) -> Stop
-    ensures { HasStopped why (W.run world.old) (W.run world.new) result }
-{
-    match world.flush() {
-        Ok(()) => why,
-        Err(fault) => Stop::Unwritten(fault),
-    }
-}
-
-/// Flushes what was written, and then notes a line that is wrong.
-fn end<W: World>(
+/// What is noted of what was merged.
+fn noted<'a>(
     alloc: Global,
-    words: &[&str],
+    words: &[&'a str],
     merged: Result<(), MergeFault>,
-    world: &mut W,
-) -> Result<u8, Stop>
-    ensures ended { IfOk result
-        (IsEnded (map (λ w. w.now) words.now) merged (W.run world.old) (W.run world.new)) }
-    ensures stopped { IfErr result (IsStoppedBy merged (W.run world.old) (W.run world.new)) }
+) -> Result<Noted, Halt<'a>>
+    ensures { IsNoted (map (λ w. w.now) words.now) merged result }
 {
     match merged {
-        Ok(()) => finish(&[], 0, world),
+        Ok(()) => Ok(Noted {
+            note: Vec::new(alloc),
+            status: 0,
+        }),
         Err(fault) => match fault {
             MergeFault::Line { text, number, why } => {
                 match wrong_line(alloc, words, text, number, why) {
-                    Ok(note) => finish(&note, 1, world),
-                    Err(AllocError) => Err(stopped(Stop::NoMemory, world)),
+                    Ok(note) => Ok(Noted { note, status: 1 }),
+                    Err(AllocError) => Err(Halt {
+                        why: Outside::NoMemory,
+                        line: Fault::NoMemory,
+                    }),
                 }
             }
-            MergeFault::Unread(text) => {
-                Err(stopped(Stop::Unread(text, LoadFault::Unread), world))
-            }
-            MergeFault::Write(why) => Err(Stop::Unwritten(why)),
-            MergeFault::NoMemory => Err(stopped(Stop::NoMemory, world)),
+            MergeFault::Unread(text) => Err(Halt {
+                why: Outside::Unread(LoadFault::Unread),
+                line: Fault::Unread(word_at(words, text).unwrap_or("")),
+            }),
+            MergeFault::Write(why) => Err(Halt {
+                why: Outside::Unwritten(why),
+                line: line_of(Outside::Unwritten(why), "", Fault::Write),
+            }),
+            MergeFault::NoMemory => Err(Halt {
+                why: Outside::NoMemory,
+                line: Fault::NoMemory,
+            }),
         },
+    }
+}
+
+fn merge_parts<'a, F: Streams, W: World>(
+    alloc: Global,
+    words: &[&'a str],
+    files: &mut F,
+    world: &mut W,
+) -> Result<Noted, Halt<'a>>
+    ensures { (calls : List Calls) × (F.readings files.new ≡ F.readings files.old ++ calls)
+        × IsStreamed (Merges (map (λ w. w.now) words.now)) (IsPrefix (map (λ w. w.now) words.now))
+        (map (λ w. w.now) words.now) calls (W.run world.old) (W.run world.new) result }
+{
+    let mut parts = Vec::new(alloc);
+    match open_all(words, files, &mut parts) {
+        Ok(()) => {
+            let merged = part_texts::merge(alloc, &mut parts, world);
+            close_all(parts, files);
+            noted(alloc, words, merged)
+        }
+        Err(halt) => {
+            close_all(parts, files);
+            Err(halt)
+        }
     }
 }
 
@@ -142,16 +150,10 @@ pub fn merge_over<F: Streams, W: World>(
     files: &mut F,
     world: &mut W,
 ) -> u8
-    ensures status { result ≤ 1 }
-    ensures ends { EndsMerging (map (λ w. w.now) words.now) (F.readings files.old)
-        (F.readings files.new) (W.run world.old) (W.run world.new) result }
+    ensures { Ends (merge_rule (map (λ w. w.now) words.now) (F.readings files.old)
+        (F.readings files.new)) (W.run world.old) (W.run world.new) result }
 {
-    let merged = merge_parts(alloc, words, files, world);
-    match end(alloc, words, merged, world) {
-        Ok(status) => status,
-        Err(why) => {
-            report(why, fault_of(why, words), world);
-            1
-        }
-    }
+    let streamed = merge_parts(alloc, words, files, world);
+    let done = finish(streamed, world);
+    ended(done, world)
 }

@@ -1,23 +1,23 @@
 //! `sort --merge`, of files that are in canonical order already.
-ghost use Rattle.std.specs.Prelude.{◌≡◌, ◌≤◌, ◌++◌, [], ℕ, List, IfErr, IfOk, IfSome, Option, Some, codes};
-ghost use Rattle.std.specs.Prelude.{map, string_bytes};
-ghost use Rattle.frame.specs.Making.{EndsMaking, IsDoneMaking, IsHaltedMaking};
+ghost use Rattle.std.specs.Prelude.{◌≡◌, ℕ, List, IfErr, IfOk, IfSome, Option, Some, map};
+ghost use Rattle.frame.specs.Outcome.{Ends};
 ghost use Rattle.tap_views.specs.declared.upload_end.UploadEnd.TheVariants.{Posted as APosted};
 ghost use Rattle.sorted_taps.specs.Checked.{IsMergeFault};
 ghost use Rattle.sorted_taps.specs.Written.{IsMergedFile};
-ghost use Rattle.world.specs.Run.{with_flushed, with_said};
-ghost use Rattle.tool_tasks.specs.Fault.{fault_text};
-ghost use Rattle.tool_tasks.specs.MergeSorted.{IsRightFileFault, MergesOrRefuses};
-ghost use Rattle.tool_tasks.specs.Sort.{names_of};
-ghost use Rattle.tool_tasks.specs.inside.Sort.{HaltsMaking, IsFileFault};
+ghost use Rattle.tool_tasks.specs.MergeSorted.{IsRightFileFault, merge_sorted_rule};
+ghost use Rattle.tool_tasks.specs.inside.Does.{Does};
+ghost use Rattle.tool_tasks.specs.inside.Sort.{IsFileFault};
+ghost use Rattle.tool_words.specs.Request.{SortRequest};
 ghost use Rattle.tool_words.specs.Tasks.{sorting_of};
 
 use crate::fault::Fault;
 use crate::known::Known;
 use crate::names::word_at;
 use crate::placed::{PlacedFiles, open_placed};
-use crate::sort::{Written, fault_of, lines_of, make_both};
-use frame::{Stop, report};
+use crate::prepared::{Begun, carry, refusal};
+use crate::sort::{failed, prepare};
+use crate::stops::{Halt, ended, line_of};
+use frame::Outside;
 use sorted_taps::{MergeFault, SortedFault, merge_sorted};
 use std::alloc::{AllocError, Global};
 use std::io::Write;
@@ -94,73 +94,72 @@ fn merge_all<'a, D: PlacedFiles, W: Write>(
     }
 }
 
-fn line_of(alloc: Global, fault: Fault<'_>) -> Result<String, AllocError>
-    ensures { IfOk result (λ line. string_bytes line ≡ fault_text fault.entry ++ codes "\n") }
-{
-    format!(in alloc; "{fault}\n")
-}
-
 /// The fault of an upload is noted.
-fn refuse<W: World>(alloc: Global, fault: Fault<'_>, world: &mut W) -> Result<u8, Stop>
-    ensures done { IfOk result (λ status. (status ≡ 1) × (W.run world.new
-        ≡ with_flushed (with_said (W.run world.old) (fault_text fault.entry ++ codes "\n")))) }
-    ensures halted { IfErr result (λ why. (names : List (List ℕ))
-        → HaltsMaking names [] (fault_text fault.entry ++ codes "\n") why (W.run world.old)
-        (W.run world.new)) }
+fn refuse<'a, W: World>(alloc: Global, fault: Fault<'_>, world: &mut W) -> Result<u8, Halt<'a>>
+    ensures { (request : SortRequest) (known : List (Option (List ℕ)))
+        → IsRightFileFault request.uploads known fault.entry
+        → Does (merge_sorted_rule request known) (W.run world.old) (W.run world.new) result }
 {
-    let line = match line_of(alloc, fault) {
-        Ok(line) => line,
-        Err(AllocError) => return Err(Stop::NoMemory),
-    };
-    world.say(line.as_bytes());
-    match world.flush() {
-        Ok(()) => Ok(1),
-        Err(why) => Err(Stop::Unwritten(why)),
+    match refusal(alloc, fault, "") {
+        Ok(prepared) => carry(&prepared, None, world),
+        Err(AllocError) => Err(Halt {
+            why: Outside::NoMemory,
+            line: Fault::NoMemory,
+        }),
     }
 }
 
 /// Makes the file of the uploads' taps, and before it that of their ends; or notes the fault of an
 /// upload.
 #[tactic(auto, using(crate::proofs::KnownBytes::is_known))]
-fn merge<D: PlacedFiles, W: World>(
+fn merge<'a, D: PlacedFiles, W: World>(
     alloc: Global,
-    words: &SortingWords<'_>,
+    words: &SortingWords<'a>,
     disk: &D,
     world: &mut W,
-) -> Result<u8, Stop>
-    ensures done { IfOk result (IsDoneMaking (MergesOrRefuses (sorting_of words.now)
+) -> Result<u8, Halt<'a>>
+    ensures { Does (merge_sorted_rule (sorting_of words.now)
         (map (D.bytes_under disk.now) (sorting_of words.now).uploads)) (W.run world.old)
-        (W.run world.new)) }
-    ensures halted { IfErr result (IsHaltedMaking (MergesOrRefuses (sorting_of words.now)
-        (map (D.bytes_under disk.now) (sorting_of words.now).uploads))
-        (names_of (sorting_of words.now)) (W.run world.old) (W.run world.new)) }
+        (W.run world.new) result }
 {
     let mut known = match world.begin(words.out, false) {
         Ok(file) => Known::new(file),
-        Err(why) => return Err(Stop::Unmade(0, why)),
+        Err(why) => {
+            let why = Outside::Unmade(why, false);
+            return Err(Halt {
+                why,
+                line: line_of(why, words.out, Fault::Unmade(words.out)),
+            });
+        }
     };
     let merged = merge_all(alloc, &words.uploads, disk, &mut known);
     let file = known.into_file();
     match merged {
-        Ok(ends) => match lines_of(alloc, &ends) {
-            Ok(lines) => {
-                let written = Written {
-                    lines,
-                    note: String::new(alloc),
-                    status: 0,
+        Ok(ends) => match prepare(alloc, words, &ends, String::new(alloc), 0) {
+            Ok(prepared) => {
+                let begun = Begun {
+                    name: words.out,
+                    file,
+                    unmade: Fault::Unmade(words.out),
                 };
-                make_both(words, &written, file, world)
+                carry(&prepared, Some(begun), world)
             }
             Err(AllocError) => {
                 world.discard(file);
-                Err(Stop::NoMemory)
+                Err(Halt {
+                    why: Outside::NoMemory,
+                    line: Fault::NoMemory,
+                })
             }
         },
         Err(why) => match why {
-            None => Err(Stop::Unmade(0, world.fail(words.out, file))),
+            None => Err(failed(words.out, file, world)),
             Some(Fault::NoMemory) => {
                 world.discard(file);
-                Err(Stop::NoMemory)
+                Err(Halt {
+                    why: Outside::NoMemory,
+                    line: Fault::NoMemory,
+                })
             }
             Some(fault) => {
                 world.discard(file);
@@ -174,23 +173,16 @@ fn merge<D: PlacedFiles, W: World>(
 /// canonical order, and before it that of a line for each upload, if it has a name. The uploads are
 /// read at any offset. A fault is reported. Gives the status: 0 if the files are made, 1 after a
 /// fault.
-#[tactic(auto, using(crate::proofs::MergedUploads::merge_status))]
 pub fn merge_sorted_over<D: PlacedFiles, W: World>(
     alloc: Global,
     words: &SortingWords<'_>,
     disk: &D,
     world: &mut W,
 ) -> u8
-    ensures status { result ≤ 1 }
-    ensures ends { EndsMaking (MergesOrRefuses (sorting_of words.now)
-        (map (D.bytes_under disk.now) (sorting_of words.now).uploads))
-        (names_of (sorting_of words.now)) (W.run world.old) (W.run world.new) result }
+    ensures { Ends (merge_sorted_rule (sorting_of words.now)
+        (map (D.bytes_under disk.now) (sorting_of words.now).uploads)) (W.run world.old)
+        (W.run world.new) result }
 {
-    match merge(alloc, words, disk, world) {
-        Ok(status) => status,
-        Err(why) => {
-            report(why, fault_of(why, words), world);
-            1
-        }
-    }
+    let done = merge(alloc, words, disk, world);
+    ended(done, world)
 }

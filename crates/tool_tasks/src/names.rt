@@ -2,20 +2,13 @@
 ghost use Rattle.std.specs.Prelude.{◌≡◌, ◌<◌, Some, codes, false, map, option_map, slice_get};
 ghost use Rattle.std.specs.Fmt.{WritesOnOk, digit_glyph};
 ghost use Rattle.std.specs.Str.{bytes_eq};
-ghost use Rattle.tool_tasks.specs.Names.{called, escaped, file_named, shown_letter};
+ghost use Rattle.tool_tasks.specs.Names.{called, escaped, shown_letter};
 
 use program_manners::STANDARD_INPUT;
 use std::fmt;
 
 /// The word that represents standard input.
 const INPUT_WORD: &str = "-";
-
-/// The name of the file that a word names; none of standard input, which `-` represents.
-pub fn file_of<'a>(word: &'a str) -> Option<&'a str>
-    ensures { option_map (λ n. n.now) result ≡ file_named word.entry.now }
-{
-    if word == INPUT_WORD { None } else { Some(word) }
-}
 
 /// The word of this number, from 0.
 pub fn word_at<'a>(words: &[&'a str], number: usize) -> Option<&'a str>

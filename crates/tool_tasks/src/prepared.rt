@@ -1,26 +1,19 @@
-//! What `encode` prepared, before any of it is done.
-ghost use Rattle.std.specs.Prelude.{◌≡◌, ◌++◌, [], ℕ, List, IfErr, IfOk, OnOk, Some, string_bytes};
-ghost use Rattle.frame.specs.Making.{did_making};
+//! What a subcommand prepared, before any of it is done.
+ghost use Rattle.std.specs.Prelude.{◌≡◌, [], ℕ, List, IfErr, IfOk, OnOk};
+ghost use Rattle.frame.specs.Given.{Adds, with_files};
+ghost use Rattle.frame.specs.Outsides.{Leaves, StopsIn};
 ghost use Rattle.tool_tasks.specs.Fault.{fault_text};
-ghost use Rattle.tool_tasks.specs.inside.Prepared.{AreNamed, HaltsEnd, HaltsFile, HaltsPart};
-ghost use Rattle.tool_tasks.specs.inside.Prepared.{IsNamedIn, IsRefusal, answer_of, files_first};
-ghost use Rattle.tool_tasks.specs.inside.Prepared.{files_in, files_of, text_of};
-ghost use Rattle.tool_tasks.specs.inside.Sort.{HaltsMade, with_files};
-ghost use Rattle.world.specs.Run.{with_flushed, with_said};
+ghost use Rattle.tool_tasks.specs.inside.Prepared.{AreNamed, Carries, IsBegunIn, IsKnown, IsNamedIn};
+ghost use Rattle.tool_tasks.specs.inside.Prepared.{IsRefusal, begun_files, files_in, given_of};
+ghost use Rattle.tool_tasks.specs.inside.Prepared.{whole_of, with_prepared};
+ghost use Rattle.world.specs.Origins.{with_loads};
+ghost use Rattle.world.specs.Run.{Load, Run};
 
 use crate::fault::Fault;
-use crate::stops::Halt;
-use fare_texts::write_bytes;
-use frame::Stop;
+use crate::stops::{Halt, line_of};
+use frame::{Outside, begin, finish, make, write};
 use std::alloc::{AllocError, Global};
 use world::World;
-
-/// The numbers of the new files among the words that name files.
-pub(crate) const DEVICES_NUMBER: usize = 0;
-
-const REFUSED_NUMBER: usize = 1;
-
-const UPLOAD_NUMBER: usize = 4;
 
 /// A file that is to be made; one that is not to be new replaces another.
 #[derive(Drop)]
@@ -28,18 +21,28 @@ pub(crate) struct NewFile<'a> {
     pub(crate) name: &'a str,
     pub(crate) bytes: Vec<u8>,
     pub(crate) is_new: bool,
+    /// The line if it is begun and not made.
+    pub(crate) unmade: Fault<'a>,
+}
+
+/// A file that was begun: it has its name once all else but the note is given.
+#[derive(Drop)]
+pub(crate) struct Begun<'a, F: Drop> {
+    pub(crate) name: &'a str,
+    pub(crate) file: F,
+    pub(crate) unmade: Fault<'a>,
 }
 
 /// The text of the output, new files, a note, and the status.
 #[derive(Drop)]
 pub(crate) struct Prepared<'a> {
     pub(crate) text: Vec<u8>,
-    /// The device table, made before anything is given out that has its numbers.
-    pub(crate) devices: Option<NewFile<'a>>,
-    /// The upload, if it is no text.
+    /// Made before anything is given out, as a device table whose numbers are.
+    pub(crate) first: Option<NewFile<'a>>,
+    /// Made after the text, as an upload that is no text.
     pub(crate) upload: Option<NewFile<'a>>,
-    /// The rows that are not taps.
-    pub(crate) refused: Option<NewFile<'a>>,
+    /// Begun before anything is given out, and made after it, as the rows that are not taps.
+    pub(crate) held: Option<NewFile<'a>>,
     pub(crate) note: String,
     pub(crate) status: u8,
 }
@@ -54,142 +57,158 @@ pub(crate) fn refusal<'a>(
 {
     Ok(Prepared {
         text: Vec::new(alloc),
-        devices: None,
+        first: None,
         upload: None,
-        refused: None,
+        held: None,
         note: format!(in alloc; "{fault}{more}\n")?,
         status: 1,
     })
 }
 
-/// Begins the file, and writes its bytes.
-fn begin<'a, W: World>(
-    file: &NewFile<'a>,
-    number: usize,
-    world: &mut W,
-) -> Result<W::File, Halt<'a>>
-    ensures bytes { IfOk result (λ started. W.File.contents started ≡ Some file.now.bytes.items) }
-    ensures unchanged { OnOk result (W.run world.new ≡ W.run world.old) }
-    ensures halted { IfErr result (λ halt. HaltsMade file.now.name.now number halt.why
-        (W.run world.old) (W.run world.new)) }
+/// Makes the file, if there is one.
+#[tactic(auto, using(frame::proofs::Giving::gave_no_files))]
+fn make_new<'a, W: World>(file: &Option<NewFile<'a>>, world: &mut W) -> Result<(), Halt<'a>>
+    ensures made { OnOk result (Adds (W.run world.old) (W.run world.new)
+        (λ g. with_files g (files_in file.now))) }
+    ensures stopped { (words : List (List ℕ)) → IsNamedIn words file.now → IfErr result
+        (λ halt. Leaves words halt.why (W.run world.old) (W.run world.new)) }
 {
-    match world.begin(file.name, file.is_new) {
-        Err(why) => Err(Halt::of(Stop::Unmade(number, why), Some(file.name))),
-        Ok(started) => {
-            let mut started = started;
-            match write_bytes(&file.bytes, &mut started) {
-                Ok(()) => Ok(started),
-                Err(_) => Err(Halt::unfinished(number, world.fail(file.name, started))),
+    match file {
+        None => Ok(()),
+        Some(file) => match make(file.name, &file.bytes, file.is_new, world) {
+            Ok(()) => Ok(()),
+            Err(why) => Err(Halt {
+                why,
+                line: line_of(why, file.name, file.unmade),
+            }),
+        },
+    }
+}
+
+/// Makes the files that are not begun, and writes the text.
+fn give<'a, W: World>(prepared: &Prepared<'a>, world: &mut W) -> Result<(), Halt<'a>>
+    ensures given { OnOk result (Adds (W.run world.old) (W.run world.new)
+        (λ g. with_prepared g prepared.now)) }
+    ensures stopped { (words : List (List ℕ)) → AreNamed words prepared.now → IfErr result
+        (λ halt. StopsIn words (W.run world.old) (W.run world.new)
+        (λ g. with_prepared g prepared.now) halt.why) }
+{
+    match make_new(&prepared.first, world) {
+        Err(halt) => Err(halt),
+        Ok(()) => match write(&prepared.text, world) {
+            Err(why) => Err(Halt {
+                why,
+                line: line_of(why, "", Fault::Write),
+            }),
+            Ok(()) => match make_new(&prepared.upload, world) {
+                Err(halt) => Err(halt),
+                Ok(()) => Ok(()),
+            },
+        },
+    }
+}
+
+/// Gives the file its name, if there is one.
+#[tactic(auto, using(frame::proofs::Giving::gave_no_files))]
+fn finish_begun<'a, W: World>(
+    begun: Option<Begun<'a, W::File>>,
+    world: &mut W,
+) -> Result<(), Halt<'a>>
+    requires { IsKnown W.File.contents begun }
+    ensures made { OnOk result (Adds (W.run world.old) (W.run world.new)
+        (λ g. with_files g (begun_files W.File.contents begun.entry))) }
+    ensures stopped { (words : List (List ℕ)) → IsBegunIn words begun.entry → IfErr result
+        (λ halt. Leaves words halt.why (W.run world.old) (W.run world.new)) }
+{
+    match begun {
+        None => Ok(()),
+        Some(begun) => {
+            let Begun { name, file, unmade } = begun;
+            match finish(name, file, world) {
+                Ok(()) => Ok(()),
+                Err(why) => Err(Halt {
+                    why,
+                    line: line_of(why, name, unmade),
+                }),
             }
         }
     }
 }
 
-/// Makes the file, if there is one.
-#[tactic(auto, using(crate::proofs::Preparing::no_files))]
-fn make<'a, W: World>(
-    file: &Option<NewFile<'a>>,
-    number: usize,
+fn discard<'a, W: World>(begun: Option<Begun<'a, W::File>>, world: &mut W)
+    ensures { W.run world.new ≡ W.run world.old }
+{
+    if let Some(begun) = begun {
+        let Begun { name, file, unmade } = begun;
+        let _ = name;
+        let _ = unmade;
+        world.discard(file);
+    }
+}
+
+/// Makes the files, and writes the text between them. A file that was begun has its name after that.
+/// Then gives the note.
+pub(crate) fn carry<'a, W: World>(
+    prepared: &Prepared<'a>,
+    begun: Option<Begun<'a, W::File>>,
     world: &mut W,
-) -> Result<(), Halt<'a>>
-    ensures done { OnOk result (W.run world.new ≡ with_files (W.run world.old) (files_in file.now)) }
-    ensures halted { IfErr result (λ halt.
-        HaltsFile file.now number halt.why (W.run world.old) (W.run world.new)) }
+) -> Result<u8, Halt<'a>>
+    requires { IsKnown W.File.contents begun }
+    ensures { (words : List (List ℕ)) (start : Run) (loads : List Load)
+        → W.run world.old ≡ with_loads start loads → AreNamed words prepared.now
+        → IsBegunIn words begun.entry → Carries words start
+        (given_of loads prepared.now (begun_files W.File.contents begun.entry))
+        prepared.now.status (W.run world.new) result }
 {
-    match file {
-        None => Ok(()),
-        Some(file) => match begin(file, number, world) {
-            Err(halt) => Err(halt),
-            Ok(started) => match world.finish(file.name, started) {
-                Ok(()) => Ok(()),
-                Err(why) => Err(Halt::unfinished(number, why)),
-            },
-        },
-    }
-}
-
-/// Makes the device table and the upload, if they are files, and writes the text.
-fn give<'a, W: World>(prepared: &Prepared<'a>, world: &mut W) -> Result<(), Halt<'a>>
-    ensures done { OnOk result (W.run world.new ≡ did_making (W.run world.old) []
-        (text_of prepared.now.text.items) (files_first prepared.now)) }
-    ensures halted { (names : List (List ℕ))
-        → IsNamedIn names DEVICES_NUMBER prepared.now.devices
-        → IsNamedIn names UPLOAD_NUMBER prepared.now.upload → IfErr result (λ halt.
-        HaltsPart names prepared.now.text.items (files_first prepared.now) halt.why
-        (W.run world.old) (W.run world.new)) }
-{
-    match make(&prepared.devices, DEVICES_NUMBER, world) {
-        Err(halt) => Err(halt),
-        Ok(()) => match make(&prepared.upload, UPLOAD_NUMBER, world) {
-            Err(halt) => Err(halt),
-            Ok(()) => match world.write(&prepared.text) {
-                Err(why) => Err(Halt::of(Stop::Unwritten(why), None)),
-                Ok(()) => Ok(()),
-            },
-        },
-    }
-}
-
-/// Flushes the output, and gives the note.
-fn end<'a, W: World>(note: &String, world: &mut W) -> Result<(), Halt<'a>>
-    ensures done { OnOk result (W.run world.new
-        ≡ with_said (with_flushed (W.run world.old)) (string_bytes note.now)) }
-    ensures halted { IfErr result (λ halt. HaltsEnd halt.why (W.run world.old) (W.run world.new)) }
-{
-    match world.flush() {
-        Err(why) => Err(Halt::of(Stop::Unwritten(why), None)),
-        Ok(()) => {
-            world.say(note.as_bytes());
-            Ok(())
+    match give(prepared, world) {
+        Err(halt) => {
+            discard(begun, world);
+            Err(halt)
         }
-    }
-}
-
-/// Does all but the note. The file of the refused rows is started before anything is given out, and
-/// has its name after it.
-fn give_all<'a, W: World>(prepared: &Prepared<'a>, world: &mut W) -> Result<(), Halt<'a>>
-    ensures done { OnOk result (W.run world.new ≡ did_making (W.run world.old) []
-        (text_of prepared.now.text.items) (files_of prepared.now)) }
-    ensures halted { (names : List (List ℕ)) → AreNamed names prepared.now
-        → IfErr result (λ halt. HaltsPart names prepared.now.text.items (files_of prepared.now)
-        halt.why (W.run world.old) (W.run world.new)) }
-{
-    match &prepared.refused {
-        None => give(prepared, world),
-        Some(file) => match begin(file, REFUSED_NUMBER, world) {
+        Ok(()) => match finish_begun(begun, world) {
             Err(halt) => Err(halt),
-            Ok(started) => match give(prepared, world) {
-                Err(halt) => {
-                    world.discard(started);
-                    Err(halt)
+            Ok(()) => match world.flush() {
+                Err(why) => {
+                    let why = Outside::Unwritten(why);
+                    Err(Halt {
+                        why,
+                        line: line_of(why, "", Fault::Write),
+                    })
                 }
-                Ok(()) => match world.finish(file.name, started) {
-                    Ok(()) => Ok(()),
-                    Err(why) => Err(Halt::unfinished(REFUSED_NUMBER, why)),
-                },
+                Ok(()) => {
+                    world.say(prepared.note.as_bytes());
+                    Ok(prepared.status)
+                }
             },
         },
     }
 }
 
-/// Writes the text, makes the files, and gives the note, in this order. No text is written if a file
-/// has the name of that of the refused rows.
+/// The same, with the file that is held, if there is one.
 pub(crate) fn carry_out<'a, W: World>(
     prepared: &Prepared<'a>,
     world: &mut W,
 ) -> Result<u8, Halt<'a>>
-    ensures done { IfOk result (λ status. (status ≡ prepared.now.status) × (W.run world.new
-        ≡ with_flushed (did_making (W.run world.old) [] (answer_of prepared.now)
-        (files_of prepared.now)))) }
-    ensures halted { (names : List (List ℕ)) → AreNamed names prepared.now
-        → IfErr result (λ halt. HaltsPart names prepared.now.text.items (files_of prepared.now)
-        halt.why (W.run world.old) (W.run world.new)) }
+    ensures { (words : List (List ℕ)) (start : Run) (loads : List Load)
+        → W.run world.old ≡ with_loads start loads → AreNamed words prepared.now
+        → Carries words start (given_of loads prepared.now (files_in prepared.now.held))
+        prepared.now.status (W.run world.new) result }
 {
-    match give_all(prepared, world) {
-        Err(halt) => Err(halt),
-        Ok(()) => match end(&prepared.note, world) {
-            Ok(()) => Ok(prepared.status),
-            Err(halt) => Err(halt),
+    match &prepared.held {
+        None => carry(prepared, None, world),
+        Some(held) => match begin(held.name, &held.bytes, held.is_new, world) {
+            Err(why) => Err(Halt {
+                why,
+                line: line_of(why, held.name, held.unmade),
+            }),
+            Ok(file) => {
+                let begun = Begun {
+                    name: held.name,
+                    file,
+                    unmade: held.unmade,
+                };
+                carry(prepared, Some(begun), world)
+            }
         },
     }
 }

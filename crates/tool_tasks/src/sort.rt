@@ -1,23 +1,26 @@
 //! `sort` of uploads that are loaded.
-ghost use Rattle.std.specs.Prelude.{◌≡◌, ◌⊎◌, ◌++◌, ◌∷◌, [], ℕ, List, IfErr, IfOk};
+ghost use Rattle.std.specs.Prelude.{◌≡◌, ◌++◌, ◌∷◌, [], ℕ, Contains, IfErr, IfOk, List};
 ghost use Rattle.std.specs.Prelude.{OnOk, Some};
 ghost use Rattle.std.specs.Prelude.{if◌then◌else◌, map, option_map, string_bytes};
-ghost use Rattle.frame.specs.Making.{EndsMaking, IsDoneMaking, IsHaltedMaking, did_making};
+ghost use Rattle.frame.specs.Outcome.{Ends};
+ghost use Rattle.frame.specs.Outsides.{Leaves};
 ghost use Rattle.report_texts.specs.Report.{upload_lines};
 ghost use Rattle.tap_views.specs.UploadEnds.{are_posted, is_posted};
-ghost use Rattle.world.specs.Run.{with_flushed, with_made};
-ghost use Rattle.tool_tasks.specs.Sort.{Sorts, ends_files, files_of, names_of, refused_lines};
-ghost use Rattle.tool_tasks.specs.inside.Sort.{HaltsLoading, HaltsMade, HaltsMaking, LoadsAll};
-ghost use Rattle.tool_tasks.specs.inside.Sort.{SortsTexts, line_at, with_files};
+ghost use Rattle.world.specs.Run.{Run};
+ghost use Rattle.tool_tasks.specs.Sort.{ends_files, names_of, refused_lines, sort_rule};
+ghost use Rattle.tool_tasks.specs.inside.Does.{Does};
+ghost use Rattle.tool_tasks.specs.inside.Loads.{StopsLoading};
+ghost use Rattle.tool_tasks.specs.inside.Prepared.{files_in};
+ghost use Rattle.tool_tasks.specs.inside.Sort.{IsOfEnds, LoadsAll, line_at};
 ghost use Rattle.tool_words.specs.Tasks.{sorting_of};
 
 use crate::counted::Counted;
 use crate::fault::Fault;
-use crate::loads::load_word;
+use crate::loads::load;
 use crate::names::word_at;
-use crate::stops::{fault_at, number_in};
-use fare_texts::write_bytes;
-use frame::{Stop, report};
+use crate::prepared::{Begun, NewFile, Prepared, carry};
+use crate::stops::{Halt, ended, line_of};
+use frame::Outside;
 use report_texts::write_upload;
 use sorted_uploads::sort_uploads;
 use std::alloc::{AllocError, Global};
@@ -37,25 +40,28 @@ fn push(files: &mut Vec<Vec<u8>>, upload: Vec<u8>) -> Result<(), AllocError>
     Ok(())
 }
 
-fn load_uploads<W: Counted>(
+fn load_uploads<'a, W: Counted>(
     alloc: Global,
-    words: &SortingWords<'_>,
+    words: &SortingWords<'a>,
     world: &mut W,
-) -> Result<Vec<Vec<u8>>, Stop>
+) -> Result<Vec<Vec<u8>>, Halt<'a>>
     ensures loaded { IfOk result (λ files. LoadsAll (sorting_of words.now).uploads
         (W.run world.old) (W.run world.new) (map (λ f. f.items) files.items)) }
-    ensures halted { IfErr result (λ why. HaltsLoading (names_of (sorting_of words.now)) why
+    ensures stopped { IfErr result (λ halt. StopsLoading (names_of (sorting_of words.now)) halt.why
         (W.run world.old) (W.run world.new)) }
 {
     let mut files = Vec::new(alloc);
     for number in 0..words.uploads.len() {
         world.show_count(number, words.uploads.len());
-        let upload = match load_word(world, words.uploads[number]) {
+        let upload = match load(world, words.uploads[number]) {
             Ok(upload) => upload,
-            Err(why) => return Err(Stop::Unread(number + 2, why)),
+            Err(halt) => return Err(halt),
         };
         if let Err(AllocError) = push(&mut files, upload) {
-            return Err(Stop::NoMemory);
+            return Err(Halt {
+                why: Outside::NoMemory,
+                line: Fault::NoMemory,
+            });
         }
     }
     Ok(files)
@@ -116,178 +122,154 @@ fn are_posted(ends: &[UploadEnd]) -> bool
     ends.iter().all(|end| is_posted(*end))
 }
 
-/// Makes a file of these bytes, whose word has this number.
-fn make<W: World>(name: &str, number: usize, bytes: &[u8], world: &mut W) -> Result<(), Stop>
-    ensures made { OnOk result (W.run world.new ≡ with_made (W.run world.old)
-        (record { name = name.now; bytes = bytes.now })) }
-    ensures unmade { IfErr result (λ why. HaltsMade name.now number why (W.run world.old)
-        (W.run world.new)) }
+fn ends_file<'a>(name: Option<&'a str>, lines: String) -> Option<NewFile<'a>>
+    ensures files { files_in result
+        ≡ ends_files (option_map (λ n. n.now) name.entry) (string_bytes lines) }
+    ensures named { option_map (λ file. file.name.now) result
+        ≡ option_map (λ n. n.now) name.entry }
 {
-    let mut file = match world.begin(name, false) {
-        Ok(file) => file,
-        Err(why) => return Err(Stop::Unmade(number, why)),
-    };
-    match write_bytes(bytes, &mut file) {
-        Ok(()) => match world.finish(name, file) {
-            Ok(()) => Ok(()),
-            Err(why) => Err(Stop::Unmade(number, why)),
-        },
-        Err(_) => Err(Stop::Unmade(number, world.fail(name, file))),
+    match name {
+        None => None,
+        Some(name) => Some(NewFile {
+            name,
+            bytes: lines.into_bytes(),
+            is_new: false,
+            unmade: Fault::Unmade(name),
+        }),
     }
 }
 
-fn make_ends<W: World>(words: &SortingWords<'_>, lines: &str, world: &mut W) -> Result<(), Stop>
-    ensures made { OnOk result (W.run world.new ≡ with_files (W.run world.old)
-        (ends_files (sorting_of words.now).ends lines.now)) }
-    ensures unmade { IfErr result (λ why. (name : List ℕ)
-        × ((sorting_of words.now).ends ≡ Some name)
-        × HaltsMade name 1 why (W.run world.old) (W.run world.new)) }
+fn status_of(ends: &[UploadEnd]) -> u8
+    ensures { result ≡ (if are_posted ends.now then 0 else 3) }
 {
-    match words.ends {
-        Some(name) => make(name, 1, lines.as_bytes(), world),
-        None => Ok(()),
-    }
+    if are_posted(ends) { 0 } else { 3 }
 }
 
-/// What is made and said of uploads whose taps were written.
-#[derive(Drop)]
-pub(crate) struct Written {
-    /// A line for each upload.
-    pub(crate) lines: String,
-    pub(crate) note: String,
-    pub(crate) status: u8,
-}
-
-/// Makes the file of the lines, if it has a name, and then that of the taps. Notes the note.
-pub(crate) fn make_both<W: World>(
-    words: &SortingWords<'_>,
-    written: &Written,
-    file: W::File,
-    world: &mut W,
-) -> Result<u8, Stop>
-    ensures done { (bytes : List ℕ) → W.File.contents file ≡ Some bytes → IfOk result (λ status.
-        (status ≡ written.now.status) × (W.run world.new ≡ with_flushed (did_making
-        (W.run world.old) [] (record { text = []; note = string_bytes written.now.note })
-        (files_of (sorting_of words.now) (string_bytes written.now.lines) bytes)))) }
-    ensures halted { (bytes : List ℕ) → W.File.contents file ≡ Some bytes → IfErr result (λ why.
-        HaltsMaking (names_of (sorting_of words.now))
-        (files_of (sorting_of words.now) (string_bytes written.now.lines) bytes)
-        (string_bytes written.now.note) why (W.run world.old) (W.run world.new)) }
+/// The file of a line for each upload, if it has a name, and the note.
+pub(crate) fn prepare<'a>(
+    alloc: Global,
+    words: &SortingWords<'a>,
+    ends: &[UploadEnd],
+    note: String,
+    status: u8,
+) -> Result<Prepared<'a>, AllocError>
+    ensures { IfOk result
+        (IsOfEnds (sorting_of words.now) ends.now (string_bytes note) status) }
 {
-    if let Err(why) = make_ends(words, written.lines.as_str(), world) {
-        world.discard(file);
-        return Err(why);
-    }
-    if let Err(why) = world.finish(words.out, file) {
-        return Err(Stop::Unmade(0, why));
-    }
-    world.say(written.note.as_bytes());
-    match world.flush() {
-        Ok(()) => Ok(written.status),
-        Err(why) => Err(Stop::Unwritten(why)),
-    }
-}
-
-fn written_of(alloc: Global, uploads: &[&str], ends: &[UploadEnd]) -> Result<Written, AllocError>
-    ensures lines { IfOk result (λ written.
-        string_bytes written.lines ≡ upload_lines 0 ends.now) }
-    ensures note { IfOk result (λ written. string_bytes written.note
-        ≡ refused_lines (map (λ w. w.now) uploads.now) ends.now) }
-    ensures status { IfOk result (λ written.
-        written.status ≡ (if are_posted ends.now then 0 else 3)) }
-{
-    Ok(Written {
-        lines: lines_of(alloc, ends)?,
-        note: note_of(alloc, uploads, ends)?,
-        status: if are_posted(ends) { 0 } else { 3 },
+    let lines = lines_of(alloc, ends)?;
+    Ok(Prepared {
+        text: Vec::new(alloc),
+        first: ends_file(words.ends, lines),
+        upload: None,
+        held: None,
+        note,
+        status,
     })
 }
 
+fn prepare_sorted<'a>(
+    alloc: Global,
+    words: &SortingWords<'a>,
+    ends: &[UploadEnd],
+) -> Result<Prepared<'a>, AllocError>
+    ensures { IfOk result (IsOfEnds (sorting_of words.now) ends.now
+        (refused_lines (sorting_of words.now).uploads ends.now)
+        (if are_posted ends.now then 0 else 3)) }
+{
+    let note = note_of(alloc, &words.uploads, ends)?;
+    prepare(alloc, words, ends, note, status_of(ends))
+}
+
+/// The file was begun, and is not made.
+pub(crate) fn failed<'a, W: World>(name: &'a str, file: W::File, world: &mut W) -> Halt<'a>
+    ensures { (words : List (List ℕ)) → Contains words name.entry.now
+        → Leaves words result.why (W.run world.old) (W.run world.new) }
+{
+    let why = Outside::Unmade(world.fail(name, file), true);
+    Halt {
+        why,
+        line: line_of(why, name, Fault::Unmade(name)),
+    }
+}
+
 /// The uploads are loaded, and the file is begun.
-fn write_sorted<R: Threads + Sync, W: World>(
+fn write_sorted<'a, R: Threads + Sync, W: World>(
     threads: &R,
     alloc: Global,
-    words: &SortingWords<'_>,
+    words: &SortingWords<'a>,
     uploads: Vec<Vec<u8>>,
     file: W::File,
     world: &mut W,
-) -> Result<u8, Stop>
+) -> Result<u8, Halt<'a>>
     requires { W.File.contents file ≡ Some [] }
-    ensures done { IfOk result (IsDoneMaking (SortsTexts (sorting_of words.now)
-        (map (λ upload. upload.items) uploads.items)) (W.run world.old) (W.run world.new)) }
-    ensures halted { IfErr result (IsHaltedMaking (SortsTexts (sorting_of words.now)
-        (map (λ upload. upload.items) uploads.items)) (names_of (sorting_of words.now))
-        (W.run world.old) (W.run world.new)) }
+    ensures { (start : Run) → LoadsAll (sorting_of words.now).uploads start (W.run world.old)
+        (map (λ upload. upload.items) uploads.items) → Does (sort_rule (sorting_of words.now)) start
+        (W.run world.new) result }
 {
     let mut file = file;
     let ends = match sort_uploads(threads, alloc, uploads, WORKERS, &mut file) {
         Ok(ends) => ends,
-        Err(_) => return Err(Stop::Unmade(0, world.fail(words.out, file))),
+        Err(_) => return Err(failed(words.out, file, world)),
     };
-    match written_of(alloc, &words.uploads, &ends) {
-        Ok(written) => make_both(words, &written, file, world),
+    match prepare_sorted(alloc, words, &ends) {
+        Ok(prepared) => {
+            let begun = Begun {
+                name: words.out,
+                file,
+                unmade: Fault::Unmade(words.out),
+            };
+            carry(&prepared, Some(begun), world)
+        }
         Err(AllocError) => {
             world.discard(file);
-            Err(Stop::NoMemory)
+            Err(Halt {
+                why: Outside::NoMemory,
+                line: Fault::NoMemory,
+            })
         }
     }
 }
 
-fn sort<R: Threads + Sync, W: World + Counted>(
+fn sort<'a, R: Threads + Sync, W: World + Counted>(
     threads: &R,
     alloc: Global,
-    words: &SortingWords<'_>,
+    words: &SortingWords<'a>,
     world: &mut W,
-) -> Result<u8, Stop>
-    ensures done { IfOk result (IsDoneMaking (Sorts (sorting_of words.now)) (W.run world.old)
-        (W.run world.new)) }
-    ensures halted { IfErr result (IsHaltedMaking (Sorts (sorting_of words.now))
-        (names_of (sorting_of words.now)) (W.run world.old) (W.run world.new)) }
+) -> Result<u8, Halt<'a>>
+    ensures { Does (sort_rule (sorting_of words.now)) (W.run world.old) (W.run world.new) result }
 {
     let file = match world.begin(words.out, false) {
         Ok(file) => file,
-        Err(why) => return Err(Stop::Unmade(0, why)),
+        Err(why) => {
+            let why = Outside::Unmade(why, false);
+            return Err(Halt {
+                why,
+                line: line_of(why, words.out, Fault::Unmade(words.out)),
+            });
+        }
     };
     let loaded = load_uploads(alloc, words, world);
     world.end_count();
     match loaded {
         Ok(uploads) => write_sorted(threads, alloc, words, uploads, file, world),
-        Err(why) => {
+        Err(halt) => {
             world.discard(file);
-            Err(why)
+            Err(halt)
         }
     }
-}
-
-/// The fault of what stopped it.
-pub(crate) fn fault_of<'a>(why: Stop, words: &SortingWords<'a>) -> Fault<'a> {
-    let word = match number_in(why) {
-        0 => Some(words.out),
-        1 => words.ends,
-        number => word_at(&words.uploads, number - 2),
-    };
-    fault_at(why, word)
 }
 
 /// Makes the file of the valid taps of the uploads that the words name, `-` being standard input,
 /// in canonical order, and before it that of the upload ends, if it has a name. The status is 0, or
 /// 3 if an upload has a layout fault, or 1 after a fault. Each fault is reported.
-#[tactic(auto, using(crate::proofs::Making::sort_status))]
 pub fn sort_over<R: Threads + Sync, W: World + Counted>(
     threads: &R,
     alloc: Global,
     words: &SortingWords<'_>,
     world: &mut W,
 ) -> u8
-    ensures status { (result ≡ 0) ⊎ ((result ≡ 1) ⊎ (result ≡ 3)) }
-    ensures ends { EndsMaking (Sorts (sorting_of words.now)) (names_of (sorting_of words.now))
-        (W.run world.old) (W.run world.new) result }
+    ensures { Ends (sort_rule (sorting_of words.now)) (W.run world.old) (W.run world.new) result }
 {
-    match sort(threads, alloc, words, world) {
-        Ok(status) => status,
-        Err(why) => {
-            report(why, fault_of(why, words), world);
-            1
-        }
-    }
+    let done = sort(threads, alloc, words, world);
+    ended(done, world)
 }

@@ -1,7 +1,15 @@
-//! Files that are read in pieces.
+//! Files that are read in pieces, and texts that are made of them.
+ghost use Rattle.std.specs.Prelude.{◌≡◌, ◌++◌, ◌∷◌, [], IfErr, IfOk, OnOk};
+ghost use Rattle.frame.specs.Names.{file_named};
+ghost use Rattle.recorded_lines.specs.Texts.{IsFresh, calls_of};
+ghost use Rattle.tool_tasks.specs.inside.Streams.{IsFinished, IsUnopened};
+ghost use Rattle.world.specs.Run.{Calls};
 
+use crate::fault::Fault;
+use crate::stops::{Halt, line_of};
+use frame::{Outside, file_of};
 use recorded_lines::Lines;
-use world::LoadFault;
+use world::{LoadFault, World};
 
 /// Files that are read in pieces, since they may be larger than memory.
 pub trait Streams {
@@ -26,4 +34,73 @@ pub trait Streams {
     /// Takes the calls by which the file was read.
     fn close(&mut self, lines: Lines)
         ensures { readings self.new ≡ readings self.old ++ calls_of lines ∷ [] };
+}
+
+/// Opens what the word names, `-` being standard input.
+pub(crate) fn open<'a, F: Streams>(files: &mut F, word: &'a str) -> Result<Lines, Halt<'a>>
+    ensures fresh { IfOk result IsFresh }
+    ensures named { IfOk result
+        (λ lines. (calls_of lines).reading.name ≡ file_named word.entry.now) }
+    ensures unchanged { OnOk result (F.readings files.new ≡ F.readings files.old) }
+    ensures stopped { IfErr result (λ halt. (calls : Calls)
+        × (F.readings files.new ≡ F.readings files.old ++ calls ∷ [])
+        × IsUnopened word.entry.now calls halt.why) }
+{
+    match files.open(file_of(word)) {
+        Ok(lines) => Ok(lines),
+        Err(LoadFault::Unread) => Err(Halt {
+            why: Outside::Unread(LoadFault::Unread),
+            line: Fault::Unread(word),
+        }),
+        Err(_) => Err(Halt {
+            why: Outside::NoMemory,
+            line: Fault::NoMemory,
+        }),
+    }
+}
+
+/// What is noted after a text, and the status.
+#[derive(Drop)]
+pub(crate) struct Noted {
+    pub(crate) note: Vec<u8>,
+    pub(crate) status: u8,
+}
+
+/// Flushes what was written, also if something stopped the run, and gives the note.
+pub(crate) fn finish<'a, W: World>(
+    streamed: Result<Noted, Halt<'a>>,
+    world: &mut W,
+) -> Result<u8, Halt<'a>>
+    ensures { IsFinished streamed.entry (W.run world.old) (W.run world.new) result }
+{
+    match streamed {
+        Ok(noted) => match world.flush() {
+            Ok(()) => {
+                world.say(&noted.note);
+                Ok(noted.status)
+            }
+            Err(why) => {
+                let why = Outside::Unwritten(why);
+                Err(Halt {
+                    why,
+                    line: line_of(why, "", Fault::Write),
+                })
+            }
+        },
+        Err(halt) => {
+            if let Outside::Unwritten(_) = halt.why {
+                return Err(halt);
+            }
+            match world.flush() {
+                Ok(()) => Err(halt),
+                Err(why) => {
+                    let why = Outside::Unwritten(why);
+                    Err(Halt {
+                        why,
+                        line: line_of(why, "", Fault::Write),
+                    })
+                }
+            }
+        }
+    }
 }

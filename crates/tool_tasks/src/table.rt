@@ -1,6 +1,5 @@
 //! `table`: fare tables as they are understood, what their rules ignore, and their faults.
 ghost use Rattle.std.specs.Prelude.{◌≤◌};
-ghost use Rattle.tool_tasks.specs.Informs.{EndsInforming};
 
 mod following;
 mod texts;
@@ -10,7 +9,6 @@ use crate::fault::Fault;
 use crate::informs::{Informed, Informs, WordFile, inform, push_line};
 use crate::names::Name;
 use following::{joined, spans_of};
-use frame::For;
 use jiff::Timestamp;
 use std::alloc::{AllocError, Global};
 use std::mem;
@@ -93,7 +91,7 @@ impl<'a> Tables<'_, 'a> {
     fn end(&mut self) -> Informed {
         self.stage = Stage::End;
         self.succeeded = false;
-        Informed::More(For::Note)
+        Informed::Note
     }
 
     fn take_table(
@@ -110,7 +108,7 @@ impl<'a> Tables<'_, 'a> {
         self.words.push(word)?;
         self.texts.push(bytes)?;
         if number < self.question.later.len() || self.question.uploads.is_empty() {
-            return Ok(Informed::More(For::Note));
+            return Ok(Informed::Note);
         }
         let spans = match tables_of(alloc, self.question, &self.words, &self.texts, note)? {
             Some(all) => Some(all.spans),
@@ -123,7 +121,7 @@ impl<'a> Tables<'_, 'a> {
             self.seen.push(SeenValidators::new(alloc))?;
         }
         self.spans = spans;
-        Ok(Informed::More(For::Note))
+        Ok(Informed::Note)
     }
 
     /// Adds the validators before the first layout fault of the upload, which is noted.
@@ -140,7 +138,7 @@ impl<'a> Tables<'_, 'a> {
             self.succeeded = false;
             push_line(alloc, Fault::Layout(file.word, offset, fault), note)?;
         }
-        Ok(Informed::More(For::Note))
+        Ok(Informed::Note)
     }
 
     /// `position` counts the tables from 0. Warnings are noted.
@@ -191,7 +189,7 @@ impl<'a> Tables<'_, 'a> {
                 self.write_at(alloc, position, span, table, word, note)?;
             }
         }
-        Ok(Informed::More(For::Note))
+        Ok(Informed::Note)
     }
 }
 
@@ -219,7 +217,7 @@ impl<'a> Informs<'a> for Tables<'_, 'a> {
             Stage::Noted => {
                 self.stage = Stage::End;
                 piece.extend_from_slice(self.text.as_slice())?;
-                Ok(Informed::More(For::Text))
+                Ok(Informed::Text)
             }
             Stage::End if self.has_wrong_name => {
                 let name = Name(self.question.table);
@@ -247,8 +245,7 @@ pub fn table_over<W: World + Counted>(
     now: Timestamp,
     world: &mut W,
 ) -> u8
-    ensures status { result ≤ 1 }
-    ensures ends { EndsInforming (W.run world.old) (W.run world.new) result }
+    ensures { result ≤ 1 }
 {
     let tables = Tables {
         question,

@@ -1,9 +1,7 @@
 //! `uploads --tokens`: how many tokens each upload has, and how many of these another one has, too.
-ghost use Rattle.std.specs.Prelude.{◌≡◌, IfErr};
-ghost use Rattle.tool_tasks.specs.declared.fault.Fault.TheVariants.{NoMemory as AMemoryFault};
 
-use crate::fault::Fault;
 use std::alloc::{AllocError, Global};
+use tap_views::NoMemory;
 use upload_checks::{CommonCounts, CommonTokens};
 
 pub(crate) fn no_tokens(alloc: Global, is_counted: bool) -> Option<CommonTokens> {
@@ -15,12 +13,7 @@ pub(crate) fn no_tokens(alloc: Global, is_counted: bool) -> Option<CommonTokens>
 }
 
 /// Adds the tokens of taps before the first layout fault, if tokens are counted.
-pub(crate) fn add_tokens<'a>(
-    tokens: &mut Option<CommonTokens>,
-    upload: &[u8],
-) -> Result<(), Fault<'a>>
-    ensures { IfErr result (λ fault. fault ≡ AMemoryFault) }
-{
+pub(crate) fn add_tokens(tokens: &mut Option<CommonTokens>, upload: &[u8]) -> Result<(), NoMemory> {
     if let Some(tokens) = tokens {
         tokens.add(upload)?;
     }

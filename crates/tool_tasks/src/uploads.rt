@@ -1,6 +1,5 @@
 //! `uploads`: what each upload has.
-ghost use Rattle.std.specs.Prelude.{◌≡◌, ◌≤◌, ◌++◌, ℕ, IfErr, List, OnOk, string_bytes};
-ghost use Rattle.tool_tasks.specs.Informs.{EndsInforming};
+ghost use Rattle.std.specs.Prelude.{◌≡◌, ◌≤◌, ◌++◌, ℕ, List, OnOk, string_bytes};
 ghost use Rattle.tool_tasks.specs.Uploads.{IsMomentOrDash};
 
 use crate::counted::Counted;
@@ -10,7 +9,6 @@ use crate::layout::{AtTap, Cause, Remedy};
 use crate::names::Name;
 use crate::upload_tokens::{add_tokens, no_tokens, tokens_text};
 use fare_texts::write_moment;
-use frame::For;
 use std::alloc::{AllocError, Global};
 use tap_views::{Facts, facts_of};
 use upload_checks::CommonTokens;
@@ -77,7 +75,7 @@ impl<'a> Informs<'a> for Uploads {
         piece.extend_from_slice(text.as_bytes())?;
         add_tokens(&mut self.tokens, &file.bytes)?;
         self.succeeded &= facts.fault.is_none();
-        Ok(Informed::More(For::Text))
+        Ok(Informed::Text)
     }
 
     fn go_on(&mut self, alloc: Global, piece: &mut Vec<u8>) -> Result<Informed, Fault<'a>> {
@@ -85,7 +83,7 @@ impl<'a> Informs<'a> for Uploads {
             Some(tokens) => {
                 let text = tokens_text(alloc, tokens.counts())?;
                 piece.extend_from_slice(text.as_bytes())?;
-                Ok(Informed::More(For::Text))
+                Ok(Informed::Text)
             }
             None => Ok(Informed::End {
                 succeeded: self.succeeded,
@@ -103,8 +101,7 @@ pub fn uploads_over<W: World + Counted>(
     has_tokens: bool,
     world: &mut W,
 ) -> u8
-    ensures status { result ≤ 1 }
-    ensures ends { EndsInforming (W.run world.old) (W.run world.new) result }
+    ensures { result ≤ 1 }
 {
     let uploads = Uploads {
         tokens: no_tokens(alloc, has_tokens),

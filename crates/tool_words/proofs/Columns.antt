@@ -3,16 +3,18 @@ use Rattle.std.proofs.Common.{◌≡◌, ◌∙◌, ◌<◌, ◌+◌, ◌++◌, 
 use Rattle.std.proofs.Common.{ap, arith, false, get_or, length, lt-ltb, map, refl, sym, take}
 use Rattle.std.proofs.Common.{true}
 use Rattle.std.specs.Prelude.{MatchOption, filter_map, is_some, nat_lt, option_map}
-use Rattle.std.specs.List.{after_first, before_first, cons_option, position_or_len}
+use Rattle.std.specs.List.{after_first, before_first, cons_option, find, position_or_len}
 use Rattle.std.specs.Option.{option_to_list}
 use Rattle.std.proofs.lemmas.Bool.{le-ltb}
 use Rattle.std.proofs.lemmas.List.{length-map, map-append, take_more}
 use Rattle.std.proofs.lemmas.List.Elements.{filter_map-append}
 use Rattle.std.proofs.lemmas.List.Folds.{list_all-append, list_all-map, list_all_at}
+use Rattle.std.specs.Str.{bytes_eq}
+use Rattle.clap.proofs.WalkLemmas.{find-map}
 use Rattle.clap.specs.Words.{Text}
 use Rattle.tap_rows.specs.declared.agency.choice.Condition.{Condition}
-use Rattle.tool_words.specs.Columns.{conditions_in, have_parts, is_equals, parts_of}
-use Rattle.tool_words.specs.Tasks.{condition_of, text_in, texts_of}
+use Rattle.tool_words.specs.Columns.{conditions_in, have_parts, is_equals, parts_of, value_of}
+use Rattle.tool_words.specs.Tasks.{condition_of, texts_of}
 
 -- the parts round the first `=` are those of the word
 pub parts_found : (word : Text) (found : Option (Bor Text × Bor Text))
@@ -56,24 +58,6 @@ found_more find words position other found within is =
     ∙ ap (λ more. filter_map find (texts_of (take position words)) ++ more)
     (one_found find (get_or words position other).now ∙ ap option_to_list is)
 
--- the texts of references, of which one more may be found
-texts_found : (names : List (Bor Text)) (found : Option (Bor Text))
-    → texts_of (names ++ option_to_list found) ≡ texts_of names ++ option_to_list (text_in found)
-texts_found names None = map-append (λ (w : Bor Text). w.now) names []
-texts_found names (Some name) = map-append (λ (w : Bor Text). w.now) names (name ∷ [])
-
--- what is found in one more word is put behind
-pub names_more : (find : Text → Option Text) (words : List (Bor Text)) (position : ℕ)
-    (other : Bor Text) (names more : List (Bor Text)) (found : Option (Bor Text))
-    → position < length words → text_in found ≡ find (get_or words position other).now
-    → texts_of names ≡ filter_map find (texts_of (take position words))
-    → more ≡ names ++ option_to_list found
-    → texts_of more ≡ filter_map find (texts_of (take (position + 1) words))
-names_more find words position other names more found within is before adds =
-    ap texts_of adds ∙ texts_found names found
-    ∙ ap (λ ns. ns ++ option_to_list (text_in found)) before
-    ∙ sym (found_more find words position other (text_in found) within (sym is))
-
 -- one more word is COLUMN=VALUE
 pub conditions_more : (words : List (Bor Text)) (position : ℕ) (other : Bor Text)
     (conditions more : List Condition) (condition : Condition) → position < length words
@@ -113,3 +97,22 @@ pub many_named : (words : List (Bor Text)) (names : List Text) → texts_of word
     → nat_lt 1 (length words) ≡ nat_lt 1 (length names)
 many_named words names is =
     ap (nat_lt 1) (sym (length-map words (λ (word : Bor Text). word.now)) ∙ ap length is)
+
+-- what is found among the pairs is their value of the column
+pub value_found : (column : Text) (pairs : List Condition) (found : Option (Bor Condition))
+    → option_map (λ p. p.now) found ≡ find (λ p. bytes_eq p.column.now column) pairs
+    → option_map (λ p. p.now.value.now) found ≡ value_of column (map condition_of pairs)
+value_found column pairs found is =
+    by found ∙ ap (option_map (λ (p : Condition). p.value.now)) is ∙ valued (find _ pairs)
+    ∙ ap (option_map (λ (p : Text × Text). p.1))
+    (find-map (λ (p : Text × Text). bytes_eq p.0 column) condition_of pairs)
+  where
+    by : (o : Option (Bor Condition)) → option_map (λ p. p.now.value.now) o
+        ≡ option_map (λ (p : Condition). p.value.now) (option_map (λ p. p.now) o)
+    by None = refl
+    by (Some p) = refl
+
+    valued : (o : Option Condition) → option_map (λ (p : Condition). p.value.now) o
+        ≡ option_map (λ (p : Text × Text). p.1) (option_map condition_of o)
+    valued None = refl
+    valued (Some p) = refl

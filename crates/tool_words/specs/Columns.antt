@@ -1,8 +1,9 @@
 -- How an agency's CSV is read: what the values of `--columns`, `--from`, `--separator`, `--unit`,
 -- `--fold`, `--only` and `--drop` say.
 use Rattle.std.specs.Prelude.{◌==◌, ◌||◌, if◌then◌else◌, nat_lt, ℕ, Bool, List, [], ◌∷◌, Option}
-use Rattle.std.specs.Prelude.{None, Some, codes, false, filter_map, is_some, length, true}
-use Rattle.std.specs.List.{after_first, before_first, list_all, position_or_len, slice_split}
+use Rattle.std.specs.Prelude.{None, Some, codes, false, filter_map, is_some, length, option_map}
+use Rattle.std.specs.Prelude.{true}
+use Rattle.std.specs.List.{after_first, before_first, find, list_all, position_or_len, slice_split}
 use Rattle.std.specs.Option.{option_and_then}
 use Rattle.std.specs.Str.{bytes_eq}
 use Rattle.clap.specs.Words.{Text}
@@ -39,23 +40,17 @@ abbrev pub parts_of : Text → Option (Text × Text)
 parts_of word = if nat_lt (position_or_len is_equals word) (length word)
     then Some (before_first is_equals word, after_first is_equals word) else None
 
--- the name of these parts, if they are of this column
-abbrev pub name_of_parts : Text → Text × Text → Option Text
-name_of_parts column parts = if bytes_eq parts.0 column then Some parts.1 else None
+-- each word is COLUMN=VALUE
+abbrev pub have_parts : List Text → Bool
+have_parts words = list_all (λ word. is_some (parts_of word)) words
 
--- the name that the word COLUMN=NAME gives this column
-abbrev pub name_given : Text → Text → Option Text
-name_given column word = option_and_then (name_of_parts column) (parts_of word)
+-- the columns and values of words, if each has both
+abbrev pub conditions_in : List Text → Option (List (Text × Text))
+conditions_in words = if have_parts words then Some (filter_map parts_of words) else None
 
--- the one of the list, if it has no other
-abbrev pub sole : List Text → Option Text
-sole [] = None
-sole (one ∷ []) = Some one
-sole (one ∷ two ∷ more) = None
-
--- the name that one alone of the words gives this column
-abbrev pub only_name : Text → List Text → Option Text
-only_name column words = sole (filter_map (name_given column) words)
+-- the first value that is given with this column
+abbrev pub value_of : Text → List (Text × Text) → Option Text
+value_of column pairs = option_map (λ pair. pair.1) (find (λ pair. bytes_eq pair.0 column) pairs)
 
 -- the export of which nothing but these names is known, if there are all three
 abbrev pub export_of : Option Text → Option Text → Option Text → Option Export
@@ -70,16 +65,16 @@ export_of (Some token) (Some validator) (Some moment) = Some (record {
 })
 export_of _ _ _ = None
 
--- that of the names that three words give, if they name each column once
-abbrev pub columns_among : List Text → Option Export
-columns_among words = if length words == 3
-    then export_of (only_name (codes "token") words) (only_name (codes "validator") words)
-    (only_name (codes "moment") words)
+-- that of the names that three pairs give, if they name each column
+abbrev pub columns_among : List (Text × Text) → Option Export
+columns_among pairs = if length pairs == 3
+    then export_of (value_of (codes "token") pairs) (value_of (codes "validator") pairs)
+    (value_of (codes "moment") pairs)
     else None
 
 -- that of the names that a value of `--columns` gives, if it names each column once
 abbrev pub columns_in : Text → Option Export
-columns_in text = columns_among (between_commas text)
+columns_in text = option_and_then columns_among (conditions_in (between_commas text))
 
 -- the device transactions of Littlepay: taps on that were allowed
 abbrev pub littlepay : Export
@@ -139,11 +134,3 @@ fold_in has_zone None = Some folds.Unsaid
 fold_in false (Some word) = None
 fold_in true (Some word) = if bytes_eq word (codes "first") then Some folds.First
     else (if bytes_eq word (codes "second") then Some folds.Second else None)
-
--- each word is COLUMN=VALUE
-abbrev pub have_parts : List Text → Bool
-have_parts words = list_all (λ word. is_some (parts_of word)) words
-
--- the columns and values of words of `--only` or `--drop`, if each has both
-abbrev pub conditions_in : List Text → Option (List (Text × Text))
-conditions_in words = if have_parts words then Some (filter_map parts_of words) else None

@@ -1,6 +1,5 @@
 pub mod Request
 pub mod Columns
-pub mod UsageErrors
 pub mod Tasks
 pub mod ToolLine
 pub mod inside

@@ -12,9 +12,7 @@ use Rattle.tap_rows.specs.declared.agency.choice.Separator.{Separator}
 use Rattle.tap_rows.specs.declared.agency.choice.Unit.{Unit}
 use Rattle.tool_words.specs.Columns.{Export, columns_in, conditions_in, export_named, fold_in}
 use Rattle.tool_words.specs.Columns.{separator_in, unit_in}
-use Rattle.tool_words.specs.ToolLine.{breaks_rule, has_value, program}
-use Rattle.tool_words.specs.declared.usage_error.UsageError.{UsageError}
-use Rattle.tool_words.specs.declared.usage_error.UsageError.TheVariants as wrong
+use Rattle.tool_words.specs.ToolLine.{has_value, program}
 
 -- what `encode` is asked for with columns, beside the files
 pub record RowsRequest : Type 0 where
@@ -79,9 +77,10 @@ pub data Request : Type 0 where
   sort : SortRequest → Request
   merge : List Text → Request
   corrections : CorrectionsRequest → Request
-  usage_error : UsageError → Request
   -- What only informs: `table`, `bounds`, or `uploads` without a good part. Its words may be wrong.
   shows : Request
+  -- nothing, since the words are wrong
+  misused : Request
 
 -- whether the word represents standard input
 abbrev pub is_input : Text → Bool
@@ -114,45 +113,27 @@ or_input (word ∷ words) = word ∷ words
 abbrev pub encoded_file : List Row → Text
 encoded_file rows = unwrap_or (first_of (codes "FILE") rows) (codes "-")
 
--- the words name a file under this name that is standard input
-abbrev pub has_input_at : Text → List Row → Bool
-has_input_at name rows = option_map_or is_input (first_of name rows) false
-
 -- the files of the agency's CSVs
 abbrev pub encoded_files : List Row → List Text
 encoded_files rows = or_input (named (codes "FILE") rows)
 
--- so many of the agency's CSVs, the devices and the key are standard input: two of all
-abbrev pub is_twice : ℕ → Bool → Bool → Bool
-is_twice inputs devices key =
-    nat_lt 1 inputs || ((nat_lt 0 inputs && (devices || key)) || (devices && key))
-
-abbrev pub has_table_twice : List Row → Bool
-has_table_twice rows = is_twice (inputs_in (encoded_files rows))
-    (has_input_at (codes "validators") rows) (has_input_at (codes "token-key") rows)
+-- all files that are read with them: the devices and the key
+abbrev pub read_files : List Row → List Text
+read_files rows =
+    (encoded_files rows ++ option_to_list (first_of (codes "validators") rows))
+    ++ option_to_list (first_of (codes "token-key") rows)
 
 -- the words name a kind of export, or else the columns
 abbrev pub export_in : List Row → Option Export
 export_in rows = option_map_or export_named (first_of (codes "from") rows)
     (columns_in (unwrap_or (first_of (codes "columns") rows) []))
 
-abbrev pub wrong_export : List Row → UsageError
-wrong_export rows = if has_value (codes "from") rows then wrong.Export else wrong.Columns
-
 -- The rows of an agency's CSV, read so, with this separator, this unit and this fold, under these
--- conditions that keep rows and leave them out; or which of them is wrong.
+-- conditions that keep rows and leave them out, if none of these is wrong.
 abbrev pub rows_by : Option Export → Option Separator → Option Unit → Option Fold
     → Option (List (Text × Text)) → Option (List (Text × Text)) → List Row → Request
-rows_by None separator unit fold only without rows = usage_error (wrong_export rows)
-rows_by (Some export) None unit fold only without rows = usage_error wrong.Separator
-rows_by (Some export) (Some separator) None fold only without rows = usage_error wrong.Unit
-rows_by (Some export) (Some separator) (Some unit) None only without rows = usage_error wrong.Fold
-rows_by (Some export) (Some separator) (Some unit) (Some fold) None without rows =
-    usage_error wrong.Condition
-rows_by (Some export) (Some separator) (Some unit) (Some fold) (Some only) None rows =
-    usage_error wrong.DropCondition
 rows_by (Some export) (Some separator) (Some unit) (Some fold) (Some only) (Some without) rows =
-    if has_table_twice rows then usage_error wrong.InputTwice
+    if nat_lt 1 (inputs_in (read_files rows)) then misused
     else encode_rows (encoded_files rows) (record {
       separator = separator;
       token = export.token;
@@ -173,6 +154,7 @@ rows_by (Some export) (Some separator) (Some unit) (Some fold) (Some only) (Some
       refused = first_of (codes "refused") rows;
       out = first_of (codes "out") rows;
     })
+rows_by _ _ _ _ _ _ rows = misused
 
 -- the rows of an agency's CSV
 abbrev pub rows_request : List Row → Request
@@ -181,38 +163,35 @@ rows_request rows = rows_by (export_in rows) (separator_in (first_of (codes "sep
     (fold_in (has_value (codes "zone") rows) (first_of (codes "fold") rows))
     (conditions_in (named (codes "only") rows)) (conditions_in (named (codes "drop") rows)) rows
 
--- the rows of an agency's CSV, if the words do not say twice how it is read
-abbrev pub export_request : List Row → Request
-export_request rows = if has_value (codes "columns") rows && has_value (codes "from") rows
-    then usage_error wrong.ColumnsTwice else rows_request rows
-
 -- a tap table, unless the words are of the rows of an agency's CSV
 abbrev pub table_request : List Row → Request
 table_request rows =
     if has_value (codes "only") rows || (has_value (codes "separator") rows
-    || has_value (codes "refused") rows) then usage_error wrong.NoColumns
-    else (if has_value (codes "validators") rows then usage_error wrong.NoColumnsForValidators
-    else (if has_value (codes "unit") rows then usage_error wrong.NoColumnsForUnit
+    || has_value (codes "refused") rows) then misused
+    else (if has_value (codes "validators") rows then misused
+    else (if has_value (codes "unit") rows then misused
     else (if has_value (codes "drop") rows || (has_value (codes "count") rows
     || (is_given (codes "token-hash") rows || (has_value (codes "token-key") rows
     || (has_value (codes "zone") rows || has_value (codes "fold") rows))))
-    then usage_error wrong.NoColumnsForOthers
+    then misused
     else (if has_value (codes "moment-format") rows
     || (has_value (codes "validators-make") rows
     || (has_value (codes "out") rows || nat_lt 1 (length (named (codes "FILE") rows))))
-    then usage_error wrong.NoColumnsForFiles
+    then misused
     else encode (encoded_file rows)))))
 
 -- the rows of an agency's CSV, or a tap table
 abbrev pub encode_request : List Row → Request
-encode_request rows = if has_value (codes "columns") rows || has_value (codes "from") rows
-    then export_request rows else table_request rows
+encode_request rows =
+    if has_value (codes "columns") rows && has_value (codes "from") rows then misused
+    else (if has_value (codes "columns") rows || has_value (codes "from") rows
+    then rows_request rows else table_request rows)
 
 -- the good part of one upload
 abbrev pub valid_prefix_request : Text → Bool → List Text → Request
 valid_prefix_request out has_tokens (upload ∷ []) =
     valid_prefix (record { upload = upload; out = out; has_tokens = has_tokens })
-valid_prefix_request out has_tokens words = usage_error wrong.NotOneUpload
+valid_prefix_request out has_tokens words = misused
 
 -- a good part, or what uploads have
 abbrev pub uploads_request : List Row → Request
@@ -226,8 +205,8 @@ uploads_request rows =
 abbrev pub sort_request : List Row → Request
 sort_request rows =
     if nat_lt 0 (inputs_in (named (codes "UPLOAD") rows)) && is_given (codes "merge") rows
-    then usage_error wrong.InputMerged
-    else (if nat_lt 1 (inputs_in (named (codes "UPLOAD") rows)) then usage_error wrong.InputTwice
+    then misused
+    else (if nat_lt 1 (inputs_in (named (codes "UPLOAD") rows)) then misused
     else sort (record {
       is_merge = is_given (codes "merge") rows;
       out = unwrap_or (first_of (codes "out") rows) (codes "-");
@@ -237,11 +216,11 @@ sort_request rows =
 
 abbrev pub merge_request : List Text → Request
 merge_request parts =
-    if nat_lt 1 (inputs_in parts) then usage_error wrong.InputTwice else merge parts
+    if nat_lt 1 (inputs_in parts) then misused else merge parts
 
 abbrev pub corrections_request : CorrectionsRequest → Request
 corrections_request ledgers = if is_input ledgers.old && is_input ledgers.new
-    then usage_error wrong.InputTwice else corrections ledgers
+    then misused else corrections ledgers
 
 -- the ledgers of `corrections`
 abbrev pub ledgers_named : List Row → CorrectionsRequest
@@ -265,14 +244,13 @@ request_of_name name rows =
 -- the same, unless standard input is named twice
 abbrev pub requested_once : Text → List Row → Request
 requested_once name rows =
-    if has_input_twice rows then usage_error wrong.InputTwice else request_of_name name rows
+    if has_input_twice rows then misused else request_of_name name rows
 
--- the same, unless what is given breaks a rule between its arguments
+-- the same of what a parse entered
 abbrev pub request_in : Option (Text × List Row) → Request
-request_in None = usage_error wrong.NoSubcommand
-request_in (Some entered) = if breaks_rule entered.0 entered.1 then usage_error wrong.Arguments
-    else requested_once entered.0 entered.1
+request_in None = misused
+request_in (Some entered) = requested_once entered.0 entered.1
 
--- what these words ask for
+-- what these words ask for, which are a command line
 abbrev pub request_by : List Text → Request
 request_by words = request_in (subcommand_of program words)

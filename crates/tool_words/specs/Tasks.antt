@@ -5,7 +5,7 @@ use Rattle.clap.specs.Words.{Text}
 use Rattle.tap_rows.specs.declared.agency.choice.Condition.{Condition}
 use Rattle.tool_words.specs.Request.{Request, CorrectionsRequest, ValidPrefixRequest, RowsRequest, SortRequest}
 use Rattle.tool_words.specs.Request.{corrections, decode, encode, encode_rows, valid_prefix, merge}
-use Rattle.tool_words.specs.Request.{usage_error, shows, sort}
+use Rattle.tool_words.specs.Request.{misused, shows, sort}
 use Rattle.tool_words.specs.declared.task.CorrectionsWords.{CorrectionsWords}
 use Rattle.tool_words.specs.declared.task.ValidPrefixWords.{ValidPrefixWords}
 use Rattle.tool_words.specs.declared.task.RowsWords.{RowsWords}
@@ -81,6 +81,6 @@ request_of (task.Sort words) = sort (sorting_of words)
 request_of (task.Merge parts) = merge (texts_of parts.items)
 request_of (task.Bounds words) = shows
 request_of (task.Corrections words) = corrections (corrections_of words)
-request_of (task.UsageError why) = usage_error why
-request_of (task.Unshown why) = shows
+request_of (task.UsageError line) = misused
+request_of (task.Unshown line) = shows
 request_of (task.WrongDate wrong) = shows

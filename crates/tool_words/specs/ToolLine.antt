@@ -5,7 +5,6 @@ use Rattle.std.specs.Str.{bytes_eq}
 use Rattle.clap.specs.Simple.{new_shape}
 use Rattle.clap.specs.Words.{App, IsAmong, Row, Rule, Shape, Text, fault_of, first_of}
 use Rattle.clap.specs.Words.{subcommand_of}
-use Rattle.clap.specs.Words.{with_subcommand}
 use Rattle.clap.specs.declared.builder.action.ArgAction.TheVariants.{Append, Set}
 use Rattle.clap.specs.declared.builder.value_parser.ValueParser.TheVariants.{Signed}
 use Rattle.clap.specs.declared.error.kind.ErrorKind.TheVariants.{DisplayHelp, DisplayVersion}
@@ -20,9 +19,9 @@ needed rule = record rule { required = true }
 abbrev pub range_rule : Text → ℤ → ℤ → Rule
 range_rule name first last = record (option_rule name) { parser = Some (Signed first last) }
 
--- a word at its place
+-- a word at its place, which must be there
 abbrev pub word_rule : Text → Rule
-word_rule name = positional_rule name Set
+word_rule name = needed (positional_rule name Set)
 
 -- words at their place
 abbrev pub words_rule : Text → Rule
@@ -42,43 +41,38 @@ encode_rules = option_rule (codes "columns") ∷ option_rule (codes "from")
     ∷ option_rule (codes "zone") ∷ option_rule (codes "fold")
     ∷ option_rule (codes "refused") ∷ option_rule (codes "out") ∷ words_rule (codes "FILE") ∷ []
 
--- `decode [--files-from LIST [-0]] [FILE]..`
-abbrev pub decode_rules : List Rule
-decode_rules = list_option ∷ null_flag ∷ words_rule (codes "FILE") ∷ []
+-- words under this name, or in the files that a list names: `[--files-from LIST [-0]] [NAME]..`
+abbrev pub listed_words : Text → List Rule
+listed_words name = words_rule name ∷ list_option ∷ null_flag ∷ []
 
 -- `uploads [--good-part OUT] [--tokens] [--look] [--within S] [--from MOMENT] [--until MOMENT]
--- [--table F] [--list] [--format FORM] [--files-from LIST [-0]] FILE..`
+-- [--table F] [--list] [--format FORM] ..`
 abbrev pub uploads_rules : List Rule
 uploads_rules = option_rule (codes "good-part") ∷ flag_rule (codes "tokens")
     ∷ flag_rule (codes "look") ∷ range_rule (codes "within") (pos 0) (pos 4294967)
     ∷ option_rule (codes "from") ∷ option_rule (codes "until") ∷ option_rule (codes "table")
-    ∷ flag_rule (codes "list") ∷ option_rule (codes "format") ∷ list_option ∷ null_flag
-    ∷ words_rule (codes "FILE") ∷ []
+    ∷ flag_rule (codes "list") ∷ option_rule (codes "format") ∷ listed_words (codes "FILE")
 
 -- `table [--strict] [--riders] [--from MOMENT] [--sql] [--table G@YYYY-MM-DD].. F [UPLOAD]..`
 abbrev pub table_rules : List Rule
 table_rules = flag_rule (codes "strict") ∷ flag_rule (codes "riders") ∷ option_rule (codes "from")
-    ∷ flag_rule (codes "sql") ∷ repeated_rule (codes "table") ∷ needed (word_rule (codes "F"))
+    ∷ flag_rule (codes "sql") ∷ repeated_rule (codes "table") ∷ word_rule (codes "F")
     ∷ words_rule (codes "UPLOAD") ∷ []
 
--- `sort [--merge] --out OUT [--ends ENDS] [--files-from LIST [-0]] UPLOAD..`
+-- `sort [--merge] --out OUT [--ends ENDS] ..`
 abbrev pub sort_rules : List Rule
 sort_rules = flag_rule (codes "merge") ∷ needed (option_rule (codes "out"))
-    ∷ option_rule (codes "ends") ∷ list_option ∷ null_flag ∷ words_rule (codes "UPLOAD") ∷ []
+    ∷ option_rule (codes "ends") ∷ listed_words (codes "UPLOAD")
 
--- `bounds --parts N [--files-from LIST [-0]] FILE..`
+-- `bounds --parts N ..`
 abbrev pub bounds_rules : List Rule
-bounds_rules = needed (range_rule (codes "parts") (pos 1) (pos 65536)) ∷ list_option ∷ null_flag
-    ∷ words_rule (codes "FILE") ∷ []
-
--- `merge [--files-from LIST [-0]] PART..`
-abbrev pub merge_rules : List Rule
-merge_rules = list_option ∷ null_flag ∷ words_rule (codes "PART") ∷ []
+bounds_rules =
+    needed (range_rule (codes "parts") (pos 1) (pos 65536)) ∷ listed_words (codes "FILE")
 
 -- `corrections [--tokens] OLD NEW`
 abbrev pub corrections_rules : List Rule
-corrections_rules = flag_rule (codes "tokens") ∷ needed (word_rule (codes "OLD"))
-    ∷ needed (word_rule (codes "NEW")) ∷ []
+corrections_rules =
+    flag_rule (codes "tokens") ∷ word_rule (codes "OLD") ∷ word_rule (codes "NEW") ∷ []
 
 -- a subcommand of this name, with these arguments
 abbrev pub subcommand : Text → List Rule → Shape
@@ -93,17 +87,17 @@ app_of_name = record (named_app (codes "omny_tools")) {
   };
 }
 
--- the first subcommands
-abbrev pub app_of_texts : App
-app_of_texts = with_subcommand (with_subcommand (with_subcommand (with_subcommand app_of_name
-    (subcommand (codes "encode") encode_rules)) (subcommand (codes "decode") decode_rules))
-    (subcommand (codes "uploads") uploads_rules)) (subcommand (codes "table") table_rules)
-
 -- all words that the program takes, but for the rules between arguments
 unfoldable pub program : App
-program = with_subcommand (with_subcommand (with_subcommand (with_subcommand app_of_texts
-    (subcommand (codes "sort") sort_rules)) (subcommand (codes "bounds") bounds_rules))
-    (subcommand (codes "merge") merge_rules)) (subcommand (codes "corrections") corrections_rules)
+program = record {
+  top = record app_of_name.top { is_leaf = false };
+  subs = subcommand (codes "encode") encode_rules
+      ∷ subcommand (codes "decode") (listed_words (codes "FILE"))
+      ∷ subcommand (codes "uploads") uploads_rules ∷ subcommand (codes "table") table_rules
+      ∷ subcommand (codes "sort") sort_rules ∷ subcommand (codes "bounds") bounds_rules
+      ∷ subcommand (codes "merge") (listed_words (codes "PART"))
+      ∷ subcommand (codes "corrections") corrections_rules ∷ [];
+}
 
 -- whether a value is given under this name
 abbrev pub has_value : Text → List Row → Bool
@@ -119,37 +113,24 @@ looks rows = is_given (codes "look") rows || (is_given (codes "list") rows
     || (has_value (codes "within") rows || (has_value (codes "from") rows
     || (has_value (codes "until") rows || has_value (codes "table") rows))))
 
--- `uploads` without files, with a look beside `--good-part`, or with `--list` beside `--tokens` or
--- `--format`
-abbrev pub breaks_uploads : List Row → Bool
-breaks_uploads rows = lacks_files (codes "FILE") rows
-    || ((has_value (codes "good-part") rows && looks rows)
-    || (is_given (codes "list") rows
-    && (is_given (codes "tokens") rows || has_value (codes "format") rows)))
-
--- `table` with `--sql` beside `--riders` or `--from`
-abbrev pub breaks_table : List Row → Bool
-breaks_table rows = is_given (codes "sql") rows
-    && (is_given (codes "riders") rows || has_value (codes "from") rows)
-
--- `encode` with both `--validators` and `--validators-make`
-abbrev pub breaks_encode : List Row → Bool
-breaks_encode rows =
-    has_value (codes "validators") rows && has_value (codes "validators-make") rows
-
--- what is given to the subcommand of this name breaks a rule between its arguments
+-- What is given to the subcommand of this name breaks a rule between its arguments: files are
+-- missing, or some do not go together.
 abbrev pub breaks_rule : Text → List Row → Bool
 breaks_rule name rows =
-    if bytes_eq name (codes "uploads") then breaks_uploads rows
-    else (if bytes_eq name (codes "table") then breaks_table rows
+    if bytes_eq name (codes "uploads") then lacks_files (codes "FILE") rows
+    || ((has_value (codes "good-part") rows && looks rows) || (is_given (codes "list") rows
+    && (is_given (codes "tokens") rows || has_value (codes "format") rows)))
+    else (if bytes_eq name (codes "table") then is_given (codes "sql") rows
+    && (is_given (codes "riders") rows || has_value (codes "from") rows)
     else (if bytes_eq name (codes "sort") then lacks_files (codes "UPLOAD") rows
     else (if bytes_eq name (codes "merge") then lacks_files (codes "PART") rows
     else (if bytes_eq name (codes "bounds") then lacks_files (codes "FILE") rows
-    else (bytes_eq name (codes "encode") && breaks_encode rows)))))
+    else (bytes_eq name (codes "encode") && (has_value (codes "validators") rows
+    && has_value (codes "validators-make") rows))))))
 
--- the same of what a parse entered
+-- the same of what a parse entered, or that nothing was
 abbrev pub breaks : Option (Text × List Row) → Bool
-breaks None = false
+breaks None = true
 breaks (Some entered) = breaks_rule entered.0 entered.1
 
 -- the words after the program's name are a command line of the program

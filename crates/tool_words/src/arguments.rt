@@ -1,147 +1,140 @@
 //! The arguments of a subcommand, as rows of a table.
 ghost use Rattle.std.specs.Prelude.{◌≡◌, IfOk, false};
-ghost use Rattle.clap.specs.Words.{app_of, new_app, rule_of};
-ghost use Rattle.tool_words.specs.inside.Rows.{rule_by, rules_of, taken_rule, with_rows};
-ghost use Rattle.tool_words.specs.inside.Rows.{with_rules};
+ghost use Rattle.clap.specs.Words.{app_of, rule_of, with_rule};
+ghost use Rattle.tool_words.specs.inside.Rows.{leaf_of, rule_in};
 
 use clap::builder::ValueParser;
 use clap::{Arg, ArgAction, Command};
-use program_manners::{add_list_args, flag_arg, option_arg, positional_arg, with_help};
+use program_manners::{
+    add_list_args, flag_arg, option_arg, positional_arg, repeated_arg, with_help,
+};
 use std::alloc::{AllocError, Global};
 
-/// What an argument takes. First is its name, last its help, and before that the help's name of a
-/// value.
+/// What an argument takes, with the help's name of its value.
 #[derive(Clone, Copy)]
 pub(crate) enum Takes {
-    Flag(&'static str, &'static str),
-    Value(&'static str, &'static str, &'static str),
+    Flag,
+    Value(&'static str),
+    /// A value that must be there.
+    Needed(&'static str),
     /// A value, as often as it is given.
-    Values(&'static str, &'static str, &'static str),
+    Values(&'static str),
     /// A number from the first to the second one.
-    Number(&'static str, &'static str, i64, i64, &'static str),
-    Word(&'static str, &'static str),
-    Words(&'static str, &'static str),
+    Number(&'static str, i64, i64),
+    /// The same, which must be there.
+    NeededNumber(&'static str, i64, i64),
+    /// A word at its place, which must be there.
+    Word,
+    Words,
 }
 
-/// When an argument must be there, or may be.
+/// An argument: its name, what it takes, and its help.
 #[derive(Clone, Copy)]
-pub(crate) enum Need {
-    /// Whenever it is given.
-    Never,
-    Always,
-    /// It must be there, unless a list names files.
-    WithoutList,
-    /// Not beside these arguments.
-    Apart(&'static [&'static str]),
+pub(crate) struct Row(
+    pub(crate) &'static str,
+    pub(crate) Takes,
+    pub(crate) &'static str,
+);
+
+/// Whether a list may name files.
+#[derive(Clone, Copy, PartialEq, Eq)]
+pub(crate) enum Files {
+    Unlisted,
+    /// By two options, which each program has.
+    Listed,
+    /// The same; files are needed, as words or by a list.
+    Wanted,
 }
 
+/// A subcommand.
 #[derive(Clone, Copy)]
-pub(crate) enum Row {
-    One(Takes, Need),
-    /// One that `-h` does not show.
-    Rare(Takes, Need),
-    /// A list of files: two options, which each program has.
-    List,
+pub(crate) struct Subcommand {
+    pub(crate) name: &'static str,
+    pub(crate) about: &'static str,
+    pub(crate) notes: &'static str,
+    /// Its arguments. The last one is that of its files, if a list may name them.
+    pub(crate) rows: &'static [Row],
+    pub(crate) files: Files,
+    /// Arguments that `-h` does not show.
+    pub(crate) rare: &'static [&'static str],
+    /// Arguments that do not go together.
+    pub(crate) apart: &'static [(&'static str, &'static str)],
 }
 
-fn started_arg<'a>(alloc: Global, takes: Takes) -> Arg<'a>
-    ensures rule { rule_of result ≡ taken_rule takes }
+fn arg<'a>(alloc: Global, row: Row) -> Arg<'a>
+    ensures rule { rule_of result ≡ rule_in row }
     ensures local { result.global ≡ false }
 {
+    let Row(name, takes, help) = row;
     match takes {
-        Takes::Flag(name, help) => flag_arg(alloc, name, help),
-        Takes::Value(name, value, help) => option_arg(alloc, name, value, help),
-        Takes::Values(name, value, help) => {
-            option_arg(alloc, name, value, help).action(ArgAction::Append)
-        }
-        Takes::Number(name, value, first, last, help) => {
+        Takes::Flag => flag_arg(alloc, name, help),
+        Takes::Value(value) => option_arg(alloc, name, value, help),
+        Takes::Needed(value) => option_arg(alloc, name, value, help).required(true),
+        Takes::Values(value) => repeated_arg(alloc, name, value, help),
+        Takes::Number(value, first, last) => {
             option_arg(alloc, name, value, help).value_parser(ValueParser::signed(first, last))
         }
-        Takes::Word(name, help) => positional_arg(alloc, name, ArgAction::Set, help),
-        Takes::Words(name, help) => positional_arg(alloc, name, ArgAction::Append, help),
+        Takes::NeededNumber(value, first, last) => option_arg(alloc, name, value, help)
+            .value_parser(ValueParser::signed(first, last))
+            .required(true),
+        Takes::Word => positional_arg(alloc, name, ArgAction::Set, help).required(true),
+        Takes::Words => positional_arg(alloc, name, ArgAction::Append, help),
     }
 }
 
-/// The argument. Its rules on others are left out if the command is not whole.
-fn arg<'a>(alloc: Global, takes: Takes, need: Need, is_whole: bool) -> Result<Arg<'a>, AllocError>
-    ensures rule { is_whole ≡ false
-        → IfOk result (λ arg. rule_of arg ≡ rule_by need (taken_rule takes)) }
-    ensures local { is_whole ≡ false → IfOk result (λ arg. arg.global ≡ false) }
-{
-    let started = started_arg(alloc, takes);
-    match need {
-        Need::Never => Ok(started),
-        Need::Always => Ok(started.required(true)),
-        Need::WithoutList => {
-            if is_whole {
-                started.required_unless_present("files-from")
-            } else {
-                Ok(started)
+impl Subcommand {
+    fn is_rare(&self, name: &str) -> bool {
+        self.rare.iter().any(|rare| *rare == name)
+    }
+
+    /// The argument with its rules on others.
+    fn bound<'a>(&self, row: Row, arg: Arg<'a>) -> Result<Arg<'a>, AllocError> {
+        let mut arg = arg;
+        for pair in self.apart {
+            if pair.0 == row.0 {
+                arg = arg.conflicts_with(pair.1)?;
             }
         }
-        Need::Apart(others) => {
-            if is_whole {
-                started.conflicts_with_all(others)
-            } else {
-                Ok(started)
-            }
+        match row.1 {
+            Takes::Words if self.files == Files::Wanted => arg.required_unless_present(
+                "files-from",
+            ),
+            _ => Ok(arg),
         }
     }
-}
 
-/// The argument, which `-h` does not show.
-fn hidden<'a>(arg: Arg<'a>) -> Arg<'a>
-    ensures rule { rule_of result ≡ rule_of arg.entry }
-    ensures local { result.global ≡ arg.entry.global }
-{
-    arg.hide_short_help(true)
-}
-
-impl Row {
-    fn add_to<'a>(
+    fn with_row<'a>(
         &self,
         alloc: Global,
         command: Command<'a>,
+        row: Row,
         is_whole: bool,
     ) -> Result<Command<'a>, AllocError>
         ensures { is_whole ≡ false → IfOk result
-            (λ more. app_of more ≡ with_rules (app_of command.entry) (rules_of self.now)) }
+            (λ more. app_of more ≡ with_rule (app_of command.entry) (rule_in row)) }
     {
-        match *self {
-            Row::List => add_list_args(alloc, command),
-            Row::One(takes, need) => command.arg(arg(alloc, takes, need, is_whole)?),
-            Row::Rare(takes, need) => command.arg(hidden(arg(alloc, takes, need, is_whole)?)),
+        let shown = arg(alloc, row).hide_short_help(self.is_rare(row.0));
+        if is_whole {
+            return command.arg(self.bound(row, shown)?);
+        }
+        command.arg(shown)
+    }
+
+    /// The subcommand. The rules between its arguments are left out if it is not whole.
+    pub(crate) fn command<'a>(
+        &self,
+        alloc: Global,
+        is_whole: bool,
+    ) -> Result<Command<'a>, AllocError>
+        ensures { is_whole ≡ false → IfOk result (λ command. app_of command ≡ leaf_of self.now) }
+    {
+        let mut command = with_help(Command::new(alloc, self.name), self.about, self.notes);
+        for row in self.rows {
+            command = self.with_row(alloc, command, *row, is_whole)?;
+        }
+        match self.files {
+            Files::Unlisted => Ok(command),
+            Files::Listed | Files::Wanted => add_list_args(alloc, command),
         }
     }
-}
-
-fn add_rows<'a>(
-    alloc: Global,
-    command: Command<'a>,
-    rows: &[Row],
-    is_whole: bool,
-) -> Result<Command<'a>, AllocError>
-    ensures { is_whole ≡ false → IfOk result
-        (λ more. app_of more ≡ with_rows (app_of command.entry) rows.now) }
-{
-    let mut more = command;
-    for row in rows {
-        more = row.add_to(alloc, more, is_whole)?;
-    }
-    Ok(more)
-}
-
-pub(crate) fn subcommand<'a>(
-    alloc: Global,
-    name: &'a str,
-    about: &'a str,
-    notes: &'a str,
-    rows: &[Row],
-    is_whole: bool,
-) -> Result<Command<'a>, AllocError>
-    ensures { is_whole ≡ false → IfOk result
-        (λ command. app_of command ≡ with_rows (new_app name.entry.now) rows.now) }
-{
-    let command = with_help(Command::new(alloc, name), about, notes);
-    add_rows(alloc, command, rows, is_whole)
 }

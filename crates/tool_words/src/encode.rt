@@ -1,33 +1,8 @@
 //! The arguments of `encode`.
-ghost use Rattle.std.specs.Prelude.{◌≡◌, IfOk, codes, false};
-ghost use Rattle.clap.specs.Words.{app_of};
-ghost use Rattle.tool_words.specs.ToolLine.{encode_rules};
-ghost use Rattle.tool_words.specs.inside.Rows.{leaf};
 
-use crate::arguments::{Need, Row, Takes, subcommand};
-use clap::Command;
-use std::alloc::{AllocError, Global};
+use crate::arguments::{Files, Row, Subcommand, Takes};
 
-const ENCODE_NOTES: &str = "Examples:
-  omny_tools encode taps.csv > day.tap
-  omny_tools encode --columns token=card,validator=reader,moment=tapped_at
-    --only result=ok export.csv > day.tap
-
-More examples:
-  omny_tools encode --columns token=card,validator=reader,moment=tapped_at
-    --only result=ok --validators readers.csv --refused refused.csv
-    export.csv > day.tap
-  omny_tools encode --from tides --validators-make readers.csv --out day.tap
-    bus.csv tram.csv
-
-Exit status:
-  0  the upload is written
-  1  a file has a fault, or could not be read or written, as a line `fault: ..`
-     on the standard error says; with --columns also if no row is a tap
-  2  the command line is wrong, or standard output is a terminal
-  3  with --refused: the upload is written, and rows were refused";
-
-const ENCODE_ABOUT: &str = "Makes an upload of a tap table, or of any CSV of an agency.
+const ABOUT: &str = "Makes an upload of a tap table, or of any CSV of an agency.
 
 The upload goes to standard output. The tap table is CSV. Its first line is
 token,validator,moment. Each other line is a tap: 32 hexadecimal digits, a
@@ -70,11 +45,32 @@ With --zone times without an offset are of this zone: a name as
 America/New_York, of the system's zone files, or a POSIX rule. A time that
 clocks show twice is refused without --fold, and one that they skip always.";
 
-const ENCODE_HELP: &str = "The tap table, or CSVs [default: standard input, as -]";
+const NOTES: &str = "Examples:
+  omny_tools encode taps.csv > day.tap
+  omny_tools encode --columns token=card,validator=reader,moment=tapped_at
+    --only result=ok export.csv > day.tap
+
+More examples:
+  omny_tools encode --columns token=card,validator=reader,moment=tapped_at
+    --only result=ok --validators readers.csv --refused refused.csv
+    export.csv > day.tap
+  omny_tools encode --from tides --validators-make readers.csv --out day.tap
+    bus.csv tram.csv
+
+Exit status:
+  0  the upload is written
+  1  a file has a fault, or could not be read or written, as a line `fault: ..`
+     on the standard error says; with --columns also if no row is a tap
+  2  the command line is wrong, or standard output is a terminal
+  3  with --refused: the upload is written, and rows were refused";
 
 const COLUMNS_HELP: &str = "As token=NAME,validator=NAME,moment=NAME";
 
 const FROM_HELP: &str = "In place of --columns: littlepay or tides";
+
+const VALIDATORS_HELP: &str = "A file with the validator of each device";
+
+const VALIDATORS_MAKE_HELP: &str = "The same; new devices get the next numbers";
 
 const ONLY_HELP: &str = "Keep rows with this value, or one of several";
 
@@ -82,72 +78,62 @@ const DROP_HELP: &str = "Leave out rows with this value";
 
 const COUNT_HELP: &str = "Refuse a row unless it has 1 rider here";
 
-const HASH_HELP: &str = "The token is half of the SHA-256 of its field";
+const TOKEN_HASH_HELP: &str = "The token is half of the SHA-256 of its field";
 
-const KEY_HELP: &str = "Tokens are codes of any text, by the file KEY";
-
-const ZONE_HELP: &str = "Zone of local times, by name or POSIX rule";
-
-const FOLD_HELP: &str = "Which time is meant of two: first or second";
-
-const VALIDATORS_HELP: &str = "A file with the validator of each device";
-
-const VALIDATORS_MAKE_HELP: &str = "The same; new devices get the next numbers";
-
-const FORMAT_HELP: &str = "How moments are written, as %d/%m/%Y %H:%M:%S";
-
-const OUT_HELP: &str = "Make OUT of the upload, or replace it";
+const TOKEN_KEY_HELP: &str = "Tokens are codes of any text, by the file KEY";
 
 const SEPARATOR_HELP: &str = "The byte between fields, or tab [default: ,]";
 
 const UNIT_HELP: &str = "Plain numbers are s, ms or us, of any year";
 
+const MOMENT_FORMAT_HELP: &str = "How moments are written, as %d/%m/%Y %H:%M:%S";
+
+const ZONE_HELP: &str = "Zone of local times, by name or POSIX rule";
+
+const FOLD_HELP: &str = "Which time is meant of two: first or second";
+
 const REFUSED_HELP: &str = "Make REFUSED of rows that are no taps, go on";
 
+const OUT_HELP: &str = "Make OUT of the upload, or replace it";
+
+const FILE_HELP: &str = "The tap table, or CSVs [default: standard input, as -]";
+
 /// `encode [--columns NAMES | --from EXPORT [OPTION...]] [FILE...]`
-pub(crate) fn encode_command<'a>(alloc: Global, is_whole: bool) -> Result<Command<'a>, AllocError>
-    ensures { is_whole ≡ false → IfOk result
-        (λ command. app_of command ≡ leaf (codes "encode") encode_rules) }
-{
-    let rows = [
-        Row::One(Takes::Value("columns", "NAMES", COLUMNS_HELP), Need::Never),
-        Row::One(Takes::Value("from", "EXPORT", FROM_HELP), Need::Never),
-        Row::One(
-            Takes::Value("validators", "DEVICES", VALIDATORS_HELP),
-            Need::Never,
+pub(crate) const ENCODE: Subcommand = Subcommand {
+    name: "encode",
+    about: ABOUT,
+    notes: NOTES,
+    rows: &[
+        Row("columns", Takes::Value("NAMES"), COLUMNS_HELP),
+        Row("from", Takes::Value("EXPORT"), FROM_HELP),
+        Row("validators", Takes::Value("DEVICES"), VALIDATORS_HELP),
+        Row(
+            "validators-make",
+            Takes::Value("DEVICES"),
+            VALIDATORS_MAKE_HELP,
         ),
-        Row::Rare(
-            Takes::Value("validators-make", "DEVICES", VALIDATORS_MAKE_HELP),
-            Need::Apart(&["validators"]),
-        ),
-        Row::One(
-            Takes::Values("only", "COLUMN=VALUE", ONLY_HELP),
-            Need::Never,
-        ),
-        Row::Rare(
-            Takes::Values("drop", "COLUMN=VALUE", DROP_HELP),
-            Need::Never,
-        ),
-        Row::Rare(Takes::Value("count", "COLUMN", COUNT_HELP), Need::Never),
-        Row::Rare(Takes::Flag("token-hash", HASH_HELP), Need::Never),
-        Row::One(Takes::Value("token-key", "KEY", KEY_HELP), Need::Never),
-        Row::Rare(
-            Takes::Value("separator", "SEPARATOR", SEPARATOR_HELP),
-            Need::Never,
-        ),
-        Row::One(Takes::Value("unit", "UNIT", UNIT_HELP), Need::Never),
-        Row::One(
-            Takes::Value("moment-format", "FORMAT", FORMAT_HELP),
-            Need::Never,
-        ),
-        Row::One(Takes::Value("zone", "ZONE", ZONE_HELP), Need::Never),
-        Row::Rare(Takes::Value("fold", "FOLD", FOLD_HELP), Need::Never),
-        Row::One(
-            Takes::Value("refused", "REFUSED", REFUSED_HELP),
-            Need::Never,
-        ),
-        Row::One(Takes::Value("out", "OUT", OUT_HELP), Need::Never),
-        Row::One(Takes::Words("FILE", ENCODE_HELP), Need::Never),
-    ];
-    subcommand(alloc, "encode", ENCODE_ABOUT, ENCODE_NOTES, &rows, is_whole)
-}
+        Row("only", Takes::Values("COLUMN=VALUE"), ONLY_HELP),
+        Row("drop", Takes::Values("COLUMN=VALUE"), DROP_HELP),
+        Row("count", Takes::Value("COLUMN"), COUNT_HELP),
+        Row("token-hash", Takes::Flag, TOKEN_HASH_HELP),
+        Row("token-key", Takes::Value("KEY"), TOKEN_KEY_HELP),
+        Row("separator", Takes::Value("SEPARATOR"), SEPARATOR_HELP),
+        Row("unit", Takes::Value("UNIT"), UNIT_HELP),
+        Row("moment-format", Takes::Value("FORMAT"), MOMENT_FORMAT_HELP),
+        Row("zone", Takes::Value("ZONE"), ZONE_HELP),
+        Row("fold", Takes::Value("FOLD"), FOLD_HELP),
+        Row("refused", Takes::Value("REFUSED"), REFUSED_HELP),
+        Row("out", Takes::Value("OUT"), OUT_HELP),
+        Row("FILE", Takes::Words, FILE_HELP),
+    ],
+    files: Files::Unlisted,
+    rare: &[
+        "validators-make",
+        "drop",
+        "count",
+        "token-hash",
+        "separator",
+        "fold",
+    ],
+    apart: &[("validators-make", "validators")],
+};

@@ -1,23 +1,37 @@
 //! What `encode` with columns requests.
-ghost use Rattle.std.specs.Prelude.{◌≡◌, ◌++◌, IfOk, codes, filter_map, map, option_map};
+ghost use Rattle.std.specs.Prelude.{◌≡◌, ◌++◌, IfOk, codes, map, nat_lt, option_map};
 ghost use Rattle.std.specs.Option.{option_or, option_to_list};
 ghost use Rattle.clap.specs.Words.{first_of, found_of, rows_of};
-ghost use Rattle.tool_words.specs.Request.{encoded_file, encoded_files, export_in, has_input_at};
-ghost use Rattle.tool_words.specs.Request.{inputs_in, is_twice, rows_request, wrong_export};
+ghost use Rattle.tool_words.specs.Request.{encoded_file, encoded_files, export_in, inputs_in};
+ghost use Rattle.tool_words.specs.Request.{read_files, rows_request};
 ghost use Rattle.tool_words.specs.Columns.{between_commas, columns_among, columns_in};
-ghost use Rattle.tool_words.specs.Columns.{conditions_in, export_named, export_of, littlepay};
-ghost use Rattle.tool_words.specs.Columns.{fold_in, name_given, only_name, parts_of, separator_in};
-ghost use Rattle.tool_words.specs.Columns.{separator_of, tides, unit_in};
+ghost use Rattle.tool_words.specs.Columns.{conditions_in, export_named, export_of, fold_in};
+ghost use Rattle.tool_words.specs.Columns.{littlepay, parts_of, separator_in, separator_of};
+ghost use Rattle.tool_words.specs.Columns.{tides, unit_in, value_of};
 ghost use Rattle.tool_words.specs.Tasks.{request_of, condition_of, text_in, texts_of};
 ghost use Rattle.tool_words.specs.inside.Columns.{export_by};
 
-use crate::reading::{has_value, inputs_in, is_input_given, value_in};
+use crate::reading::{INPUT_TWICE, has_value, inputs_in, value_in};
 use crate::task::{RowsWords, Task};
-use crate::usage_error::UsageError;
 use clap::ArgMatches;
 use program_manners::{flag_in, names_in};
 use std::alloc::{AllocError, Global};
 use tap_rows::{Columns, Condition, Fold, Separator, Unit};
+
+const WRONG_COLUMNS: &str =
+    "error: --columns needs token=NAME,validator=NAME,moment=NAME, each once";
+
+const WRONG_EXPORT: &str = "error: encode --from is littlepay or tides";
+
+const WRONG_SEPARATOR: &str = "error: --separator is one byte, not a quote, or tab";
+
+const WRONG_UNIT: &str = "error: --unit is s, ms or us";
+
+const WRONG_FOLD: &str = "error: --fold is first or second, beside --zone";
+
+const WRONG_ONLY: &str = "error: --only needs COLUMN=VALUE";
+
+const WRONG_DROP: &str = "error: --drop needs COLUMN=VALUE";
 
 /// How a kind of export is read.
 #[derive(Clone, Copy)]
@@ -35,49 +49,6 @@ fn parts_of<'a>(word: &'a str) -> Option<(&'a str, &'a str)>
     ensures { option_map (λ p. (p.0.now, p.1.now)) result ≡ parts_of word.entry.now }
 {
     word.split_once('=')
-}
-
-fn name_given<'a>(column: &str, word: &'a str) -> Option<&'a str>
-    ensures { text_in result ≡ name_given column.now word.entry.now }
-{
-    let (before, trailing) = parts_of(word)?;
-    if before == column {
-        Some(trailing)
-    } else {
-        None
-    }
-}
-
-fn names_given<'a>(
-    alloc: Global,
-    column: &str,
-    words: &[&'a str],
-) -> Result<Vec<&'a str>, AllocError>
-    ensures { IfOk result (λ names. texts_of names.items
-        ≡ filter_map (name_given column.now) (texts_of words.now)) }
-{
-    let mut names = Vec::new(alloc);
-    for word in words {
-        if let Some(name) = name_given(column, word) {
-            names.push(name)?;
-        }
-    }
-    Ok(names)
-}
-
-fn only_name<'a>(
-    alloc: Global,
-    column: &str,
-    words: &[&'a str],
-) -> Result<Option<&'a str>, AllocError>
-    ensures { IfOk result (λ name. text_in name ≡ only_name column.now (texts_of words.now)) }
-{
-    let names = names_given(alloc, column, words)?;
-    if names.len() == 1 {
-        Ok(Some(names[0]))
-    } else {
-        Ok(None)
-    }
 }
 
 fn between_commas<'a>(alloc: Global, text: &'a str) -> Result<Vec<&'a str>, AllocError>
@@ -105,24 +76,53 @@ fn export_of<'a>(
     })
 }
 
-fn columns_among<'a>(alloc: Global, words: &[&'a str]) -> Result<Option<Export<'a>>, AllocError>
-    ensures { IfOk result (λ columns. option_map export_by columns
-        ≡ columns_among (texts_of words.now)) }
+fn conditions_in<'a>(
+    alloc: Global,
+    words: &[&'a str],
+) -> Result<Option<Vec<Condition<'a>>>, AllocError>
+    ensures { IfOk result (λ only. option_map (λ all. map condition_of all.items) only
+        ≡ conditions_in (texts_of words.now)) }
 {
-    if words.len() != 3 {
-        return Ok(None);
+    let mut only = Vec::new(alloc);
+    for word in words {
+        let Some((column, value)) = parts_of(word) else {
+            return Ok(None);
+        };
+        only.push(Condition { column, value })?;
     }
-    let token = only_name(alloc, "token", words)?;
-    let validator = only_name(alloc, "validator", words)?;
-    let moment = only_name(alloc, "moment", words)?;
-    Ok(export_of(token, validator, moment))
+    Ok(Some(only))
+}
+
+fn value_of<'a>(column: &str, pairs: &[Condition<'a>]) -> Option<&'a str>
+    ensures { text_in result ≡ value_of column.now (map condition_of pairs.now) }
+{
+    match pairs.iter().find(|pair| pair.column == column) {
+        Some(pair) => Some(pair.value),
+        None => None,
+    }
+}
+
+fn columns_among<'a>(pairs: &[Condition<'a>]) -> Option<Export<'a>>
+    ensures { option_map export_by result ≡ columns_among (map condition_of pairs.now) }
+{
+    if pairs.len() != 3 {
+        return None;
+    }
+    export_of(
+        value_of("token", pairs),
+        value_of("validator", pairs),
+        value_of("moment", pairs),
+    )
 }
 
 fn columns_in<'a>(alloc: Global, text: &'a str) -> Result<Option<Export<'a>>, AllocError>
     ensures { IfOk result (λ columns. option_map export_by columns ≡ columns_in text.entry.now) }
 {
     let words = between_commas(alloc, text)?;
-    columns_among(alloc, &words)
+    match conditions_in(alloc, &words)? {
+        Some(pairs) => Ok(columns_among(&pairs)),
+        None => Ok(None),
+    }
 }
 
 fn littlepay() -> Export<'static>
@@ -181,16 +181,6 @@ fn export_in<'a>(alloc: Global, matches: &ArgMatches<'a>) -> Result<Option<Expor
     }
 }
 
-fn wrong_export(matches: &ArgMatches<'_>) -> UsageError
-    ensures { result ≡ wrong_export (rows_of (found_of matches.now)) }
-{
-    if has_value(matches, "from") {
-        UsageError::Export
-    } else {
-        UsageError::Columns
-    }
-}
-
 fn separator_of(byte: u8) -> Option<Separator>
     ensures { result ≡ separator_of byte }
 {
@@ -244,23 +234,6 @@ fn fold_in(has_zone: bool, word: Option<&str>) -> Option<Fold>
     None
 }
 
-fn conditions_in<'a>(
-    alloc: Global,
-    words: &[&'a str],
-) -> Result<Option<Vec<Condition<'a>>>, AllocError>
-    ensures { IfOk result (λ only. option_map (λ all. map condition_of all.items) only
-        ≡ conditions_in (texts_of words.now)) }
-{
-    let mut only = Vec::new(alloc);
-    for word in words {
-        let Some((column, value)) = parts_of(word) else {
-            return Ok(None);
-        };
-        only.push(Condition { column, value })?;
-    }
-    Ok(Some(only))
-}
-
 pub(crate) fn encoded_file<'a>(matches: &ArgMatches<'a>) -> &'a str
     ensures { result.now ≡ encoded_file (rows_of (found_of matches.now)) }
 {
@@ -282,28 +255,34 @@ pub(crate) fn files_in<'a>(
     Ok(files)
 }
 
-fn is_twice(inputs: usize, is_devices: bool, is_key: bool) -> bool
-    ensures { result ≡ is_twice inputs is_devices is_key }
+/// The words with one more, if there is one.
+fn with_word<'a>(words: Vec<&'a str>, word: Option<&'a str>) -> Result<Vec<&'a str>, AllocError>
+    ensures { IfOk result (λ all. texts_of all.items
+        ≡ texts_of words.entry.items ++ option_to_list (text_in word.entry)) }
 {
-    if inputs > 1 {
-        return true;
+    let mut all = words;
+    if let Some(word) = word {
+        all.push(word)?;
     }
-    if inputs > 0 && (is_devices || is_key) {
-        return true;
-    }
-    is_devices && is_key
+    Ok(all)
 }
 
-fn has_table_twice(matches: &ArgMatches<'_>, files: &[&str]) -> bool
-    ensures { result ≡ is_twice (inputs_in (texts_of files.now))
-        (has_input_at (codes "validators") (rows_of (found_of matches.now)))
-        (has_input_at (codes "token-key") (rows_of (found_of matches.now))) }
+/// The CSVs, the device table and the key.
+fn read_files<'a>(alloc: Global, matches: &ArgMatches<'a>) -> Result<Vec<&'a str>, AllocError>
+    ensures { IfOk result (λ files. texts_of files.items
+        ≡ read_files (rows_of (found_of matches.now))) }
 {
-    is_twice(
-        inputs_in(files),
-        is_input_given(value_in(matches, "validators")),
-        is_input_given(value_in(matches, "token-key")),
-    )
+    let files = files_in(alloc, matches)?;
+    let more = with_word(files, value_in(matches, "validators"))?;
+    with_word(more, value_in(matches, "token-key"))
+}
+
+fn reads_input_twice(alloc: Global, matches: &ArgMatches<'_>) -> Result<bool, AllocError>
+    ensures { IfOk result (λ twice. twice
+        ≡ nat_lt 1 (inputs_in (read_files (rows_of (found_of matches.now))))) }
+{
+    let files = read_files(alloc, matches)?;
+    Ok(inputs_in(&files) > 1)
 }
 
 /// The device table that is read, or made.
@@ -354,25 +333,30 @@ pub(crate) fn rows_task<'a>(alloc: Global, matches: &ArgMatches<'a>) -> Result<T
     let without = names_in(alloc, matches, "drop")?;
     let without = conditions_in(alloc, &without)?;
     let Some(export) = export else {
-        return Ok(Task::UsageError(wrong_export(matches)));
+        let is_named = has_value(matches, "from");
+        return Ok(Task::UsageError(if is_named {
+            WRONG_EXPORT
+        } else {
+            WRONG_COLUMNS
+        }));
     };
     let Some(separator) = separator_in(value_in(matches, "separator")) else {
-        return Ok(Task::UsageError(UsageError::Separator));
+        return Ok(Task::UsageError(WRONG_SEPARATOR));
     };
     let Some(unit) = unit_in(value_in(matches, "unit")) else {
-        return Ok(Task::UsageError(UsageError::Unit));
+        return Ok(Task::UsageError(WRONG_UNIT));
     };
     let Some(fold) = fold_in(has_value(matches, "zone"), value_in(matches, "fold")) else {
-        return Ok(Task::UsageError(UsageError::Fold));
+        return Ok(Task::UsageError(WRONG_FOLD));
     };
     let Some(only) = only else {
-        return Ok(Task::UsageError(UsageError::Condition));
+        return Ok(Task::UsageError(WRONG_ONLY));
     };
     let Some(without) = without else {
-        return Ok(Task::UsageError(UsageError::DropCondition));
+        return Ok(Task::UsageError(WRONG_DROP));
     };
-    if has_table_twice(matches, &files) {
-        return Ok(Task::UsageError(UsageError::InputTwice));
+    if reads_input_twice(alloc, matches)? {
+        return Ok(Task::UsageError(INPUT_TWICE));
     }
     let columns = Columns {
         separator,

@@ -1,9 +1,8 @@
 //! Words of tables that follow others, each from a date on.
-ghost use Rattle.std.specs.Prelude.{◌≡◌, IfOk, None, false};
+ghost use Rattle.std.specs.Prelude.{◌≡◌, None, false};
 ghost use Rattle.program_manners.specs.TableWords.{date_fault};
 
-use program_manners::{TableWord, TableWords, WrongWord};
-use std::alloc::{AllocError, Global};
+use program_manners::{TableWord, WrongWord, date_fault};
 
 /// The word of a table that follows others. Its date is right.
 #[derive(Clone, Copy)]
@@ -12,24 +11,13 @@ pub struct LaterTable<'a> {
     ghost dated: { date_fault false word.now ≡ None },
 }
 
-fn wrong_date<'a>(alloc: Global, word: &'a str) -> Result<Option<WrongWord<'a>>, AllocError>
-    ensures { IfOk result (λ wrong. wrong ≡ None → date_fault false word.entry.now ≡ None) }
-{
-    let mut later = Vec::new(alloc);
-    later.push(word)?;
-    Ok(TableWords { first: "", later }.wrong_word())
-}
-
 impl<'a> LaterTable<'a> {
     /// The table that the word names, or what is wrong with its date.
-    pub fn of(
-        alloc: Global,
-        word: &'a str,
-    ) -> Result<Result<LaterTable<'a>, WrongWord<'a>>, AllocError> {
-        if let Some(wrong) = wrong_date(alloc, word)? {
-            return Ok(Err(wrong));
+    pub fn of(word: &'a str) -> Result<LaterTable<'a>, WrongWord<'a>> {
+        match date_fault(false, word) {
+            Some(fault) => Err(WrongWord { word, fault }),
+            None => Ok(LaterTable { word }),
         }
-        Ok(Ok(LaterTable { word }))
     }
 
     /// The word of its file, without the date.

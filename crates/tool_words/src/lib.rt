@@ -21,7 +21,6 @@ mod table_words;
 mod task;
 mod uploads;
 mod uploads_words;
-mod usage_error;
 mod words;
 
 pub use later_table::LaterTable;
@@ -32,5 +31,4 @@ pub use task::{
     ValidPrefixWords,
 };
 pub use uploads_words::named_format;
-pub use usage_error::UsageError;
 pub use words::read;

@@ -1,11 +1,16 @@
 //! Moments that words give.
 
 use crate::reading::value_in;
-use crate::usage_error::UsageError;
 use clap::ArgMatches;
 use jiff::Timestamp;
 
 const MILLISECOND_NANOS: u128 = 1_000_000;
+
+pub(crate) const WRONG_FROM: &str = "error: --from needs a moment, as 2026-03-01T00:00:00Z";
+
+const WRONG_UNTIL: &str = "error: --until needs a moment, as 2026-03-01T00:00:00Z";
+
+const WRONG_ORDER: &str = "error: --until needs a moment after --from";
 
 #[derive(Clone, Copy)]
 pub(crate) struct NoMoment;
@@ -35,8 +40,8 @@ fn milliseconds_of(moment: Timestamp) -> u64 {
 fn milliseconds_given(
     matches: &ArgMatches<'_>,
     name: &str,
-    usage_error: UsageError,
-) -> Result<Option<u64>, UsageError> {
+    usage_error: &'static str,
+) -> Result<Option<u64>, &'static str> {
     match moment_given(matches, name) {
         Ok(Some(moment)) => Ok(Some(milliseconds_of(moment))),
         Ok(None) => Ok(None),
@@ -47,14 +52,14 @@ fn milliseconds_given(
 /// The first and the last moment that are looked at, where given.
 pub(crate) fn span_given(
     matches: &ArgMatches<'_>,
-) -> Result<(Option<u64>, Option<u64>), UsageError> {
-    let first = milliseconds_given(matches, "from", UsageError::From)?;
-    let trailing = milliseconds_given(matches, "until", UsageError::Until)?;
+) -> Result<(Option<u64>, Option<u64>), &'static str> {
+    let first = milliseconds_given(matches, "from", WRONG_FROM)?;
+    let trailing = milliseconds_given(matches, "until", WRONG_UNTIL)?;
     let Some(trailing) = trailing else {
         return Ok((first, None));
     };
     if trailing <= first.unwrap_or(0) {
-        return Err(UsageError::Order);
+        return Err(WRONG_ORDER);
     }
     Ok((first, Some(trailing - 1)))
 }

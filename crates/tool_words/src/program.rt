@@ -1,16 +1,18 @@
 //! The whole command line, as `clap` reads it.
-ghost use Rattle.std.specs.Prelude.{◌≡◌, IfOk, [], false, true};
-ghost use Rattle.clap.specs.Words.{App, Shape, app_of, with_subcommand};
-ghost use Rattle.tool_words.specs.ToolLine.{app_of_name, app_of_texts, program};
+ghost use Rattle.std.specs.Prelude.{◌≡◌, IfOk, false, fold};
+ghost use Rattle.clap.specs.Words.{app_of, with_subcommand};
+ghost use Rattle.tool_words.specs.ToolLine.{app_of_name, program};
+ghost use Rattle.tool_words.specs.inside.Rows.{shape_of_table};
 
-use crate::bounds::bounds_command;
-use crate::corrections::corrections_command;
-use crate::decode::decode_command;
-use crate::encode::encode_command;
-use crate::merge::merge_command;
-use crate::sort::sort_command;
-use crate::table::table_command;
-use crate::uploads::uploads_command;
+use crate::arguments::Subcommand;
+use crate::bounds::BOUNDS;
+use crate::corrections::CORRECTIONS;
+use crate::decode::DECODE;
+use crate::encode::ENCODE;
+use crate::merge::MERGE;
+use crate::sort::SORT;
+use crate::table::TABLE;
+use crate::uploads::UPLOADS;
 use clap::Command;
 use program_manners::new_command;
 use std::alloc::{AllocError, Global};
@@ -29,12 +31,27 @@ Exit status:
      on the standard error says
   2  the command line is wrong";
 
-fn with_leaf<'a>(command: Command<'a>, leaf: Command<'a>) -> Result<Command<'a>, AllocError>
-    ensures { (shape : Shape) → app_of leaf.entry ≡ record { top = shape; subs = [] }
-        → shape.is_plain ≡ true
-        → IfOk result (λ more. app_of more ≡ with_subcommand (app_of command.entry) shape) }
+const SUBCOMMANDS: [Subcommand; 8] = [
+    ENCODE,
+    DECODE,
+    UPLOADS,
+    TABLE,
+    SORT,
+    BOUNDS,
+    MERGE,
+    CORRECTIONS,
+];
+
+fn with_leaf<'a>(
+    alloc: Global,
+    command: Command<'a>,
+    table: &Subcommand,
+    is_whole: bool,
+) -> Result<Command<'a>, AllocError>
+    ensures { is_whole ≡ false → IfOk result
+        (λ more. app_of more ≡ with_subcommand (app_of command.entry) (shape_of_table table.now)) }
 {
-    command.subcommand(leaf)
+    command.subcommand(table.command(alloc, is_whole)?)
 }
 
 fn name_command<'a>(alloc: Global) -> Command<'a>
@@ -45,14 +62,19 @@ fn name_command<'a>(alloc: Global) -> Command<'a>
         .arg_required_else_help(true)
 }
 
-fn texts_command<'a>(alloc: Global, is_whole: bool) -> Result<Command<'a>, AllocError>
-    ensures { is_whole ≡ false → IfOk result (λ command. app_of command ≡ app_of_texts) }
+fn with_leaves<'a>(
+    alloc: Global,
+    tables: &[Subcommand],
+    is_whole: bool,
+) -> Result<Command<'a>, AllocError>
+    ensures { is_whole ≡ false → IfOk result (λ command. app_of command
+        ≡ fold (λ app table. with_subcommand app (shape_of_table table)) app_of_name tables.now) }
 {
-    let named = name_command(alloc);
-    let one = with_leaf(named, encode_command(alloc, is_whole)?)?;
-    let two = with_leaf(one, decode_command(alloc, is_whole)?)?;
-    let three = with_leaf(two, uploads_command(alloc, is_whole)?)?;
-    with_leaf(three, table_command(alloc, is_whole)?)
+    let mut command = name_command(alloc);
+    for table in tables {
+        command = with_leaf(alloc, command, table, is_whole)?;
+    }
+    Ok(command)
 }
 
 /// The rules between arguments are left out if it is not whole: clap's contract says which words it
@@ -60,9 +82,5 @@ fn texts_command<'a>(alloc: Global, is_whole: bool) -> Result<Command<'a>, Alloc
 pub(crate) fn command<'a>(alloc: Global, is_whole: bool) -> Result<Command<'a>, AllocError>
     ensures { is_whole ≡ false → IfOk result (λ command. app_of command ≡ program) }
 {
-    let texts = texts_command(alloc, is_whole)?;
-    let one = with_leaf(texts, sort_command(alloc, is_whole)?)?;
-    let two = with_leaf(one, bounds_command(alloc, is_whole)?)?;
-    let three = with_leaf(two, merge_command(alloc, is_whole)?)?;
-    with_leaf(three, corrections_command(alloc, is_whole)?)
+    with_leaves(alloc, &SUBCOMMANDS, is_whole)
 }

@@ -1,7 +1,6 @@
 //! What is given to a subcommand.
-ghost use Rattle.std.specs.Prelude.{◌≡◌, ◌≤◌, false, map, option_map};
+ghost use Rattle.std.specs.Prelude.{◌≡◌, ◌≤◌, map, option_map};
 ghost use Rattle.std.specs.List.{list_any};
-ghost use Rattle.std.specs.Option.{option_map_or};
 ghost use Rattle.clap.specs.Words.{first_of, found_of, rows_of};
 ghost use Rattle.tool_words.specs.Request.{has_input_twice, inputs_in, is_input, names_input};
 ghost use Rattle.tool_words.specs.ToolLine.{has_value};
@@ -10,6 +9,8 @@ use clap::ArgMatches;
 
 const INPUT_WORD: &str = "-";
 
+pub(crate) const INPUT_TWICE: &str = "error: - can be named only once";
+
 const MAX_PARTS: u32 = 65_536;
 
 /// Whether the word represents standard input.
@@ -17,15 +18,6 @@ pub fn is_input(word: &str) -> bool
     ensures { result ≡ is_input word.now }
 {
     word == INPUT_WORD
-}
-
-pub(crate) fn is_input_given(word: Option<&str>) -> bool
-    ensures { result ≡ option_map_or is_input (option_map (λ w. w.now) word.entry) false }
-{
-    match word {
-        Some(word) => is_input(word),
-        None => false,
-    }
 }
 
 pub(crate) fn inputs_in(words: &[&str]) -> usize

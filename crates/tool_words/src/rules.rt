@@ -1,8 +1,7 @@
 //! The rules between the arguments of a subcommand.
 ghost use Rattle.std.specs.Prelude.{◌≡◌};
 ghost use Rattle.clap.specs.Words.{found_of, rows_of};
-ghost use Rattle.tool_words.specs.ToolLine.{breaks_encode, breaks_rule, breaks_table};
-ghost use Rattle.tool_words.specs.ToolLine.{breaks_uploads, lacks_files, looks};
+ghost use Rattle.tool_words.specs.ToolLine.{breaks_rule, lacks_files, looks};
 
 use crate::reading::has_value;
 use clap::ArgMatches;
@@ -25,38 +24,19 @@ pub(crate) fn looks(matches: &ArgMatches<'_>) -> bool
         || has_value(matches, "table")
 }
 
-/// `uploads` has no files, a look beside `--good-part`, or `--list` beside `--tokens` or `--format`.
-fn breaks_uploads(matches: &ArgMatches<'_>) -> bool
-    ensures { result ≡ breaks_uploads (rows_of (found_of matches.now)) }
-{
-    lacks_files(matches, "FILE")
-        || (has_value(matches, "good-part") && looks(matches))
-        || (flag_in(matches, "list")
-            && (flag_in(matches, "tokens") || has_value(matches, "format")))
-}
-
-/// `table` has `--sql` beside `--riders` or `--from`.
-fn breaks_table(matches: &ArgMatches<'_>) -> bool
-    ensures { result ≡ breaks_table (rows_of (found_of matches.now)) }
-{
-    flag_in(matches, "sql") && (flag_in(matches, "riders") || has_value(matches, "from"))
-}
-
-/// `encode` has both `--validators` and `--validators-make`.
-fn breaks_encode(matches: &ArgMatches<'_>) -> bool
-    ensures { result ≡ breaks_encode (rows_of (found_of matches.now)) }
-{
-    has_value(matches, "validators") && has_value(matches, "validators-make")
-}
-
+/// Whether a rule between the arguments of this subcommand is broken.
 pub(crate) fn breaks_rule(name: &str, matches: &ArgMatches<'_>) -> bool
     ensures { result ≡ breaks_rule name.now (rows_of (found_of matches.now)) }
 {
     if name == "uploads" {
-        return breaks_uploads(matches);
+        return lacks_files(matches, "FILE")
+            || (has_value(matches, "good-part") && looks(matches))
+            || (flag_in(matches, "list")
+                && (flag_in(matches, "tokens") || has_value(matches, "format")));
     }
     if name == "table" {
-        return breaks_table(matches);
+        return flag_in(matches, "sql")
+            && (flag_in(matches, "riders") || has_value(matches, "from"));
     }
     if name == "sort" {
         return lacks_files(matches, "UPLOAD");
@@ -67,5 +47,5 @@ pub(crate) fn breaks_rule(name: &str, matches: &ArgMatches<'_>) -> bool
     if name == "bounds" {
         return lacks_files(matches, "FILE");
     }
-    name == "encode" && breaks_encode(matches)
+    name == "encode" && has_value(matches, "validators") && has_value(matches, "validators-make")
 }

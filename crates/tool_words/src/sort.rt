@@ -1,14 +1,17 @@
 //! The arguments of `sort`.
-ghost use Rattle.std.specs.Prelude.{◌≡◌, IfOk, codes, false};
-ghost use Rattle.clap.specs.Words.{app_of};
-ghost use Rattle.tool_words.specs.ToolLine.{sort_rules};
-ghost use Rattle.tool_words.specs.inside.Rows.{leaf};
 
-use crate::arguments::{Need, Row, Takes, subcommand};
-use clap::Command;
-use std::alloc::{AllocError, Global};
+use crate::arguments::{Files, Row, Subcommand, Takes};
 
-const SORT_NOTES: &str = "Examples:
+const ABOUT: &str = "Makes one upload of all taps of uploads, in canonical order.
+
+That is the order of token, moment and validator. The taps before each upload's
+first layout fault are sorted in memory. With --merge the uploads are in
+canonical order already, and of any length: they are read in pieces and merged.
+A fault of order or layout then ends it. OUT has batches of 512 taps. It is
+made under another name and then renamed, so it is whole, and it may be one of
+the uploads.";
+
+const NOTES: &str = "Examples:
   omny_tools sort --out monday.tap bus.tap tram.tap
   omny_tools sort --merge --out week.tap monday.tap tuesday.tap
 
@@ -20,34 +23,26 @@ Exit status:
   3  OUT is made of the taps before each upload's first layout fault, and there
      is one";
 
-const SORT_ABOUT: &str = "Makes one upload of all taps of uploads, in canonical order.
-
-That is the order of token, moment and validator. The taps before each upload's
-first layout fault are sorted in memory. With --merge the uploads are in
-canonical order already, and of any length: they are read in pieces and merged.
-A fault of order or layout then ends it. OUT has batches of 512 taps. It is
-made under another name and then renamed, so it is whole, and it may be one of
-the uploads.";
-
 const MERGE_HELP: &str = "Merge uploads that are in canonical order already";
 
 const OUT_HELP: &str = "The file to make; one that exists is replaced";
 
 const ENDS_HELP: &str = "Make ENDS of how each upload ended, a line each";
 
-const UPLOADS_HELP: &str = "Uploads, at most 64 MiB each (with --merge of any); - is stdin";
+const UPLOAD_HELP: &str = "Uploads, at most 64 MiB each (with --merge of any); - is stdin";
 
 /// `sort [--merge] --out OUT [--ends ENDS] [--files-from LIST [-0]] UPLOAD...`
-pub(crate) fn sort_command<'a>(alloc: Global, is_whole: bool) -> Result<Command<'a>, AllocError>
-    ensures { is_whole ≡ false → IfOk result
-        (λ command. app_of command ≡ leaf (codes "sort") sort_rules) }
-{
-    let rows = [
-        Row::One(Takes::Flag("merge", MERGE_HELP), Need::Never),
-        Row::One(Takes::Value("out", "OUT", OUT_HELP), Need::Always),
-        Row::One(Takes::Value("ends", "ENDS", ENDS_HELP), Need::Never),
-        Row::List,
-        Row::One(Takes::Words("UPLOAD", UPLOADS_HELP), Need::WithoutList),
-    ];
-    subcommand(alloc, "sort", SORT_ABOUT, SORT_NOTES, &rows, is_whole)
-}
+pub(crate) const SORT: Subcommand = Subcommand {
+    name: "sort",
+    about: ABOUT,
+    notes: NOTES,
+    rows: &[
+        Row("merge", Takes::Flag, MERGE_HELP),
+        Row("out", Takes::Needed("OUT"), OUT_HELP),
+        Row("ends", Takes::Value("ENDS"), ENDS_HELP),
+        Row("UPLOAD", Takes::Words, UPLOAD_HELP),
+    ],
+    files: Files::Wanted,
+    rare: &[],
+    apart: &[],
+};

@@ -1,14 +1,8 @@
 //! The arguments of `table`.
-ghost use Rattle.std.specs.Prelude.{◌≡◌, IfOk, codes, false};
-ghost use Rattle.clap.specs.Words.{app_of};
-ghost use Rattle.tool_words.specs.ToolLine.{table_rules};
-ghost use Rattle.tool_words.specs.inside.Rows.{leaf};
 
-use crate::arguments::{Need, Row, Takes, subcommand};
-use clap::Command;
-use std::alloc::{AllocError, Global};
+use crate::arguments::{Files, Row, Subcommand, Takes};
 
-const TABLE_ABOUT: &str = "Prints a fare table as it is understood, or what is wrong.
+const ABOUT: &str = "Prints a fare table as it is understood, or what is wrong.
 
 That is: the zone with its next changes of clocks, the modes, the transfers,
 the classes with the price of each ride of a window, the ranges of validators
@@ -36,39 +30,33 @@ Exit status:
      on the standard error says
   2  the command line is wrong";
 
-const TABLE_HELP: &str = "The fare table, at most 64 MiB; - is standard input";
-
-const LATER_HELP: &str = "A fare table that is valid from this date on";
-
-const TABLE_UPLOADS_HELP: &str = "Uploads whose validators are compared with the table";
-
 const STRICT_HELP: &str = "End with status 1 also if there is a warning";
-
-const RIDERS_HELP: &str = "Print each rider with its class";
-
-const SQL_HELP: &str = "Print tables of SQLite and PostgreSQL instead";
 
 const FROM_HELP: &str = "Changes of clocks after it [default: now]";
 
+const SQL_HELP: &str = "Print tables of SQLite and PostgreSQL instead";
+
+const TABLE_HELP: &str = "A fare table that is valid from this date on";
+
+const F_HELP: &str = "The fare table, at most 64 MiB; - is standard input";
+
+const UPLOAD_HELP: &str = "Uploads whose validators are compared with the table";
+
 /// `table [--strict] [--riders] [--from MOMENT] [--sql] F [--table G@YYYY-MM-DD]... [UPLOAD]...`
-pub(crate) fn table_command<'a>(alloc: Global, is_whole: bool) -> Result<Command<'a>, AllocError>
-    ensures { is_whole ≡ false → IfOk result
-        (λ command. app_of command ≡ leaf (codes "table") table_rules) }
-{
-    let rows = [
-        Row::One(Takes::Flag("strict", STRICT_HELP), Need::Never),
-        Row::One(Takes::Flag("riders", RIDERS_HELP), Need::Never),
-        Row::One(Takes::Value("from", "MOMENT", FROM_HELP), Need::Never),
-        Row::One(
-            Takes::Flag("sql", SQL_HELP),
-            Need::Apart(&["riders", "from"]),
-        ),
-        Row::One(
-            Takes::Values("table", "G@YYYY-MM-DD", LATER_HELP),
-            Need::Never,
-        ),
-        Row::One(Takes::Word("F", TABLE_HELP), Need::Always),
-        Row::One(Takes::Words("UPLOAD", TABLE_UPLOADS_HELP), Need::Never),
-    ];
-    subcommand(alloc, "table", TABLE_ABOUT, NOTES, &rows, is_whole)
-}
+pub(crate) const TABLE: Subcommand = Subcommand {
+    name: "table",
+    about: ABOUT,
+    notes: NOTES,
+    rows: &[
+        Row("strict", Takes::Flag, STRICT_HELP),
+        Row("riders", Takes::Flag, "Print each rider with its class"),
+        Row("from", Takes::Value("MOMENT"), FROM_HELP),
+        Row("sql", Takes::Flag, SQL_HELP),
+        Row("table", Takes::Values("G@YYYY-MM-DD"), TABLE_HELP),
+        Row("F", Takes::Word, F_HELP),
+        Row("UPLOAD", Takes::Words, UPLOAD_HELP),
+    ],
+    files: Files::Unlisted,
+    rare: &[],
+    apart: &[("sql", "riders"), ("sql", "from")],
+};

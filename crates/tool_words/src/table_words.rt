@@ -4,13 +4,14 @@ ghost use Rattle.tool_words.specs.Request.{shows};
 ghost use Rattle.tool_words.specs.Tasks.{request_of};
 
 use crate::later_table::LaterTable;
-use crate::moments::moment_given;
-use crate::reading::{has_value, inputs_in, is_input, value_in};
+use crate::moments::{WRONG_FROM, moment_given};
+use crate::reading::{INPUT_TWICE, has_value, inputs_in, is_input, value_in};
 use crate::task::{TableQuestion, Task};
-use crate::usage_error::UsageError;
 use clap::ArgMatches;
 use program_manners::{WrongWord, flag_in, names_in};
 use std::alloc::{AllocError, Global};
+
+const TABLES_AS_SQL: &str = "error: --table cannot be used with --sql";
 
 /// The tables of these words, or the first wrong date of one.
 fn later_tables<'a>(
@@ -19,7 +20,7 @@ fn later_tables<'a>(
 ) -> Result<Result<Vec<LaterTable<'a>>, WrongWord<'a>>, AllocError> {
     let mut tables = Vec::new(alloc);
     for word in words {
-        match LaterTable::of(alloc, word)? {
+        match LaterTable::of(word) {
             Ok(table) => tables.push(table)?,
             Err(wrong) => return Ok(Err(wrong)),
         }
@@ -48,11 +49,11 @@ pub(crate) fn table_task<'a>(
     let words = names_in(alloc, matches, "table")?;
     let uploads = names_in(alloc, matches, "UPLOAD")?;
     let Ok(from) = moment_given(matches, "from") else {
-        return Ok(Task::Unshown(UsageError::From));
+        return Ok(Task::Unshown(WRONG_FROM));
     };
     let is_sql = flag_in(matches, "sql");
     if is_sql && has_value(matches, "table") {
-        return Ok(Task::Unshown(UsageError::TablesAsSql));
+        return Ok(Task::Unshown(TABLES_AS_SQL));
     }
     let later = match later_tables(alloc, &words)? {
         Ok(later) => later,
@@ -68,7 +69,7 @@ pub(crate) fn table_task<'a>(
         is_sql,
     };
     if has_later_twice(&question) {
-        return Ok(Task::Unshown(UsageError::InputTwice));
+        return Ok(Task::Unshown(INPUT_TWICE));
     }
     Ok(Task::Table(question))
 }

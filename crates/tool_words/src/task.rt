@@ -2,7 +2,6 @@
 ghost use Rattle.std.specs.Prelude.{◌≤◌};
 
 use crate::later_table::LaterTable;
-use crate::usage_error::UsageError;
 use jiff::Timestamp;
 use program_manners::WrongWord;
 use tap_rows::{Columns, Fold};
@@ -124,10 +123,10 @@ pub enum Task<'a> {
     Bounds(BoundsWords<'a>),
     /// The corrections from one ledger to another.
     Corrections(CorrectionsWords<'a>),
-    /// Nothing, since the words are wrong in this way.
-    UsageError(UsageError),
-    /// Nothing, since the words of what only informs are wrong in this way.
-    Unshown(UsageError),
+    /// Nothing, since the words are wrong, as this line says.
+    UsageError(&'static str),
+    /// Nothing, since the words of what only informs are wrong, as this line says.
+    Unshown(&'static str),
     /// Nothing, since the word of a later table has a wrong date, or none.
     WrongDate(WrongWord<'a>),
 }

@@ -1,14 +1,8 @@
 //! The arguments of `uploads`.
-ghost use Rattle.std.specs.Prelude.{◌≡◌, IfOk, codes, false};
-ghost use Rattle.clap.specs.Words.{app_of};
-ghost use Rattle.tool_words.specs.ToolLine.{uploads_rules};
-ghost use Rattle.tool_words.specs.inside.Rows.{leaf};
 
-use crate::arguments::{Need, Row, Takes, subcommand};
-use clap::Command;
-use std::alloc::{AllocError, Global};
+use crate::arguments::{Files, Row, Subcommand, Takes};
 
-const UPLOADS_ABOUT: &str = "Prints what uploads have, and what is wrong with them.
+const ABOUT: &str = "Prints what uploads have, and what is wrong with them.
 
 For each upload: batches, taps, first and last moment, and the layout fault, if
 any, with its batch, its tap (both from 0), the offset of its batch in bytes,
@@ -41,11 +35,9 @@ Exit status:
      on the standard error says
   2  the command line is wrong";
 
-const TOKENS_HELP: &str = "Print how many tokens each has, and shares";
-
-const UPLOADS_HELP: &str = "Uploads, at most 64 MiB each; - is standard input";
-
 const VALID_PREFIX_HELP: &str = "Make OUT of the batches before the layout fault";
+
+const TOKENS_HELP: &str = "Print how many tokens each has, and shares";
 
 const LOOK_HELP: &str = "Look for near duplicates and repeated uploads";
 
@@ -61,43 +53,37 @@ const LIST_HELP: &str = "Write all that is found as CSV, and nothing else";
 
 const FORMAT_HELP: &str = "Print lines as text, json or csv [default: text]";
 
+const FILE_HELP: &str = "Uploads, at most 64 MiB each; - is standard input";
+
 /// `uploads [--good-part OUT] [--tokens] [LOOK]... [--files-from LIST [-0]] FILE...`, where LOOK is
 /// `--look`, `--within S`, `--from MOMENT`, `--until MOMENT`, `--table F` or `--list`. A look goes
 /// without `--good-part`, and `--list` without `--format FORM`.
-pub(crate) fn uploads_command<'a>(alloc: Global, is_whole: bool) -> Result<Command<'a>, AllocError>
-    ensures { is_whole ≡ false → IfOk result
-        (λ command. app_of command ≡ leaf (codes "uploads") uploads_rules) }
-{
-    let rows = [
-        Row::One(
-            Takes::Value("good-part", "OUT", VALID_PREFIX_HELP),
-            Need::Never,
-        ),
-        Row::One(Takes::Flag("tokens", TOKENS_HELP), Need::Never),
-        Row::One(Takes::Flag("look", LOOK_HELP), Need::Apart(&["good-part"])),
-        Row::One(
-            Takes::Number("within", "S", 0, 4_294_967, WITHIN_HELP),
-            Need::Apart(&["good-part"]),
-        ),
-        Row::One(
-            Takes::Value("from", "MOMENT", FROM_HELP),
-            Need::Apart(&["good-part"]),
-        ),
-        Row::One(
-            Takes::Value("until", "MOMENT", UNTIL_HELP),
-            Need::Apart(&["good-part"]),
-        ),
-        Row::One(
-            Takes::Value("table", "F", TABLE_HELP),
-            Need::Apart(&["good-part"]),
-        ),
-        Row::One(
-            Takes::Flag("list", LIST_HELP),
-            Need::Apart(&["good-part", "tokens", "format"]),
-        ),
-        Row::One(Takes::Value("format", "FORM", FORMAT_HELP), Need::Never),
-        Row::List,
-        Row::One(Takes::Words("FILE", UPLOADS_HELP), Need::WithoutList),
-    ];
-    subcommand(alloc, "uploads", UPLOADS_ABOUT, NOTES, &rows, is_whole)
-}
+pub(crate) const UPLOADS: Subcommand = Subcommand {
+    name: "uploads",
+    about: ABOUT,
+    notes: NOTES,
+    rows: &[
+        Row("good-part", Takes::Value("OUT"), VALID_PREFIX_HELP),
+        Row("tokens", Takes::Flag, TOKENS_HELP),
+        Row("look", Takes::Flag, LOOK_HELP),
+        Row("within", Takes::Number("S", 0, 4_294_967), WITHIN_HELP),
+        Row("from", Takes::Value("MOMENT"), FROM_HELP),
+        Row("until", Takes::Value("MOMENT"), UNTIL_HELP),
+        Row("table", Takes::Value("F"), TABLE_HELP),
+        Row("list", Takes::Flag, LIST_HELP),
+        Row("format", Takes::Value("FORM"), FORMAT_HELP),
+        Row("FILE", Takes::Words, FILE_HELP),
+    ],
+    files: Files::Wanted,
+    rare: &[],
+    apart: &[
+        ("look", "good-part"),
+        ("within", "good-part"),
+        ("from", "good-part"),
+        ("until", "good-part"),
+        ("table", "good-part"),
+        ("list", "good-part"),
+        ("list", "tokens"),
+        ("list", "format"),
+    ],
+};

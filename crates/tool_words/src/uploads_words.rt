@@ -4,13 +4,14 @@ ghost use Rattle.tool_words.specs.Request.{valid_prefix_request, shows};
 ghost use Rattle.tool_words.specs.Tasks.{request_of, texts_of};
 
 use crate::moments::span_given;
-use crate::reading::{inputs_in, is_input_given, number_in, value_in};
+use crate::reading::{INPUT_TWICE, inputs_in, is_input, number_in, value_in};
 use crate::task::{LookWords, Task, ValidPrefixWords};
-use crate::usage_error::UsageError;
 use crate::words::{entered, matched};
 use clap::ArgMatches;
 use program_manners::{flag_in, names_in};
 use std::alloc::{AllocError, Global};
+
+const NOT_ONE_UPLOAD: &str = "error: --good-part needs one FILE";
 
 /// How many seconds at most a near duplicate is later than the tap before it, if none are given.
 const WITHIN_SECONDS: u32 = 5;
@@ -19,7 +20,7 @@ pub(crate) fn valid_prefix_task<'a>(out: &'a str, has_tokens: bool, words: &[&'a
     ensures { request_of result ≡ valid_prefix_request out.entry.now has_tokens (texts_of words.now) }
 {
     if words.len() != 1 {
-        return Task::UsageError(UsageError::NotOneUpload);
+        return Task::UsageError(NOT_ONE_UPLOAD);
     }
     Task::ValidPrefix(ValidPrefixWords {
         upload: words[0],
@@ -38,8 +39,8 @@ pub(crate) fn look_task<'a>(alloc: Global, matches: &ArgMatches<'a>) -> Result<T
     };
     let table = value_in(matches, "table");
     let inputs = inputs_in(&uploads);
-    if inputs > 1 || (inputs > 0 && is_input_given(table)) {
-        return Ok(Task::Unshown(UsageError::InputTwice));
+    if inputs > 1 || (inputs > 0 && is_input(table.unwrap_or(""))) {
+        return Ok(Task::Unshown(INPUT_TWICE));
     }
     let words = LookWords {
         within: u64::from(number_in(matches, "within", WITHIN_SECONDS)) * 1000,

@@ -56,7 +56,7 @@ def rules_of(valid):
     return Rules(terms, lambda tap: at(tap).terms_of(CARD)[4],
                  lambda tap: at(tap).terms_of(CARD)[5],
                  lambda mode, tap: (mode, tap[1]) in at(tap).pairs,
-                 lambda moment: valid(moment).window_end(moment))
+                 lambda moment: valid(moment).window_end(moment, valid(moment).window))
 
 
 def fields_of(why):

@@ -1,19 +1,26 @@
 -- What private functions make of the numbers that are kept, by what the caps say of one ride.
-use Rattle.std.specs.Prelude.{ℕ, ◌+◌, ◌-◌, if◌then◌else◌, List, is_some, min}
-use Rattle.std.specs.Prelude.{nat_lt, Option, Some, None, option_map, slice_get}
+use Rattle.std.specs.Prelude.{ℕ, ◌+◌, ◌-◌, ◌==◌, ◌||◌, if◌then◌else◌, List, is_some, max, min}
+use Rattle.std.specs.Prelude.{◌≤◌, IfSome, nat_lt, Option, Some, None, option_map, slice_get}
 use Rattle.tariffs.specs.ClockView.{ClockView}
 use Rattle.tariffs.specs.Until.{window_end_in}
+use Rattle.tariffs.specs.WindowSpan.{IsBoundedSpan}
+use Rattle.tariffs.specs.declared.mode.Mode.{Mode}
+use Rattle.tariffs.specs.declared.price.Pays.{Pays}
 use Rattle.tariffs.specs.declared.terms.Terms.{Terms}
 use Rattle.account_rule.specs.Windows.{charge}
 use Rattle.tariffs.specs.TableMeaning.{TableMeaning}
 use Rattle.tariffs.specs.declared.cap_terms.CapTerms.{CapTerms}
 use Rattle.fare_caps.specs.CapMeanings.{said_of}
 use Rattle.fare_caps.specs.Caps.{opened_until}
-use Rattle.fare_caps.specs.Charges.{cap_cents, cap_paid, lesser, lowered}
+use Rattle.fare_caps.specs.CapStates.{extra_terms}
+use Rattle.fare_caps.specs.Charges.{cap_cents, cap_paid, is_freed, lesser, lowered}
+use Rattle.fare_caps.specs.Prices.{wanted}
 use Rattle.fare_caps.specs.declared.ride_cap.RideCap.{RideCap}
 use Rattle.fare_caps.specs.declared.cap_charge.CapCharge.{CapCharge}
 use Rattle.fare_caps.specs.declared.cap_charge.CapLeft.{CapLeft}
 use Rattle.fare_caps.specs.declared.cap_window.CapWindow.{CapWindow}
+use Rattle.fare_caps.specs.declared.capped_reason.CappedReason.{CappedReason}
+use Rattle.fare_caps.specs.declared.capped_reason.CappedReason.TheVariants.{PaidTransfer, Transfer}
 use Rattle.fare_caps.specs.declared.further.Further.{Further}
 use Rattle.fare_caps.specs.declared.further.RideCaps.{RideCaps}
 
@@ -29,6 +36,16 @@ said_by caps meaning mode class = record {
   second = said_at caps meaning mode class 1;
   third = said_at caps meaning mode class 2;
 }
+
+-- the span and the ceiling of a cap are within their bounds
+abbrev pub IsBoundedCap : RideCap → Type 0
+IsBoundedCap cap = IsBoundedSpan cap.span × (cap.ceiling ≤ 100_000_000)
+
+-- so are those of all caps
+pub record AreBoundedCaps (caps : RideCaps) : Type 0 where
+  pub first : IfSome caps.first IsBoundedCap
+  pub second : IfSome caps.second IsBoundedCap
+  pub third : IfSome caps.third IsBoundedCap
 
 -- the window of the ride
 abbrev pub opened_by : ClockView → ℕ → Option RideCap → CapWindow → CapWindow
@@ -49,7 +66,7 @@ counted_by cents (Some cap) window =
 
 -- the windows of the ride, `window` until the moment that is named if the ride opens it
 unfoldable pub opened_all : ClockView → ℕ → ℕ → RideCaps → Further → Further
-opened_all clock moment until caps further = record {
+opened_all clock moment until caps further = record further {
   window = opened_until moment until further.window;
   first = opened_by clock moment caps.first further.first;
   second = opened_by clock moment caps.second further.second;
@@ -69,13 +86,49 @@ unfoldable pub charge_of : Terms → RideCaps → Further → CapCharge
 charge_of terms caps further =
     lowered (least_of caps further) (charge terms further.rides further.window.cents)
 
+-- the numbers with the cents of a tap
+abbrev pub counted_cents : ℕ → RideCaps → Further → Further
+counted_cents cents caps further = record further {
+  window = record further.window { cents = further.window.cents + cents };
+  first = counted_by cents caps.first further.first;
+  second = counted_by cents caps.second further.second;
+  third = counted_by cents caps.third further.third;
+}
+
 -- the numbers with the ride
 unfoldable pub counted_all : CapCharge → RideCaps → Further → Further
-counted_all charge caps further = record {
-  window = record further.window { cents = further.window.cents + cap_cents charge };
-  first = counted_by (cap_cents charge) caps.first further.first;
-  second = counted_by (cap_cents charge) caps.second further.second;
-  third = counted_by (cap_cents charge) caps.third further.third;
+counted_all charge caps further = record (counted_cents (cap_cents charge) caps further) {
   rides = min (further.rides + 1) 60_000;
   paid = further.paid + (if is_some (cap_paid charge) then 1 else 0);
+  freed = is_freed charge;
 }
+
+-- the numbers with a trip that the ride of this fare on the mode begins
+abbrev pub with_new_trip : ℕ → Mode → Further → Further
+with_new_trip fare mode further = record further { fare = fare; price = fare; mode = mode }
+
+-- the price of the trip with a transfer of this fare that pays this
+abbrev pub raised : Option Pays → ℕ → Further → ℕ
+raised pays own further = max further.price (wanted further.fare own pays)
+
+-- the numbers with the transfer in the trip
+abbrev pub transferred : Option Pays → ℕ → Mode → Further → Further
+transferred pays own mode further = record further { price = raised pays own further; mode = mode }
+
+-- what decides the cents of a transfer that raises the price by so many, if it costs something
+unfoldable pub extra_of : Terms → RideCaps → ℕ → Further → Option CapCharge
+extra_of terms caps cents further =
+    if cents == 0 || further.freed then None
+    else Some (lowered (least_of caps further)
+    (charge (extra_terms terms cents) 0 further.window.cents))
+
+-- the numbers with the transfer's cents, if it costs something
+abbrev pub with_some_cents : Option CapCharge → RideCaps → Further → Further
+with_some_cents None caps further = further
+with_some_cents (Some charge) caps further = counted_cents (cap_cents charge) caps further
+
+-- the reason of a transfer that the ride at the moment gives
+abbrev pub transfer_reason : Further → ℕ → Mode → Option CapCharge → CappedReason
+transfer_reason further moment mode None = Transfer moment mode
+transfer_reason further moment mode (Some charge) =
+    PaidTransfer further.window.start further.window.until moment mode charge

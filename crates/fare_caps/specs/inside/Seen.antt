@@ -1,20 +1,25 @@
 -- What private functions make of the reasons without caps.
-use Rattle.std.specs.Prelude.{Option, None, option_map}
+use Rattle.std.specs.Prelude.{Option, Some, None}
 use Rattle.tariffs.specs.declared.mode.Mode.{Mode}
 use Rattle.account_rule.specs.declared.reason.Reason.{Reason}
 use Rattle.account_rule.specs.declared.reason.Reason.TheVariants.{Ride, Stale, Transfer, Unknown}
 use Rattle.fare_caps.specs.declared.cap_charge.CapCharge.TheVariants.{ByWindow}
-use Rattle.fare_caps.specs.declared.capped_account.RideSeen.{RideSeen}
+use Rattle.fare_caps.specs.declared.capped_account.LiveKind.{LiveKind}
+use Rattle.fare_caps.specs.declared.capped_account.LiveKind.TheVariants as live
 use Rattle.fare_caps.specs.declared.capped_reason.CappedReason.{CappedReason}
 use Rattle.fare_caps.specs.declared.capped_reason.CappedReason.TheVariants as capped
 
--- the ride whose reason this is, at a validator of the mode
-abbrev pub ride_seen : Reason → Option Mode → Option RideSeen
-ride_seen Unknown mode = None
-ride_seen (Stale latest) mode = None
-ride_seen (Transfer moment given) mode = None
-ride_seen (Ride start until charge) mode = option_map
-    (λ m. record { start = start; until = until; mode = m }) mode
+-- the live tap whose reason this is, at a validator of the mode
+abbrev pub kind_on : Reason → Mode → LiveKind
+kind_on Unknown mode = live.Free
+kind_on (Stale latest) mode = live.Free
+kind_on (Transfer moment ride_mode) mode = live.Transfer moment ride_mode mode
+kind_on (Ride start until charge) mode = live.Ride start until mode
+
+-- the same, if the validator has a mode
+abbrev pub live_kind : Reason → Option Mode → LiveKind
+live_kind reason None = live.Free
+live_kind reason (Some mode) = kind_on reason mode
 
 -- the reason without caps, as one under caps
 abbrev pub uncapped : Reason → CappedReason

@@ -8,9 +8,7 @@ use Rattle.fare_program.specs.Options.{Request}
 use Rattle.fare_program.specs.Parts.{IsPartText}
 use Rattle.fare_program.specs.Settling.{ShowsSettled}
 use Rattle.fare_program.specs.declared.fault.Fault.{Fault}
-use Rattle.fare_program.specs.declared.fault.Fault.TheVariants.{Late, NoMemory, Write}
-use Rattle.fare_program.specs.declared.fault.Fault.TheVariants.{Unopened as AtOpening}
-use Rattle.program_manners.specs.Refusals.{IsOneOf}
+use Rattle.fare_program.specs.declared.fault.Fault.TheVariants.{Late, Write}
 use Rattle.sorted_bills.specs.Ledgers.{KnownAreBytes}
 
 -- the text of sorted files was broken off: one of them was refused after all were checked
@@ -64,9 +62,3 @@ GivesSettled request known fares token =
 abbrev pub GivesPart : Bool → List (Option (List ℕ)) → Fares → Option (List ℕ) → Option (List ℕ)
     → Result Bool Fault → Type 0
 GivesPart ledger known fares = GivesKnown (ledger ≡ false) known (IsPartText ledger fares)
-
--- a sorted file of one of these names was not opened, or an allocation failed
-abbrev pub IsUnopened : List (List ℕ) → Fault → Type 0
-IsUnopened names (AtOpening file) = IsOneOf file.name.now names
-IsUnopened names NoMemory = Unit {0}
-IsUnopened names fault = ⊥

@@ -1,26 +1,21 @@
 -- Posted files: what private functions alone cite.
-use Rattle.std.specs.Prelude.{◌≡◌, ℕ, Bool, true, List, Option}
+use Rattle.std.specs.Prelude.{◌≡◌, ℕ, Bool, List, Option}
 use Rattle.tariffs.specs.Fares.{Fares}
 use Rattle.tap_views.specs.declared.token.Token.{Token}
 use Rattle.fare_service.specs.Lending.{AreProvidedAs}
-use Rattle.fare_service.specs.Outcomes.{OutcomeView}
 use Rattle.fare_program.specs.Options.{Request}
-use Rattle.tap_views.specs.UploadEnds.{are_posted}
-use Rattle.fare_program.specs.Program.{ShowsOf, ShowsPlain, ShowsRequest}
-use Rattle.fare_service.specs.Headline.{AreLoaded, HasRun, drawn_by}
-use Rattle.world.specs.Origins.{Origin}
+use Rattle.fare_program.specs.Program.{ShowsRequest}
+use Rattle.fare_service.specs.Headline.{AreLoaded}
+use Rattle.world.specs.Origins.{Origin, anywhere, file, memory, nowhere}
 use Rattle.world.specs.Run.{Run, with_all}
 
--- The files were posted as they are, as uploads that were lent. If each was posted whole, what is
--- shown of the outcome is shown over their sequential history.
-pub record IsLiveRun (fares : Fares) (shards workers : ℕ) (uploads : List Origin)
-    (files : List (List ℕ)) (outcome : OutcomeView) : Type 0 where
-  pub provided : AreProvidedAs uploads files
-  pub run : HasRun fares shards files workers outcome
-  pub loaded : AreLoaded uploads files (drawn_by run.0) outcome.run
-  pub plain : (request : Request) (token : Option Token) (text : List ℕ)
-      → are_posted outcome.ends ≡ true → ShowsOf request token outcome.ends outcome text
-      → ShowsPlain request fares files token text
+-- where bytes come from, but that nothing is said of those in memory: also a disk that has them may
+-- refuse a read
+abbrev pub unless_memory : Origin → Origin
+unless_memory (memory known) = anywhere
+unless_memory nowhere = nowhere
+unless_memory (file name) = file name
+unless_memory anywhere = anywhere
 
 -- These uploads were lent with the bytes of the files, and those that were drawn were loaded by the
 -- calls that were appended.

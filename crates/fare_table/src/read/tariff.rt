@@ -25,7 +25,7 @@ pub(crate) fn tariff_of(alloc: Global, table: &Table) -> Result<Tariff, TableFau
     ensures zone { IfOk result (λ t. IsClockOf t.meaning t.zone) }
 {
     let modes = modes_of(alloc, table)?;
-    let transfers = transfers_of(alloc, &modes, table)?;
+    let listed = transfers_of(alloc, &modes, table)?;
     let capped = caps_of(alloc, &modes, table)?;
     let members = classes_of(table)?;
     let classes = classes_from(alloc, &modes, &capped.names, members)?;
@@ -37,7 +37,8 @@ pub(crate) fn tariff_of(alloc: Global, table: &Table) -> Result<Tariff, TableFau
     let window = window_of(table)?;
     let parts = TariffParts {
         modes,
-        transfers,
+        transfers: listed.transfers,
+        prices: listed.prices,
         classes,
         names,
         caps: capped.caps,

@@ -1,6 +1,7 @@
 //! The parts of an explained statement as JSON.
 
 ghost use Rattle.std.specs.Prelude.{◌≡◌, [], Some, slice_index_or};
+ghost use Rattle.fare_texts.specs.ExplainedJson.{window_transfer_json};
 
 use crate::local::local_at;
 use crate::names::cap_name;
@@ -153,6 +154,73 @@ impl fmt::Display for Decided<'_> {
     }
 }
 
+/// How a cap decided the cents of a transfer.
+#[derive(Clone, Copy)]
+struct TransferByCap<'a> {
+    kind: &'a str,
+    name: &'a str,
+}
+
+impl fmt::Display for TransferByCap<'_> {
+    ghost use Rattle.fare_texts.specs.ExplainedJson.{cap_transfer_json};
+
+    ghost output = { λ by. Some (cap_transfer_json by.kind.now by.name.now) };
+
+    #[tactic(auto, unfolding(crate::specs::ExplainedJson::cap_transfer_json))]
+    fn fmt<W: fmt::Write>(&self, f: &mut fmt::Formatter<W>) -> fmt::Result {
+        let kind = self.kind;
+        let name = self.name;
+        write!(f, "\"kind\":\"{kind}\",\"cap\":\"{name}\"")
+    }
+}
+
+/// What decided the cents of a transfer.
+#[derive(Clone, Copy)]
+struct DecidedTransfer<'a> {
+    table: &'a FareTable,
+    charge: CapCharge,
+}
+
+impl fmt::Display for DecidedTransfer<'_> {
+    ghost use Rattle.fare_texts.specs.ExplainedJson.{transfer_json};
+
+    ghost output = { λ decided. Some (transfer_json decided.table.now.meaning.cap_names
+        decided.charge) };
+
+    fn fmt<W: fmt::Write>(&self, f: &mut fmt::Formatter<W>) -> fmt::Result {
+        match self.charge {
+            CapCharge::ByWindow { charge } => f.write_str(window_transfer(charge)),
+            CapCharge::CapCut {
+                position: _,
+                cents: _,
+                cap,
+            } => TransferByCap {
+                kind: "transfer-cut",
+                name: cap_name(self.table, cap),
+            }
+            .fmt(f),
+            CapCharge::CapReached { position: _, cap } => TransferByCap {
+                kind: "transfer-capped",
+                name: cap_name(self.table, cap),
+            }
+            .fmt(f),
+        }
+    }
+}
+
+/// How `window` decided the cents of a transfer.
+fn window_transfer(charge: Charge) -> &'static str
+    ensures { result.now ≡ window_transfer_json charge }
+{
+    match charge {
+        Charge::Full { .. } => "\"kind\":\"transfer-fare\"",
+        Charge::CeilingCut { .. } => "\"kind\":\"transfer-cut\"",
+        Charge::CeilingReached { .. } | Charge::RideLimitReached => {
+            "\"kind\":\"transfer-capped\""
+        }
+    }
+}
+
 /// The start and the end of a window.
 #[derive(Clone, Copy)]
 pub(crate) struct Within<'a> {
@@ -221,6 +289,29 @@ impl fmt::Display for Because<'_> {
                 write!(
                     f,
                     "{{\"kind\":\"transfer\",\"points_at\":{at},\"mode\":\"{mode}\"}}"
+                )
+            }
+            CappedReason::PaidTransfer {
+                start,
+                until,
+                moment,
+                mode,
+                charge,
+            } => {
+                let decided = DecidedTransfer {
+                    table: self.table,
+                    charge,
+                };
+                let at = At { clock, moment };
+                let mode = name_of(self.table, mode);
+                let within = Within {
+                    clock,
+                    start,
+                    until,
+                };
+                write!(
+                    f,
+                    "{{{decided},\"points_at\":{at},\"mode\":\"{mode}\",{within}}}"
                 )
             }
             CappedReason::Ride {
@@ -347,9 +438,10 @@ impl fmt::Display for Lacking<'_> {
                 .fmt(f),
                 None => f.write_str("null"),
             },
-            CappedReason::Unknown | CappedReason::Stale { .. } | CappedReason::Transfer { .. } => {
-                f.write_str("null")
-            }
+            CappedReason::Unknown
+            | CappedReason::Stale { .. }
+            | CappedReason::Transfer { .. }
+            | CappedReason::PaidTransfer { .. } => f.write_str("null"),
         }
     }
 }

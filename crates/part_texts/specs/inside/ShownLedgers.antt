@@ -1,12 +1,9 @@
 -- Ledgers of parts as they are printed, and what they are merged into.
-use Rattle.std.specs.Prelude.{◌≡◌, ◌<◌, ◌≤◌, ◌^◌, ◌||◌, ℕ, Bool, true, false, List, [], ◌∷◌, ◌++◌, All, length}
-use Rattle.std.specs.Prelude.{Option, Some, flat_map, nat_eq}
+use Rattle.std.specs.Prelude.{◌≡◌, ◌<◌, ◌^◌, ◌||◌, ℕ, Bool, true, List, ◌++◌, length}
+use Rattle.std.specs.Prelude.{Option, flat_map, nat_eq}
 use Rattle.std.specs.List.{AllByRecursion}
-use Rattle.tap_views.specs.declared.token.Token.{Token}
 use Rattle.fare_texts.specs.LedgerLines.{head_text}
-use Rattle.part_texts.specs.EntryLines.{entry_token_in}
 use Rattle.part_texts.specs.Heads.{part_head}
-use Rattle.part_texts.specs.Sections.{may_follow}
 use Rattle.part_texts.specs.Shown.{SpanFits}
 use Rattle.part_texts.specs.inside.Shown.{are_joined}
 use Rattle.sorted_taps.specs.declared.positions.Position.{Position}
@@ -34,39 +31,3 @@ pub record IsNextLedger (first last : Bool) (before : Bool × List (Option Posit
   pub files : (first || nat_eq (length p.spans) (length before.1)) ≡ true
   pub joined : are_joined first last before.1 p.spans after.1
   pub ledger : after.0 ≡ true
-
--- a line of a ledger, and its token
-pub record EntryLine : Type 0 where
-  pub token : Token
-  pub line : List ℕ
-
--- The line is one: at most 1,000 bytes that are not line feeds, and a line feed. It has the form of
--- a ledger's line, and the token is in front.
-pub record IsEntryLine (entry : EntryLine) : Type 0 where
-  pub front : List ℕ
-  pub no_feed : All (λ byte. ¬ (byte ≡ 10)) front
-  pub short : length front ≤ 1000
-  pub shown : entry.line ≡ front ++ 10 ∷ []
-  pub form : entry_token_in entry.line ≡ Some entry.token
-
-abbrev pub lines_of_entries : List EntryLine → List ℕ
-lines_of_entries entries = flat_map (λ entry. entry.line) entries
-
--- the token of each entry may follow that of the one before
-abbrev pub do_follow : Bool → Option Token → List EntryLine → Type 0
-do_follow first last [] = Unit {0}
-do_follow first last (entry ∷ more) =
-    (may_follow first last entry.token ≡ true) × do_follow false (Some entry.token) more
-
--- the token of the last entry
-abbrev pub last_entry : Option Token → List EntryLine → Option Token
-last_entry last [] = last
-last_entry last (entry ∷ more) = last_entry (Some entry.token) more
-
--- the parts' lines are those of entries, which follow one after the other after this token
-abbrev pub are_read : Option Token → List PartLedger → Type 0
-are_read last [] = Unit {0}
-are_read last (p ∷ ps) =
-    (entries : List EntryLine) × (p.lines ≡ lines_of_entries entries)
-    × AllByRecursion IsEntryLine entries × do_follow true last entries
-    × are_read (last_entry last entries) ps

@@ -1,16 +1,15 @@
 -- What a thread makes of a list of taps. Private functions alone cite this.
-use Rattle.std.specs.Prelude.{◌≡◌, ◌≤◌, true, List, [], length, string_bytes}
+use Rattle.std.specs.Prelude.{◌≡◌, true, false, List, string_bytes}
 use Rattle.tariffs.specs.Fares.{Fares}
 use Rattle.tap_views.specs.declared.token.Token.{Token}
 use Rattle.tap_views.specs.Encoding.{AreEarly}
+use Rattle.tap_views.specs.Token.{token_eq}
 use Rattle.tap_views.specs.declared.encoder.TapFields.{TapFields}
-use Rattle.histories.specs.Entry.{own}
-use Rattle.histories.specs.declared.entry.Entry.{Entry}
-use Rattle.fare_texts.specs.Lines.{AreUpTo}
 use Rattle.tap_views.specs.TokenOrder.{IsUpTo}
+use Rattle.fare_texts.specs.declared.explainer.Explainer.{Explainer}
 use Rattle.settled_texts.specs.declared.slot.WorkerSlot.{WorkerSlot}
-use Rattle.settled_texts.specs.ExplainedTaps.{AreExplained}
-use Rattle.settlement.specs.Nondecreasing.{TapsNondecreasingFrom, last_token}
+use Rattle.settled_texts.specs.ExplainedTaps.{Explains}
+use Rattle.settlement.specs.Nondecreasing.{TapsNondecreasingFrom}
 
 -- the taps' moments are before 2100, and their tokens never fall
 pub record IsSoundList (taps : List TapFields) : Type 0 where
@@ -18,15 +17,14 @@ pub record IsSoundList (taps : List TapFields) : Type 0 where
   pub from : Token
   pub nondecreasing : TapsNondecreasingFrom from taps
 
--- the seat's text has the lines of the taps, after whatever entries have tokens below the first
--- tap's
+-- the slot's text has the lines of the taps, whatever explainer of a lower token than the first
+-- tap's goes on by them
 pub record IsWhole (fares : Fares) (taps : List TapFields) (slot : WorkerSlot) : Type 0 where
   pub first : (token : Token) → TapsNondecreasingFrom token taps → IsUpTo token slot.first
-  pub explained : (earlier : List Entry) → own slot.first earlier ≡ [] → AreUpTo earlier slot.first
-      → AreExplained fares earlier taps slot.explainer (string_bytes slot.text)
-  pub token : (from : Token) → slot.explainer.token ≡ last_token from taps
-  pub few : slot.explainer.number ≤ length taps
+  pub explains : (old : Explainer) → IsUpTo old.token slot.first
+      → token_eq old.token slot.first ≡ false
+      → Explains fares old taps slot.explainer (λ lines. string_bytes slot.text ≡ lines)
 
--- the seat's text has all lines of the taps, if the seat says so
+-- the slot's text has all lines of the taps, if the slot says so
 abbrev pub HasSat : Fares → List TapFields → WorkerSlot → Type 0
 HasSat fares taps slot = slot.is_whole ≡ true → IsWhole fares taps slot

@@ -22,7 +22,7 @@ use Rattle.tap_views.specs.Token.{bytes_of, token_eq}
 unfoldable pub kept_at : Accounts → Token → Option KeptAccount
 kept_at accounts token = get token_eq accounts.map token
 
--- what is stored beside the account of the token, if the table has caps
+-- what is stored beside the account of the token, if the table has caps or prices
 unfoldable pub further_at : Accounts → Token → Further
 further_at accounts token = unwrap_or (get token_eq accounts.further token) no_further
 

@@ -12,6 +12,7 @@ no_fares = record {
       record {
         modes = [];
         transfers = [];
+        prices = [];
         classes = [];
         names = [];
         caps = [];

@@ -1,46 +1,41 @@
 -- Lines of taps of merged files: what private functions alone cite.
-use Rattle.std.specs.Prelude.{◌≡◌, ◌++◌, ℕ, All, List, Option, Some, map}
+use Rattle.std.specs.Prelude.{◌≡◌, ◌+◌, ◌++◌, ℕ, All, List, Option, Some, length, map}
 use Rattle.tariffs.specs.Fares.{Fares}
 use Rattle.tap_views.specs.declared.encoder.TapFields.{TapFields}
-use Rattle.tap_views.specs.declared.token.Token.{Token}
-use Rattle.fare_texts.specs.Lines.{AreLinesAlong}
-use Rattle.tap_views.specs.TokenOrder.{IsUpTo}
-use Rattle.fare_texts.specs.WrittenOut.{Begins, GoesOut}
 use Rattle.fare_texts.specs.declared.explainer.Explainer.{Explainer}
-use Rattle.settlement.specs.Posted.{HasName, posted_after}
-use Rattle.settled_texts.specs.ExplainedTaps.{AreExplained}
-use Rattle.settlement.specs.Nondecreasing.{TapsNondecreasingFrom, last_token}
-use Rattle.histories.specs.declared.entry.Entry.{Entry}
+use Rattle.settlement.specs.Posted.{HasName}
+use Rattle.settlement.specs.Nondecreasing.{TapsNondecreasingFrom}
+use Rattle.settled_texts.specs.ExplainedTaps.{Explains, HaveLines}
 use Rattle.sorted_taps.specs.Spans.{HaveConsumed}
 use Rattle.sorted_taps.specs.declared.reader.TapReader.{TapReader}
 
--- Since the readers were at some places, taps were taken whose tokens do not fall from this one on.
--- They follow some entries: the explainer has consumed all of these and them. The lines of the
--- taps were written after what waited then, and the rest of both waits.
-pub record AreExplainedSoFar (fares : Fares) (known : List (Option (List ℕ))) (earlier : List Entry)
-    (started : List TapReader) (from : Token) (start : Option (List ℕ)) (waited : List ℕ)
-    (readers : List TapReader) (explainer : Explainer) (after : Option (List ℕ)) (waits : List ℕ)
-    : Type 0 where
-  pub taps : List TapFields
-  pub consumed : (files : List (List ℕ)) → known ≡ map Some files → HaveConsumed files started taps readers
-  pub named : All HasName taps
-  pub nondecreasing : TapsNondecreasingFrom from taps
-  pub lines : List ℕ
-  pub explained : AreExplained fares earlier taps explainer lines
-  pub gone : GoesOut start waited after waits lines
-  pub up : IsUpTo (last_token from taps) explainer.token
+-- Whoever came by taken taps to where the readers were comes by these to where the others are.
+abbrev pub GoOn : List (Option (List ℕ)) → List TapReader → List TapFields → List TapReader
+    → Type 0
+GoOn known old taps new = (files : List (List ℕ)) → known ≡ map Some files
+    → (from : List TapReader) (before : List TapFields) → HaveConsumed files from before old
+    → HaveConsumed files from (before ++ taps) new
 
--- Since the readers were at some places, taps were taken whose tokens do not fall from this one on,
--- and follow some entries. Of what waited then and of the lines of the taps a beginning was
--- written.
-pub record IsStartedSoFar (fares : Fares) (known : List (Option (List ℕ))) (earlier : List Entry)
-    (started : List TapReader) (from : Token) (start : Option (List ℕ)) (waited : List ℕ)
-    (after : Option (List ℕ)) : Type 0 where
+-- Taps were taken whose tokens do not fall from the explainer's, as many as are left no more, and
+-- the explainer went on by them. What is said of lines holds of theirs.
+pub record TakesLines (fares : Fares) (known : List (Option (List ℕ))) (old : List TapReader)
+    (explainer : Explainer) (left : ℕ) (new : List TapReader) (then : Explainer) (fewer : ℕ)
+    (said : List ℕ → Type 0) : Type 0 where
   pub taps : List TapFields
-  pub consumed : (files : List (List ℕ)) → known ≡ map Some files
-      → (readers : List TapReader) × HaveConsumed files started taps readers
+  pub goes_on : GoOn known old taps new
   pub named : All HasName taps
-  pub nondecreasing : TapsNondecreasingFrom from taps
-  pub lines : List ℕ
-  pub are : AreLinesAlong fares earlier (posted_after fares earlier taps) lines
-  pub written : Begins start after (waited ++ lines)
+  pub nondecreasing : TapsNondecreasingFrom explainer.token taps
+  pub explains : Explains fares explainer taps then said
+  pub counted : left ≡ fewer + length taps
+
+-- Taps were taken whose tokens do not fall from the explainer's. What is said of lines holds of
+-- theirs.
+pub record HasTaken (fares : Fares) (known : List (Option (List ℕ))) (old : List TapReader)
+    (explainer : Explainer) (said : List ℕ → Type 0) : Type 0 where
+  pub taps : List TapFields
+  pub goes_on : (files : List (List ℕ)) → known ≡ map Some files
+      → (readers : List TapReader) × ((from : List TapReader) (before : List TapFields)
+      → HaveConsumed files from before old → HaveConsumed files from (before ++ taps) readers)
+  pub named : All HasName taps
+  pub nondecreasing : TapsNondecreasingFrom explainer.token taps
+  pub lines : HaveLines fares explainer taps said

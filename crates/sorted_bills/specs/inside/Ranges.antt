@@ -1,49 +1,38 @@
 -- Lines of the taps of a range of the tokens: what private functions alone cite.
-use Rattle.std.specs.Prelude.{◌≡◌, ◌≤◌, ℕ, All, List, ◌++◌, [], Option, Some, IfSome, map}
+use Rattle.std.specs.Prelude.{◌≡◌, ◌<◌, ℕ, All, List, ◌++◌, [], Option, Some, IfSome, length, map}
 use Rattle.tariffs.specs.Fares.{Fares}
 use Rattle.tap_views.specs.declared.encoder.TapFields.{TapFields}
-use Rattle.tap_views.specs.declared.token.Token.{Token}
-use Rattle.fare_texts.specs.Lines.{AreUpTo}
-use Rattle.tap_views.specs.TokenOrder.{IsUpTo}
+use Rattle.fare_texts.specs.Explainers.{HasExplained}
 use Rattle.fare_texts.specs.declared.explainer.Explainer.{Explainer}
 use Rattle.settlement.specs.Posted.{HasName}
-use Rattle.settled_texts.specs.ExplainedTaps.{AreExplained}
-use Rattle.settlement.specs.Nondecreasing.{TapsNondecreasingFrom, last_token}
-use Rattle.histories.specs.Entry.{own}
-use Rattle.histories.specs.declared.entry.Entry.{Entry}
+use Rattle.settlement.specs.Nondecreasing.{TapsNondecreasingFrom}
+use Rattle.settled_texts.specs.ExplainedTaps.{Explains}
 use Rattle.sorted_taps.specs.Spans.{HaveConsumed, IsSpanOf}
 use Rattle.sorted_taps.specs.declared.merge.Merge.{Merge}
 use Rattle.sorted_taps.specs.declared.reader.TapReader.{TapReader}
 use Rattle.sorted_taps.specs.declared.span.Span.{Span}
 use Rattle.sorted_bills.specs.declared.range.Range.{Range}
 
--- these are the lines of taps that follow some entries, whose tokens do not fall from this one on;
--- the explainer has consumed all of them
-pub record AreLinesFrom (fares : Fares) (earlier : List Entry) (first : Token)
-    (taps : List TapFields) (explainer : Explainer) (lines : List ℕ) : Type 0 where
-  pub named : All HasName taps
-  pub nondecreasing : TapsNondecreasingFrom first taps
-  pub explained : AreExplained fares earlier taps explainer lines
-  pub up : IsUpTo (last_token first taps) explainer.token
+-- the explainer has consumed no entry
+pub record IsFresh (explainer : Explainer) : Type 0 where
+  pub explained : (fares : Fares) → HasExplained fares explainer []
+  pub none : explainer.number ≡ 0
 
--- the lines are those of the taps of the span
-pub record AreLinesOfSpan (fares : Fares) (known : List (Option (List ℕ))) (earlier : List Entry)
-    (first : Token) (span : Span) (explainer : Explainer) (lines : List ℕ) : Type 0 where
+-- the lines are those of the span's taps, so many, by which the explainer went on
+pub record AreLinesOf (fares : Fares) (known : List (Option (List ℕ))) (old : Explainer)
+    (span : Span) (new : Explainer) (number : ℕ) (lines : List ℕ) : Type 0 where
   pub taps : List TapFields
   pub spanned : (files : List (List ℕ)) → known ≡ map Some files → IsSpanOf files taps span
-  pub lines_are : AreLinesFrom fares earlier first taps explainer lines
+  pub named : All HasName taps
+  pub nondecreasing : TapsNondecreasingFrom old.token taps
+  pub explains : Explains fares old taps new (λ made. lines ≡ made)
+  pub counted : number ≡ length taps
 
--- the lines are those of the span, after whatever entries of lower tokens
-abbrev pub AreLinesAnywhere : Fares → List (Option (List ℕ)) → Token → Span → Explainer → List ℕ
-    → Type 0
-AreLinesAnywhere fares known first span explainer lines = (earlier : List Entry)
-    → own first earlier ≡ [] → AreUpTo earlier first
-    → AreLinesOfSpan fares known earlier first span explainer lines
-
--- if the range was made, its lines are those of its span, after whatever entries of lower tokens
+-- if the range was made, it has a tap, and a fresh explainer of its first token made its lines
 abbrev pub IsRange : Fares → List (Option (List ℕ)) → Range → Type 0
-IsRange fares known range = IfSome range.span (λ span. (range.explainer.number ≤ range.number)
-    × AreLinesAnywhere fares known range.first span range.explainer range.lines.items)
+IsRange fares known range = IfSome range.span (λ span. (0 < range.number)
+    × ((fresh : Explainer) × IsFresh fresh × (fresh.token ≡ range.first)
+    × AreLinesOf fares known fresh span range.explainer range.number range.lines.items))
 
 -- who has come to where the readers are, has come to where the merge is, after the taps of
 -- the span

@@ -1,8 +1,9 @@
-//! What is wrong with the modes, the transfers, the classes, the zone and the window of a text.
+//! What is wrong with the modes, the classes, the zone and the window of a text.
 
 use super::caps::{check_caps, check_ceilings};
 use super::people::{check_default, check_riders};
 use super::ranges::check_ranges;
+use super::transfers::check_transfers;
 use super::wrong::{Wrong, Wrongs};
 use crate::paths::{item_path, key_path};
 use fare_table::{
@@ -15,10 +16,6 @@ use toml::{Table, Value};
 
 /// How many names a line lists at most if one of them is wanted.
 pub(super) const LISTED_NAMES: usize = 12;
-
-const TRANSFERS: &str = "an array of pairs of modes, from and to; [] for none";
-
-const PAIR: &str = "a pair of modes, from and to";
 
 const CLASSES: &str = "a table of at least one rider class, each with fare";
 
@@ -155,50 +152,11 @@ fn modes_of<'t>(wrongs: &mut Wrongs, tree: &'t Table) -> Result<Option<Vec<&'t s
     Ok(Some(names))
 }
 
-/// Whether the value is a pair of strings.
-fn is_pair(value: &Value) -> bool {
-    match value.as_array() {
-        Some(array) => array.len() == 2 && array.iter().all(|name| name.is_str()),
-        None => false,
-    }
-}
-
-fn check_pairs(wrongs: &mut Wrongs, array: &Array, modes: &[&str]) -> Result<(), AllocError> {
-    let wanted = one_of(wrongs.alloc, "a mode of the table", modes)?;
-    for (position, value) in array.iter().enumerate() {
-        let pair = item_path(wrongs.alloc, "transfers", position)?;
-        if let Some(names) = value.as_array() {
-            for (side, name) in names.iter().enumerate() {
-                if !is_one_of(name, modes) {
-                    let path = item_path(wrongs.alloc, pair.as_str(), side)?;
-                    wrongs.value(path, name, wanted.as_str())?;
-                }
-            }
-        }
-    }
-    Ok(())
-}
-
 /// Whether the value is one of the names.
 pub(super) fn is_one_of(value: &Value, names: &[&str]) -> bool {
     match value.as_str() {
         Some(name) => names.iter().any(|other| *other == name),
         None => false,
-    }
-}
-
-fn check_transfers(
-    wrongs: &mut Wrongs,
-    tree: &Table,
-    modes: &Option<Vec<&str>>,
-) -> Result<(), AllocError> {
-    let Some((_, array)) = array_at(wrongs, tree, "transfers", TRANSFERS)? else {
-        return Ok(());
-    };
-    let are_pairs = are_all(wrongs, array, "transfers", PAIR, |pair| is_pair(pair))?;
-    match modes {
-        Some(modes) if are_pairs => check_pairs(wrongs, array, modes),
-        _ => Ok(()),
     }
 }
 

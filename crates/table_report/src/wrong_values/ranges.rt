@@ -49,18 +49,20 @@ fn check_overlap(
     }
 }
 
-fn check_mode(
+/// The key of an element is to name a mode.
+pub(super) fn check_mode(
     wrongs: &mut Wrongs,
     path: &str,
     entry: &Table,
+    key: &str,
     modes: &Option<Vec<&str>>,
 ) -> Result<(), AllocError> {
     let wanted = match modes {
         Some(modes) => one_of(wrongs.alloc, "a mode of the table", modes)?,
         None => String::from_str(wrongs.alloc, "a mode of the table")?,
     };
-    let Some(value) = entry.get("mode") else {
-        return wrongs.missing(path, "mode", wanted.as_str());
+    let Some(value) = entry.get(key) else {
+        return wrongs.missing(path, key, wanted.as_str());
     };
     let succeeded = match modes {
         Some(modes) => is_one_of(value, modes),
@@ -69,7 +71,7 @@ fn check_mode(
     if succeeded {
         return Ok(());
     }
-    let path = key_path(wrongs.alloc, path, "mode")?;
+    let path = key_path(wrongs.alloc, path, key)?;
     wrongs.value(path, value, wanted.as_str())
 }
 
@@ -95,7 +97,7 @@ fn check_range(
         i64::from(u32::MAX),
         "",
     )?;
-    check_mode(wrongs, path.as_str(), entry, modes)?;
+    check_mode(wrongs, path.as_str(), entry, "mode", modes)?;
     match (first, last) {
         (Some(first), Some(last)) => {
             check_overlap(wrongs, ranges, path.as_str(), position, first, last, value)

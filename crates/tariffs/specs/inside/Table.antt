@@ -1,10 +1,12 @@
 -- What holds of the tariffs of every fare table, and what contracts see of them.
 use Rattle.std.specs.Prelude.{◌≡◌, ℕ, ◌<◌, ◌≤◌, suc, if◌then◌else◌, nat_le, List, [], ◌∷◌, All}
+use Rattle.std.specs.Prelude.{◌==◌, ◌||◌, not}
 use Rattle.std.specs.Prelude.{Bool, true, false, length, map, Option, Some, None}
 use Rattle.std.specs.Arc.{arc_value}
 use Rattle.std.specs.Cmp.Lexicographic.{pointwise}
+use Rattle.std.specs.List.{list_any}
 use Rattle.tariffs.specs.Names.{same_name}
-use Rattle.tariffs.specs.Fares.{Fares}
+use Rattle.tariffs.specs.Fares.{Fares, names_price}
 use Rattle.tariffs.specs.TableMeaning.{TableMeaning}
 use Rattle.tariffs.specs.TariffView.{TariffView}
 use Rattle.tariffs.specs.declared.table.DatedTariff.{DatedTariff}
@@ -31,11 +33,14 @@ first_from (next ∷ later) = next.0
 abbrev pub HasModes : List (List ℕ) → ℕ × TableMeaning → Type 0
 HasModes modes next = next.1.modes ≡ modes
 
--- the first date is at hand, or 0 if there are caps, and all tables have the modes of the first one
-pub record AreDated (meaning : TableMeaning) (until : ℕ) (later : List (ℕ × TableMeaning))
-    : Type 0 where
+-- the first date is at hand, or 0 if there are caps or prices, it is known whether there are
+-- prices, and all tables have the modes of the first one
+pub record AreDated (meaning : TableMeaning) (priced : Bool) (until : ℕ)
+    (later : List (ℕ × TableMeaning)) : Type 0 where
   pub first : until ≤ first_from later
-  pub plain : 0 < until → length meaning.caps ≡ 0
+  pub known : priced
+      ≡ (names_price meaning || list_any (λ next. names_price next.1) later)
+  pub plain : 0 < until → (not (length meaning.caps == 0) || priced) ≡ false
   pub alike : All (HasModes meaning.modes) later
 
 -- how many of the tables that follow are valid at the moment or were before, up to the first that

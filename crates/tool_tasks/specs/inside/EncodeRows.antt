@@ -1,5 +1,5 @@
 -- What an encoding of CSVs has loaded and made so far: what private functions alone cite.
-use Rattle.std.specs.Prelude.{◌≡◌, ⊤, ℕ, Bool, List, None, Option, Some, map, option_map, string_bytes}
+use Rattle.std.specs.Prelude.{◌≡◌, ⊤, ℕ, Bool, List, [], None, Option, Some, map, option_map, string_bytes}
 use Rattle.jiff_tz.specs.declared.timezone.TimeZone.{TimeZone}
 use Rattle.jiff_tz.specs.declared.timezone.TimeZone.TheVariants as zones
 use Rattle.jiff_tz.specs.declared.tzif.Tzif.{Tzif}
@@ -17,7 +17,7 @@ use Rattle.tool_tasks.specs.declared.encode_loads.Texts.{Texts as HeldTexts}
 use Rattle.tool_tasks.specs.declared.prepared.NewFile.{NewFile}
 use Rattle.tool_tasks.specs.declared.prepared.Prepared.{Prepared}
 use Rattle.tool_tasks.specs.declared.wrong_tables.WrongRows.{WrongRows}
-use Rattle.tool_tasks.specs.inside.Prepared.{IsRefusal, answer_of, files_of}
+use Rattle.tool_tasks.specs.inside.Prepared.{IsRefusal, whole_of}
 use Rattle.tool_words.specs.declared.task.RowsWords.{RowsWords}
 use Rattle.world.specs.Origins.{with_loads}
 use Rattle.world.specs.Run.{Run}
@@ -78,19 +78,19 @@ IsOf word (Some file) = word ≡ Some file.name.now
 
 -- each file that was prepared has the name of its word
 pub record AreOf (words : RowsWords) (prepared : Prepared) : Type 0 where
-  pub devices : IsOf (word_in words.devices) prepared.devices
+  pub devices : IsOf (word_in words.devices) prepared.first
   pub upload : IsOf (word_in words.out) prepared.upload
-  pub refused : IsOf (word_in words.refused) prepared.refused
+  pub refused : IsOf (word_in words.refused) prepared.held
 
 -- what was prepared is the answer to the CSVs, if they are read so
 abbrev pub PreparesCsvs : RowsWords → Choice → List Csv → Prepared → Type 0
 PreparesCsvs words choice csvs prepared = AreOf words prepared
-    × IsRowsAnswer words choice csvs (answer_of prepared) (files_of prepared) prepared.status
+    × IsRowsAnswer words choice csvs (whole_of [] prepared) prepared.status
 
 -- what was prepared is the answer to the texts
 abbrev pub Prepares : RowsWords → Bool → Texts → Prepared → Type 0
 Prepares words is_there texts prepared = AreOf words prepared
-    × AnswersTexts words is_there texts (answer_of prepared) (files_of prepared) prepared.status
+    × AnswersTexts words is_there texts (whole_of [] prepared) prepared.status
 
 -- what was prepared says what is wrong with this CSV
 abbrev pub IsWrongCsv : RowsWords → Choice → Csv → Prepared → Type 0

@@ -1,11 +1,15 @@
 -- Files that are loaded by their words.
-use Rattle.std.specs.Prelude.{◌≡◌, ℕ, List, Some, slice_get}
-use Rattle.tool_tasks.specs.Names.{file_named}
-use Rattle.world.specs.Run.{Run, with_load}
+use Rattle.std.specs.Prelude.{⊤, ℕ, Contains, List, None, Option, Some}
+use Rattle.frame.specs.Outsides.{Leaves}
+use Rattle.frame.specs.declared.outside.Outside.{Outside}
+use Rattle.world.specs.Origins.{with_loads}
+use Rattle.world.specs.Run.{Load, Run}
 
--- these bytes were loaded under the name that the word of this number names
-pub record LoadsAt (words : List (List ℕ)) (number : ℕ) (old new : Run) (bytes : List ℕ)
-    : Type 0 where
-  pub word : List ℕ
-  pub is_word : slice_get words number ≡ Some word
-  pub loaded : new ≡ with_load old (file_named word) bytes
+-- one of the words is the name, if there is one
+abbrev pub IsNameIn : List (List ℕ) → Option (List ℕ) → Type 0
+IsNameIn words None = ⊤
+IsNameIn words (Some name) = Contains words name
+
+-- some files were loaded, and then this came
+abbrev pub StopsLoading : List (List ℕ) → Outside → Run → Run → Type 0
+StopsLoading words why old new = (loads : List Load) × Leaves words why (with_loads old loads) new

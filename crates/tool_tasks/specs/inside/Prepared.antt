@@ -1,75 +1,77 @@
 -- What is done of what was prepared: what private functions alone cite.
-use Rattle.std.specs.Prelude.{◌≡◌, ⊤, ℕ, List, [], ◌∷◌, ◌++◌, None, Option, Some, slice_get}
-use Rattle.std.specs.Prelude.{string_bytes}
-use Rattle.frame.specs.Ends.{Answer}
-use Rattle.frame.specs.Making.{did_making}
-use Rattle.frame.specs.Stops.{IsNamed, Leaves}
-use Rattle.frame.specs.declared.stop.Stop.{Stop}
-use Rattle.frame.specs.declared.stop.Stop.TheVariants.{Unwritten}
+use Rattle.std.specs.Prelude.{◌≡◌, ⊤, ℕ, Contains, List, [], ◌∷◌, None, Option, Some, Result, Ok, Err}
+use Rattle.std.specs.Prelude.{option_map, string_bytes}
+use Rattle.frame.specs.Given.{Given, file_of, gave, with_files, with_note, with_text}
+use Rattle.frame.specs.Outsides.{IsStoppedIn}
 use Rattle.tool_tasks.specs.Encode.{Refuses}
+use Rattle.tool_tasks.specs.declared.prepared.Begun.{Begun}
 use Rattle.tool_tasks.specs.declared.prepared.NewFile.{NewFile}
 use Rattle.tool_tasks.specs.declared.prepared.Prepared.{Prepared}
-use Rattle.tool_tasks.specs.inside.Sort.{HaltsMade}
-use Rattle.world.specs.Run.{Named, Run, with_cut}
-use Rattle.world.specs.declared.faults.WriteFault.{WriteFault}
-
-abbrev pub text_of : List ℕ → Answer
-text_of text = record { text = text; note = [] }
-
-abbrev pub answer_of : Prepared → Answer
-answer_of prepared = record { text = prepared.text.items; note = string_bytes prepared.note }
+use Rattle.tool_tasks.specs.declared.stops.Halt.{Halt}
+use Rattle.world.specs.Run.{Load, Named, Run, with_flushed}
 
 abbrev pub files_in : Option NewFile → List Named
 files_in None = []
-files_in (Some file) = record { name = file.name.now; bytes = file.bytes.items } ∷ []
+files_in (Some file) = file_of file.name.now file.bytes.items ∷ []
 
--- the files that are made before the text is written, and all of them
-abbrev pub files_first : Prepared → List Named
-files_first prepared = files_in prepared.devices ++ files_in prepared.upload
+abbrev pub known_file : List ℕ → Option (List ℕ) → List Named
+known_file name None = []
+known_file name (Some bytes) = file_of name bytes ∷ []
 
-abbrev pub files_of : Prepared → List Named
-files_of prepared = files_first prepared ++ files_in prepared.refused
+-- the file that was begun, by what it holds
+abbrev pub begun_files : {F : Type 0} → (F → Option (List ℕ)) → Option (Begun F) → List Named
+begun_files contents None = []
+begun_files contents (Some begun) = known_file begun.name.now (contents begun.file)
 
-abbrev pub HasNoFiles : Prepared → Type 0
-HasNoFiles prepared =
-    (prepared.devices ≡ None) × (prepared.upload ≡ None) × (prepared.refused ≡ None)
+abbrev pub IsKnown : {F : Type 0} → (F → Option (List ℕ)) → Option (Begun F) → Type 0
+IsKnown contents None = ⊤
+IsKnown contents (Some begun) = (bytes : List ℕ) × (contents begun.file ≡ Some bytes)
+
+-- with the files that are not begun, and the text
+abbrev pub with_prepared : Given → Prepared → Given
+with_prepared g p = with_files (with_text (with_files g (files_in p.first)) p.text.items)
+    (files_in p.upload)
+
+-- what was loaded, what was prepared, and these files
+abbrev pub given_of : List Load → Prepared → List Named → Given
+given_of loads p files = with_note (with_files (with_prepared
+    (record { loads = loads; text = []; note = []; files = [] }) p) files) (string_bytes p.note)
+
+-- the same with the file that is held, if there is one
+abbrev pub whole_of : List Load → Prepared → Given
+whole_of loads p = given_of loads p (files_in p.held)
+
+pub record HasNoFiles (p : Prepared) : Type 0 where
+  pub first : p.first ≡ None
+  pub upload : p.upload ≡ None
+  pub held : p.held ≡ None
+
+-- the only file is of this name, and is made after the text
+pub record IsAlone (name : List ℕ) (p : Prepared) : Type 0 where
+  pub first : p.first ≡ None
+  pub held : p.held ≡ None
+  pub upload : option_map (λ file. file.name.now) p.upload ≡ Some name
 
 -- the line is noted, with more after it, and there are no files
 abbrev pub IsRefusal : (line more : List ℕ) → Prepared → Type 0
-IsRefusal line more prepared =
-    Refuses line more (answer_of prepared) (files_of prepared) prepared.status
-    × HasNoFiles prepared
+IsRefusal line more p = Refuses line more (whole_of [] p) p.status × HasNoFiles p
 
--- the file, if there is one, is that of this number
-abbrev pub IsNamedIn : List (List ℕ) → ℕ → Option NewFile → Type 0
-IsNamedIn names number None = ⊤
-IsNamedIn names number (Some file) = slice_get names number ≡ Some file.name.now
+-- ---- the words that name the files
+abbrev pub IsNamedIn : List (List ℕ) → Option NewFile → Type 0
+IsNamedIn words None = ⊤
+IsNamedIn words (Some file) = Contains words file.name.now
 
--- the names have those of the files
-pub record AreNamed (names : List (List ℕ)) (prepared : Prepared) : Type 0 where
-  pub devices : IsNamedIn names 0 prepared.devices
-  pub upload : IsNamedIn names 4 prepared.upload
-  pub refused : IsNamedIn names 1 prepared.refused
+abbrev pub IsBegunIn : {F : Type 0} → List (List ℕ) → Option (Begun F) → Type 0
+IsBegunIn words None = ⊤
+IsBegunIn words (Some begun) = Contains words begun.name.now
 
--- the file of this number was not made
-abbrev pub HaltsFile : Option NewFile → ℕ → Stop → Run → Run → Type 0
-HaltsFile None number why old new = ⊥
-HaltsFile (Some file) number why old new = HaltsMade file.name.now number why old new
+pub record AreNamed (words : List (List ℕ)) (p : Prepared) : Type 0 where
+  pub first : IsNamedIn words p.first
+  pub upload : IsNamedIn words p.upload
+  pub held : IsNamedIn words p.held
 
--- the flush failed
-pub record HaltsEnd (why : Stop) (old new : Run) : Type 0 where
-  pub fault : WriteFault
-  pub is : why ≡ Unwritten fault
-  pub cut : new ≡ with_cut old fault
-
--- a prefix of the text was written, and the first of the files were made, when this came
-pub record HaltsPart (names : List (List ℕ)) (text : List ℕ) (files : List Named) (why : Stop)
-    (old new : Run) : Type 0 where
-  pub front : List ℕ
-  pub rest : List ℕ
-  pub is_text : text ≡ front ++ rest
-  pub made : List Named
-  pub others : List Named
-  pub is_files : files ≡ made ++ others
-  pub named : IsNamed names why
-  pub all : Leaves names why (did_making old [] (text_of front) made) new
+-- all of it was given and flushed; or a part, when this came
+abbrev pub Carries : List (List ℕ) → Run → Given → ℕ → Run → Result ℕ Halt → Type 0
+Carries words start whole status new (Ok result) =
+    (result ≡ status) × (new ≡ with_flushed (gave start whole))
+Carries words start whole status new (Err halt) = IsStoppedIn words start new whole halt.why

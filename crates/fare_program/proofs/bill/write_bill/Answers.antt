@@ -15,8 +15,7 @@ returns-in-Ok-settled_bill-clause-ends g c =
     (λ text success made. (
       files,
       read,
-      shows_bill (request_of c.args.options.now) c.args.table.now files text success c.requires
-          billed.0 billed.1 c.in-Ok-settled_bill.made.ends.items ended made.0
-          (made.1 billed.0 billed.2),
+      shows_bill (request_of c.args.options.now) c.args.table.now files text success billed.0
+          billed.1 _ ended made.0 c.requires (made.1 billed.0 billed.2),
     ))
     c.write_billed.ensures.ends

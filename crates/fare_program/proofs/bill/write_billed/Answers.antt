@@ -1,5 +1,4 @@
 use Rattle.std.proofs.Common.{◌≡◌, ◌∙◌, ap, arith, map, refl}
-use Rattle.std.proofs.KnownBytes.{Keeps-refl}
 use Rattle.std.proofs.lemmas.Result.{IfErr-weaker, on_ok_weaker}
 use Rattle.histories.specs.Sums.{Sums, sums, sums_of}
 use Rattle.histories.specs.Shown.{validator_sum}
@@ -42,8 +41,7 @@ returns-clause-ends g c =
           ∙ c.in-Ok.ensures history bill.counts.validators in
           is.1 ∙ (λ i. report (c.deref.ensures.value i) (one i) (two i) (bill.tokens i)),
     ))
-    (gives_printed (λ shown. shown ≡ text) _ _ _ written c.are_posted.result
-    (λ same. rw same (Keeps-refl _))
+    (gives_printed g.W.Write.contents _ _ (λ shown. shown ≡ text) written c.are_posted.result
     (on_ok_weaker written (λ all. (text, refl, all)) c.write_report-written.ensures.ok)
     (IfErr-weaker written _ _ (λ fault started write. (text, refl, started write))
     c.write_report-written.ensures.started)

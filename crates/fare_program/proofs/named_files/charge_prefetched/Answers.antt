@@ -1,4 +1,3 @@
-use Rattle.std.proofs.Common.{sym}
 use Rattle.fare_program.proofs.Ends.{started_of}
 use Rattle.fare_program.proofs.Prefetched.{charged_joined}
 use Rattle.fare_program.proofs.named_files.charge_prefetched.Goals as goal
@@ -7,8 +6,8 @@ pub returns-in-Ok-clause-ends : goal.returns-in-Ok-clause-ends
 returns-in-Ok-clause-ends g c =
     let (text, is, written) = c.in-Ok.ensures.ends in (
       text,
-      charged_joined _ _ _ _ _ c.charge_named.new.calls.run _ _ _ text c.in-Ok.success
-          c.new-calls.ensures c.join.ensures.loaded (sym c.in-Some.is) is,
+      charged_joined _ _ _ _ _ _ _ c.charge_named.new.calls.run text c.in-Ok.success
+          c.new-calls.ensures c.join.ensures.loaded is,
       written,
     )
 
@@ -19,8 +18,8 @@ returns-in-Err-Write-clause-ends g c =
       text,
       (
         success,
-        charged_joined _ _ _ _ _ c.charge_named.new.calls.run _ _ _ text success
-            c.new-calls.ensures c.join-in-Err-Write.ensures.loaded (sym c.in-Some.is) is,
+        charged_joined _ _ _ _ _ _ _ c.charge_named.new.calls.run text success
+            c.new-calls.ensures c.join-in-Err-Write.ensures.loaded is,
       ),
       started,
     )

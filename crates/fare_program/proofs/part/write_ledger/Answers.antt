@@ -1,11 +1,8 @@
-use Rattle.std.proofs.Common.{◌++◌, List, refl, subst}
-use Rattle.std.specs.Io.KnownBytes.{Appends}
-use Rattle.std.proofs.KnownBytes.{Appends-trans, Keeps-refl}
+use Rattle.std.proofs.Common.{◌++◌, refl}
+use Rattle.std.proofs.KnownBytes.{Appends-trans}
 use Rattle.fare_texts.proofs.Beginnings.{begins_after}
 use Rattle.fare_texts.specs.LedgerLines.{head_text}
-use Rattle.sorted_bills.specs.Parts.{IsPartOf}
 use Rattle.part_texts.specs.Heads.{part_head}
-use Rattle.sorted_taps.specs.declared.positions.FileSpan.{FileSpan}
 use Rattle.fare_program.proofs.Ends.{printed, unwritten}
 use Rattle.fare_program.proofs.part.write_ledger.Goals as goal
 
@@ -25,23 +22,20 @@ returns-in-Ok-write_part_ledger-clause-ends g c =
               spans = spans;
               lists = lists;
               history = history;
-              part = subst (λ (s : List FileSpan). IsPartOf c.args.table.now all s lists history)
-                  c.deref-3.ensures.value of;
+              part = rw c.deref-3.ensures.value at of;
               body = body;
               shows = over;
               whole = refl;
             },
       ),
       Appends-trans old mid new (part_head spans) body
-          (subst (λ (s : List FileSpan). Appends old mid (part_head s)) c.deref-2.ensures.value
-          c.in_default.ensures.ok) written,
+          (rw c.deref-2.ensures.value at c.in_default.ensures.ok) written,
     )
 
 -- nothing is known of a prefix of it
 pub returns-in-Err-write_part_head-clause-ends : goal.returns-in-Err-write_part_head-clause-ends
 returns-in-Err-write_part_head-clause-ends g c = rw c.of_print.ensures
-    (printed _ _ _ c.in-Err-write_part_head.fault _ c.in-Err-write_part_head.ensures.fault
-    (λ same. rw same (Keeps-refl _))
+    (printed g.W.Write.contents _ _ _ c.in-Err-write_part_head.fault c.in-Err-write_part_head.ensures.fault
     (λ write. (
       part_head c.deref-2.result.now,
       (λ given. absurd (cc)),

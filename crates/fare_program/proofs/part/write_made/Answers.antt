@@ -1,10 +1,7 @@
-use Rattle.std.proofs.Common.{◌++◌, List, ap, refl, subst, true}
-use Rattle.std.proofs.KnownBytes.{Appends-trans, Keeps-refl}
-use Rattle.std.specs.Io.KnownBytes.{Appends}
+use Rattle.std.proofs.Common.{◌++◌, ap, refl, true}
+use Rattle.std.proofs.KnownBytes.{Appends-trans}
 use Rattle.fare_texts.proofs.Beginnings.{begins_after, begins_front}
-use Rattle.fare_texts.specs.WrittenOut.{Begins}
 use Rattle.part_texts.specs.Heads.{part_head}
-use Rattle.sorted_taps.specs.declared.positions.FileSpan.{FileSpan}
 use Rattle.fare_program.specs.Parts.{report_over}
 use Rattle.fare_program.proofs.Ends.{printed, started_of}
 use Rattle.fare_program.proofs.part.write_made.Goals as goal
@@ -14,14 +11,12 @@ returns-in-Err-clause-ends g c history is =
     let made = c.args.made in
     let old = g.W.Write.contents c.args.out.now in
     let new = g.W.Write.contents c.write_part_head.new.out in
-    rw c.of_print.ensures (printed _ _ _ c.in-Err.fault _ c.in-Err.ensures.fault
-    (λ same. rw same (Keeps-refl _))
+    rw c.of_print.ensures (printed g.W.Write.contents _ _ _ c.in-Err.fault c.in-Err.ensures.fault
     (λ write. (
       part_head made.spans.items ++ report_over made.billed.ends.items history,
       (true, (refl, refl)),
       begins_front old new (part_head made.spans.items) _
-          (subst (λ (spans : List FileSpan). Begins old new (part_head spans))
-          c.deref.ensures.value (c.in-Err.ensures.started write)),
+          (rw c.deref.ensures.value at (c.in-Err.ensures.started write)),
     )))
 
 pub returns-in-Ok-clause-ends : goal.returns-in-Ok-clause-ends
@@ -34,8 +29,7 @@ returns-in-Ok-clause-ends g c history is =
       head ++ text,
       (refl, ap (λ body. head ++ body) (report history is)),
       Appends-trans old mid new head text
-          (subst (λ (spans : List FileSpan). Appends old mid (part_head spans))
-          c.deref.ensures.value c.in_default.ensures.ok) written,
+          (rw c.deref.ensures.value at c.in_default.ensures.ok) written,
     )
 
 pub returns-in-Err-Write-clause-ends : goal.returns-in-Err-Write-clause-ends
@@ -49,6 +43,5 @@ returns-in-Err-Write-clause-ends g c history is =
       head ++ text,
       (true, (refl, ap (λ body. head ++ body) (report history is))),
       begins_after old mid new head text
-          (subst (λ (spans : List FileSpan). Appends old mid (part_head spans))
-          c.deref.ensures.value c.in_default.ensures.ok) started,
+          (rw c.deref.ensures.value at c.in_default.ensures.ok) started,
     )

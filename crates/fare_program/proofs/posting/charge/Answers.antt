@@ -1,11 +1,9 @@
-use Rattle.std.proofs.Common.{◌≡◌, ◌∙◌, ℕ, List, [], Vec, Global, ap, length, map, subst, sym}
+use Rattle.std.proofs.Common.{◌≡◌, ◌∙◌, ℕ, List, [], Vec, Global, ap, length, map, sym}
 use Rattle.std.specs.Prelude.{slice_index_or}
 use Rattle.std.proofs.lemmas.List.{length-map}
 use Rattle.world.specs.Origins.{memory}
 use Rattle.world.specs.Run.{Run}
 use Rattle.fare_program.specs.inside.Options.{request_of}
-use Rattle.fare_program.specs.Program.{ShowsRequest}
-use Rattle.fare_program.specs.Settling.{ShowsSettled}
 use Rattle.fare_service.proofs.UploadFileSource.{known_files}
 use Rattle.settlement.specs.Reading.{AreRead}
 use Rattle.settlement.proofs.LoadedFiles.{loaded_files}
@@ -21,31 +19,25 @@ read_files : (all : List (Vec ℕ Global)) (files : List (List ℕ)) (old new : 
     → AreRead (λ upload. memory (slice_index_or (map bytes_in all) upload [])) 0 (length all) files
     old new → files ≡ map bytes_in all
 read_files all files old new read =
-    loaded_files (map bytes_in all) files old new
-    (subst (λ n. AreRead (λ upload. memory (slice_index_or (map bytes_in all) upload [])) 0 n files
-    old new) (sym (length-map all bytes_in)) read)
+    loaded_files (map bytes_in all) files old new (rw (← length-map all bytes_in) at read)
 
 pub returns-clause-ends : goal.returns-clause-ends
 returns-clause-ends g c =
     gives_by _ _ _ _ c.charge_provided.result
-    (λ text success is. (
-      is.1,
-      subst (λ fs. ShowsRequest (request_of c.args.options.now) c.args.table fs is.1 c.args.token
-          text success) (known_files bytes_in c.as_slice.result.now is.0 is.2.provided
-          ∙ ap (map bytes_in) c.as_slice.ensures.value) is.3,
-    ))
+    (λ text success is.
+    let known = known_files bytes_in c.as_slice.result.now is.0 is.2.provided
+    ∙ ap (map bytes_in) c.as_slice.ensures.value in
+    (is.1, rw known at is.3))
     c.charge_provided.ensures.ends
 
 pub returns-then-options-clause-ends : goal.returns-then-options-clause-ends
 returns-then-options-clause-ends g c =
-    let request = request_of c.args.options.now in
     gives_by _ _ _ _ c.charge_settled.result
-    (λ text success is. (
+    (λ text success is.
+    let known = read_files c.deref.result.now is.0 _ _ is.1
+    ∙ ap (map bytes_in) c.deref.ensures.value in (
       [],
-      settled_request request c.args.table (map bytes_in c.args.files.items) [] c.args.token text
-          success c.if-options.true
-          (subst (λ fs. ShowsSettled request c.args.table fs c.args.token text success)
-          (read_files c.deref.result.now is.0 _ _ is.1 ∙ ap (map bytes_in) c.deref.ensures.value)
-          is.2),
+      settled_request (request_of c.args.options.now) c.args.table (map bytes_in c.args.files.items)
+          c.args.token text success [] c.if-options.true (rw known at is.2),
     ))
     c.charge_settled.ensures.ends

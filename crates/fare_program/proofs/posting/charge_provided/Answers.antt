@@ -1,26 +1,25 @@
 use Rattle.std.proofs.Common.{◌∙◌, ap, refl}
-use Rattle.std.proofs.KnownBytes.{Keeps-refl}
 use Rattle.std.proofs.lemmas.Result.{IfErr-weaker}
 use Rattle.fare_service.specs.Headline.{drawn_by}
-use Rattle.fare_program.specs.inside.Causes.{IsRightOfUploads, IsRunFailure}
+use Rattle.fare_program.specs.inside.Causes.{IsRightOfUploads}
 use Rattle.fare_program.specs.inside.Options.{request_of}
 use Rattle.tap_views.specs.UploadEnds.{are_posted}
 use Rattle.world.specs.Run.{Calls, Run, with_all}
-use Rattle.fare_program.proofs.Causes.{before, of_output}
+use Rattle.fare_program.proofs.Causes.{of_output}
 use Rattle.fare_program.specs.inside.Fault.{ended_as}
-use Rattle.fare_program.proofs.Ends.{gives_by, gives_printed}
+use Rattle.fare_program.proofs.Ends.{gives_by, gives_printed, unwritten}
 use Rattle.fare_program.proofs.PostedTexts.{live_request}
 use Rattle.fare_program.proofs.posting.charge_provided.Goals as goal
 
 pub returns-clause-ends : goal.returns-clause-ends
 returns-clause-ends g c =
     let outcome = c.in-Ok.outcome in
-    let (files, live) = c.in-Ok.ensures.live in
+    let live = c.in-Ok.ensures.run in
     let posted = c.are_posted-success.result in
     rw c.ended.ensures.ended
     (gives_by _ _ _ _ (ended_as c.print_requested-printed.result posted)
     (λ text success is. (
-      files,
+      live.files,
       drawn_by live.run.0,
       record {
         provided = live.provided;
@@ -29,19 +28,18 @@ returns-clause-ends g c =
         appended = ap (λ (k : Calls). k.run) c.join.ensures
             ∙ ap (λ (r : Run). with_all c.args.calls.now.run r) c.into_calls.ensures;
       },
-      live_request (request_of c.args.options.now) c.args.table files (drawn_by live.run.0)
-          c.args.token text success (g.U.UploadSource.origins c.args.uploads) outcome c.requires
-          is.1 (is.0 ∙ c.are_posted-success.ensures ∙ ap are_posted c.ends.ensures) live refl,
+      live_request (request_of c.args.options.now) c.args.table live.files c.args.token text success
+          outcome c.requires is.1 (is.0 ∙ c.are_posted-success.ensures ∙ ap are_posted c.ends.ensures)
+          live.run (λ posted. c.shows_plain.ensures live.files c.args.table _ _
+          (request_of c.args.options.now) c.args.token text live.run posted is.1),
     ))
-    (gives_printed _ _ _ _ c.print_requested-printed.result posted
-    (λ same. rw same (Keeps-refl _)) c.print_requested-printed.ensures.ok
+    (gives_printed g.W.Write.contents _ _ _ c.print_requested-printed.result posted c.print_requested-printed.ensures.ok
     c.print_requested-printed.ensures.started c.print_requested-printed.ensures.fault))
 
 pub returns-clause-right : goal.returns-clause-right
 returns-clause-right g c =
-    IfErr-weaker c.ended.result _ _ (of_output (IsRightOfUploads _ _) tt tt) c.ended.ensures.output
+    IfErr-weaker c.ended.result _ _ (of_output (IsRightOfUploads _) tt tt) c.ended.ensures.output
 
 -- what is posted does not write
 pub returns-in-Err-clause-ends : goal.returns-in-Err-clause-ends
-returns-in-Err-clause-ends g c =
-    before _ _ (IsRunFailure _) (λ write. write) c.in-Err.fault c.in-Err.ensures.fault
+returns-in-Err-clause-ends g c = unwritten _ _ c.in-Err.fault c.in-Err.ensures.unwritten

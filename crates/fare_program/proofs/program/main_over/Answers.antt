@@ -1,34 +1,60 @@
-use Rattle.std.proofs.Common.{◌≡◌, ℕ, Bool, List, None, Option, Some, arith, false, inl, inr}
-use Rattle.std.proofs.Common.{map, refl, subst, sym, true}
-use Rattle.std.specs.Prelude.{◌≢◌, string_bytes}
-use Rattle.std.specs.Io.KnownBytes.{Appends, Keeps}
+use Rattle.std.proofs.Common.{◌≡◌, ◌≤◌, ℕ, suc, zero, Bool, List, None, Option, Some, arith, false}
+use Rattle.std.proofs.Common.{inl, inr, map, refl, subst, sym, true}
+use Rattle.std.specs.Prelude.{◌≢◌, ◌⊎◌, string_bytes}
 use Rattle.std.proofs.KnownBytes.{Appends-kept, Keeps-refl}
 use Rattle.clap.specs.Words.{IsAmong, Text, fault_of, kind_of}
 use Rattle.clap.specs.declared.error.kind.ErrorKind.{ErrorKind}
+use Rattle.clap.specs.declared.error.kind.ErrorKind.TheVariants.{OutOfMemory}
 use Rattle.fare_program.specs.Causes.{IsRightFault}
-use Rattle.fare_program.specs.Ends.{AreOfBytes, Did, Ends, EndsCommand, HasFailed, HasFinished}
+use Rattle.fare_program.specs.Ends.{AreOfBytes, Did, Ends, EndsAnswer, EndsCommand}
 use Rattle.fare_program.specs.Ends.{Leaves}
 use Rattle.fare_program.specs.inside.Options.{request_of}
 use Rattle.fare_texts.proofs.Beginnings.{begins_whole}
-use Rattle.fare_program.specs.Fault.{fault_text}
 use Rattle.fare_program.specs.Options.{AsksForText, Parses, Request, program, request_by}
 use Rattle.fare_program.specs.Program.{Does}
 use Rattle.fare_program.specs.declared.fault.Fault.{Fault}
 use Rattle.fare_program.specs.declared.fault.Fault.TheVariants.{Late, NoMemory, Write}
 use Rattle.fare_program.specs.inside.Ends.{Stops}
 use Rattle.fare_program.specs.inside.Fault.{as_remembered}
-use Rattle.program_manners.specs.LineWritten.{LineWritten}
 use Rattle.program_manners.specs.Words.{IsRequest}
 use Rattle.program_manners.specs.declared.output.WriteEnd.{WriteEnd}
+use Rattle.fare_program.proofs.Usable.{words_read}
 use Rattle.fare_program.proofs.program.main_over.Goals as goal
 
--- of the words that are no command line, help or the version is asked for
-asks_for : (words : List Text) (kind : ErrorKind) → IsRequest kind
-    → IsAmong kind (fault_of program words) → AsksForText words
-asks_for words kind asks among = elim asks [
-  | inl help ↦ inl (subst (λ k. IsAmong k (fault_of program words)) help among)
-  | inr version ↦ inr (subst (λ k. IsAmong k (fault_of program words)) version among)
-]
+-- what follows of the kind of an error of words
+asks_for : (words : List Text) (kind : ErrorKind)
+    → (kind ≡ OutOfMemory) ⊎ IsAmong kind (fault_of program words) → IsRequest kind
+    → AsksForText words
+asks_for words kind (inl memory) (inl help) = cc
+asks_for words kind (inl memory) (inr version) = cc
+asks_for words kind (inr among) (inl help) =
+    inl (subst (λ k. IsAmong k (fault_of program words)) help among)
+asks_for words kind (inr among) (inr version) =
+    inr (subst (λ k. IsAmong k (fault_of program words)) version among)
+
+unread : (words : List Text) (kind : ErrorKind) (status : ℕ)
+    → (kind ≡ OutOfMemory) ⊎ IsAmong kind (fault_of program words)
+    → (kind ≡ OutOfMemory → status ≡ 1) → status ≡ 2 → ¬ Parses words
+unread words kind status (inl memory) one two parses = absurd (omega (arith, two, one memory))
+unread words kind status (inr among) one two parses = absurd (subst (IsAmong kind) parses among)
+
+by_status : (P : ℕ → Type 0) (status : ℕ) → status ≤ 2 → (status ≡ 0 → P 0) → (status ≡ 1 → P 1)
+    → (status ≡ 2 → P 2) → P status
+by_status P zero most none one two = none refl
+by_status P (suc zero) most none one two = one refl
+by_status P (suc (suc zero)) most none one two = two refl
+by_status P (suc (suc (suc status))) most none one two = absurd (omega (arith, most))
+
+-- what words do that are a command line
+ends_by : (words : List Text) (did : Did) (status workers shards : ℕ) (request : Request)
+    → request ≡ request_by workers shards words → Parses words → EndsCommand request did status
+    → Ends words did status
+ends_by words did status workers shards request is parses ends = inl (record {
+  parses = parses;
+  workers = workers;
+  shards = shards;
+  ends = rw is at ends;
+})
 
 -- ---- what is reported of a fault
 -- a write is reported only if one that failed is remembered
@@ -37,6 +63,9 @@ write_remembered : (end : Option WriteEnd) (fault : Fault) → as_remembered end
 write_remembered (Some why) fault write none = cc
 write_remembered None Write write none = cc
 write_remembered None fault write none = cc
+
+some_end : (end : Option WriteEnd) (why : WriteEnd) → end ≡ Some why → end ≢ None
+some_end end why is none = cc
 
 module _ (request : Request) (did : Did) where
   abbrev RightFault : Fault → Type 0
@@ -64,138 +93,48 @@ module _ (request : Request) (did : Did) where
   left_remembered None Write stops = inr stops
   left_remembered None fault stops = left_by fault stops
 
--- what words do that are a command line
-ends_by : (words : List Text) (did : Did) (status workers shards : ℕ) (request : Request)
-    → request ≡ request_by workers shards words → Parses words → EndsCommand request did status
-    → Ends words did status
-ends_by words did status workers shards request is parses ends = record {
-  command = λ _. (workers, shards, subst (λ (r : Request). EndsCommand r did status) is ends);
-  answer = λ other. absurd (other parses);
-}
+-- ---- words that are not run
+pub returns-in-Ok-show_answer : goal.returns-in-Ok-show_answer
+returns-in-Ok-show_answer g c =
+    let words = map string_bytes c.args.words.now in
+    let kind = kind_of c.in-Err.error in
+    let answer = c.in-Ok-show_answer.ensures in
+    inr (by_status (EndsAnswer words _) c.in-Ok-show_answer.status answer.status
+    (λ zero.
+    let (asks, quiet) = answer.help zero in
+    (asks_for words kind c.in-Err.ensures.kinds asks, rw quiet (Keeps-refl _)))
+    (λ one. inl (answer.refused one, answer.kept (λ none. omega (arith, one, none))))
+    (λ two. (
+      unread words kind _ c.in-Err.ensures.kinds
+          (λ memory. let is = c.show_answer.ensures.memory memory in cc) two,
+      record { unloaded = refl; unwritten = answer.kept (λ none. omega (arith, two, none)) },
+    )))
 
--- ---- words that are not read, or are no command line
-pub returns-in-Err : goal.returns-in-Err
-returns-in-Err g c =
-    elim c.in-Err.ensures.kinds [
-      | inl memory ↦
-          let one = c.show.ensures.memory memory in
-          let (line, kept) = c.show.ensures.unread memory in
-          record {
-            command = λ parses. (
-              0,
-              0,
-              record {
-                done = λ zero. absurd (omega (arith, zero, one));
-                failed = λ _. inr (inr (record { line_reported = line; unwritten = kept }));
-                refused = λ two. absurd (omega (arith, two, one));
-                bounded = c.show.ensures.status;
-              },
-            );
-            answer = λ other. record {
-              done = λ zero. absurd (omega (arith, zero, one));
-              failed = λ _. inl (record { line_reported = line; unwritten = kept });
-              refused = λ two. absurd (omega (arith, two, one));
-              bounded = c.show.ensures.status;
-            };
-          }
-      | inr among ↦ record {
-        command = λ parses. absurd (subst (IsAmong (kind_of c.in-Err.error)) parses among);
-        answer = λ other. record {
-          done = λ zero.
-              let (asks, quiet) = c.show.ensures.done zero in (
-                asks_for (map string_bytes c.args.words.now) (kind_of c.in-Err.error) asks among,
-                subst (λ err. Keeps (g.E.Write.contents c.args.err.now.writer)
-                    (g.E.Write.contents err.writer)) (sym quiet) (Keeps-refl _),
-              );
-          failed = λ one. elim (c.show.ensures.failed one) [
-            | inl nothing ↦ inl (record { line_reported = nothing.0; unwritten = nothing.1 })
-            | inr write ↦ inr (
-              asks_for (map string_bytes c.args.words.now) (kind_of c.in-Err.error) write.0 among,
-              record { line_reported = write.1; write_failed = write.2 },
-            )
-          ];
-          refused = λ two. record { unloaded = refl; unwritten = c.show.ensures.refused two };
-          bounded = c.show.ensures.status;
-        };
-      }
-    ]
+pub returns-in-Err-show_answer : goal.returns-in-Err-show_answer
+returns-in-Err-show_answer g c =
+    let (asks, quiet, ended) = c.in-Err-show_answer.ensures.unwritten in
+    rw c.report.ensures.status (inr (inr (
+      asks_for (map string_bytes c.args.words.now) (kind_of c.in-Err.error) c.in-Err.ensures.kinds
+          asks,
+      rw (← quiet) c.report.ensures.line,
+      λ none. cc,
+    )))
 
 -- ---- a usage error
 pub returns-in-Err-checked : goal.returns-in-Err-checked
 returns-in-Err-checked g c =
-    ends_by _ _ _ c.in-Ok.options.workers c.in-Ok.options.shards _ c.in-Ok.ensures.request
-    c.in-Ok.ensures.kinds (record {
-      done = λ zero. absurd (omega (arith, zero));
-      failed = λ one. absurd (omega (arith, one));
-      refused = λ two. (
-        c.in-Err-checked.ensures.unusable,
-        record { unloaded = refl; unwritten = Keeps-refl _ },
-      );
-      bounded = omega arith;
-    })
+    ends_by _ _ _ _ _ _ c.in-Ok.ensures.request c.in-Ok.ensures.kinds
+    (c.in-Err-checked.ensures.unusable, record { unloaded = refl; unwritten = Keeps-refl _ })
 
--- ---- the whole text was written, and was flushed or not
-pub returns-in-Ok-work : goal.returns-in-Ok-work
-returns-in-Ok-work g c =
-    let request = request_of c.in-Ok.options in
-    let did : Did = record {
-      under = g.D.Disk.bytes_under c.args.disk.now;
-      origin = g.D.Disk.origin c.args.disk.now;
-      loaded = g.S.FileSource.loaded c.args.source.now;
-      loaded' = g.S.FileSource.loaded c.work.new.source;
-      refused = g.S.FileSource.refused c.work.new.source;
-      out = g.W.Write.contents c.args.out.now.writer;
-      out' = g.W.Write.contents c.finish.new.out.writer;
-      end = c.finish.new.out.end;
-      flushed = c.finish.new.out.is_flushed;
-      said = g.E.Write.contents c.args.err.now.writer;
-      said' = g.E.Write.contents c.finish.new.err.writer;
-      failed = c.finish.new.err.failed;
-    } in
-    let usable = c.in-Ok-checked.ensures.usable in
-    let (text, does, written) = c.in-Ok-work.ensures.ends in
-    let added : Appends did.out did.out' text =
-    Appends-kept did.out (g.W.Write.contents c.work.new.out.writer) did.out' text written
-    c.finish.ensures.kept in
-    let finished : (b : Bool) → c.in-Ok-work.succeeded ≡ b → c.finish.new.out.is_flushed ≡ true
-    → c.finish.new.err ≡ c.args.err.now → HasFinished request did b =
-    λ b is flushed quiet. record {
-      usable = usable;
-      text = text;
-      does = subst (λ (success : Bool). Does request did.under did.origin did.loaded did.loaded'
-          text success) is does;
-      written = added;
-      flushed = flushed;
-      quiet = subst (λ err. Keeps (g.E.Write.contents c.args.err.now.writer)
-          (g.E.Write.contents err.writer)) (sym quiet) (Keeps-refl _);
-    } in
-    ends_by _ did _ c.in-Ok.options.workers c.in-Ok.options.shards request c.in-Ok.ensures.request
-    c.in-Ok.ensures.kinds (record {
-      done = λ zero.
-          let (success, flushed, quiet) = c.finish.ensures.success zero in
-          finished true success flushed quiet;
-      failed = λ one. elim (c.finish.ensures.ill one) [
-        | inl ill ↦ inl (finished false ill.0 ill.1 ill.2)
-        | inr unflushed ↦ inr (inl (record {
-          fault = Write;
-          usable = usable;
-          right = tt;
-          line_reported = unflushed.1;
-          write_failed = λ write. unflushed.0;
-          left = (
-            text,
-            (λ given. (c.in-Ok-work.succeeded, does)),
-            begins_whole did.out did.out' text added,
-          );
-        }))
-      ];
-      refused = λ two. absurd (omega (arith, two, c.finish.ensures.status));
-      bounded = omega (arith, c.finish.ensures.status);
-    })
+-- ---- a command line
+pub work-requires-clause-range : goal.work-requires-clause-range
+work-requires-clause-range g c κs within = (words_read (request_of c.in-Ok.options) c.in-Ok-checked.ensures.usable).0
 
--- ---- a fault
-pub returns : goal.returns
-returns g c =
+pub work-requires-clause-dates : goal.work-requires-clause-dates
+work-requires-clause-dates g c κs within = (words_read (request_of c.in-Ok.options) c.in-Ok-checked.ensures.usable).1
+
+pub returns-in-Err-work : goal.returns-in-Err-work
+returns-in-Err-work g c =
     let request = request_of c.in-Ok.options in
     let did : Did = record {
       under = g.D.Disk.bytes_under c.args.disk.now;
@@ -208,26 +147,60 @@ returns g c =
       end = c.work.new.out.end;
       flushed = c.work.new.out.is_flushed;
       said = g.E.Write.contents c.args.err.now.writer;
-      said' = g.E.Write.contents c.report.new.err.writer;
-      failed = c.report.new.err.failed;
+      said' = g.E.Write.contents c.report-in-Err-work.new.err.writer;
+      failed = c.report-in-Err-work.new.err.failed;
     } in
-    let end = c.end.result in
     let fault = c.in-Err-work.fault in
-    let is = c.as_remembered.ensures in
-    let failed : HasFailed request did = record {
-      fault = as_remembered end fault;
+    rw c.report-in-Err-work.ensures.status
+    (ends_by _ did _ c.in-Ok.options.workers c.in-Ok.options.shards request c.in-Ok.ensures.request
+    c.in-Ok.ensures.kinds (inr (record {
+      fault = as_remembered c.end.result fault;
       usable = c.in-Ok-checked.ensures.usable;
-      right = right_remembered request did end fault c.in-Err-work.ensures.right;
-      line_reported = subst (λ (f : Fault). LineWritten did.said did.said' did.failed
-          (fault_text f)) is c.report.ensures.line;
-      write_failed = λ write. subst (λ (e : Option WriteEnd). e ≢ None) c.end.ensures
-          (write_remembered end fault write);
-      left = left_remembered request did end fault c.in-Err-work.ensures.ends;
-    } in
-    ends_by _ did _ c.in-Ok.options.workers c.in-Ok.options.shards request c.in-Ok.ensures.request
-    c.in-Ok.ensures.kinds (record {
-      done = λ zero. absurd (omega (arith, zero, c.report.ensures.status));
-      failed = λ one. inr (inl failed);
-      refused = λ two. absurd (omega (arith, two, c.report.ensures.status));
-      bounded = omega (arith, c.report.ensures.status);
+      right = right_remembered request did c.end.result fault c.in-Err-work.ensures.right;
+      line_reported = rw c.as_remembered.ensures at c.report-in-Err-work.ensures.line;
+      write_failed = λ write. rw (← c.end.ensures) (write_remembered c.end.result fault write);
+      left = left_remembered request did c.end.result fault c.in-Err-work.ensures.ends;
+    })))
+
+-- the whole text was written, and was flushed
+pub returns-in-Ok-finish : goal.returns-in-Ok-finish
+returns-in-Ok-finish g c =
+    let (text, does, written) = c.in-Ok-work.ensures.ends in
+    ends_by _ _ _ _ _ _ c.in-Ok.ensures.request c.in-Ok.ensures.kinds (record {
+      usable = c.in-Ok-checked.ensures.usable;
+      text = text;
+      does = rw c.if-succeeded.true at does;
+      written = Appends-kept _ _ _ text written c.finish.ensures.kept;
+      flushed = c.in-Ok-finish.ensures.flushed;
+      quiet = Keeps-refl _;
     })
+
+pub returns-in-Ok-2 : goal.returns-in-Ok-2
+returns-in-Ok-2 g c =
+    let (text, does, written) = c.in-Ok-work.ensures.ends in
+    ends_by _ _ _ _ _ _ c.in-Ok.ensures.request c.in-Ok.ensures.kinds (inl (record {
+      usable = c.in-Ok-checked.ensures.usable;
+      text = text;
+      does = rw c.if-succeeded.false at does;
+      written = Appends-kept _ _ _ text written c.finish.ensures.kept;
+      flushed = c.in-Ok-2.ensures.flushed;
+      quiet = Keeps-refl _;
+    }))
+
+-- or was not
+pub returns : goal.returns
+returns g c =
+    let (text, does, written) = c.in-Ok-work.ensures.ends in
+    rw c.report-in-Err-finish.ensures.status
+    (ends_by _ _ _ _ _ _ c.in-Ok.ensures.request c.in-Ok.ensures.kinds (inr (record {
+      fault = Write;
+      usable = c.in-Ok-checked.ensures.usable;
+      right = tt;
+      line_reported = c.report-in-Err-finish.ensures.line;
+      write_failed = λ write. some_end _ _ c.in-Err-finish.ensures.noted;
+      left = (
+        text,
+        (λ given. (c.in-Ok-work.succeeded, does)),
+        begins_whole _ _ text (Appends-kept _ _ _ text written c.finish.ensures.kept),
+      );
+    })))

@@ -1,5 +1,5 @@
 use Rattle.std.proofs.Common.{◌≡◌, ◌<◌, ℕ, length, arith, List, [], ◌∷◌, Bool, true, false, Option}
-use Rattle.std.proofs.Common.{None, Some, All, sym, subst}
+use Rattle.std.proofs.Common.{None, Some, All}
 use Rattle.std.proofs.lemmas.List.Elements.{All-nil, All-cons}
 use Rattle.tariffs.specs.Fares.{Fares}
 use Rattle.histories.specs.declared.entry.Entry.{Entry}
@@ -20,14 +20,13 @@ use Rattle.tap_views.proofs.Reading.{one_list_of_batches}
 use Rattle.fare_service.specs.Explained.{IsExplainedOf}
 use Rattle.fare_texts.specs.ExplainedForms.{IsExplainedOver}
 use Rattle.fare_texts.specs.declared.form.Form.{Form}
-use Rattle.fare_program.proofs.Explains.{explained_same}
 use Rattle.tap_views.specs.UploadEnds.{are_posted}
 use Rattle.fare_service.specs.Ledger.{IsLedgerOfBooks}
 use Rattle.fare_texts.specs.Ledger.{IsLedgerOver}
 use Rattle.fare_program.specs.Options.{form_of}
-use Rattle.fare_program.specs.Program.{ShowsStatement, ShowsWith}
+use Rattle.fare_program.specs.Program.{ShowsWith}
 use Rattle.fare_program.proofs.Ledgers.{ledger_same}
-use Rattle.fare_program.specs.Settling.{IsStatementIn, IsTextOver}
+use Rattle.fare_program.specs.Settling.{IsTextOver}
 use Rattle.fare_program.proofs.run.shows_plain.Goals as goal
 
 -- what was posted was whole
@@ -39,43 +38,26 @@ all_whole (Refused taps offset fault ∷ ends) posted = absurd (cc)
 all_whole (Cut taps ∷ ends) posted = absurd (cc)
 all_whole (Undrawn ∷ ends) posted = absurd (cc)
 
--- a statement, explained or not
-stated : (form : Option Form) (outcome : OutcomeView) (fares : Fares) (history : List Entry)
-    (token : Token) (text : List ℕ)
-    → ((f : Form) → IsExplainedOf f outcome.books token text
-    → IsExplainedOver f fares history token text)
-    → (IsStatementOf outcome token text → IsStatementOver fares history token text)
-    → ShowsStatement form token outcome text → IsStatementIn form fares history token text
-stated None outcome fares history token text explained statement shows = statement shows
-stated (Some form) outcome fares history token text explained statement shows =
-    explained form shows
-
--- what is shown, as report or as statement
-shown : (form : Option Form) (files : List (List ℕ)) (outcome : OutcomeView) (fares : Fares)
-    (history : List Entry) (token : Option Token) (text : List ℕ)
+-- what is asked for of the outcome is what is asked for of the history
+shown : (ledger : Bool) (form : Option Form) (token : Option Token) (files : List (List ℕ))
+    (outcome : OutcomeView) (fares : Fares) (history : List Entry) (text : List ℕ)
+    → (IsLedgerOfBooks outcome.books token text → IsLedgerOver fares history token text)
     → IsReportOver files history (report_of outcome)
+    → ((t : Token) → IsStatementOf outcome t text → IsStatementOver fares history t text)
     → ((t : Token) (f : Form) → IsExplainedOf f outcome.books t text
     → IsExplainedOver f fares history t text)
-    → ((t : Token) → IsStatementOf outcome t text → IsStatementOver fares history t text)
-    → ShowsWith form token outcome.ends outcome text
-    → IsTextOver form token fares files history text
-shown form files outcome fares history None text report explained statement shows =
-    let R : List ℕ → Type 0 = λ t. IsReportOver files history t in subst R (sym shows) report
-shown form files outcome fares history (Some token) text report explained statement shows =
-    stated form outcome fares history token text (explained token) (statement token) shows
-
--- the ledger, or what is shown without it
-requested_of : (ledger : Bool) (form : Option Form) (files : List (List ℕ)) (outcome : OutcomeView)
-    (fares : Fares) (history : List Entry) (token : Option Token) (text : List ℕ)
-    → (IsLedgerOfBooks outcome.books token text → IsLedgerOver fares history token text)
-    → (ShowsWith form token outcome.ends outcome text
-    → IsTextOver form token fares files history text)
     → MatchBool ledger (IsLedgerOfBooks outcome.books token text)
     (ShowsWith form token outcome.ends outcome text)
     → MatchBool ledger (IsLedgerOver fares history token text)
     (IsTextOver form token fares files history text)
-requested_of true form files outcome fares history token text ledger other shows = ledger shows
-requested_of false form files outcome fares history token text ledger other shows = other shows
+shown true form token files outcome fares history text of_books report statement explained shows =
+    of_books shows
+shown false form None files outcome fares history text of_books report statement explained shows =
+    rw shows report
+shown false None (Some t) files outcome fares history text of_books report statement explained shows =
+    statement t shows
+shown false (Some f) (Some t) files outcome fares history text of_books report statement explained
+    shows = explained t f shows
 
 -- any bytes are read in one way at most
 read_once : (files : List (List ℕ)) → All HasUniqueParse files
@@ -102,11 +84,9 @@ returns c = λ files fares shards workers request token text run posted shows hi
     let same = own_all given outcome history some named here once whole in
     let table = λ (book : Book) (there : slice_get outcome.books 0 ≡ Some book).
     (whole.headline.books 0 book there).0 in
-    requested_of request.ledger (form_of request) files outcome fares history token text
+    shown request.ledger (form_of request) token files outcome fares history text
     (ledger_same fares outcome history token text same table)
-    (shown (form_of request) files outcome fares history token text
     (same_report given outcome history some named here once whole
-    c.one_increasing_list.ensures.numbers
-    c.one_increasing_list.ensures.tokens)
-    (λ t form. explained_same form fares outcome history t text (same t) table)
-    (λ t. (same_statement given outcome history some named once whole t text).0)) shows
+    c.one_increasing_list.ensures.numbers c.one_increasing_list.ensures.tokens)
+    (λ t. (same_statement given outcome history some named once whole t text).0)
+    (λ t form is. rw (table is.first is.holds_first, same t) at is.over) shows

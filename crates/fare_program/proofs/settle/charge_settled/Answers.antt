@@ -1,30 +1,10 @@
-use Rattle.std.proofs.Common.{Option, subst, sym}
-use Rattle.tap_views.specs.declared.token.Token.{Token}
-use Rattle.fare_program.specs.inside.Ends.{Gives}
-use Rattle.fare_program.specs.inside.Options.{request_of}
-use Rattle.fare_program.specs.inside.Settling.{Settles}
 use Rattle.fare_program.proofs.settle.charge_settled.Goals as goal
 
 pub returns-in-Some-clause-ends : goal.returns-in-Some-clause-ends
-returns-in-Some-clause-ends g c =
-    subst (λ (token : Option Token). Gives (Settles (request_of c.args.options.now)
-    c.args.table.now token (g.U.Uploads.origin c.args.uploads.now)
-    (g.U.Uploads.number c.args.uploads.now) c.args.calls.now.run c.write_token.new.calls.run)
-    (g.W.Write.contents c.args.out.now) (g.W.Write.contents c.write_token.new.out) c.write_token.result)
-    (sym c.in-Some.is) c.write_token.ensures.ends
+returns-in-Some-clause-ends g c = rw c.in-Some.is c.write_token.ensures.ends
 
 pub returns-in-None-clause-ends : goal.returns-in-None-clause-ends
-returns-in-None-clause-ends g c =
-    subst (λ (token : Option Token). Gives (Settles (request_of c.args.options.now)
-    c.args.table.now token (g.U.Uploads.origin c.args.uploads.now)
-    (g.U.Uploads.number c.args.uploads.now) c.args.calls.now.run c.write_ledger.new.calls.run)
-    (g.W.Write.contents c.args.out.now) (g.W.Write.contents c.write_ledger.new.out) c.write_ledger.result)
-    (sym c.in-None.is) c.write_ledger.ensures.ends
+returns-in-None-clause-ends g c = rw c.in-None.is c.write_ledger.ensures.ends
 
 pub returns-in-None-2-clause-ends : goal.returns-in-None-2-clause-ends
-returns-in-None-2-clause-ends g c =
-    subst (λ (token : Option Token). Gives (Settles (request_of c.args.options.now)
-    c.args.table.now token (g.U.Uploads.origin c.args.uploads.now)
-    (g.U.Uploads.number c.args.uploads.now) c.args.calls.now.run c.write_bill.new.calls.run)
-    (g.W.Write.contents c.args.out.now) (g.W.Write.contents c.write_bill.new.out) c.write_bill.result)
-    (sym c.in-None-2.is) c.write_bill.ensures.ends
+returns-in-None-2-clause-ends g c = rw c.in-None-2.is c.write_bill.ensures.ends

@@ -1,5 +1,4 @@
 use Rattle.std.proofs.Common.{◌∙◌, ap, sym}
-use Rattle.std.proofs.KnownBytes.{Keeps-refl}
 use Rattle.tap_views.specs.UploadEnds.{are_posted}
 use Rattle.settlement.specs.Posted.{posted}
 use Rattle.fare_program.specs.inside.Fault.{ended_as}
@@ -27,6 +26,5 @@ returns-clause-ends g c =
         succeeded = is.0 ∙ c.are_posted.ensures ∙ ap are_posted c.deref-3.ensures.value;
       },
     ))
-    (gives_printed _ _ _ _ c.write_text-written.result c.are_posted.result
-    (λ same. rw same (Keeps-refl _)) c.write_text-written.ensures.ok
+    (gives_printed g.W.Write.contents _ _ _ c.write_text-written.result c.are_posted.result c.write_text-written.ensures.ok
     c.write_text-written.ensures.started c.write_text-written.ensures.fault))

@@ -1,16 +1,11 @@
 use Rattle.std.proofs.Common.{◌≡◌, ◌∙◌, Bool, Bor, List, Option, None, Some, ap, false, map}
 use Rattle.std.proofs.Common.{option_map, refl, subst, sym, true, ℕ}
 use Rattle.std.specs.Prelude.{MatchOption, is_some}
-use Rattle.std.specs.Option.{option_and_then}
-use Rattle.sorted_bills.specs.Ledgers.{KnownAreBytes}
 use Rattle.tap_views.specs.declared.token.Token.{Token}
 use Rattle.fare_program.specs.Parts.{IsPartText}
 use Rattle.fare_program.specs.Program.{IsTokenIn}
 use Rattle.fare_program.specs.Settling.{ShowsSettled}
-use Rattle.fare_program.specs.TokenRanges.{range_fault}
-use Rattle.fare_program.specs.inside.Ends.{IsUnopened}
 use Rattle.fare_program.specs.inside.Options.{request_of}
-use Rattle.fare_program.proofs.Causes.{before, right_unopened}
 use Rattle.fare_program.proofs.Ends.{gives_given}
 use Rattle.fare_program.proofs.sorted.work_sorted.Goals as goal
 
@@ -27,53 +22,37 @@ not_true : (b : Bool) → (b ≡ true → ⊥) → b ≡ false
 not_true true never = absurd (never refl)
 not_true false never = refl
 
-pub returns-in-Err-clause-ends : goal.returns-in-Err-clause-ends
-returns-in-Err-clause-ends g c =
-    before _ _ (IsUnopened _) (λ write. write) c.in-Err.fault c.in-Err.ensures.fault
-
 pub returns-in-Err-clause-right : goal.returns-in-Err-clause-right
-returns-in-Err-clause-right g c =
-    right_unopened _ _ c.in-Err.fault
-    (subst (λ (ns : List (Bor (List ℕ))). IsUnopened (map name_in ns) c.in-Err.fault)
-    c.deref.ensures.value c.in-Err.ensures.fault)
+returns-in-Err-clause-right g c = rw c.deref.ensures.value at c.in-Err.ensures.fault
 
 pub charge_part-requires : goal.charge_part-requires
-charge_part-requires g c =
-    subst (λ (tokens : Option (List ℕ)). option_and_then range_fault tokens ≡ None)
-    (ap (option_map name_in) c.in-Some.is) c.requires.word
+charge_part-requires g c = rw c.in-Some.is at c.requires.word
 
 pub returns-in-Some-clause-ends : goal.returns-in-Some-clause-ends
 returns-in-Some-clause-ends g c =
-    let request = request_of c.args.options.now in
     let opened = ap (map g.D.File.Placed.bytes) c.deref-in-Some.ensures.value
-    ∙ c.in-Ok.ensures.opened
-    ∙ ap (λ (ns : List (Bor (List ℕ))). map (g.D.Disk.bytes_under c.args.disk.now)
-    (map name_in ns)) c.deref.ensures.value in
+    ∙ (rw c.deref.ensures.value at c.in-Ok.ensures.opened) in
     let named = ap (option_map name_in) c.in-Some.is in
     gives_given _ _ _ _ _ _ c.charge_part.result
-    (λ given. not_true request.ledger (λ ledger. given.0 (ap is_some named, ledger)))
+    (λ given. not_true (request_of c.args.options.now).ledger
+    (λ ledger. given.0 (ap is_some named, ledger)))
+    (λ text success is. (is.0, λ files are. rw named (is.1 files (opened ∙ are))))
+    c.charge_part.ensures.ends
+
+pub returns-clause-ends : goal.returns-clause-ends
+returns-clause-ends g c =
+    let request = request_of c.args.options.now in
+    let opened = ap (map g.D.File.Placed.bytes) c.deref-in-None.ensures.value
+    ∙ (rw c.deref.ensures.value at c.in-Ok.ensures.opened) in
+    let named = ap (option_map name_in) c.in-None.is in
+    gives_given _ _ _ _ _ _ c.charge_sorted.result
+    (λ given ledger none. rw opened
+    (given.1 (c.requires.sorted, ledger, no_token request.token c.args.token none c.requires.token)))
     (λ text success is. (
       is.0,
       λ files are. subst (λ (tokens : Option (List ℕ)). MatchOption tokens
           (ShowsSettled request c.args.table.now files c.args.token text true)
           (λ word. IsPartText request.ledger c.args.table.now files text)) (sym named)
           (is.1 files (opened ∙ are)),
-    )) c.charge_part.ensures.ends
-
-pub returns-clause-ends : goal.returns-clause-ends
-returns-clause-ends g c =
-    let request = request_of c.args.options.now in
-    let opened = ap (map g.D.File.Placed.bytes) c.deref-in-None.ensures.value
-    ∙ c.in-Ok.ensures.opened
-    ∙ ap (λ (ns : List (Bor (List ℕ))). map (g.D.Disk.bytes_under c.args.disk.now)
-    (map name_in ns)) c.deref.ensures.value in
-    gives_given _ _ _ _ _ _ c.charge_sorted.result
-    (λ given ledger none. subst KnownAreBytes (sym opened)
-    (given.1 (c.requires.sorted, ledger, no_token request.token c.args.token none c.requires.token)))
-    (λ text success is. (
-      is.0,
-      λ files are. subst (λ (tokens : Option (List ℕ)). MatchOption tokens
-          (ShowsSettled request c.args.table.now files c.args.token text true)
-          (λ word. IsPartText request.ledger c.args.table.now files text))
-          (sym (ap (option_map name_in) c.in-None.is)) (is.1 files (opened ∙ are)),
-    )) c.charge_sorted.ensures.ends
+    ))
+    c.charge_sorted.ensures.ends

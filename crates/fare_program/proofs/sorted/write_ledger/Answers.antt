@@ -13,9 +13,9 @@ returns-in-Ok-clause-ends g c =
         refl,
         λ all are.
             let made = is all are in
-            shows_ledger (request_of c.args.options.now) c.args.table.now all text true c.requires
-            made.history made.is_settled c.in-Ok._ends.items (c.in-Ok.ensures.ended all are)
-            (sym c.in-Ok.ensures.posted) made.over,
+            shows_ledger (request_of c.args.options.now) c.args.table.now all text true made.history
+            made.is_settled _ (c.in-Ok.ensures.ended all are) (sym c.in-Ok.ensures.posted)
+            c.requires made.over,
       ),
       written,
     )
@@ -38,7 +38,7 @@ returns-in-Err-clause-ends g c =
               let made = is all are (given c.requires refl all are) in
               let (ends, plain, success) = c.in-Err.ensures.sorted unwritten all are in
               shows_ledger (request_of c.args.options.now) c.args.table.now all text true
-              c.requires made.history made.is_settled ends plain (sym success) made.over,
+              made.history made.is_settled ends plain (sym success) c.requires made.over,
         ),
       ),
       started,

@@ -15,14 +15,12 @@ write_billed-requires g c =
 pub returns-in-Ok-sorted_bill-clause-ends : goal.returns-in-Ok-sorted_bill-clause-ends
 returns-in-Ok-sorted_bill-clause-ends g c =
     let (history, is, few, settled) = c.in-Ok-sorted_bill.ensures.billed in
-    let made = c.in-Ok-sorted_bill.made in
     gives_if _ _ _ _ _ c.write_billed.result
     (λ text success right. (
       right.0 ∙ c.in-Ok-sorted_bill.ensures.posted,
-      λ all are. shows_bill (request_of c.args.options.now) c.args.table.now all text true
-          c.requires history (settled all are) made.ends.items
-          (c.in-Ok-sorted_bill.ensures.ended all are) (sym c.in-Ok-sorted_bill.ensures.posted)
-          (right.1 history is),
+      λ all are. shows_bill (request_of c.args.options.now) c.args.table.now all text true history
+          (settled all are) _ (c.in-Ok-sorted_bill.ensures.ended all are)
+          (sym c.in-Ok-sorted_bill.ensures.posted) c.requires (right.1 history is),
     ))
     c.write_billed.ensures.ends
 

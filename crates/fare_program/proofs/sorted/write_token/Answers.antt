@@ -1,5 +1,4 @@
 use Rattle.std.proofs.Common.{◌∙◌, ap, sym, true}
-use Rattle.std.proofs.KnownBytes.{Keeps-refl}
 use Rattle.std.proofs.lemmas.Result.{IfErr-weaker}
 use Rattle.settlement.specs.Posted.{posted}
 use Rattle.fare_program.specs.Causes.{IsRightOfSorted}
@@ -29,7 +28,7 @@ returns-in-Ok-clause-ends g c =
             succeeded = sym c.in-Ok.ensures.posted;
           },
     ))
-    (gives_printed _ _ _ _ c.write_text.result true (λ same. rw same (Keeps-refl _))
+    (gives_printed g.W.Write.contents _ _ _ c.write_text.result true
     c.write_text.ensures.ok c.write_text.ensures.started c.write_text.ensures.fault))
 
 pub returns-in-Ok-clause-right : goal.returns-in-Ok-clause-right

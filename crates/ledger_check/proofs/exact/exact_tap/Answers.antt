@@ -1,11 +1,10 @@
 -- A line names a tap exactly if each of its columns is read.
-use Rattle.std.proofs.Common.{◌≡◌, ◌∙◌, ℕ, List, Some, None, true, false, sym, ap, subst}
+use Rattle.std.proofs.Common.{◌≡◌, ◌∙◌, ◌^◌, ℕ, Some, None, true, false, sym, subst, arith}
 use Rattle.std.proofs.Common.{rules, tests}
 use Rattle.std.proofs.lemmas.Bool.{false≢true}
 use Rattle.std.proofs.lemmas.Option.{same_Some}
-use Rattle.hex.specs.Hex.{encode_lower}
 use Rattle.fare_texts.specs.Moments.{IsMomentText}
-use Rattle.tap_views.specs.Token.{bytes_of}
+use Rattle.line_forms.specs.FormLaws.{number_is, number_sound}
 use Rattle.ledger_check.proofs.FrontLemmas.{columns_same}
 use Rattle.ledger_check.proofs.exact.exact_tap.Goals as goal
 
@@ -26,10 +25,14 @@ returns-in_default-read_moment c = λ token validator moment rest is.
     (subst (IsMomentText moment) (sym same.moment_is) is.is) in
     absurd (cc)
 
-pub returns-in_default-exact_number : goal.returns-in_default-exact_number
-returns-in_default-exact_number c = λ token validator moment rest is.
+pub returns-in_default-number_32_of : goal.returns-in_default-number_32_of
+returns-in_default-number_32_of c = λ token validator moment rest is.
     let same = columns_same c.args.line.now _ _ _ _ _ _ _ _ _ _ c.in-Some.ensures.1 is.columns in
-    (rw c.in_default-exact_number.is at c.exact_number.ensures) validator is.small same.validator_is
+    let none : None ≡ Some validator =
+    (rw c.in_default-number_32_of.is at c.number_32_of.ensures)
+    ∙ number_is (2 ^ 32) validator c.in-Some.front.validator.now (omega (arith, is.small))
+    (is.small, same.validator_is) in
+    absurd (cc)
 
 pub returns-then-not-is_exact : goal.returns-then-not-is_exact
 returns-then-not-is_exact c = λ token validator moment rest is.
@@ -48,8 +51,9 @@ pub returns : goal.returns
 returns c =
     let (number, columns) = c.in-Some.ensures in
     let token = c.in-Some-exact_token.ensures in
-    let validator = c.in-Some-exact_number.ensures in
     let front = c.in-Some.front in
+    let validator = number_sound (2 ^ 32) front.validator.now _
+    (sym c.number_32_of.ensures ∙ c.in-Some-number_32_of.is) in
     let yes : c.in_ok-is_exact.is_exact ≡ true = first_of (cc, search (rules, tests)) in
     record {
       fits = token.0;
@@ -58,18 +62,7 @@ returns c =
       number = number;
       moment_text = front.moment.now;
       is = c.in_ok-is_exact.ensures.0 yes;
-      columns = columns
-          ∙ ap (λ (t : List ℕ). Some (
-            (t, (number, (front.moment.now, front.validator.now))),
-            front.rest.now,
-          )) token.1
-          ∙ ap (λ (v : List ℕ). Some (
-            (
-              encode_lower (bytes_of c.in-Some-exact_token.token),
-              (number, (front.moment.now, v)),
-            ),
-            front.rest.now,
-          )) validator.1;
+      columns = rw (token.1, validator.1) at columns;
       front = c.requires.line.0;
       ends = c.requires.line.1;
       short = c.requires.short;

@@ -1,9 +1,8 @@
 use Rattle.std.proofs.Common.{None, Some, map, string_bytes}
 use Rattle.fare_program.specs.Ends.{Ends}
-use Rattle.fare_program.specs.Options.{request_by}
 use Rattle.program_manners.specs.Refusals.{refusal_of}
 use Rattle.world.specs.Origins.{file}
-use Rattle.omny_cli.proofs.SystemRuns.{at_start, charges_named}
+use Rattle.omny_cli.proofs.SystemRuns.{at_start}
 use Rattle.omny_cli.proofs.system.run_system.Goals as goal
 
 pub returns-clause-ends : goal.returns-clause-ends
@@ -26,17 +25,6 @@ returns-clause-ends g c =
     c.args.source.now.from.loads.trace c.args.out.now.writer.to.trace
     c.args.err.now.writer.to.trace c.requires.unread c.requires.unwritten c.requires.unsaid
     c.run_beside_line.ensures
-
-pub returns-clause-charged : goal.returns-clause-charged
-returns-clause-charged g c parses success =
-    let (workers, shards, ends) = (returns-clause-ends g c).command parses in
-    let done = ends.done success in (
-      workers,
-      shards,
-      charges_named (request_by workers shards (map string_bytes c.args.words.now))
-          c.run_beside_line.new.source.from.loads.trace.run.loads done.text
-          c.run_beside_line.new.out.writer.to.trace.run.written done.does done.written,
-    )
 
 pub returns-clause-refused : goal.returns-clause-refused
 returns-clause-refused g c = c.run_beside_line.new.source.from.loads.shown

@@ -4,7 +4,8 @@ use Rattle.fare_texts.specs.ReportLines.{number_line}
 use Rattle.report_texts.specs.Report.{upload_lines}
 use Rattle.tap_views.specs.declared.upload_end.UploadEnd.TheVariants.{Posted}
 use Rattle.part_texts.specs.inside.Fronts.{fronts_view}
-use Rattle.part_texts.proofs.WholeTexts.{front_joined, map_length}
+use Rattle.std.proofs.lemmas.List.{length-map}
+use Rattle.part_texts.proofs.WholeTexts.{front_joined}
 use Rattle.part_texts.proofs.merging.report_front.Goals as goal
 
 pub returns : goal.returns
@@ -17,7 +18,7 @@ returns c =
     (string_bytes c.write_section_head.new.text) (string_bytes c.write_uploads.new.text)
     (string_bytes c.write_totals.new.text) (string_bytes c.write_section_head-2.new.text)
     (string_bytes c.write_validators.new.text) c.into_bytes.result.items number
-    (validators ∙ sym (map_length _ s.validators.entries)) c.new-text.ensures.bytes
+    (validators ∙ sym (length-map s.validators.entries _)) c.new-text.ensures.bytes
     c.in_ok-write_section_head.ensures
     (c.in_ok-write_uploads.ensures
     ∙ ap (λ (ts : List ℕ). string_bytes c.write_section_head.new.text ++ upload_lines 0

@@ -1,33 +1,14 @@
-use Rattle.std.proofs.Common.{Bor, ◌≡◌, ◌⊎◌, ◌++◌, ◌∷◌, [], ◌∙◌, ◌+◌, ℕ, List, ap, sym, subst}
-use Rattle.std.proofs.Common.{arith, length, map}
-use Rattle.std.proofs.lemmas.List.{length-map, map-append}
+use Rattle.std.proofs.Common.{Bor, ◌≡◌, ◌⊎◌, ◌++◌, ◌∷◌, [], ◌∙◌, ℕ, List, ap, sym, subst, map}
+use Rattle.std.proofs.lemmas.List.{map-append}
 use Rattle.program_manners.specs.FileLists.{IsListedName, Lacks, end_byte}
 use Rattle.program_manners.specs.inside.FileLists.{AreReadFrom}
-use Rattle.program_manners.proofs.NameLists.{name_read, some_left, wrong_read}
+use Rattle.program_manners.proofs.NameLists.{name_read, some_left}
 use Rattle.program_manners.proofs.file_list.names_of_list.Goals as goal
 
 -- a text is split at its first end of a name
 abbrev Split : List ℕ → List ℕ → List ℕ → ℕ → Type 0
 Split rest piece trailing end =
     Lacks end piece × ((rest ≡ piece ++ end ∷ trailing) ⊎ ((rest ≡ piece) × (trailing ≡ [])))
-
-pub returns-in-Err-clause-refused : goal.returns-in-Err-clause-refused
-returns-in-Err-clause-refused c =
-    let rest = c.loop-rest.rest.now in
-    let piece = c.split_name.result.0.now in
-    let trailing = c.split_name.result.1.now in
-    let split = subst (Split rest piece trailing) c.byte.ensures
-    (c.split_name.ensures.first, c.split_name.ensures.whole) in
-    let counted : c.len.result + 1
-    ≡ length (map (λ (n : Bor (List ℕ)). n.now) c.loop-rest.names.items) + 1 =
-    omega (
-      arith,
-      c.len.ensures,
-      length-map c.loop-rest.names.items (λ (n : Bor (List ℕ)). n.now),
-    ) in
-    wrong_read _ c.args.text.now _ rest piece trailing _ c.in-Err.wrong c.loop-rest.invariant
-    (some_left rest (sym c.is_empty-in-loop-rest.ensures ∙ c.loop-rest-test.true)) counted split.0
-    c.in-Err.ensures.wrong split.1
 
 pub loop-rest-preserved : goal.loop-rest-preserved
 loop-rest-preserved c =

@@ -3,11 +3,11 @@ use Rattle.std.proofs.Common.{◌≡◌, ◌∙◌, ◌==◌, Bor, List, ℕ, ap
 use Rattle.tap_views.proofs.Choices.{IfErr_handed_on}
 use Rattle.program_manners.specs.Refusals.{IsFirstTableFault}
 use Rattle.program_manners.specs.TableViews.{names_of}
-use Rattle.program_manners.specs.TablesFaults.{IsTablesFault, SameRefusals}
-use Rattle.program_manners.specs.declared.table_loads.TablesFault.TheVariants.{File, NoMemory}
+use Rattle.program_manners.specs.TablesFaults.{IsTablesFault}
+use Rattle.program_manners.specs.declared.table_loads.TablesFault.TheVariants.{File}
 use Rattle.program_manners.proofs.AnyWord.{any_word}
 use Rattle.program_manners.proofs.Refusals.{first_table_fault}
-use Rattle.program_manners.proofs.TablesFaults.{first_is_right, named_kept, unloaded}
+use Rattle.program_manners.proofs.TablesFaults.{first_is_right, unloaded}
 use Rattle.program_manners.proofs.table_loads.load_first.Goals as goal
 
 pub returns-clause-right : goal.returns-clause-right
@@ -26,11 +26,6 @@ returns-clause-right g c =
     (first_table_fault _ _ fault refl c.in-Err.ensures.fault c.in-Err.ensures.not_text))
     (any_word words empty is).0 (any_word words empty is).1 c.of_table.ensures
 
-pub returns-clause-kept : goal.returns-clause-kept
-returns-clause-kept g c =
-    named_kept _ _ c.in_ok-text.ensures.success _ _ c.in-Err.fault c.of_table.result
-    c.of_table.ensures
-
 pub returns-in_err-text-clause-right : goal.returns-in_err-text-clause-right
 returns-in_err-text-clause-right g c =
     let tables = names_of c.args.words.now in
@@ -44,13 +39,3 @@ returns-in_err-text-clause-right g c =
     (g.S.FileSource.loaded c.args.source.now) (g.S.FileSource.loaded c.load_named.new.source)
     (g.S.FileSource.refused c.load_named.new.source) tables.first (inl refl) file
     c.in_err-text.ensures.named c.in_err-text.ensures.refused)
-
-pub returns-in_err-text-clause-kept : goal.returns-in_err-text-clause-kept
-returns-in_err-text-clause-kept g c =
-    IfErr_handed_on c.from_residual.result (File c.in_err-text.field-0.0) (SameRefusals _ _)
-    c.from_residual.ensures.1 tt
-
-pub returns-in_err-push-in-Ok-clause-kept : goal.returns-in_err-push-in-Ok-clause-kept
-returns-in_err-push-in-Ok-clause-kept g c =
-    IfErr_handed_on c.from_residual-in_err-push-in-Ok.result NoMemory (SameRefusals _ _)
-    c.from_residual-in_err-push-in-Ok.ensures.1 c.in_ok-text.ensures.success

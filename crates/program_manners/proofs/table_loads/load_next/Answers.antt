@@ -6,10 +6,10 @@ use Rattle.program_manners.specs.NextFaults.{IsRightNext}
 use Rattle.program_manners.specs.Refusals.{IsOneOf}
 use Rattle.program_manners.specs.TableLoads.{LoadsTables}
 use Rattle.program_manners.specs.TableWords.{TableNames, table_files}
-use Rattle.program_manners.specs.TablesFaults.{IsTablesFault, SameRefusals}
-use Rattle.program_manners.specs.declared.table_loads.TablesFault.TheVariants.{File, NoMemory}
+use Rattle.program_manners.specs.TablesFaults.{IsTablesFault}
+use Rattle.program_manners.specs.declared.table_loads.TablesFault.TheVariants.{File}
 use Rattle.program_manners.specs.inside.TableLoads.{IsRightLater}
-use Rattle.program_manners.proofs.TablesFaults.{later_file, later_kept, next_is_right, unloaded}
+use Rattle.program_manners.proofs.TablesFaults.{later_file, next_is_right, unloaded}
 use Rattle.program_manners.proofs.table_loads.load_next.Goals as goal
 
 pub returns-clause-right : goal.returns-clause-right
@@ -30,11 +30,6 @@ returns-clause-right g c =
     (subst (λ (n : List ℕ). IsRightLater word n c.in-Err.fault c.of_next.result)
     c.of-parts.ensures.name c.of_next.ensures)
 
-pub returns-clause-kept : goal.returns-clause-kept
-returns-clause-kept g c =
-    later_kept _ _ c.in_ok-text.ensures.success _ _ c.in-Err.fault c.of_next.result
-    c.of_next.ensures
-
 pub returns-in_err-text-clause-right : goal.returns-in_err-text-clause-right
 returns-in_err-text-clause-right g c =
     let file = c.in_err-text.field-0.0 in
@@ -52,13 +47,3 @@ returns-in_err-text-clause-right g c =
     (subst (λ (n : List ℕ). IsOneOf n (table_files words)) (sym c.of-parts.ensures.name)
     (later_file words before trailing c.args.word.now holds))
     file c.in_err-text.ensures.named c.in_err-text.ensures.refused)
-
-pub returns-in_err-text-clause-kept : goal.returns-in_err-text-clause-kept
-returns-in_err-text-clause-kept g c =
-    IfErr_handed_on c.from_residual.result (File c.in_err-text.field-0.0) (SameRefusals _ _)
-    c.from_residual.ensures.1 tt
-
-pub returns-in_err-push-in-Ok-clause-kept : goal.returns-in_err-push-in-Ok-clause-kept
-returns-in_err-push-in-Ok-clause-kept g c =
-    IfErr_handed_on c.from_residual-in_err-push-in-Ok.result NoMemory (SameRefusals _ _)
-    c.from_residual-in_err-push-in-Ok.ensures.1 c.in_ok-text.ensures.success

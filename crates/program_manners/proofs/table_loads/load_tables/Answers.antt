@@ -5,10 +5,9 @@ use Rattle.tap_views.proofs.Choices.{IfErr_handed_on}
 use Rattle.program_manners.specs.TableLoads.{LoadsTables}
 use Rattle.program_manners.specs.TableViews.{names_of}
 use Rattle.program_manners.specs.TableWords.{wrong_later}
-use Rattle.program_manners.specs.TablesFaults.{IsTablesFault, SameRefusals}
+use Rattle.program_manners.specs.TablesFaults.{IsTablesFault}
 use Rattle.program_manners.proofs.DatedWords.{later_right, tables_right}
 use Rattle.program_manners.proofs.NextTables.{tables_on, words_at, words_to}
-use Rattle.program_manners.proofs.TablesFaults.{kept_on}
 use Rattle.program_manners.proofs.table_loads.load_tables.Goals as goal
 
 -- what stands where no word does
@@ -22,10 +21,7 @@ load_next-requires g c =
     (sym c.deref-word-items.ensures.value) (tables_right _ c.requires)) c.loop-word-test.true
 
 pub loop-word-init : goal.loop-word-init
-loop-word-init g c = record {
-  loads = c.in_ok-tables.ensures.ok;
-  refused = c.in_ok-tables.ensures.success;
-}
+loop-word-init g c = c.in_ok-tables.ensures.ok
 
 pub loop-word-preserved : goal.loop-word-preserved
 loop-word-preserved g c =
@@ -39,19 +35,16 @@ loop-word-preserved g c =
     let after = g.S.FileSource.loaded c.load_next.new.source in
     let texts = map (λ (t : Vec ℕ Global). t.items) c.loop-word.tables.texts.items in
     let more = map (λ (t : Vec ℕ Global). t.items) c.in_ok-tables-2.tables.texts.items in
-    record {
-      loads = subst
-          (λ (ws : List (Bor (List ℕ))). LoadsTables (words_to first ws (position + 1)) before after
-          more c.in_ok-tables-2.tables.fares) same
-          (tables_on first provided position no_word c.loop-word-test.true before between after
-          texts more
-          next.0 c.loop-word.tables.fares c.in_ok-tables-2.tables.fares
-          (subst (λ (ws : List (Bor (List ℕ))). LoadsTables (words_to first ws position) before
-          between
-          texts c.loop-word.tables.fares) (sym same) c.loop-word.invariant.loads)
-          next.1 next.2 next.3);
-      refused = c.in_ok-tables-2.ensures.success ∙ c.loop-word.invariant.refused;
-    }
+    subst
+    (λ (ws : List (Bor (List ℕ))). LoadsTables (words_to first ws (position + 1)) before after
+    more c.in_ok-tables-2.tables.fares) same
+    (tables_on first provided position no_word c.loop-word-test.true before between after
+    texts more
+    next.0 c.loop-word.tables.fares c.in_ok-tables-2.tables.fares
+    (subst (λ (ws : List (Bor (List ℕ))). LoadsTables (words_to first ws position) before
+    between
+    texts c.loop-word.tables.fares) (sym same) c.loop-word.invariant)
+    next.1 next.2 next.3)
 
 -- the next table is refused, for the right reason
 pub returns-in_err-tables-2-clause-right : goal.returns-in_err-tables-2-clause-right
@@ -73,11 +66,4 @@ returns-in_err-tables-2-clause-right g c =
     (subst (λ (ws : List (Bor (List ℕ))). LoadsTables (words_to first ws position)
     (g.S.FileSource.loaded c.args.source.now) (g.S.FileSource.loaded c.loop-word.source)
     (map (λ (t : Vec ℕ Global). t.items) c.loop-word.tables.texts.items) c.loop-word.tables.fares)
-    (sym same) c.loop-word.invariant.loads))
-
-pub returns-in_err-tables-2-clause-kept : goal.returns-in_err-tables-2-clause-kept
-returns-in_err-tables-2-clause-kept g c =
-    let fault = c.in_err-tables-2.field-0.0 in
-    IfErr_handed_on c.from_residual-in_err-tables-2.result fault (SameRefusals _ _)
-    c.from_residual-in_err-tables-2.ensures.1
-    (kept_on _ _ _ fault c.loop-word.invariant.refused c.in_err-tables-2.ensures.kept)
+    (sym same) c.loop-word.invariant))

@@ -1,6 +1,5 @@
 use Rattle.std.proofs.Common.{◌≡◌, ◌∙◌, ◌<◌, ◌++◌, ◌∷◌, [], ℕ, List, length, length-append, refl}
-use Rattle.std.proofs.Common.{sym, ap}
-use Rattle.std.proofs.Common.{arith}
+use Rattle.std.proofs.Common.{sym, ap, arith}
 use Rattle.ledger_check.specs.Lines.{IsLine, lines_of}
 use Rattle.ledger_check.proofs.LineLemmas.{lines-part}
 use Rattle.report_check.proofs.EndLines.{line_first}

@@ -1,4 +1,4 @@
-use Rattle.std.proofs.Common.{◌≢◌, arith}
+use Rattle.std.proofs.Common.{arith}
 use Rattle.std.proofs.lemmas.Result.{IfOk-weaker}
 use Rattle.report_check.proofs.Verdicts.{other_taps, with_taps}
 use Rattle.report_check.proofs.verdict.check_any_uploads.Goals as goal

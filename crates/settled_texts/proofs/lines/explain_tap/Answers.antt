@@ -1,5 +1,5 @@
 -- The explainer goes on to the tap's token, and posts the tap.
-use Rattle.std.proofs.Common.{sym, subst, ◌∙◌}
+use Rattle.std.proofs.Common.{sym, subst, ◌∙◌, arith}
 use Rattle.tap_views.specs.declared.token.Token.{Token}
 use Rattle.histories.specs.Entry.{own}
 use Rattle.tap_views.specs.TokenOrder.{IsUpTo}
@@ -14,17 +14,24 @@ write_posted-requires-clause-explained c =
     c.requires.consumed.1 up in
     (own c.go_on_to.new.explainer.token c.requires.consumed.0, consumed.explained)
 
-pub returns-clause-explained : goal.returns-clause-explained
-returns-clause-explained c = λ earlier consumed.
+pub returns : goal.returns
+returns c =
     let up = subst (λ (t : Token). IsUpTo c.args.explainer.now.token t) (sym c.token_of.ensures)
     c.requires.up in
-    let gone = c.go_on_to.ensures.consumed c.args.table.now earlier consumed up in
-    let own_earlier = own c.go_on_to.new.explainer.token earlier in
-    let line = c.in_ok-write_posted.ensures.line own_earlier gone.explained in (
-      line.0,
-      one_reported c.args.table.now earlier c.args.tap.now c.go_on_to.new.explainer
-          c.write_posted.new.self
-          line.0 (c.go_on_to.ensures.token ∙ c.token_of.ensures) c.write_posted.ensures.token gone
-          line.1 (c.in_ok-write_posted.ensures.explained own_earlier gone.explained),
-      line.2,
-    )
+    let few = c.go_on_to.ensures.few in
+    let number = c.write_posted.ensures.number in
+    let token = c.go_on_to.ensures.token ∙ c.token_of.ensures in
+    record {
+      lines = λ earlier consumed.
+          let gone = c.go_on_to.ensures.consumed c.args.table.now earlier consumed up in
+          let own_earlier = own c.go_on_to.new.explainer.token earlier in
+          let line = c.in_ok-write_posted.ensures.line own_earlier gone.explained in (
+            line.0,
+            one_reported c.args.table.now earlier c.args.tap.now c.go_on_to.new.explainer
+                c.write_posted.new.self line.0 token c.write_posted.ensures.token gone line.1
+                (c.in_ok-write_posted.ensures.explained own_earlier gone.explained),
+            line.2,
+          );
+      token = c.write_posted.ensures.token ∙ token;
+      few = omega (arith, few, number);
+    }

@@ -1,40 +1,28 @@
 -- Each round explains a stride more.
 use Rattle.std.proofs.Common.{◌≡◌, ◌<◌, ◌++◌, ◌==◌, false, List, [], length}
-use Rattle.std.proofs.Common.{string_bytes, refl, sym, ap, subst, ◌∙◌, append_assoc}
-use Rattle.std.proofs.Common.{arith, length-append}
+use Rattle.std.proofs.Common.{string_bytes, refl, sym, ap, subst, ◌∙◌, append_assoc, arith}
 use Rattle.std.proofs.lemmas.Result.{err_from_is_err_and}
+use Rattle.fare_texts.specs.WrittenOut.{Begins, GoesOut}
 use Rattle.fare_texts.proofs.Beginnings.{begins_nothing, goes_grown, goes_nothing, goes_passed}
+use Rattle.fare_texts.proofs.Beginnings.{goes_then_on}
 use Rattle.std.proofs.lemmas.Bool.Decides.{nat_tests}
-use Rattle.std.proofs.lemmas.List.Elements.{All-drop, All-same, All-take}
-use Rattle.tap_views.specs.declared.token.Token.{Token}
-use Rattle.tap_views.specs.Layout.{moment_limit}
 use Rattle.tap_views.specs.declared.encoder.TapFields.{TapFields}
 use Rattle.tap_views.proofs.Lists.{all_done}
-use Rattle.settlement.specs.Posted.{posted_after}
-use Rattle.settled_texts.specs.ExplainedTaps.{AreExplained}
-use Rattle.settlement.specs.Nondecreasing.{last_token}
-use Rattle.settled_texts.proofs.TapsExplained.{nondecreasing_within, halves_of}
-use Rattle.settlement.proofs.Nondecreasing.{last_append}
-use Rattle.settled_texts.proofs.TapsExplained.{none_reported}
-use Rattle.settled_texts.proofs.TapsExplained.{reported_append, explained_started}
+use Rattle.settled_texts.specs.ExplainedTaps.{Explains}
+use Rattle.settled_texts.proofs.TapsExplained.{explained_lines, explains_none, explains_then}
+use Rattle.settled_texts.proofs.TapsExplained.{halves_of, lines_front, may_front, may_rest}
 use Rattle.settled_texts.proofs.lines.write_taps.Goals as goal
 
-abbrev Early : TapFields → Type 0
-Early tap = tap.moment < moment_limit
-
 pub loop-rest-init : goal.loop-rest-init
-loop-rest-init g c = record {
-  done = [];
-  whole = refl;
-  early = c.requires.early;
-  explained = λ earlier consumed. (
-    [],
-    none_reported c.args.table.now earlier c.args.explainer.now consumed,
-    goes_nothing (g.W.Write.contents c.args.out.now) (string_bytes c.args.text.now),
-  );
-  token = refl;
-  few = omega arith;
-}
+loop-rest-init g c =
+    let out = g.W.Write.contents c.args.out.now in
+    let text = string_bytes c.args.text.now in
+    record {
+      done = [];
+      whole = refl;
+      explained = explains_none c.args.table.now c.args.explainer.now (GoesOut out text out text)
+          (goes_nothing out text);
+    }
 
 pub loop-rest-smaller : goal.loop-rest-smaller
 loop-rest-smaller g c =
@@ -46,123 +34,87 @@ loop-rest-smaller g c =
     let less : length c.split_at.result.1.now < length left = omega (arith, some, least, back) in
     less
 
-pub explain_taps-requires-clause-early : goal.explain_taps-requires-clause-early
-explain_taps-requires-clause-early g c =
-    All-same Early _ _ c.split_at.ensures.front
-    (All-take Early c.min.result c.loop-rest.rest.now c.loop-rest.invariant.early)
-
-pub explain_taps-requires-clause-nondecreasing : goal.explain_taps-requires-clause-nondecreasing
-explain_taps-requires-clause-nondecreasing g c =
+pub explain_taps-requires-clause-may : goal.explain_taps-requires-clause-may
+explain_taps-requires-clause-may g c =
     let inv = c.loop-rest.invariant in
-    let halves = halves_of c.min.result c.loop-rest.rest.now c.split_at.result.0.now
-    c.split_at.result.1.now c.split_at.ensures.front c.split_at.ensures.back in
-    nondecreasing_within c.args.explainer.now.token c.loop-rest.explainer.token inv.done
-    c.split_at.result.0.now
-    c.split_at.result.1.now c.args.taps.now (ap (λ ts. inv.done ++ ts) halves ∙ inv.whole)
-    c.requires.nondecreasing inv.token
-
-pub explain_taps-requires-clause-consumed : goal.explain_taps-requires-clause-consumed
-explain_taps-requires-clause-consumed g c =
-    let earlier = c.requires.consumed.0 in (
-      earlier ++ posted_after c.args.table.now earlier c.loop-rest.invariant.done,
-      (c.loop-rest.invariant.explained earlier c.requires.consumed.1).1.consumed,
-    )
-
-pub explain_taps-requires-clause-room : goal.explain_taps-requires-clause-room
-explain_taps-requires-clause-room g c =
-    let inv = c.loop-rest.invariant in
-    let halves = halves_of c.min.result c.loop-rest.rest.now c.split_at.result.0.now
-    c.split_at.result.1.now c.split_at.ensures.front c.split_at.ensures.back in
-    let all = ap length inv.whole in
-    let parts = length-append inv.done c.loop-rest.rest.now in
-    let both = ap length halves in
-    let strides = length-append c.split_at.result.0.now c.split_at.result.1.now in
-    omega (arith, all, parts, both, strides, inv.few, c.requires.room)
+    let stride = c.split_at.result.0.now in
+    let trailing = c.split_at.result.1.now in
+    may_front c.args.table.now c.loop-rest.explainer stride trailing c.loop-rest.rest.now
+    (halves_of c.min.result c.loop-rest.rest.now stride trailing c.split_at.ensures.front
+    c.split_at.ensures.back)
+    (may_rest c.args.table.now c.args.explainer.now c.loop-rest.explainer inv.done
+    c.loop-rest.rest.now c.args.taps.now _ inv.whole c.requires.may inv.explained)
 
 pub loop-rest-preserved : goal.loop-rest-preserved
 loop-rest-preserved g c =
-    let fares = c.args.table.now in
     let inv = c.loop-rest.invariant in
     let stride = c.split_at.result.0.now in
     let trailing = c.split_at.result.1.now in
     let halves = halves_of c.min.result c.loop-rest.rest.now stride trailing
     c.split_at.ensures.front
     c.split_at.ensures.back in
-    let next = c.in-Ok.ensures in
-    let parts = length-append inv.done stride in
+    let begin = g.W.Write.contents c.args.out.now in
+    let out = g.W.Write.contents c.pass_piece.new.out in
+    let text = string_bytes c.args.text.now in
     record {
       done = inv.done ++ stride;
       whole = append_assoc inv.done stride trailing ∙ ap (λ ts. inv.done ++ ts) halves ∙ inv.whole;
-      early = All-same Early _ _ c.split_at.ensures.back
-          (All-drop Early c.min.result c.loop-rest.rest.now inv.early);
-      explained = λ earlier consumed.
-          let so_far = inv.explained earlier consumed in
-          let more = next.explained (earlier ++ posted_after fares earlier inv.done)
-          so_far.1.consumed in (
-            so_far.0 ++ more.0,
-            reported_append fares earlier inv.done stride c.loop-rest.explainer
-                c.explain_taps.new.explainer
-                so_far.0
-                more.0 so_far.1 more.1,
-            goes_grown _ (g.W.Write.contents c.pass_piece.new.out) _
-                (string_bytes c.pass_piece.new.text) _ so_far.0 more.0
-                (goes_passed _ (g.W.Write.contents c.loop-rest.out) _ _
-                (string_bytes c.loop-rest.text) _ so_far.0 so_far.2
-                c.in_ok-pass_piece.ensures.gone) more.2,
-          );
-      token = next.token ∙ ap (λ (t : Token). last_token t stride) inv.token
-          ∙ sym (last_append c.args.explainer.now.token inv.done stride);
-      few = omega (arith, next.few, inv.few, parts);
+      explained = explains_then c.args.table.now c.args.explainer.now c.loop-rest.explainer
+          c.explain_taps.new.explainer inv.done stride
+          (GoesOut begin text (g.W.Write.contents c.loop-rest.out) (string_bytes c.loop-rest.text))
+          (λ lines. string_bytes c.explain_taps.new.text
+          ≡ string_bytes c.pass_piece.new.text ++ lines)
+          (GoesOut begin text out (string_bytes c.explain_taps.new.text)) inv.explained
+          c.in-Ok.ensures
+          (λ l m gone grown. goes_grown begin out text (string_bytes c.pass_piece.new.text)
+          (string_bytes c.explain_taps.new.text) l m
+          (goes_passed begin (g.W.Write.contents c.loop-rest.out) out text
+          (string_bytes c.loop-rest.text) (string_bytes c.pass_piece.new.text) l gone
+          c.in_ok-pass_piece.ensures.gone) grown);
     }
 
 pub returns-clause-explained : goal.returns-clause-explained
-returns-clause-explained g c = λ earlier consumed.
+returns-clause-explained g c =
     let inv = c.loop-rest.invariant in
-    let so_far = inv.explained earlier consumed in
-    let same = all_done inv.done c.loop-rest.rest.now _ inv.whole
-    (sym c.is_empty.ensures ∙ c.loop-rest-test.false) in (
-      so_far.0,
-      subst (λ (ts : List TapFields). AreExplained c.args.table.now earlier ts c.loop-rest.explainer
-          so_far.0) same
-          so_far.1,
-      so_far.2,
-    )
-
-pub returns-clause-token : goal.returns-clause-token
-returns-clause-token g c =
-    let inv = c.loop-rest.invariant in
-    inv.token ∙ ap (last_token c.args.explainer.now.token)
+    subst (λ (ts : List TapFields). Explains c.args.table.now c.args.explainer.now ts
+    c.loop-rest.explainer (GoesOut (g.W.Write.contents c.args.out.now)
+    (string_bytes c.args.text.now) (g.W.Write.contents c.loop-rest.out)
+    (string_bytes c.loop-rest.text)))
     (all_done inv.done c.loop-rest.rest.now _ inv.whole
-    (sym c.is_empty.ensures ∙ c.loop-rest-test.false))
-
-pub returns-clause-few : goal.returns-clause-few
-returns-clause-few g c =
-    let inv = c.loop-rest.invariant in
-    let same = ap length (all_done inv.done c.loop-rest.rest.now _ inv.whole
-    (sym c.is_empty.ensures ∙ c.loop-rest-test.false)) in
-    omega (arith, inv.few, same)
+    (sym c.is_empty.ensures ∙ c.loop-rest-test.false)) inv.explained
 
 -- ---- what a write that failed left
 pub returns-in_err-pass_piece-clause-started : goal.returns-in_err-pass_piece-clause-started
 returns-in_err-pass_piece-clause-started g c =
     let inv = c.loop-rest.invariant in
+    let begin = g.W.Write.contents c.args.out.now in
+    let out = g.W.Write.contents c.loop-rest.out in
+    let after = g.W.Write.contents c.pass_piece.new.out in
+    let text = string_bytes c.args.text.now in
+    let waits = string_bytes c.loop-rest.text in
     let p = err_from_is_err_and c.from_residual.result c.from_residual.ensures.1 in
-    rw p.1 (λ earlier consumed.
-    let so_far = inv.explained earlier consumed in
-    explained_started c.args.table.now earlier inv.done c.loop-rest.rest.now c.args.taps.now
-    c.loop-rest.explainer so_far.0 (g.W.Write.contents c.args.out.now)
-    (g.W.Write.contents c.loop-rest.out) (g.W.Write.contents c.pass_piece.new.out)
-    (string_bytes c.args.text.now) (string_bytes c.loop-rest.text) inv.whole so_far.1 so_far.2
-    c.in_err-pass_piece.ensures.started)
+    rw p.1 (lines_front c.args.table.now c.args.explainer.now inv.done c.loop-rest.rest.now
+    c.args.taps.now (GoesOut begin text out waits) (λ lines. Begins begin after (text ++ lines))
+    inv.whole
+    (explained_lines c.args.table.now c.args.explainer.now c.loop-rest.explainer inv.done
+    (GoesOut begin text out waits) inv.explained)
+    (λ l m gone. goes_then_on begin out after text waits l m gone
+    c.in_err-pass_piece.ensures.started))
 
 pub returns-in_default-clause-started : goal.returns-in_default-clause-started
-returns-in_default-clause-started g c = λ earlier consumed.
+returns-in_default-clause-started g c =
     let inv = c.loop-rest.invariant in
-    let so_far = inv.explained earlier consumed in
-    let out = g.W.Write.contents c.pass_piece.new.out in
-    explained_started c.args.table.now earlier inv.done c.loop-rest.rest.now c.args.taps.now
-    c.loop-rest.explainer so_far.0 (g.W.Write.contents c.args.out.now) out out
-    (string_bytes c.args.text.now) (string_bytes c.pass_piece.new.text) inv.whole so_far.1
-    (goes_passed _ (g.W.Write.contents c.loop-rest.out) _ _ (string_bytes c.loop-rest.text) _
-    so_far.0 so_far.2 c.in_ok-pass_piece.ensures.gone)
-    (begins_nothing out (string_bytes c.pass_piece.new.text))
+    let begin = g.W.Write.contents c.args.out.now in
+    let out = g.W.Write.contents c.loop-rest.out in
+    let after = g.W.Write.contents c.pass_piece.new.out in
+    let text = string_bytes c.args.text.now in
+    let waits = string_bytes c.loop-rest.text in
+    let left = string_bytes c.pass_piece.new.text in
+    lines_front c.args.table.now c.args.explainer.now inv.done c.loop-rest.rest.now
+    c.args.taps.now (GoesOut begin text out waits) (λ lines. Begins begin after (text ++ lines))
+    inv.whole
+    (explained_lines c.args.table.now c.args.explainer.now c.loop-rest.explainer inv.done
+    (GoesOut begin text out waits) inv.explained)
+    (λ l m gone. goes_then_on begin after after text left l m
+    (goes_passed begin out after text waits left l gone c.in_ok-pass_piece.ensures.gone)
+    (begins_nothing after left))

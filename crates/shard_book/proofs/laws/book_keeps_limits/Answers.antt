@@ -1,10 +1,10 @@
-use Rattle.std.proofs.Common.{◌≡◌, ◌≤◌, ◌∙◌, ℕ, ap, List, [], filter, arith, length, map, sym}
+use Rattle.std.proofs.Common.{◌≡◌, ◌≤◌, ◌∙◌, ℕ, ap, false, List, [], filter, arith, map, sym}
 use Rattle.account_rule.specs.declared.reply.Reply.{Reply}
 use Rattle.account_rule.specs.Laws.{is_ride}
 use Rattle.account_rule.specs.Replies.{replies}
 use Rattle.account_rule.specs.Taps.{LiveTap}
 use Rattle.account_rule.specs.TokenRules.{rules_of, token_class}
-use Rattle.tariffs.specs.Fares.{Fares, meaning_at, terms_at, valid_at}
+use Rattle.tariffs.specs.Fares.{Fares, has_caps_or_prices, meaning_at, terms_at, valid_at}
 use Rattle.fare_caps.specs.CapMeanings.{capped_rules_of}
 use Rattle.fare_caps.proofs.EmptyLemmas.{replies-empty}
 use Rattle.histories.specs.Entry.{own, reply_of, taps_of}
@@ -33,9 +33,9 @@ one_ceiling : (table : Fares) (token : List ℕ) (ride : LiveTap) → table.late
 unfolding rules_of token_class
 one_ceiling table token ride alone = rw (valid_alone table ride.moment alone) (omega arith)
 
--- the replies of a token's entries under a table without caps
+-- the replies of a token's entries under a table with neither caps nor prices
 plain-own : (table : Fares) (token : Token) (entries : List Entry) → IsLegal table entries
-    → length table.meaning.caps ≡ 0
+    → has_caps_or_prices table ≡ false
     → map reply_of (own token entries)
     ≡ replies (rules_of table (bytes_of token)) (taps_of table token entries)
 plain-own table token entries legal none =

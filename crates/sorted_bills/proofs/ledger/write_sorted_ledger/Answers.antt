@@ -9,7 +9,8 @@ use Rattle.tap_views.specs.declared.upload_end.UploadEnd.{UploadEnd}
 use Rattle.tap_views.specs.declared.upload_end.UploadEnd.TheVariants.{Posted}
 use Rattle.fare_texts.specs.LedgerLines.{head_text}
 use Rattle.fare_texts.proofs.Along.{ledger_along}
-use Rattle.fare_texts.proofs.Beginnings.{goes_last}
+use Rattle.fare_texts.proofs.Beginnings.{goes_last, goes_then}
+use Rattle.fare_texts.specs.WrittenOut.{Begins, GoesOut}
 use Rattle.fare_texts.proofs.PieceWriting.{consumed_first}
 use Rattle.settlement.specs.Posted.{posted}
 use Rattle.settled_texts.proofs.Rows.{posted_nondecreasing}
@@ -17,10 +18,11 @@ use Rattle.sorted_taps.proofs.Spans.{at_end_too}
 use Rattle.sorted_bills.specs.declared.fault.BillFault.TheVariants.{NoMemory, Write}
 use Rattle.sorted_bills.specs.declared.range.Range.{Range}
 use Rattle.sorted_bills.specs.inside.Ranges.{IsRange}
-use Rattle.sorted_bills.proofs.Counted.{counted_ends, late_no_write, late_says_nothing, too_many}
-use Rattle.sorted_bills.proofs.Explained.{started_waiting, explained_started}
+use Rattle.sorted_bills.proofs.Counted.{counted_ends, late_is_no_fault, late_no_write}
+use Rattle.sorted_bills.proofs.Counted.{late_says_nothing, too_many}
+use Rattle.sorted_bills.proofs.Explained.{consumed_none, has_taken}
 use Rattle.sorted_bills.proofs.LedgerStarted.{ledger_started}
-use Rattle.sorted_bills.specs.inside.Explained.{IsStartedSoFar}
+use Rattle.sorted_bills.specs.inside.Explained.{HasTaken}
 use Rattle.sorted_bills.proofs.ledger.write_sorted_ledger.Goals as goal
 
 pub write_ranges-requires-clause-room : goal.write_ranges-requires-clause-room
@@ -29,22 +31,12 @@ write_ranges-requires-clause-room g c =
     let few = c.in_ok-counted.ensures.few.1 in
     omega (arith, none, few)
 
-pub write_ranges-requires-clause-explained : goal.write_ranges-requires-clause-explained
-write_ranges-requires-clause-explained g c κs within =
-    let fares = c.args.table.now in
-    let explainer = c.of-explainer.result in
-    let readers = c.in_ok-taker.taker.merge.readers.items in
-    let bytes = g.W.Write.contents c.args.out.now in
-    let waits = string_bytes c.in_ok-text.text in (
-      [],
-      readers,
-      explainer.token,
-      bytes,
-      waits,
-      explained_started fares (map g.F.Placed.bytes c.args.files.now) [] readers explainer bytes
-          waits
-          (consumed_first fares explainer (c.of-explainer.ensures.explained fares)),
-    )
+pub write_ranges-requires-clause-consumed : goal.write_ranges-requires-clause-consumed
+write_ranges-requires-clause-consumed g c κs within = (
+  [],
+  consumed_first c.args.table.now c.of-explainer.result
+      (c.of-explainer.ensures.explained c.args.table.now),
+)
 
 pub write_ranges-requires-clause-ranges : goal.write_ranges-requires-clause-ranges
 write_ranges-requires-clause-ranges g c κs within =
@@ -59,33 +51,29 @@ returns-clause-ok g c =
     let explainer = c.of-explainer.result in
     let started = c.in_ok-taker.taker.merge.readers.items in
     let end = c.write_ranges.new.taker.merge.readers.items in
-    let bytes = g.W.Write.contents c.args.out.now in
-    let waits = string_bytes c.in_ok-text.text in
-    let explained = c.in_ok-write_ranges.ensures.explained [] started explainer.token bytes waits
-    (explained_started fares (map g.F.Placed.bytes c.args.files.now) [] started explainer bytes
-    waits
-    (consumed_first fares explainer (c.of-explainer.ensures.explained fares))) in
-    let history = posted fares explained.taps in (
-      head_text ++ explained.lines,
+    let taken = c.in_ok-write_ranges.ensures.explained in
+    let history = posted fares taken.taps in
+    let (lines, explained, gone) = taken.explains.lines []
+    (consumed_first fares explainer (c.of-explainer.ensures.explained fares)) in (
+      head_text ++ lines,
       λ all are.
-          let way = explained.consumed all are in
+          let way = taken.goes_on all are started [] (consumed_none all started) in
           record {
             history = history;
-            is_settled = c.posted_taps.ensures.history fares all explained.taps
-                (c.taken_taps_are_settled.ensures all started way.to explained.taps
+            is_settled = c.posted_taps.ensures.history fares all taken.taps
+                (c.taken_taps_are_settled.ensures all started way.to taken.taps
                 (c.in_ok-taker.ensures.started all are) way.taken
                 (at_end_too way.to end way.aligned c.in_ok-write_ranges.ensures.end)
-                explained.named);
-            over = ledger_along fares history explained.lines
-                (posted_nondecreasing fares explainer.token explained.taps explained.nondecreasing)
-                explained.explained.are;
+                taken.named);
+            over = ledger_along fares history lines
+                (posted_nondecreasing fares explainer.token taken.taps taken.nondecreasing)
+                explained.are;
           },
       subst (λ (head : List ℕ). Appends (g.W.Write.contents c.args.out.now)
-          (g.W.Write.contents c.pass_on.new.out) (head ++ explained.lines)) c.in_ok-text.ensures
+          (g.W.Write.contents c.pass_on.new.out) (head ++ lines)) c.in_ok-text.ensures
           (goes_last (g.W.Write.contents c.args.out.now) (g.W.Write.contents c.write_ranges.new.out)
           (g.W.Write.contents c.pass_on.new.out) (string_bytes c.in_ok-text.text)
-          (string_bytes c.write_ranges.new.text) explained.lines explained.gone
-          c.in_ok-pass_on.ensures.whole),
+          (string_bytes c.write_ranges.new.text) lines gone c.in_ok-pass_on.ensures.whole),
     )
 
 pub returns-clause-ended : goal.returns-clause-ended
@@ -109,6 +97,12 @@ returns-in_err-taker-clause-fault g c =
     c.from_residual-in_err-taker.ensures.1 in
     rw (p.1, p.2) (λ all are. late_says_nothing all c.in_err-taker.field-0.0)
 
+pub returns-in_err-write_ranges-clause-fault : goal.returns-in_err-write_ranges-clause-fault
+returns-in_err-write_ranges-clause-fault g c =
+    let p = err_from_is_err_and c.from_residual-in_err-write_ranges.result
+    c.from_residual-in_err-write_ranges.ensures.1 in
+    rw (p.1, p.2) (λ all are. late_is_no_fault all _ c.in_err-write_ranges.ensures.fault)
+
 -- ---- a beginning was written
 pub returns-in_err-write_ranges-clause-started : goal.returns-in_err-write_ranges-clause-started
 returns-in_err-write_ranges-clause-started g c =
@@ -118,20 +112,16 @@ returns-in_err-write_ranges-clause-started g c =
     let known = map g.F.Placed.bytes c.args.files.now in
     let explainer = c.of-explainer.result in
     let started = c.in_ok-taker.taker.merge.readers.items in
-    let bytes = g.W.Write.contents c.args.out.now in
-    let waits = string_bytes c.in_ok-text.text in
+    let begin = g.W.Write.contents c.args.out.now in
+    let after = g.W.Write.contents c.write_ranges.new.out in
     rw (p.1) (λ is_write.
-    ledger_started fares known c.in_ok-numbers.numbers.items started explainer.token bytes
-    (g.W.Write.contents c.write_ranges.new.out) c.merged_is_canonical.ensures
-    c.in_ok-numbers.ensures.sorted
-    c.in_ok-taker.ensures.started
-    (c.of-explainer.ensures.token ∙ c.least_token.ensures)
+    ledger_started fares known c.in_ok-numbers.numbers.items started explainer begin after
+    c.merged_is_canonical.ensures c.in_ok-numbers.ensures.sorted c.in_ok-taker.ensures.started
+    (c.of-explainer.ensures.token ∙ c.least_token.ensures) (c.of-explainer.ensures.explained fares)
     (λ all taps settled. c.posted_taps.ensures.history fares all taps settled)
-    (subst (λ head. IsStartedSoFar fares known [] started explainer.token bytes head
-    (g.W.Write.contents c.write_ranges.new.out)) c.in_ok-text.ensures
-    (c.in_err-write_ranges.ensures.started [] started explainer.token bytes waits
-    (explained_started fares known [] started explainer bytes waits
-    (consumed_first fares explainer (c.of-explainer.ensures.explained fares))))))
+    (subst (λ (head : List ℕ). HasTaken fares known started explainer
+    (λ lines. Begins begin after (head ++ lines))) c.in_ok-text.ensures
+    c.in_err-write_ranges.ensures.started))
 
 pub returns-in_err-pass_on-clause-started : goal.returns-in_err-pass_on-clause-started
 returns-in_err-pass_on-clause-started g c =
@@ -141,25 +131,21 @@ returns-in_err-pass_on-clause-started g c =
     let known = map g.F.Placed.bytes c.args.files.now in
     let explainer = c.of-explainer.result in
     let started = c.in_ok-taker.taker.merge.readers.items in
-    let bytes = g.W.Write.contents c.args.out.now in
-    let waits = string_bytes c.in_ok-text.text in
+    let begin = g.W.Write.contents c.args.out.now in
+    let mid = g.W.Write.contents c.write_ranges.new.out in
+    let after = g.W.Write.contents c.pass_on.new.out in
+    let head = string_bytes c.in_ok-text.text in
+    let waits = string_bytes c.write_ranges.new.text in
     rw (p.1) (λ is_write.
-    ledger_started fares known c.in_ok-numbers.numbers.items started explainer.token bytes
-    (g.W.Write.contents c.pass_on.new.out) c.merged_is_canonical.ensures
-    c.in_ok-numbers.ensures.sorted
-    c.in_ok-taker.ensures.started
-    (c.of-explainer.ensures.token ∙ c.least_token.ensures)
+    ledger_started fares known c.in_ok-numbers.numbers.items started explainer begin after
+    c.merged_is_canonical.ensures c.in_ok-numbers.ensures.sorted c.in_ok-taker.ensures.started
+    (c.of-explainer.ensures.token ∙ c.least_token.ensures) (c.of-explainer.ensures.explained fares)
     (λ all taps settled. c.posted_taps.ensures.history fares all taps settled)
-    (subst (λ head. IsStartedSoFar fares known [] started explainer.token bytes head
-    (g.W.Write.contents c.pass_on.new.out)) c.in_ok-text.ensures
-    (started_waiting fares known [] started explainer.token bytes waits
-    c.write_ranges.new.taker.merge.readers.items c.write_ranges.new.explainer
-    (g.W.Write.contents c.write_ranges.new.out) (g.W.Write.contents c.pass_on.new.out)
-    (string_bytes c.write_ranges.new.text)
-    (c.in_ok-write_ranges.ensures.explained [] started explainer.token bytes waits
-    (explained_started fares known [] started explainer bytes waits
-    (consumed_first fares explainer (c.of-explainer.ensures.explained fares))))
-    c.in_err-pass_on.ensures.started)))
+    (has_taken fares known started c.write_ranges.new.taker.merge.readers.items explainer
+    c.write_ranges.new.explainer _ 0 (GoesOut begin head mid waits)
+    (λ lines. Begins begin after (head_text ++ lines)) c.in_ok-write_ranges.ensures.explained
+    (λ l gone. subst (λ (h : List ℕ). Begins begin after (h ++ l)) c.in_ok-text.ensures
+    (goes_then begin mid after head waits l gone c.in_err-pass_on.ensures.started))))
 
 pub returns-in_err-write_ranges-clause-sorted : goal.returns-in_err-write_ranges-clause-sorted
 returns-in_err-write_ranges-clause-sorted g c =

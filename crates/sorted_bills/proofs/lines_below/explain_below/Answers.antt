@@ -1,121 +1,125 @@
 -- Each turn explains the taps that were taken last.
-use Rattle.std.proofs.Common.{◌≡◌, List, [], ◌++◌, All, map, string_bytes}
-use Rattle.std.proofs.Common.{sym, ap, subst, ◌∙◌, arith}
+use Rattle.std.proofs.Common.{◌≡◌, List, [], ◌++◌, All, length, map, string_bytes}
+use Rattle.std.proofs.Common.{sym, ap, subst, arith}
 use Rattle.std.proofs.lemmas.List.{nil_from_length}
 use Rattle.std.proofs.lemmas.Result.{err_from_is_err_and}
 use Rattle.tap_views.specs.declared.encoder.TapFields.{TapFields}
-use Rattle.tap_views.specs.declared.token.Token.{Token}
-use Rattle.fare_texts.specs.Lines.{AreLinesAlong}
-use Rattle.tap_views.specs.TokenOrder.{IsUpTo}
-use Rattle.tap_views.proofs.TokensUp.{up_itself}
+use Rattle.fare_texts.specs.WrittenOut.{Begins, GoesOut}
+use Rattle.fare_texts.proofs.Beginnings.{goes_begins, goes_nothing, goes_on}
 use Rattle.settlement.specs.Posted.{posted_after}
-use Rattle.settled_texts.specs.ExplainedTaps.{AreExplained}
-use Rattle.settlement.specs.Nondecreasing.{TapsNondecreasingFrom, last_token}
+use Rattle.settlement.specs.Nondecreasing.{TapsNondecreasingFrom}
+use Rattle.settled_texts.specs.ExplainedTaps.{Explains, HaveLines}
+use Rattle.settled_texts.proofs.TapsExplained.{explains_none}
 use Rattle.sorted_taps.proofs.Spans.{consumed_further}
-use Rattle.sorted_bills.proofs.Counted.{late_is_late, late_says_nothing}
+use Rattle.sorted_bills.proofs.Counted.{late_is_late}
 use Rattle.sorted_bills.proofs.Takings.{Early}
-use Rattle.sorted_bills.proofs.Explained.{started_more, started_still, reported_more}
-use Rattle.sorted_bills.proofs.Explained.{reported_still}
+use Rattle.sorted_bills.proofs.Explained.{gone_begins, has_taken, taken_then, takes_none, takes_then}
 use Rattle.sorted_bills.proofs.lines_below.explain_below.Goals as goal
 
 pub loop-init : goal.loop-init
-loop-init g c = record {
-  ready = c.requires.ready;
-  few = omega arith;
-  explained = λ earlier started from start waited so_far. so_far;
-}
+loop-init g c =
+    let out = g.W.Write.contents c.args.out.now in
+    let text = string_bytes c.args.text.now in
+    record {
+      ready = c.requires.ready;
+      explained = takes_none c.args.table.now (map g.F.Placed.bytes c.args.files.now)
+          c.args.taker.now.merge.readers.items c.args.explainer.now c.args.left.now
+          (GoesOut out text out text) (goes_nothing out text);
+    }
 
 pub take-requires : goal.take-requires
 take-requires g c = c.loop.invariant.ready
 
-pub write_taps-requires-clause-early : goal.write_taps-requires-clause-early
-write_taps-requires-clause-early g c =
-    subst (λ (taps : List TapFields). All Early taps) (sym c.deref.ensures.value)
-    c.in_ok-take.ensures.taken.early
-
-pub write_taps-requires-clause-nondecreasing : goal.write_taps-requires-clause-nondecreasing
-write_taps-requires-clause-nondecreasing g c =
-    subst (λ (taps : List TapFields). TapsNondecreasingFrom c.loop.explainer.token taps)
-    (sym c.deref.ensures.value) c.in_ok-take.ensures.nondecreasing
-
-pub write_taps-requires-clause-consumed : goal.write_taps-requires-clause-consumed
-write_taps-requires-clause-consumed g c =
-    let (earlier, started, from, start, waited, so_far) = c.requires.explained in
-    let now = c.loop.invariant.explained earlier started from start waited so_far in
-    (earlier ++ posted_after c.args.table.now earlier now.taps, now.explained.consumed)
-
-pub write_taps-requires-clause-room : goal.write_taps-requires-clause-room
-write_taps-requires-clause-room g c =
-    let few = c.loop.invariant.few in
+pub write_taps-requires-clause-may : goal.write_taps-requires-clause-may
+write_taps-requires-clause-may g c =
+    let so_far = c.loop.invariant.explained in
+    let (earlier, consumed) = c.requires.consumed in
+    let few = so_far.explains.few in
+    let counted = so_far.counted in
     let room = c.requires.room in
     let less = c.if-number-left.false in
     let long = c.deref.ensures.len in
-    omega (arith, few, room, less, long)
+    record {
+      early = subst (λ (taps : List TapFields). All Early taps) (sym c.deref.ensures.value)
+          c.in_ok-take.ensures.taken.early;
+      nondecreasing = subst (TapsNondecreasingFrom c.loop.explainer.token)
+          (sym c.deref.ensures.value) c.in_ok-take.ensures.nondecreasing;
+      earlier = earlier ++ posted_after c.args.table.now earlier so_far.taps;
+      consumed = (so_far.explains.lines earlier consumed).1.consumed;
+      room = omega (arith, few, counted, room, less, long);
+    }
 
 pub loop-preserved : goal.loop-preserved
 loop-preserved g c =
     let fares = c.args.table.now in
-    let inv = c.loop.invariant in
     let known = map g.F.Placed.bytes c.args.files.now in
     let taps = c.take.new.self.taps.items in
     let was = c.loop.taker.merge.readers.items in
     let is = c.take.new.self.merge.readers.items in
-    let token = c.loop.explainer.token in
-    let next = c.in_ok-write_taps.ensures in
-    let here = c.deref.ensures.value in
-    let few = inv.few in
+    let begin = g.W.Write.contents c.args.out.now in
+    let out = g.W.Write.contents c.loop.out in
+    let after = g.W.Write.contents c.write_taps.new.out in
+    let text = string_bytes c.args.text.now in
+    let waits = string_bytes c.loop.text in
+    let next = string_bytes c.write_taps.new.text in
     let less = c.if-number-left.false in
     let long = c.deref.ensures.len in
-    let more = next.few in
+    let here = ap length c.deref.ensures.value in
     record {
       ready = c.in_ok-take.ensures.ready;
-      few = omega (arith, few, less, long, more);
-      explained = λ earlier started from start waited so_far.
-          let now = inv.explained earlier started from start waited so_far in
-          let entries = earlier ++ posted_after fares earlier now.taps in
-          let explained = next.explained entries now.explained.consumed in
-          reported_more fares known earlier started from start waited was is c.loop.explainer
-          c.write_taps.new.explainer (g.W.Write.contents c.loop.out)
-          (g.W.Write.contents c.write_taps.new.out) (string_bytes c.loop.text)
-          (string_bytes c.write_taps.new.text) now token taps explained.0
-          (λ files are. consumed_further files started was is now.taps taps (now.consumed files are)
-          (c.in_ok-take.ensures.taken.taken files are)) (up_itself token)
+      explained = takes_then fares known c.args.taker.now.merge.readers.items was is
+          c.args.explainer.now c.loop.explainer c.args.left.now c.loop.left
+          (GoesOut begin text out waits) (GoesOut out waits after next)
+          (GoesOut begin text after next) c.loop.invariant.explained
+          (λ l m. goes_on begin out after text waits next l m) c.write_taps.new.explainer _
           (record {
+            taps = taps;
+            goes_on = λ files are from before has. consumed_further files from was is before taps
+                has (c.in_ok-take.ensures.taken.taken files are);
             named = c.in_ok-take.ensures.taken.named;
             nondecreasing = c.in_ok-take.ensures.nondecreasing;
-            explained = subst
-                (λ (ts : List TapFields). AreExplained fares entries ts c.write_taps.new.explainer
-                explained.0)
-                here explained.1;
-            up = subst (λ (t : Token). IsUpTo (last_token token taps) t)
-                (sym (next.token ∙ ap (last_token token) here)) (up_itself (last_token token taps));
-          }) explained.2;
+            explains = subst (λ (ts : List TapFields). Explains fares c.loop.explainer ts
+                c.write_taps.new.explainer (GoesOut out waits after next)) c.deref.ensures.value
+                c.in_ok-write_taps.ensures.explained;
+            counted = omega (arith, less, long, here);
+          });
     }
 
 pub returns-then-is_empty-clause-explained : goal.returns-then-is_empty-clause-explained
-returns-then-is_empty-clause-explained g c = λ earlier started from start waited so_far.
+returns-then-is_empty-clause-explained g c =
+    let fares = c.args.table.now in
     let known = map g.F.Placed.bytes c.args.files.now in
     let taps = c.take.new.self.taps.items in
     let was = c.loop.taker.merge.readers.items in
     let is = c.take.new.self.merge.readers.items in
+    let begin = g.W.Write.contents c.args.out.now in
+    let out = g.W.Write.contents c.loop.out in
+    let text = string_bytes c.args.text.now in
+    let waits = string_bytes c.loop.text in
     let e = c.is_empty.ensures in
     let f = c.if-is_empty.true in
     let none : taps ≡ [] = nil_from_length taps (grind arith) in
-    let now = c.loop.invariant.explained earlier started from start waited so_far in
-    reported_still c.args.table.now known earlier started from start waited was is c.loop.explainer
-    (g.W.Write.contents c.loop.out) (string_bytes c.loop.text) taps now none
-    (λ files are. consumed_further files started was is now.taps taps (now.consumed files are)
-    (c.in_ok-take.ensures.taken.taken files are))
+    takes_then fares known c.args.taker.now.merge.readers.items was is c.args.explainer.now
+    c.loop.explainer c.args.left.now c.loop.left (GoesOut begin text out waits)
+    (GoesOut out waits out waits) (GoesOut begin text out waits) c.loop.invariant.explained
+    (λ l m. goes_on begin out out text waits waits l m) c.loop.explainer c.loop.left
+    (record {
+      taps = taps;
+      goes_on = λ files are from before has. consumed_further files from was is before taps has
+          (c.in_ok-take.ensures.taken.taken files are);
+      named = c.in_ok-take.ensures.taken.named;
+      nondecreasing = c.in_ok-take.ensures.nondecreasing;
+      explains = subst (λ (ts : List TapFields). Explains fares c.loop.explainer ts
+          c.loop.explainer (GoesOut out waits out waits)) (sym none)
+          (explains_none fares c.loop.explainer (GoesOut out waits out waits)
+          (goes_nothing out waits));
+      counted = let long = ap length none in omega (arith, long);
+    })
 
 pub returns-in_err-take-clause-fault : goal.returns-in_err-take-clause-fault
 returns-in_err-take-clause-fault g c =
     let p = err_from_is_err_and c.from_residual.result c.from_residual.ensures.1 in
     rw (p.1, p.2) (late_is_late c.in_err-take.field-0.0)
-
-pub returns-in_err-take-clause-of_files : goal.returns-in_err-take-clause-of_files
-returns-in_err-take-clause-of_files g c =
-    let p = err_from_is_err_and c.from_residual.result c.from_residual.ensures.1 in
-    rw (p.1, p.2) (λ all. late_says_nothing all c.in_err-take.field-0.0)
 
 pub returns-in_err-write_taps-clause-fault : goal.returns-in_err-write_taps-clause-fault
 returns-in_err-write_taps-clause-fault g c =
@@ -123,36 +127,28 @@ returns-in_err-write_taps-clause-fault g c =
     c.from_residual-in_err-write_taps.ensures.1 in
     rw (p.1, p.2, c.in_err-write_taps.ensures.fault) (λ before. before)
 
-pub returns-in_err-write_taps-clause-of_files : goal.returns-in_err-write_taps-clause-of_files
-returns-in_err-write_taps-clause-of_files g c =
-    let p = err_from_is_err_and c.from_residual-in_err-write_taps.result
-    c.from_residual-in_err-write_taps.ensures.1 in
-    rw (p.1, p.2, c.in_err-write_taps.ensures.fault) (λ all. tt)
-
 -- ---- a beginning was written
 pub returns-in_err-take-clause-started : goal.returns-in_err-take-clause-started
 returns-in_err-take-clause-started g c =
     let p = err_from_is_err_and c.from_residual.result c.from_residual.ensures.1 in
-    rw (p.1) (λ earlier started from start waited so_far.
-    started_still c.args.table.now (map g.F.Placed.bytes c.args.files.now) earlier started from
-    start
-    waited c.loop.taker.merge.readers.items c.loop.explainer (g.W.Write.contents c.loop.out)
-    (string_bytes c.loop.text)
-    (c.loop.invariant.explained earlier started from start waited so_far))
+    rw (p.1) (has_taken c.args.table.now (map g.F.Placed.bytes c.args.files.now)
+    c.args.taker.now.merge.readers.items c.loop.taker.merge.readers.items c.args.explainer.now
+    c.loop.explainer c.args.left.now c.loop.left _ _ c.loop.invariant.explained
+    (λ l gone. gone_begins _ _ _ _ l gone))
 
 pub returns-then-number-left-clause-started : goal.returns-then-number-left-clause-started
-returns-then-number-left-clause-started g c = λ earlier started from start waited so_far.
-    started_still c.args.table.now (map g.F.Placed.bytes c.args.files.now) earlier started from
-    start
-    waited c.loop.taker.merge.readers.items c.loop.explainer (g.W.Write.contents c.loop.out)
-    (string_bytes c.loop.text) (c.loop.invariant.explained earlier started from start waited so_far)
+returns-then-number-left-clause-started g c =
+    has_taken c.args.table.now (map g.F.Placed.bytes c.args.files.now)
+    c.args.taker.now.merge.readers.items c.loop.taker.merge.readers.items c.args.explainer.now
+    c.loop.explainer c.args.left.now c.loop.left _ _ c.loop.invariant.explained
+    (λ l gone. gone_begins _ _ _ _ l gone)
 
 pub returns-clause-started : goal.returns-clause-started
-returns-clause-started g c = λ earlier started from start waited so_far.
-    started_still c.args.table.now (map g.F.Placed.bytes c.args.files.now) earlier started from
-    start
-    waited c.loop.taker.merge.readers.items c.loop.explainer (g.W.Write.contents c.loop.out)
-    (string_bytes c.loop.text) (c.loop.invariant.explained earlier started from start waited so_far)
+returns-clause-started g c =
+    has_taken c.args.table.now (map g.F.Placed.bytes c.args.files.now)
+    c.args.taker.now.merge.readers.items c.loop.taker.merge.readers.items c.args.explainer.now
+    c.loop.explainer c.args.left.now c.loop.left _ _ c.loop.invariant.explained
+    (λ l gone. gone_begins _ _ _ _ l gone)
 
 pub returns-in_err-write_taps-clause-started : goal.returns-in_err-write_taps-clause-started
 returns-in_err-write_taps-clause-started g c =
@@ -163,16 +159,25 @@ returns-in_err-write_taps-clause-started g c =
     let taps = c.take.new.self.taps.items in
     let was = c.loop.taker.merge.readers.items in
     let is = c.take.new.self.merge.readers.items in
-    let token = c.loop.explainer.token in
-    rw (p.1) (λ earlier started from start waited so_far.
-    let now = c.loop.invariant.explained earlier started from start waited so_far in
-    let entries = earlier ++ posted_after fares earlier now.taps in
-    let some = c.in_err-write_taps.ensures.started entries now.explained.consumed in
-    started_more fares known earlier started from start waited was is c.loop.explainer
-    (g.W.Write.contents c.loop.out) (g.W.Write.contents c.write_taps.new.out)
-    (string_bytes c.loop.text) now token taps some.0
-    (λ files are. consumed_further files started was is now.taps taps (now.consumed files are)
-    (c.in_ok-take.ensures.taken.taken files are)) (up_itself token)
-    c.in_ok-take.ensures.taken.named c.in_ok-take.ensures.nondecreasing
-    (subst (λ (ts : List TapFields). AreLinesAlong fares entries (posted_after fares entries ts)
-    some.0) c.deref.ensures.value some.1) some.2)
+    let begin = g.W.Write.contents c.args.out.now in
+    let out = g.W.Write.contents c.loop.out in
+    let after = g.W.Write.contents c.write_taps.new.out in
+    let text = string_bytes c.args.text.now in
+    let waits = string_bytes c.loop.text in
+    rw (p.1) (taken_then fares known c.args.taker.now.merge.readers.items was is
+    c.args.explainer.now c.loop.explainer c.args.left.now c.loop.left
+    (GoesOut begin text out waits) (λ lines. Begins out after (waits ++ lines))
+    (λ lines. Begins begin after (text ++ lines)) c.loop.invariant.explained
+    (λ l m. goes_begins begin out after text waits l m) (record {
+      taps = taps;
+      goes_on = λ files are. (
+        is,
+        λ from before has. consumed_further files from was is before taps has
+            (c.in_ok-take.ensures.taken.taken files are),
+      );
+      named = c.in_ok-take.ensures.taken.named;
+      nondecreasing = c.in_ok-take.ensures.nondecreasing;
+      lines = subst (λ (ts : List TapFields). HaveLines fares c.loop.explainer ts
+          (λ lines. Begins out after (waits ++ lines))) c.deref.ensures.value
+          c.in_err-write_taps.ensures.started;
+    }))

@@ -1,8 +1,6 @@
 -- Each place has what its own call left.
 use Rattle.std.proofs.Common.{map, subst, ◌∙◌, arith}
-use Rattle.std.specs.Prelude.{IfSome, Option}
 use Rattle.std.proofs.lemmas.Option.{get_or_from_slice_get, slice_get_within}
-use Rattle.sorted_bills.specs.declared.own_by_threads.OwnTaps.{OwnTaps}
 use Rattle.sorted_bills.specs.inside.OwnTaps.{IsOwnAt}
 use Rattle.sorted_bills.proofs.own_by_threads.collect_each.Goals as goal
 
@@ -12,5 +10,4 @@ returns-clause-each g c = λ position own there.
     let long = c.for_each_mut.auto.s in
     let at = (c.for_each_mut.ensures position own (omega (arith, inside, long))).1 in
     let left = at.left ∙ get_or_from_slice_get c.for_each_mut.new.s position own own there in
-    subst (λ (o : Option OwnTaps). IfSome o
-    (IsOwnAt c.args.token (map g.F.Placed.bytes c.args.files.now) position)) left at.call
+    subst (IsOwnAt c.args.token (map g.F.Placed.bytes c.args.files.now) position) left at.call

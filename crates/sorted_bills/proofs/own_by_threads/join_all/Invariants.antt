@@ -1,12 +1,8 @@
 use Rattle.std.proofs.Common.{◌≡◌, ℕ, List, Some, map}
-use Rattle.sorted_bills.specs.inside.OwnTaps.{AreSound}
 use Rattle.sorted_bills.proofs.OwnTaps.{AreOwnSoFar}
 use Rattle.sorted_bills.proofs.own_by_threads.join_all.Given as goal
 
 -- the token's taps of the files so far were added
-abbrev pub invariant-loop-position : goal.invariant-loop-position
-invariant-loop-position g l = record {
-  sound : AreSound l.fn.token l.taps.items;
-  own : (all : List (List ℕ)) → map g.F.Placed.bytes l.files ≡ map Some all
-      → AreOwnSoFar l.fn.token all l.position l.taps.items l.numbers.items;
-}
+abbrev pub invariant-loop-index : goal.invariant-loop-index
+invariant-loop-index g l = (all : List (List ℕ)) → map g.F.Placed.bytes l.files ≡ map Some all
+    → AreOwnSoFar l.fn.token all l.index l.taps.items l.numbers.items

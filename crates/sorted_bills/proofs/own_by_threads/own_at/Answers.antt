@@ -1,32 +1,27 @@
-use Rattle.std.proofs.Common.{ℕ, List, [], arith, subst, sym}
-use Rattle.std.specs.Prelude.{IfSome, Option}
-use Rattle.tap_views.specs.declared.encoder.TapFields.{TapFields}
-use Rattle.sorted_bills.specs.inside.OwnTaps.{AreOwnAdded, AreSound}
-use Rattle.sorted_bills.proofs.OwnTaps.{known_there, none_sound}
+use Rattle.std.proofs.Common.{ℕ, List, arith, subst}
+use Rattle.std.specs.Prelude.{IfErr, IfOk, IfSome, Option}
+use Rattle.std.proofs.lemmas.Result.{err_from_is_err_and}
+use Rattle.sorted_taps.specs.Sorted.{IsSortedFault}
+use Rattle.sorted_taps.proofs.Known.{known_all}
+use Rattle.sorted_bills.specs.inside.OwnTaps.{IsOwnOf}
+use Rattle.sorted_bills.proofs.OwnTaps.{both_known, known_there}
 use Rattle.sorted_bills.proofs.own_by_threads.own_at.Goals as goal
 
-pub add_file-requires-clause-sound : goal.add_file-requires-clause-sound
-add_file-requires-clause-sound g c =
-    subst (λ (taps : List TapFields). AreSound c.args.token taps) (sym c.new-taps.ensures.items)
-    (none_sound c.args.token)
+pub returns-then-position-files : goal.returns-then-position-files
+returns-then-position-files g c = λ bytes there. known_all _ bytes (λ all. (tt, tt))
 
-pub returns-in-Ok-add_file : goal.returns-in-Ok-add_file
-returns-in-Ok-add_file g c =
-    let token = c.args.token in
+pub returns-in_err-window : goal.returns-in_err-window
+returns-in_err-window g c =
+    let p = err_from_is_err_and c.from_residual.result c.from_residual.ensures.1 in
+    rw (p.1, p.2) (λ bytes there. known_all _ bytes (λ all. (tt, tt)))
+
+pub returns : goal.returns
+returns g c = λ bytes there.
     let file = c.index-files-position.result in
-    let taps = c.add_file.new.taps.items in
-    let numbers = c.add_file.new.numbers.items in
     let within = c.if-position-files.false in
-    record {
-      sound = c.in-Ok-add_file.ensures.sound;
-      added = λ known there. subst (λ (bytes : Option (List ℕ)). IfSome bytes
-          (λ all. AreOwnAdded token all [] taps [] numbers))
-          (known_there g.F.Placed.bytes c.args.files.now c.args.position file known
-          (omega (arith, within))
-          c.index-files-position.is there)
-          (subst (λ (ns : List ℕ). IfSome (g.F.Placed.bytes file)
-          (λ all. AreOwnAdded token all [] taps ns numbers)) c.new-numbers.ensures.items
-          (subst (λ (ts : List TapFields). IfSome (g.F.Placed.bytes file)
-          (λ all. AreOwnAdded token all ts taps c.new-numbers.result.items numbers))
-          c.new-taps.ensures.items c.in-Ok-add_file.ensures.own));
-    }
+    subst (λ (o : Option (List ℕ)). IfSome o (λ all. IfOk c.own_of_file.result
+    (IsOwnOf c.args.token all) × IfErr c.own_of_file.result (IsSortedFault all)))
+    (known_there g.F.Placed.bytes c.args.files.now c.args.position file bytes
+    (omega (arith, within)) c.index-files-position.is there)
+    (both_known (g.F.Placed.bytes file) c.own_of_file.result (IsOwnOf c.args.token) IsSortedFault
+    c.own_of_file.ensures.own c.own_of_file.ensures.fault)

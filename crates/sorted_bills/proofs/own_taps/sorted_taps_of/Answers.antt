@@ -1,10 +1,17 @@
-use Rattle.std.proofs.Common.{◌∙◌, List, Some, map, refl, sym, ap, subst}
+use Rattle.std.proofs.Common.{◌≡◌, ◌∙◌, All, List, Some, map, sym, ap, subst}
+use Rattle.std.proofs.lemmas.Bool.{not-false}
 use Rattle.std.proofs.lemmas.Result.{err_from_is_err_and}
+use Rattle.tap_views.specs.Token.{token_eq}
 use Rattle.tap_views.specs.UploadEnds.{ArePlainEnds}
+use Rattle.tap_views.specs.declared.encoder.TapFields.{TapFields}
 use Rattle.tap_views.specs.declared.upload_end.UploadEnd.{UploadEnd}
 use Rattle.tap_views.specs.declared.upload_end.UploadEnd.TheVariants.{Posted}
 use Rattle.sorted_bills.proofs.Counted.{late_no_write, late_says_nothing}
-use Rattle.sorted_bills.proofs.OwnTaps.{own_ends, own_in_order, sound_list}
+use Rattle.tap_views.proofs.TokenLemmas.{same_token}
+use Rattle.settlement.specs.Posted.{token_of_tap}
+use Rattle.sorted_bills.specs.inside.Taken.{AreFollowing}
+use Rattle.sorted_bills.proofs.OwnTaps.{all_its, own_ends, own_in_order}
+use Rattle.sorted_bills.proofs.Takings.{Early}
 use Rattle.sorted_bills.proofs.own_taps.sorted_taps_of.Goals as goal
 
 pub returns-clause-ended : goal.returns-clause-ended
@@ -21,13 +28,17 @@ returns-clause-order g c = λ all are.
 
 pub returns-clause-early : goal.returns-clause-early
 returns-clause-early g c =
-    (sound_list (Some c.args.token) c.in_ok-own.own.taps.items c.in_order-list.result.items
-    c.in_ok-own.ensures.sound c.in_order-list.ensures).early
+    subst (λ (taps : List TapFields). All Early taps) c.deref-3.ensures.value c.in-Some.ensures.early
 
 pub returns-clause-its : goal.returns-clause-its
 returns-clause-its g c =
-    (sound_list (Some c.args.token) c.in_ok-own.own.taps.items c.in_order-list.result.items
-    c.in_ok-own.ensures.sound c.in_order-list.ensures).its c.args.token refl
+    subst (λ (taps : List TapFields). All (λ tap. token_of_tap tap ≡ c.args.token) taps)
+    c.deref-3.ensures.value
+    (all_its c.args.token c.deref-3.result.now
+    (subst (AreFollowing c.args.token c.deref-3.result.now)
+    (same_token c.in-Some.last c.args.token
+    (not-false (token_eq c.in-Some.last c.args.token) (sym c.ne.ensures ∙ c.if-ne.false)))
+    c.in-Some.ensures))
 
 pub returns-in_err-stamps-clause-fault : goal.returns-in_err-stamps-clause-fault
 returns-in_err-stamps-clause-fault g c =

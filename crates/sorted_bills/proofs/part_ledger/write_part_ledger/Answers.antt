@@ -6,7 +6,7 @@ use Rattle.std.specs.Io.KnownBytes.{Appends}
 use Rattle.fare_texts.specs.LedgerLines.{head_text}
 use Rattle.fare_texts.specs.WrittenOut.{Begins}
 use Rattle.fare_texts.proofs.Along.{ledger_along}
-use Rattle.fare_texts.proofs.Beginnings.{goes_last}
+use Rattle.fare_texts.proofs.Beginnings.{goes_last, goes_then}
 use Rattle.fare_texts.proofs.PieceWriting.{consumed_first}
 use Rattle.settlement.specs.Posted.{posted}
 use Rattle.settled_texts.proofs.Rows.{posted_nondecreasing}
@@ -16,30 +16,20 @@ use Rattle.sorted_taps.specs.declared.positions.Position.{Position}
 use Rattle.sorted_taps.specs.declared.reader.TapReader.{TapReader}
 use Rattle.sorted_taps.proofs.Files.{known_number}
 use Rattle.sorted_taps.proofs.Placing.{span_alike, taken_between}
-use Rattle.sorted_bills.proofs.Counted.{late_no_write, late_says_nothing}
-use Rattle.sorted_bills.proofs.Explained.{started_waiting, explained_started}
+use Rattle.sorted_bills.proofs.Counted.{late_is_no_fault, late_no_write, late_says_nothing}
+use Rattle.sorted_bills.proofs.Explained.{consumed_none}
 use Rattle.sorted_bills.proofs.part_ledger.write_part_ledger.Goals as goal
 
 pub explain_below-requires-clause-room : goal.explain_below-requires-clause-room
 explain_below-requires-clause-room g c =
     let none = c.of-explainer.ensures.none in omega (arith, none)
 
-pub explain_below-requires-clause-explained : goal.explain_below-requires-clause-explained
-explain_below-requires-clause-explained g c =
-    let fares = c.args.table.now in
-    let explainer = c.of-explainer.result in
-    let readers = c.in_ok-started.started.taker.merge.readers.items in
-    let bytes = g.W.Write.contents c.args.out.now in
-    let waits = string_bytes c.in_ok-text.text in (
-      [],
-      readers,
-      explainer.token,
-      bytes,
-      waits,
-      explained_started fares (map g.F.Placed.bytes c.args.files.now) [] readers explainer bytes
-          waits
-          (consumed_first fares explainer (c.of-explainer.ensures.explained fares)),
-    )
+pub explain_below-requires-clause-consumed : goal.explain_below-requires-clause-consumed
+explain_below-requires-clause-consumed g c = (
+  [],
+  consumed_first c.args.table.now c.of-explainer.result
+      (c.of-explainer.ensures.explained c.args.table.now),
+)
 
 pub returns-clause-ok : goal.returns-clause-ok
 returns-clause-ok g c =
@@ -53,14 +43,14 @@ returns-clause-ok g c =
     let waits = string_bytes c.in_ok-text.text in
     let spans = c.args.spans.now in
     let same = sym c.deref-2.ensures.value ∙ c.if-not-are_spans.ensures refl in
-    let explained = c.in_ok-explain_below.ensures.explained [] begin explainer.token bytes waits
-    (explained_started fares known [] begin explainer bytes waits
-    (consumed_first fares explainer (c.of-explainer.ensures.explained fares))) in
+    let explained = c.in_ok-explain_below.ensures.explained in
+    let (lines, are, gone) = explained.explains.lines []
+    (consumed_first fares explainer (c.of-explainer.ensures.explained fares)) in
     let history = posted fares explained.taps in (
-      head_text ++ explained.lines,
-      λ all are.
-          let way = explained.consumed all are in
-          let number = known_number g.F.Placed.bytes c.args.files.now all are in
+      head_text ++ lines,
+      λ all known.
+          let way = explained.goes_on all known begin [] (consumed_none all begin) in
+          let number = known_number g.F.Placed.bytes c.args.files.now all known in
           let readers = c.in_ok-started.ensures.ready.readers in
           let after = c.in_ok-explain_below.ensures.ready.readers in
           let aligned = way.aligned.number in
@@ -69,11 +59,11 @@ returns-clause-ok g c =
           let ends : DoSpan all positions end made =
           subst (λ (rs : List TapReader). DoSpan all positions rs made) c.readers-readers.ensures
           (subst (λ (ps : List Position). DoSpan all ps c.readers-readers.result.now made)
-          c.deref.ensures.value (c.in_ok-made.ensures.spanned all are)) in
+          c.deref.ensures.value (c.in_ok-made.ensures.spanned all known)) in
           let between = taken_between all positions begin way.to spans explained.taps
           (omega (arith, number, readers))
           (ap length (sym same) ∙ many ∙ number)
-          (c.in_ok-started.ensures.placed all are) way.taken
+          (c.in_ok-started.ensures.placed all known) way.taken
           (subst (λ (ss : List FileSpan). DoSpan all positions way.to ss) same
           (span_alike all positions way.to end made way.aligned
           (omega (arith, aligned, after, many))
@@ -87,15 +77,15 @@ returns-clause-ok g c =
               named = explained.named;
               posted_are = refl;
             },
-            ledger_along fares history explained.lines
+            ledger_along fares history lines
                 (posted_nondecreasing fares explainer.token explained.taps explained.nondecreasing)
-                explained.explained.are,
+                are.are,
           ),
       subst (λ (head : List ℕ). Appends bytes
-          (g.W.Write.contents c.pass_on.new.out) (head ++ explained.lines)) c.in_ok-text.ensures
+          (g.W.Write.contents c.pass_on.new.out) (head ++ lines)) c.in_ok-text.ensures
           (goes_last bytes (g.W.Write.contents c.explain_below.new.out)
           (g.W.Write.contents c.pass_on.new.out) waits
-          (string_bytes c.explain_below.new.text) explained.lines explained.gone
+          (string_bytes c.explain_below.new.text) lines gone
           c.in_ok-pass_on.ensures.whole),
     )
 
@@ -106,18 +96,15 @@ returns-in_err-explain_below-clause-started g c =
     c.from_residual-in_err-explain_below.ensures.1 in
     let fares = c.args.table.now in
     let explainer = c.of-explainer.result in
-    let begin = c.in_ok-started.started.taker.merge.readers.items in
-    let bytes = g.W.Write.contents c.args.out.now in
-    let waits = string_bytes c.in_ok-text.text in
-    let some = c.in_err-explain_below.ensures.started [] begin explainer.token bytes waits
-    (explained_started fares (map g.F.Placed.bytes c.args.files.now) [] begin explainer bytes waits
-    (consumed_first fares explainer (c.of-explainer.ensures.explained fares))) in
+    let taken = c.in_err-explain_below.ensures.started in
+    let (lines, along, begins) = taken.lines []
+    (consumed_first fares explainer (c.of-explainer.ensures.explained fares)) in
     rw (p.1) (λ is_write. (
-      some.taps,
-      some.lines,
-      some.are,
-      subst (λ (head : List ℕ). Begins bytes (g.W.Write.contents c.explain_below.new.out)
-          (head ++ some.lines)) c.in_ok-text.ensures some.written,
+      taken.taps,
+      lines,
+      along,
+      subst (λ (head : List ℕ). Begins (g.W.Write.contents c.args.out.now)
+          (g.W.Write.contents c.explain_below.new.out) (head ++ lines)) c.in_ok-text.ensures begins,
     ))
 
 pub returns-in_err-pass_on-clause-started : goal.returns-in_err-pass_on-clause-started
@@ -125,28 +112,33 @@ returns-in_err-pass_on-clause-started g c =
     let p = err_from_is_err_and c.from_residual-in_err-pass_on.result
     c.from_residual-in_err-pass_on.ensures.1 in
     let fares = c.args.table.now in
-    let known = map g.F.Placed.bytes c.args.files.now in
     let explainer = c.of-explainer.result in
-    let begin = c.in_ok-started.started.taker.merge.readers.items in
-    let bytes = g.W.Write.contents c.args.out.now in
-    let waits = string_bytes c.in_ok-text.text in
-    let some = started_waiting fares known [] begin explainer.token bytes waits
-    c.explain_below.new.taker.merge.readers.items c.explain_below.new.explainer
-    (g.W.Write.contents c.explain_below.new.out) (g.W.Write.contents c.pass_on.new.out)
-    (string_bytes c.explain_below.new.text)
-    (c.in_ok-explain_below.ensures.explained [] begin explainer.token bytes waits
-    (explained_started fares known [] begin explainer bytes waits
-    (consumed_first fares explainer (c.of-explainer.ensures.explained fares))))
-    c.in_err-pass_on.ensures.started in
+    let taken = c.in_ok-explain_below.ensures.explained in
+    let (lines, explained, gone) = taken.explains.lines []
+    (consumed_first fares explainer (c.of-explainer.ensures.explained fares)) in
     rw (p.1) (λ is_write. (
-      some.taps,
-      some.lines,
-      some.are,
-      subst (λ (head : List ℕ). Begins bytes (g.W.Write.contents c.pass_on.new.out)
-          (head ++ some.lines)) c.in_ok-text.ensures some.written,
+      taken.taps,
+      lines,
+      explained.are,
+      subst (λ (head : List ℕ). Begins (g.W.Write.contents c.args.out.now)
+          (g.W.Write.contents c.pass_on.new.out) (head ++ lines)) c.in_ok-text.ensures
+          (goes_then _ _ _ (string_bytes c.in_ok-text.text)
+          (string_bytes c.explain_below.new.text) lines gone c.in_err-pass_on.ensures.started),
     ))
 
 -- ---- other faults
+pub returns-in_err-explain_below-clause-fault : goal.returns-in_err-explain_below-clause-fault
+returns-in_err-explain_below-clause-fault g c =
+    let p = err_from_is_err_and c.from_residual-in_err-explain_below.result
+    c.from_residual-in_err-explain_below.ensures.1 in
+    rw (p.1, p.2) (λ all are. late_is_no_fault all _ c.in_err-explain_below.ensures.fault)
+
+pub returns-in_err-made-clause-started : goal.returns-in_err-made-clause-started
+returns-in_err-made-clause-started g c =
+    let p = err_from_is_err_and c.from_residual-in_err-made.result
+    c.from_residual-in_err-made.ensures.1 in
+    rw (p.1, p.2) (λ is_write. absurd (c.in_err-made.ensures.unwritten is_write))
+
 pub returns-in_err-started-clause-started : goal.returns-in_err-started-clause-started
 returns-in_err-started-clause-started g c =
     let p = err_from_is_err_and c.from_residual-in_err-started.result

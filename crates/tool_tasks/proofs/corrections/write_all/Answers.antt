@@ -3,10 +3,8 @@ use Rattle.ledger_changes.specs.Given.{IsGivenAfter, new_calls, old_calls}
 use Rattle.ledger_changes.specs.Tokens.{head_of}
 use Rattle.recorded_lines.proofs.Reading.{follows_on}
 use Rattle.world.specs.Run.{with_written}
-use Rattle.tool_tasks.specs.inside.Corrections.{IsHalt}
-use Rattle.tool_tasks.specs.declared.corrections.Halt.{Halt}
 use Rattle.part_texts.proofs.Written.{cut_on, written_none, written_on}
-use Rattle.tool_tasks.proofs.Corrected.{after_started, started_part, given_head, halt_faulted}
+use Rattle.tool_tasks.proofs.Corrected.{after_started, started_part, given_head}
 use Rattle.tool_tasks.proofs.corrections.write_all.Goals as goal
 
 pub begin-requires : goal.begin-requires
@@ -15,21 +13,15 @@ begin-requires g c = c.requires.unbegun
 pub returns-in-Err-clause-follow : goal.returns-in-Err-clause-follow
 returns-in-Err-clause-follow g c = c.begin.ensures.follow
 
-pub returns-in-Err-clause-halted : goal.returns-in-Err-clause-halted
-returns-in-Err-clause-halted g c = (
-  [],
-  inl refl,
-  subst (λ (h : Halt). IsHalt h (old_calls c.begin.new.self) (new_calls c.begin.new.self)
-      (with_written (g.W.Inputs.run c.args.world.now) []) (g.W.Inputs.run c.args.world.now))
-      (sym c.halt_of.ensures) (halt_faulted c.in-Err.fault _ _ _ _
-      (written_none (g.W.Inputs.run c.args.world.now)) c.in-Err.ensures.wrong),
-)
+pub returns-in-Err-clause-written : goal.returns-in-Err-clause-written
+returns-in-Err-clause-written g c =
+    ([], inl refl, (written_none (g.W.Inputs.run c.args.world.now), c.in-Err.ensures.wrong))
 
 pub returns-in-Err-write-clause-follow : goal.returns-in-Err-write-clause-follow
 returns-in-Err-write-clause-follow g c = c.begin.ensures.follow
 
-pub returns-in-Err-write-clause-halted : goal.returns-in-Err-write-clause-halted
-returns-in-Err-write-clause-halted g c =
+pub returns-in-Err-write-clause-written : goal.returns-in-Err-write-clause-written
+returns-in-Err-write-clause-written g c =
     let cut = c.in-Err-write.ensures.cut in (
       cut.front,
       inr (started_part c.args.is_by_token [] (head_of c.args.is_by_token) cut.front cut.rest _ _
@@ -61,15 +53,12 @@ returns-in-Err-next-clause-follow g c = (
   follows_on _ _ _ c.loop.invariant.follow_new c.next.ensures.follow.1,
 )
 
-pub returns-in-Err-next-clause-halted : goal.returns-in-Err-next-clause-halted
-returns-in-Err-next-clause-halted g c =
+pub returns-in-Err-next-clause-written : goal.returns-in-Err-next-clause-written
+returns-in-Err-next-clause-written g c =
     let (text, run, has) = c.loop.invariant.given in (
       text,
       inr (c.next.ensures.started c.args.is_by_token text has),
-      subst (λ (h : Halt). IsHalt h (old_calls c.next.new.self) (new_calls c.next.new.self)
-          (with_written (g.W.Inputs.run c.args.world.now) text) (g.W.Inputs.run c.loop.world))
-          (sym c.halt_of-in-Err-next.ensures) (halt_faulted c.in-Err-next.fault _ _ _ _ run
-          (c.in-Err-next.ensures.wrong c.args.is_by_token text has)),
+      (run, c.in-Err-next.ensures.wrong c.args.is_by_token text has),
     )
 
 pub returns-in-Err-write-2-clause-follow : goal.returns-in-Err-write-2-clause-follow
@@ -78,8 +67,8 @@ returns-in-Err-write-2-clause-follow g c = (
   follows_on _ _ _ c.loop.invariant.follow_new c.next.ensures.follow.1,
 )
 
-pub returns-in-Err-write-2-clause-halted : goal.returns-in-Err-write-2-clause-halted
-returns-in-Err-write-2-clause-halted g c =
+pub returns-in-Err-write-2-clause-written : goal.returns-in-Err-write-2-clause-written
+returns-in-Err-write-2-clause-written g c =
     let (text, run, has) = c.loop.invariant.given in
     let cut = c.in-Err-write-2.ensures.cut in (
       text ++ cut.front,
@@ -97,8 +86,8 @@ returns-in-Some-clause-follow g c = (
   follows_on _ _ _ c.loop.invariant.follow_new c.next.ensures.follow.1,
 )
 
-pub returns-in-Some-clause-done : goal.returns-in-Some-clause-done
-returns-in-Some-clause-done g c =
+pub returns-in-Some-clause-written : goal.returns-in-Some-clause-written
+returns-in-Some-clause-written g c =
     let (text, run, has) = c.loop.invariant.given in (
       text ++ c.next.new.piece.items,
       written_on (g.W.Inputs.run c.args.world.now) (g.W.Inputs.run c.loop.world) _ text
@@ -130,7 +119,7 @@ loop-preserved g c = record {
 pub returns-clause-follow : goal.returns-clause-follow
 returns-clause-follow g c = (c.loop.invariant.follow_old, c.loop.invariant.follow_new)
 
-pub returns-clause-halted : goal.returns-clause-halted
-returns-clause-halted g c =
+pub returns-clause-written : goal.returns-clause-written
+returns-clause-written g c =
     let (text, run, has) = c.loop.invariant.given in
-    (text, inr (after_started _ _ None text has), run)
+    (text, inr (after_started _ _ None text has), (run, tt))

@@ -1,5 +1,13 @@
-use Rattle.tool_tasks.proofs.Decoding.{ends_bound}
+use Rattle.std.proofs.Common.{Bor, List, map, subst, ℕ}
+use Rattle.tool_tasks.proofs.Preparing.{does_end}
+use Rattle.tool_tasks.specs.Decode.{decode_rule}
+use Rattle.tool_tasks.specs.inside.Does.{Does}
 use Rattle.tool_tasks.proofs.decode.decode_over.Goals as goal
 
-pub returns-clause-status : goal.returns-clause-status
-returns-clause-status g c = ends_bound _ _ _ _ _ c.run_task.ensures
+pub returns : goal.returns
+returns g c =
+    let words = c.args.words.items in
+    does_end (decode_rule (map (λ w. w.now) words)) (g.W.Inputs.run c.args.world.now) _ _
+    c.decode-done.result c.ended.result (subst (λ (ws : List (Bor (List ℕ))).
+    Does (decode_rule (map (λ w. w.now) ws)) (g.W.Inputs.run c.args.world.now)
+    (g.W.Inputs.run c.decode-done.new.world) c.decode-done.result) c.deref.ensures.value c.decode-done.ensures) c.ended.ensures

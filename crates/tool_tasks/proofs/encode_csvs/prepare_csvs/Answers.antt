@@ -1,7 +1,7 @@
 use Rattle.std.proofs.Common.{◌≡◌, Bool, List, [], ap, arith, drop, length, map, refl, subst, sym}
 use Rattle.std.proofs.lemmas.List.{length-map}
 use Rattle.std.specs.Prelude.{nat_lt}
-use Rattle.tool_tasks.proofs.EncodingRows.{added_on, all_four, csvs_prepared, none_after}
+use Rattle.tool_tasks.proofs.EncodingRows.{added_on, all_five, csvs_prepared, none_after}
 use Rattle.tool_tasks.proofs.EncodingRows.{refused_csv}
 use Rattle.tool_tasks.specs.EncodeRows.{AddsCsv, AddsCsvs}
 use Rattle.tool_tasks.specs.declared.encode_loads.Csv.{Csv}
@@ -41,6 +41,6 @@ returns c =
     (subst (λ (cs : List Csv). AddsCsvs words (nat_lt 1 (length (map csv_of csvs))) choice
     (map csv_of cs) all all) (sym none) refl) in
     let is = c.prepare_encoded.ensures in
-    all_four c.prepare_encoded.result _ _ _ _ _ is.named is.answered is.made is.status
-    (λ prepared named answered made status. csvs_prepared words choice (map csv_of csvs) all prepared
-    added named answered made status)
+    all_five c.prepare_encoded.result _ _ _ _ _ _ is.named is.text is.note is.made is.status
+    (λ prepared named text note made status. csvs_prepared words choice (map csv_of csvs) all
+    prepared added named text note made status)

@@ -1,24 +1,29 @@
-use Rattle.std.proofs.Common.{map, subst, List, Option, ℕ}
-use Rattle.world.specs.Loads.{IsRefused}
-use Rattle.tool_tasks.proofs.EncodingRows.{halts_csv, halts_full}
+use Rattle.std.proofs.Common.{◌∙◌, ◌++◌, ◌∷◌, [], ap, map, subst}
+use Rattle.frame.specs.Given.{load_of}
+use Rattle.frame.specs.Outsides.{Leaves}
+use Rattle.world.proofs.Laws.{more_loads}
+use Rattle.world.specs.Run.{Run, with_load}
+use Rattle.frame.specs.Names.{file_named}
+use Rattle.tool_tasks.proofs.Loading.{word_contained}
 use Rattle.tool_tasks.specs.EncodeRows.{load_csv}
 use Rattle.tool_tasks.specs.inside.EncodeRows.{csv_of}
 use Rattle.tool_tasks.proofs.encode_loads.load_csvs.Goals as goal
 
-pub returns-in-Err-clause-halted : goal.returns-in-Err-clause-halted
-returns-in-Err-clause-halted g c = λ front long.
-    let run = g.W.Inputs.run in
-    let mid = run c.loop-number.world in
-    let new = run c.load_whole.new.self in
-    halts_csv front c.args.words.now c.loop-number.number _ c.in-Err.why c.of.result.why
-    (run c.args.world.now) mid new (map load_csv (map csv_of c.loop-number.csvs.items)) long
-    c.loop-number-test.true c.of.ensures c.loop-number.invariant.1
-    (subst (λ (n : Option (List ℕ)). IsRefused mid new n c.in-Err.why) c.file_of.ensures
-    c.in-Err.ensures.refused)
+pub returns-in-Err-clause-stopped : goal.returns-in-Err-clause-stopped
+returns-in-Err-clause-stopped g c = λ names all. (
+  map load_csv (map csv_of c.loop-number.csvs.items),
+  subst (λ (r : Run). Leaves names c.in-Err.halt.why r (g.W.Inputs.run c.load_whole.new.files))
+      c.loop-number.invariant.1 (c.in-Err.ensures.stopped names (all _
+      (word_contained c.args.words.now c.loop-number.number _ c.loop-number-test.true))),
+)
 
-pub returns-in-Err-push-clause-halted : goal.returns-in-Err-push-clause-halted
-returns-in-Err-push-clause-halted g c = λ front long.
+pub returns-in-Err-push-clause-stopped : goal.returns-in-Err-push-clause-stopped
+returns-in-Err-push-clause-stopped g c = λ names all.
     let run = g.W.Inputs.run in
-    halts_full _ c.of-in-Err-push.result.why (run c.args.world.now) (run c.loop-number.world)
-    (run c.load_whole.new.self) (map load_csv (map csv_of c.loop-number.csvs.items)) _
-    c.in-Ok.text.items c.of-in-Err-push.ensures c.loop-number.invariant.1 c.in-Ok.ensures.loaded
+    let before = map load_csv (map csv_of c.loop-number.csvs.items) in
+    let one = load_of _ c.in-Ok.text.items ∷ [] in (
+      before ++ one,
+      c.in-Ok.ensures.loaded
+          ∙ ap (λ (r : Run). with_load r (file_named c.index-words-number.result.now) c.in-Ok.text.items) c.loop-number.invariant.1
+          ∙ more_loads (run c.args.world.now) before one,
+    )

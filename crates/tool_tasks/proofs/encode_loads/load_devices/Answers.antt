@@ -1,6 +1,7 @@
-use Rattle.std.proofs.Common.{◌≡◌, Some, refl, sym}
+use Rattle.std.proofs.Common.{◌≡◌, List, Option, Some, refl, subst, sym, ℕ}
 use Rattle.world.proofs.Laws.{no_loads}
 use Rattle.tool_tasks.specs.EncodeRows.{word_in}
+use Rattle.tool_tasks.specs.inside.Loads.{IsNameIn}
 use Rattle.tool_tasks.proofs.encode_loads.load_devices.Goals as goal
 
 pub returns-in-Err-Unread-clause-loaded : goal.returns-in-Err-Unread-clause-loaded
@@ -10,7 +11,10 @@ returns-in-Err-Unread-clause-loaded g c =
     let unread = rw c.in-Err-Unread.field-0-is at c.in-Err-Unread.ensures.refused in
     (new, (c.if-words.true, c.in-Some.name.now, named, unread), sym (no_loads new))
 
-pub returns-in-Err-clause-refused : goal.returns-in-Err-clause-refused
-returns-in-Err-clause-refused g c =
-    let named : word_in c.args.words.now.devices ≡ Some c.in-Some.name.now = rw c.in-Some.is refl in
-    (c.in-Some.name.now, named, rw (← c.in-Err.why-is) at c.in-Err.ensures.refused)
+pub returns-in-Err-clause-stopped : goal.returns-in-Err-clause-stopped
+returns-in-Err-clause-stopped g c = λ names has.
+    let named : word_in c.args.words.now.devices ≡ Some c.in-Some.name.now = rw c.in-Some.is refl in (
+      c.in-Some.name.now,
+      subst (λ (o : Option (List ℕ)). IsNameIn names o) named has,
+      rw (← c.in-Err.why-is) at c.in-Err.ensures.refused,
+    )

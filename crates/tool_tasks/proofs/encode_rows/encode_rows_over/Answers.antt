@@ -1,31 +1,39 @@
-use Rattle.std.proofs.Common.{[], ap, inr, map, refl, sym, true, unwrap_or}
-use Rattle.std.proofs.Common.{List, Option, Some, ℕ}
+use Rattle.std.proofs.Common.{[], arith, inr, map, refl, sym, true}
+use Rattle.frame.proofs.Outcomes.{halted_loading}
 use Rattle.world.proofs.Laws.{no_loads}
-use Rattle.tool_tasks.proofs.Encoding.{not_loaded}
-use Rattle.tool_tasks.specs.EncodeRows.{EncodesRows, names_of}
-use Rattle.tool_tasks.specs.Names.{file_named}
+use Rattle.tool_tasks.proofs.EncodingRows.{is_in}
+use Rattle.tool_tasks.proofs.Preparing.{does_end}
+use Rattle.tool_tasks.specs.EncodeRows.{EncodesRows, names_of, rows_rule, word_in}
 use Rattle.tool_tasks.proofs.encode_rows.encode_rows_over.Goals as goal
 
-pub returns-in-Err-clause-ends : goal.returns-in-Err-clause-ends
-returns-in-Err-clause-ends g c =
-    let run = g.W.Inputs.run in
-    let old = run c.args.world.now in
-    let new = run c.load_devices.new.world in
-    let words = c.args.words.now in
-    let csvs = map (λ w. w.now) c.args.csvs.now in
-    let (name, named, refused) = c.in-Err.ensures.refused in
+pub returns-in-Err : goal.returns-in-Err
+returns-in-Err g c =
+    let old = g.W.Inputs.run c.args.world.now in
+    let words = c.args.words.now in let csvs = map (λ w. w.now) c.args.csvs.now in
+    let names = names_of words csvs in
     record {
       is_there = true;
       started = old;
       tried = refl;
       ends = inr (record {
-        why = c.of-halt.result.why;
-        before = new;
-        halted = not_loaded (EncodesRows words csvs true) (names_of words csvs) 0 name
-            (file_named name) c.in-Err.why c.of-halt.result.why old old new []
-            (ap (λ (w : Option (List ℕ)). Some (unwrap_or w [])) named) refl c.of-halt.ensures
-            (sym (no_loads old)) refused;
+        why = c.in-Err.halt.why;
+        before = _;
+        halted = halted_loading (EncodesRows words csvs true) names old old _ [] c.in-Err.halt.why
+            (sym (no_loads old)) (c.in-Err.ensures.stopped names
+            (is_in names (word_in words.devices) (0, omega arith, refl)));
         reported = c.report.ensures;
         failed = refl;
       });
+    }
+
+pub returns-in-Ok : goal.returns-in-Ok
+returns-in-Ok g c =
+    let words = c.args.words.now in let csvs = map (λ w. w.now) c.args.csvs.now in
+    let (started, tried, was) = c.in-Ok.ensures.loaded in
+    record {
+      is_there = c.in-Ok.is_there;
+      started = started;
+      tried = tried;
+      ends = does_end (rows_rule words csvs c.in-Ok.is_there) started _ _ c.encode-done.result
+          c.ended.result (c.encode-done.ensures started was) c.ended.ensures;
     }

@@ -5,7 +5,7 @@ use Rattle.jiff_core.specs.declared.error.Error.TheVariants.{Tzif as TzifError}
 use Rattle.jiff_tz.specs.Tzif.{IsParseFailure}
 use Rattle.jiff_tz.specs.TzifReader.{read_tzif}
 use Rattle.tap_rows.specs.Devices.{devices_of}
-use Rattle.tool_tasks.proofs.EncodingRows.{made_choice, named_clock, no_files_of, prepared_so}
+use Rattle.tool_tasks.proofs.EncodingRows.{made_choice, named_clock, prepared_so, refused_table}
 use Rattle.tool_tasks.proofs.EncodingRows.{table_zone}
 use Rattle.tool_tasks.specs.Fault.{no_zone_line, zone_file_line}
 use Rattle.tool_tasks.specs.declared.encode_loads.Csv.{Csv}
@@ -15,20 +15,10 @@ use Rattle.tool_tasks.proofs.encode_tables.prepare_by_zone_file.Goals as goal
 pub returns-then-not-is_zone_name : goal.returns-then-not-is_zone_name
 returns-then-not-is_zone_name c =
     let outside = sym c.is_zone_name.ensures ∙ c.if-not-is_zone_name.true in
-    IfOk-weaker c.refusal.result _ _ (λ prepared refused. (
-      no_files_of c.args.words.now prepared refused.1,
-      inr (inr (inr (record {
-        devices = option_map (λ d. devices_of d.now) c.args.devices;
-        has_devices = c.requires.devices;
-        block = option_map (λ k. k.now.block) c.args.key;
-        is_key = c.requires.key;
-        name = c.args.name.now;
-        named = c.requires.named;
-        line = no_zone_line c.args.name.now;
-        is_none = (c.requires.no_rule, inl (outside, refl));
-        answered = refused.0;
-      }))),
-    )) c.refusal.ensures
+    IfOk-weaker c.refusal.result _ _ (λ prepared refused. refused_table c.args.words.now
+    c.args.is_there (texts_in c.args.texts.now) (no_zone_line c.args.name.now) prepared
+    (inr (inr (c.args.name.now, c.requires.named, c.requires.no_rule, inl (outside, refl)))) refused)
+    c.refusal.ensures
 
 pub returns-in-Ok : goal.returns-in-Ok
 returns-in-Ok c =
@@ -54,17 +44,11 @@ returns-in-Err-Tzif c =
     let fault = c.in-Err-Tzif.field-0-0 in
     let failure = subst (λ (t : List ℕ). IsParseFailure (TzifError fault) t) c.deref.ensures.value
     (rw c.in-Err-Tzif.field-0-is at c.in-Err-Tzif.ensures.err) in
-    IfOk-weaker c.refusal-in-Err-Tzif.result _ _ (λ prepared refused. (
-      no_files_of c.args.words.now prepared refused.1,
-      inr (inr (inr (record {
-        devices = option_map (λ d. devices_of d.now) c.args.devices;
-        has_devices = c.requires.devices;
-        block = option_map (λ k. k.now.block) c.args.key;
-        is_key = c.requires.key;
-        name = c.args.name.now;
-        named = c.requires.named;
-        line = zone_file_line c.args.name.now;
-        is_none = (c.requires.no_rule, inr (inside, (fault, failure), refl));
-        answered = refused.0;
-      }))),
-    )) c.refusal-in-Err-Tzif.ensures
+    IfOk-weaker c.refusal-in-Err-Tzif.result _ _ (λ prepared refused. refused_table c.args.words.now
+    c.args.is_there (texts_in c.args.texts.now) (zone_file_line c.args.name.now) prepared
+    (inr (inr (
+      c.args.name.now,
+      c.requires.named,
+      c.requires.no_rule,
+      inr (inside, (fault, failure), refl),
+    ))) refused) c.refusal-in-Err-Tzif.ensures

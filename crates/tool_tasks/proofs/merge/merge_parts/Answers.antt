@@ -1,40 +1,44 @@
-use Rattle.std.proofs.Common.{◌++◌, ◌∙◌, List, ap, arith, drop, length, map}
+use Rattle.std.proofs.Common.{◌++◌, ◌∙◌, [], List, ap, append_assoc, arith, drop, inl, length, map, refl}
 use Rattle.std.proofs.lemmas.List.{take_at}
 use Rattle.part_texts.proofs.Parts.{follow_length}
 use Rattle.recorded_lines.specs.Texts.{calls_of}
 use Rattle.recorded_lines.specs.declared.text.Lines.{Lines}
+use Rattle.world.specs.Run.{Calls}
 use Rattle.tool_tasks.specs.inside.Merge.{names_of}
-use Rattle.tool_tasks.proofs.PartsRead.{merged_words, unopened_words}
-use Rattle.tool_tasks.proofs.merge.merge_parts.Goals.{in-Ok, in-Err}
+use Rattle.tool_tasks.proofs.PartsRead.{merged, names_kept}
+use Rattle.tool_tasks.proofs.Streaming.{unopened_leaves}
 use Rattle.tool_tasks.proofs.merge.merge_parts.Goals as goal
 
-pub returns : goal.returns
-returns g c =
+pub returns-in-Ok : goal.returns-in-Ok
+returns-in-Ok g c =
     let words = map (λ w. w.now) c.args.words.now in
-    let before = g.F.Streams.readings c.args.files.now in
     let mid = g.F.Streams.readings c.open_all.new.files in
-    let after = g.F.Streams.readings c.close_all.new.files in
-    let run = g.W.Inputs.run c.args.world.now in
-    elim c.match-open_all.branch [
-      | in-Ok w ↦ rw (w.merged-is, w.world-is) (merged_words words before mid after
-          w.deref_mut.result.now w.merge-merged.new.parts run
-          (g.W.Inputs.run w.merge-merged.new.world) w.merge-merged.result w.in-Ok.ensures.unchanged
-          (c.close_all.ensures ∙ ap (λ (l : List Lines). mid ++ map calls_of l)
-          (ap (λ v. v.items) w.parts-is ∙ take_at w.merge-merged.new.parts
-          (drop (length w.merge-merged.new.parts) c.open_all.new.parts.items)
-          c.open_all.new.parts.len (omega (
+    let opened = c.deref_mut.result.now in
+    let now = c.merge-merged.new.parts in
+    let calls = map calls_of now in (
+      calls,
+      c.close_all.ensures ∙ ap (λ (l : List Lines). mid ++ map calls_of l) (take_at now
+          (drop (length now) c.open_all.new.parts.items) c.open_all.new.parts.len (omega (
             arith,
-            follow_length w.deref_mut.result.now w.merge-merged.new.parts
-                w.merge-merged.ensures.follow,
-            ap length w.deref_mut.ensures.value,
+            follow_length opened now c.merge-merged.ensures.follow,
+            ap length c.deref_mut.ensures.value,
             c.open_all.new.parts.ok.0,
-          ))))
-          (ap (λ (l : List Lines). names_of (map calls_of l)) w.deref_mut.ensures.value
-          ∙ w.in-Ok.ensures.named)
-          w.merge-merged.ensures.follow w.merge-merged.ensures.merges)
-      | in-Err w ↦
-          let (calls, all, unopened) = w.in-Err.ensures.stopped in
-          rw (w.merged-is, w.world-is) (unopened_words words before mid after calls
-          (map calls_of c.match-open_all.parts.items) run w.in-Err.fault all c.close_all.ensures
-          unopened)
-    ]
+          ))) ∙ ap (λ (l : List Calls). l ++ calls) c.in-Ok.ensures.unchanged,
+      merged words calls (names_kept opened now c.merge-merged.ensures.follow
+          ∙ ap (λ (l : List Lines). names_of (map calls_of l)) c.deref_mut.ensures.value
+          ∙ c.in-Ok.ensures.named) _ _ c.merge-merged.result c.noted.result
+          c.merge-merged.ensures.merges c.noted.ensures,
+    )
+
+pub returns-in-Err : goal.returns-in-Err
+returns-in-Err g c =
+    let words = map (λ w. w.now) c.args.words.now in
+    let (calls, all, unopened) = c.in-Err.ensures.stopped in
+    let more = map calls_of c.open_all.new.parts.items in (
+      calls ++ more,
+      c.close_all-in-Err.ensures ∙ ap (λ (l : List Calls). l ++ more) all
+          ∙ append_assoc (g.F.Streams.readings c.args.files.now) calls more,
+      [],
+      inl refl,
+      unopened_leaves words calls more c.in-Err.halt.why _ unopened,
+    )

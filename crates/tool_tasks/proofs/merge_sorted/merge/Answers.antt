@@ -1,104 +1,92 @@
-use Rattle.std.proofs.Common.{◌≡◌, ◌∙◌, ◌++◌, [], Bor, IfSome, List, Option, Some, ap, arith, codes, map, refl, string_bytes, subst, sym, ℕ}
-use Rattle.std.proofs.lemmas.Result.{IfErr-weaker, IfOk-weaker}
-use Rattle.frame.specs.Making.{IsDoneMaking, IsHaltedMaking}
-use Rattle.frame.specs.declared.stop.Stop.TheVariants.{NoMemory, Unmade}
-use Rattle.report_texts.specs.Report.{upload_lines}
+use Rattle.std.proofs.Common.{◌≡◌, ◌∙◌, [], Bor, IfSome, List, Option, Some, ap, arith, inl, map, refl, string_bytes, subst, sym, ℕ}
+use Rattle.frame.proofs.Outcomes.{halted_loading}
+use Rattle.frame.specs.Given.{Given}
+use Rattle.frame.specs.Outsides.{Leaves}
+use Rattle.frame.specs.declared.outside.Outside.TheVariants.{NoMemory}
 use Rattle.tap_views.specs.declared.upload_end.UploadEnd.{UploadEnd}
 use Rattle.tool_tasks.proofs.KnownBytes.{some_known}
-use Rattle.tool_tasks.proofs.Making.{did_note, halts_at_once, halts_in}
-use Rattle.tool_tasks.proofs.MergedUploads.{merges_right, refuses_right, whole_file}
-use Rattle.tool_tasks.specs.Fault.{fault_text}
-use Rattle.tool_tasks.specs.MergeSorted.{IsMergeOf, IsRightFileFault, MergesOrRefuses}
-use Rattle.tool_tasks.specs.Sort.{files_of, names_of}
+use Rattle.tool_tasks.proofs.Making.{ends_given, ends_named}
+use Rattle.tool_tasks.proofs.MergedUploads.{whole_file}
+use Rattle.tool_tasks.proofs.Preparing.{carried}
+use Rattle.tool_tasks.specs.MergeSorted.{IsMergeOf, IsRightFileFault, MergesOrRefuses, merge_sorted_rule}
+use Rattle.tool_tasks.specs.Sort.{names_of}
+use Rattle.tool_tasks.specs.inside.Does.{Does}
+use Rattle.tool_tasks.specs.inside.Prepared.{given_of, known_file}
+use Rattle.tool_tasks.specs.inside.Sort.{IsOfEnds}
 use Rattle.tool_words.specs.Tasks.{sorting_of}
-use Rattle.world.specs.Run.{Run, with_flushed}
-use Rattle.world.specs.Writes.{IsUnmade}
+use Rattle.world.proofs.Laws.{no_loads}
+use Rattle.world.specs.Run.{Run}
 use Rattle.tool_tasks.proofs.merge_sorted.merge.Goals as goal
 
-pub returns-in-Err-clause-halted : goal.returns-in-Err-clause-halted
-returns-in-Err-clause-halted g c =
-    halts_at_once _ (names_of (sorting_of c.args.words.now)) _ _ (Unmade 0 c.in-Err.why)
-    (omega arith) (c.args.words.now.out.now, refl, c.in-Err.ensures.unmade)
+pub returns-in-Err : goal.returns-in-Err
+returns-in-Err g c =
+    let request = sorting_of c.args.words.now in let old = g.W.Inputs.run c.args.world.now in
+    halted_loading (MergesOrRefuses request _) (names_of request) old old _ [] _ (sym (no_loads old))
+    (request.out, (0, omega arith, refl), c.in-Err.ensures.unmade)
 
-pub returns-in-Ok-merged-clause-halted : goal.returns-in-Ok-merged-clause-halted
-returns-in-Ok-merged-clause-halted g c =
-    halts_at_once _ (names_of (sorting_of c.args.words.now)) _ _ NoMemory tt
-    (c.discard.ensures ∙ c.in-Ok.ensures.unchanged)
+pub carry-requires : goal.carry-requires
+carry-requires g c = some_known _ c.into_file-file.ensures.known
 
-pub returns-in-None-clause-halted : goal.returns-in-None-clause-halted
-returns-in-None-clause-halted g c =
-    let out = c.args.words.now.out.now in
-    halts_at_once _ (names_of (sorting_of c.args.words.now)) _ _ (Unmade 0 c.fail.result)
-    (omega arith) (
-      out,
+pub returns-in-Ok-prepare : goal.returns-in-Ok-prepare
+returns-in-Ok-prepare g c =
+    let request = sorting_of c.args.words.now in
+    let old = g.W.Inputs.run c.args.world.now in
+    let under = g.D.PlacedFiles.bytes_under c.args.disk.now in
+    let known = map under request.uploads in
+    let contents = g.W.File.Write.contents in
+    let some = some_known (contents c.into_file-file.result) c.into_file-file.ensures.known in
+    let ends = c.in-Ok-merged.ends.items in
+    let prepared = c.in-Ok-prepare.prepared in
+    let whole : (uploads : List (List ℕ)) → known ≡ map Some uploads → IsMergeOf uploads ends some.0 =
+    λ uploads is.
+    let merged = c.in-Ok-merged.ensures.merged uploads (ap (λ (ws : List (Bor (List ℕ))).
+    map under (map (λ w. w.now) ws)) c.deref.ensures.value ∙ is) in
+    whole_file uploads merged.0 ends (contents c.new-known.result.file)
+    (contents c.merge_all-merged.new.file.file) some.0 merged.2 merged.1
+    (ap contents c.new-known.ensures ∙ c.in-Ok.ensures.empty)
+    (sym (ap contents c.into_file-file.ensures.file) ∙ some.1) in
+    let of = subst (λ (es : List UploadEnd). IsOfEnds request es [] 0 prepared)
+    c.deref-in-Ok-merged.ensures.value
+    (subst (λ (n : List ℕ). IsOfEnds request c.deref-in-Ok-merged.result.now n 0 prepared)
+    c.new.ensures.bytes c.in-Ok-prepare.ensures) in
+    carried (MergesOrRefuses request known) (names_of request) old _
+    (given_of [] prepared (known_file request.out (contents c.into_file-file.result)))
+    prepared.status c.carry.result
+    (subst (λ (x : Given). MergesOrRefuses request known x prepared.status)
+    (sym (ends_given request ends [] 0 prepared [] some.0 _ of some.1)) (
       refl,
-      subst (λ (r : Run). IsUnmade r (g.W.Inputs.run c.fail.new.self) out
-          c.fail.result) c.in-Ok.ensures.unchanged c.fail.ensures,
-    )
+      inl (record {
+        ends = ends;
+        file = some.0;
+        whole = whole;
+        made = refl;
+        text = refl;
+        note = refl;
+        success = of.status_is;
+      }),
+    ))
+    (c.carry.ensures (names_of request) old [] (c.in-Ok.ensures.unchanged ∙ sym (no_loads old))
+    (ends_named request ends [] 0 prepared of) (0, omega arith, refl))
 
-pub returns-in-Some-NoMemory-clause-halted : goal.returns-in-Some-NoMemory-clause-halted
-returns-in-Some-NoMemory-clause-halted g c =
-    halts_at_once _ (names_of (sorting_of c.args.words.now)) _ _ NoMemory tt
-    (c.discard-in-Some-NoMemory.ensures ∙ c.in-Ok.ensures.unchanged)
+pub returns-in-Err-prepare : goal.returns-in-Err-prepare
+returns-in-Err-prepare g c =
+    let request = sorting_of c.args.words.now in let old = g.W.Inputs.run c.args.world.now in
+    halted_loading (MergesOrRefuses request _) (names_of request) old old _ [] NoMemory
+    (sym (no_loads old)) (c.discard.ensures ∙ c.in-Ok.ensures.unchanged)
 
-pub returns-in-Ok-lines_of-clause-done : goal.returns-in-Ok-lines_of-clause-done
-returns-in-Ok-lines_of-clause-done g c =
-    let request = sorting_of c.args.words.now in
-    let under = g.D.PlacedFiles.bytes_under c.args.disk.now in
-    let known = map under request.uploads in
-    let contents = g.W.File.Write.contents in
-    let some = some_known (contents c.into_file-file.result) c.into_file-file.ensures.known in
-    let ends = c.in-Ok-merged.ends.items in
-    let lines = string_bytes c.in-Ok-lines_of.lines in
-    let note = string_bytes c.new.result in
-    let new = g.W.Inputs.run c.make_both.new.world in
-    let whole : (uploads : List (List ℕ)) → known ≡ map Some uploads → IsMergeOf uploads ends some.0 =
-    λ uploads is.
-    let merged = c.in-Ok-merged.ensures.merged uploads (ap (λ (ws : List (Bor (List ℕ))).
-    map under (map (λ w. w.now) ws)) c.deref.ensures.value ∙ is) in
-    whole_file uploads merged.0 ends (contents c.new-known.result.file)
-    (contents c.merge_all-merged.new.file.file) some.0 merged.2 merged.1
-    (ap contents c.new-known.ensures ∙ c.in-Ok.ensures.empty)
-    (sym (ap contents c.into_file-file.ensures.file) ∙ some.1) in
-    IfOk-weaker c.make_both.result _ _ (λ status d.
-    subst (λ (r : Run). IsDoneMaking (MergesOrRefuses request known) r new status)
-    c.in-Ok.ensures.unchanged (record {
-      loads = [];
-      answer = record { text = []; note = note };
-      files = files_of request lines some.0;
-      right = merges_right request known ends lines note some.0 status whole
-          (c.in-Ok-lines_of.ensures ∙ ap (λ (es : List UploadEnd). upload_lines 0 es)
-          c.deref-in-Ok-merged.ensures.value) c.new.ensures.bytes d.0;
-      all = d.1;
-    })) (c.make_both.ensures.done some.0 some.1)
+pub returns-in-None : goal.returns-in-None
+returns-in-None g c =
+    let request = sorting_of c.args.words.now in let old = g.W.Inputs.run c.args.world.now in
+    halted_loading (MergesOrRefuses request _) (names_of request) old old _ [] c.failed.result.why
+    (sym (no_loads old)) (subst (λ (r : Run). Leaves (names_of request) c.failed.result.why r
+    (g.W.Inputs.run c.failed.new.world))
+    c.in-Ok.ensures.unchanged (c.failed.ensures (names_of request) (0, omega arith, refl)))
 
-pub returns-in-Ok-lines_of-clause-halted : goal.returns-in-Ok-lines_of-clause-halted
-returns-in-Ok-lines_of-clause-halted g c =
-    let request = sorting_of c.args.words.now in
-    let under = g.D.PlacedFiles.bytes_under c.args.disk.now in
-    let known = map under request.uploads in
-    let contents = g.W.File.Write.contents in
-    let some = some_known (contents c.into_file-file.result) c.into_file-file.ensures.known in
-    let ends = c.in-Ok-merged.ends.items in
-    let lines = string_bytes c.in-Ok-lines_of.lines in
-    let note = string_bytes c.new.result in
-    let new = g.W.Inputs.run c.make_both.new.world in
-    let whole : (uploads : List (List ℕ)) → known ≡ map Some uploads → IsMergeOf uploads ends some.0 =
-    λ uploads is.
-    let merged = c.in-Ok-merged.ensures.merged uploads (ap (λ (ws : List (Bor (List ℕ))).
-    map under (map (λ w. w.now) ws)) c.deref.ensures.value ∙ is) in
-    whole_file uploads merged.0 ends (contents c.new-known.result.file)
-    (contents c.merge_all-merged.new.file.file) some.0 merged.2 merged.1
-    (ap contents c.new-known.ensures ∙ c.in-Ok.ensures.empty)
-    (sym (ap contents c.into_file-file.ensures.file) ∙ some.1) in
-    IfErr-weaker c.make_both.result _ _ (λ why h.
-    subst (λ (r : Run). IsHaltedMaking (MergesOrRefuses request known) (names_of request) r new why)
-    c.in-Ok.ensures.unchanged (halts_in (MergesOrRefuses request known) (names_of request)
-    (files_of request lines some.0) note 0 (g.W.Inputs.run c.begin.new.self) new why h
-    (merges_right request known ends lines note some.0 0 whole
-    (c.in-Ok-lines_of.ensures ∙ ap (λ (es : List UploadEnd). upload_lines 0 es)
-    c.deref-in-Ok-merged.ensures.value) c.new.ensures.bytes refl)))
-    (c.make_both.ensures.halted some.0 some.1)
+pub returns-in-Some-NoMemory : goal.returns-in-Some-NoMemory
+returns-in-Some-NoMemory g c =
+    let request = sorting_of c.args.words.now in let old = g.W.Inputs.run c.args.world.now in
+    halted_loading (MergesOrRefuses request _) (names_of request) old old _ [] NoMemory
+    (sym (no_loads old)) (c.discard-in-Some-NoMemory.ensures ∙ c.in-Ok.ensures.unchanged)
 
 pub returns : goal.returns
 returns g c =
@@ -106,28 +94,11 @@ returns g c =
     let under = g.D.PlacedFiles.bytes_under c.args.disk.now in
     let known = map under request.uploads in
     let fault = c.in-Some.fault in
-    let note = fault_text fault ++ codes "\n" in
-    let mid = g.W.Inputs.run c.discard-in-Some.new.self in
-    let new = g.W.Inputs.run c.refuse.new.world in
-    let same = c.discard-in-Some.ensures ∙ c.in-Ok.ensures.unchanged in
     let words = c.deref.result.now in
     let right = subst (λ (ws : List (Bor (List ℕ))). IsRightFileFault (map (λ w. w.now) ws)
     (map under (map (λ w. w.now) ws)) fault) c.deref.ensures.value
     (subst (λ o. IfSome o (IsRightFileFault (map (λ w. w.now) words)
     (map under (map (λ w. w.now) words)))) c.in-Some.is c.in-Err-merged.ensures.fault) in
-    record {
-      done = IfOk-weaker c.refuse.result _ _ (λ status d.
-          subst (λ (r : Run). IsDoneMaking (MergesOrRefuses request known) r new status) same
-          (record {
-            loads = [];
-            answer = record { text = []; note = note };
-            files = [];
-            right = refuses_right request known fault status right d.0;
-            all = d.1 ∙ ap (λ (r : Run). with_flushed r) (did_note mid note);
-          })) c.refuse.ensures.done;
-      halted = IfErr-weaker c.refuse.result _ _ (λ why h.
-          subst (λ (r : Run). IsHaltedMaking (MergesOrRefuses request known) (names_of request) r
-          new why) same (halts_in (MergesOrRefuses request known) (names_of request) [] note 1 mid
-          new why (h (names_of request)) (refuses_right request known fault 1 right refl)))
-          c.refuse.ensures.halted;
-    }
+    subst (λ (r : Run). Does (merge_sorted_rule request known) r
+    (g.W.Inputs.run c.refuse.new.world) c.refuse.result)
+    (c.discard-in-Some.ensures ∙ c.in-Ok.ensures.unchanged) (c.refuse.ensures request known right)

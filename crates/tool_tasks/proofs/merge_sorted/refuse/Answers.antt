@@ -1,21 +1,23 @@
-use Rattle.std.proofs.Common.{◌∙◌, ◌++◌, [], List, ap, codes, refl, ℕ}
-use Rattle.frame.specs.declared.stop.Stop.TheVariants.{NoMemory}
-use Rattle.tool_tasks.proofs.Making.{did_note, halts_flush, halts_none}
-use Rattle.tool_tasks.specs.Fault.{fault_text}
-use Rattle.world.specs.Run.{with_said}
+use Rattle.std.proofs.Common.{[], inr, refl, sym}
+use Rattle.frame.proofs.Outcomes.{halted_loading}
+use Rattle.frame.specs.declared.outside.Outside.TheVariants.{NoMemory}
+use Rattle.world.proofs.Laws.{no_loads}
+use Rattle.tool_tasks.proofs.Preparing.{carried_none, no_files_named}
+use Rattle.tool_tasks.specs.MergeSorted.{MergesOrRefuses}
+use Rattle.tool_tasks.specs.Sort.{names_of}
 use Rattle.tool_tasks.proofs.merge_sorted.refuse.Goals as goal
 
-pub returns-in-Err-clause-halted : goal.returns-in-Err-clause-halted
-returns-in-Err-clause-halted g c = λ names.
-    halts_none names [] (fault_text c.args.fault ++ codes "\n") NoMemory
-    (g.W.Inputs.run c.args.world.now) (g.W.Inputs.run c.args.world.now) tt refl
-
-pub returns-clause-halted : goal.returns-clause-halted
-returns-clause-halted g c = λ names.
+pub returns-in-Ok : goal.returns-in-Ok
+returns-in-Ok g c = λ request known right.
     let old = g.W.Inputs.run c.args.world.now in
-    let note = fault_text c.args.fault ++ codes "\n" in
-    halts_flush names [] note c.in-Err-flush.why old (g.W.Inputs.run c.say.new.self)
-    (g.W.Inputs.run c.flush.new.self)
-    (c.say.ensures ∙ ap (λ (n : List ℕ). with_said old n) (c.as_bytes.ensures.value
-    ∙ c.in-Ok.ensures) ∙ did_note old note)
-    c.in-Err-flush.ensures.cut
+    let prepared = c.in-Ok.prepared in
+    carried_none (MergesOrRefuses request known) (names_of request) old _ prepared c.carry.result
+    c.in-Ok.ensures.1 (refl, inr (c.args.fault, right, c.in-Ok.ensures.0))
+    (c.carry.ensures (names_of request) old [] (sym (no_loads old))
+    (no_files_named (names_of request) prepared c.in-Ok.ensures.1) tt)
+
+pub returns-in-Err : goal.returns-in-Err
+returns-in-Err g c = λ request known right.
+    let old = g.W.Inputs.run c.args.world.now in
+    halted_loading (MergesOrRefuses request known) (names_of request) old old old [] NoMemory
+    (sym (no_loads old)) refl

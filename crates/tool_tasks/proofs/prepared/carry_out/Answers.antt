@@ -1,11 +1,40 @@
-use Rattle.tool_tasks.proofs.Preparing.{part_flush}
-use Rattle.tool_tasks.specs.inside.Prepared.{files_of}
+use Rattle.std.proofs.Common.{◌≡◌, ◌∙◌, [], List, Option, Some, ap, refl, string_bytes, subst, sym, ℕ}
+use Rattle.frame.proofs.Giving.{part_files, part_note}
+use Rattle.frame.proofs.Outcomes.{gave_loads, stopped_early}
+use Rattle.frame.specs.Given.{Given, with_files, with_note}
+use Rattle.tool_tasks.proofs.Preparing.{stopped_first}
+use Rattle.tool_tasks.specs.declared.prepared.NewFile.{NewFile}
+use Rattle.tool_tasks.specs.inside.Prepared.{Carries, IsNamedIn, files_in, given_of, known_file}
+use Rattle.tool_tasks.specs.inside.Prepared.{with_prepared}
 use Rattle.tool_tasks.proofs.prepared.carry_out.Goals as goal
 
-pub returns-in-Err-end-clause-halted : goal.returns-in-Err-end-clause-halted
-returns-in-Err-end-clause-halted g c = λ names named.
-    let run = g.W.Inputs.run in
-    let prepared = c.args.prepared.now in
-    part_flush names prepared.text.items (files_of prepared) c.in-Err-end.halt.why
-    (run c.args.world.now) (run c.give_all.new.world) (run c.end.new.world) c.in-Ok.ensures.done
-    c.in-Err-end.ensures.halted
+pub returns-in-None : goal.returns-in-None
+returns-in-None g c = λ words start loads was named.
+    let p = c.args.prepared.now in
+    subst (λ (h : Option NewFile). Carries words start (given_of loads p (files_in h)) p.status
+    (g.W.Inputs.run c.carry.new.world) c.carry.result) (sym c.in-None.is) (c.carry.ensures words start loads was named tt)
+
+pub returns-in-Err : goal.returns-in-Err
+returns-in-Err g c = λ words start loads was named.
+    let p = c.args.prepared.now in
+    let none : Given = record { loads = loads; text = []; note = []; files = [] } in
+    stopped_early words start _ (with_prepared none p)
+    (λ g'. with_note (with_files g' (files_in p.held)) (string_bytes p.note)) c.in-Err.why
+    (λ part g' is_part. part_note part (with_files g' (files_in p.held)) (string_bytes p.note)
+    (part_files part g' (files_in p.held) is_part))
+    (stopped_first words start _ _ none p c.in-Err.why (was ∙ gave_loads start loads)
+    (c.in-Err.ensures.stopped words
+    (subst (IsNamedIn words) c.in-Some.is named.held)))
+
+pub returns-in-Ok : goal.returns-in-Ok
+returns-in-Ok g c = λ words start loads was named.
+    let p = c.args.prepared.now in
+    let held = c.in-Some.held in
+    let known = c.in-Ok.ensures.bytes ∙ ap (λ (t : List ℕ). Some t) c.deref.ensures.value in
+    subst (λ (h : Option NewFile). Carries words start (given_of loads p (files_in h)) p.status
+    (g.W.Inputs.run c.carry-in-Ok.new.world) c.carry-in-Ok.result) (sym c.in-Some.is)
+    (subst (λ (k : Option (List ℕ)). Carries words start (given_of loads p
+    (known_file held.name.now k)) p.status (g.W.Inputs.run c.carry-in-Ok.new.world)
+    c.carry-in-Ok.result) known
+    (c.carry-in-Ok.ensures words start loads (c.in-Ok.ensures.unchanged ∙ was) named
+    (subst (IsNamedIn words) c.in-Some.is named.held)))

@@ -1,35 +1,45 @@
-use Rattle.std.proofs.Common.{[], List, subst, sym, ℕ}
-use Rattle.world.specs.Writes.{IsCut}
-use Rattle.tool_tasks.proofs.Preparing.{no_files, part_cut, part_file}
-use Rattle.tool_tasks.specs.inside.Prepared.{files_first, files_in}
+use Rattle.std.proofs.Common.{◌≡◌, ◌∙◌, List, ap, subst, ℕ}
+use Rattle.frame.proofs.Giving.{part_files, stopped_at}
+use Rattle.frame.proofs.Outcomes.{stopped_early}
+use Rattle.frame.specs.Given.{gave, with_files, with_text}
+use Rattle.frame.specs.Outsides.{IsStoppedIn}
+use Rattle.tool_tasks.proofs.Preparing.{stopped_first}
+use Rattle.tool_tasks.specs.inside.Prepared.{files_in}
 use Rattle.tool_tasks.proofs.prepared.give.Goals as goal
 
-pub returns-in-Err-clause-halted : goal.returns-in-Err-clause-halted
-returns-in-Err-clause-halted g c = λ names devices upload.
-    let run = g.W.Inputs.run in
-    let old = run c.args.world.now in
-    let prepared = c.args.prepared.now in
-    part_file names 0 prepared.devices prepared.text.items [] (files_first prepared)
-    c.in-Err.halt.why old old (run c.make.new.world) devices (sym (no_files old))
-    c.in-Err.ensures.halted
+pub returns-in-Err-clause-stopped : goal.returns-in-Err-clause-stopped
+returns-in-Err-clause-stopped g c = λ words named start given is.
+    stopped_first words start _ _ given c.args.prepared.now c.in-Err.halt.why is
+    (c.in-Err.ensures.stopped words named.first)
 
-pub returns-in-Err-make-clause-halted : goal.returns-in-Err-make-clause-halted
-returns-in-Err-make-clause-halted g c = λ names devices upload.
-    let run = g.W.Inputs.run in
-    let prepared = c.args.prepared.now in
-    part_file names 4 prepared.upload prepared.text.items (files_in prepared.devices)
-    (files_in prepared.upload) c.in-Err-make.halt.why (run c.args.world.now)
-    (run c.make.new.world) (run c.make-in-Ok.new.world) upload c.in-Ok.ensures.done
-    c.in-Err-make.ensures.halted
+pub returns-in-Err-write-clause-stopped : goal.returns-in-Err-write-clause-stopped
+returns-in-Err-write-clause-stopped g c = λ words named start given is.
+    let p = c.args.prepared.now in
+    let before = with_files given (files_in p.first) in
+    stopped_early words start _ (with_text before p.text.items)
+    (λ g'. with_files g' (files_in p.upload)) c.in-Err-write.why
+    (λ part g' is_part. part_files part g' (files_in p.upload) is_part)
+    (subst (λ (t : List ℕ). IsStoppedIn words start
+    (g.W.Inputs.run c.write.new.world) (with_text before t) c.in-Err-write.why)
+    c.deref.ensures.value (c.in-Err-write.ensures.stopped words start before
+    (c.in-Ok.ensures.made start given is)))
 
-pub returns-in-Err-write-clause-halted : goal.returns-in-Err-write-clause-halted
-returns-in-Err-write-clause-halted g c = λ names devices upload.
-    let run = g.W.Inputs.run in
-    let prepared = c.args.prepared.now in
-    let made = run c.make-in-Ok.new.world in
-    let new = run c.write.new.self in
-    part_cut names prepared.text.items (files_in prepared.devices) (files_in prepared.upload)
-    c.in-Err-write.why c.of.result.why (run c.args.world.now) (run c.make.new.world) made new
-    c.of.ensures c.in-Ok.ensures.done c.in-Ok-make.ensures.done
-    (subst (λ (t : List ℕ). IsCut made new t c.in-Err-write.why) c.deref.ensures.value
-    c.in-Err-write.ensures.cut)
+pub returns-in-Err-make_new-clause-stopped : goal.returns-in-Err-make_new-clause-stopped
+returns-in-Err-make_new-clause-stopped g c = λ words named start given is.
+    let p = c.args.prepared.now in
+    let before = with_files given (files_in p.first) in
+    stopped_early words start _ (with_text before p.text.items)
+    (λ g'. with_files g' (files_in p.upload)) c.in-Err-make_new.halt.why
+    (λ part g' is_part. part_files part g' (files_in p.upload) is_part)
+    (stopped_at words start _ _ (with_text before p.text.items) c.in-Err-make_new.halt.why
+    (c.in-Ok-write.ensures.written start before (c.in-Ok.ensures.made start given is)
+    ∙ ap (λ (t : List ℕ). gave start (with_text before t)) c.deref.ensures.value)
+    (c.in-Err-make_new.ensures.stopped words named.upload))
+
+pub returns-in-Ok-make_new-clause-given : goal.returns-in-Ok-make_new-clause-given
+returns-in-Ok-make_new-clause-given g c = λ start given is.
+    let p = c.args.prepared.now in
+    let before = with_files given (files_in p.first) in
+    c.in-Ok-make_new.ensures.made start (with_text before p.text.items)
+    (c.in-Ok-write.ensures.written start before (c.in-Ok.ensures.made start given is)
+    ∙ ap (λ (t : List ℕ). gave start (with_text before t)) c.deref.ensures.value)

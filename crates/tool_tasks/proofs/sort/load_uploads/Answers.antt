@@ -1,20 +1,20 @@
-use Rattle.std.proofs.Common.{◌∙◌, arith, Bor, List, ℕ, option_map, subst, unwrap_or}
-use Rattle.world.specs.Loads.{IsRefused}
-use Rattle.tool_tasks.proofs.Making.{halts_unread}
-use Rattle.tool_tasks.specs.Names.{file_named}
+use Rattle.std.proofs.Common.{◌∙◌, arith, refl, subst}
+use Rattle.frame.specs.Outsides.{Leaves}
+use Rattle.tool_tasks.proofs.Loading.{upload_contained}
+use Rattle.tool_tasks.specs.Sort.{names_of}
+use Rattle.tool_words.specs.Tasks.{sorting_of}
+use Rattle.world.specs.Run.{Run}
 use Rattle.tool_tasks.proofs.sort.load_uploads.Goals as goal
 
-pub returns-in-Err-clause-halted : goal.returns-in-Err-clause-halted
-returns-in-Err-clause-halted g c =
-    let words = c.args.words.now in
-    let run = g.W.Inputs.run in
-    let mid = run c.show_count.new.self in
-    let new = run c.load_word.new.files in
-    let word = c.index.result.now in
-    halts_unread words.out.now (unwrap_or (option_map (λ w. w.now) words.ends) words.out.now)
-    words.uploads.items c.loop-number.number word c.in-Err.why (run c.args.world.now) mid new
-    c.loop-number.invariant.loads
-    (omega (arith, c.len-number-end.ensures, c.loop-number-test.true))
-    (c.show_count.ensures ∙ c.loop-number.invariant.all)
-    (subst (λ (w : Bor (List ℕ)). IsRefused mid new (file_named w.now) c.in-Err.why)
-    c.index.ensures c.in-Err.ensures.refused)
+pub returns-in-Err-clause-stopped : goal.returns-in-Err-clause-stopped
+returns-in-Err-clause-stopped g c =
+    let request = sorting_of c.args.words.now in
+    let all = c.loop-number.invariant in (
+      all.loads,
+      subst (λ (r : Run). Leaves (names_of request) c.in-Err.halt.why r
+          (g.W.Inputs.run c.load.new.files)) (c.show_count.ensures ∙ all.all)
+          (c.in-Err.ensures.stopped (names_of request) (upload_contained request
+          c.args.words.now.uploads.items c.loop-number.number _
+          (omega (arith, c.len-number-end.ensures, c.loop-number-test.true)) c.index.result.now
+          c.index.ensures refl)),
+    )

@@ -1,29 +1,39 @@
-use Rattle.std.proofs.Common.{◌∷◌, []}
-use Rattle.frame.specs.declared.stop.Stop.TheVariants.{NoMemory}
+use Rattle.std.proofs.Common.{◌∷◌, [], List, arith, refl, subst, sym, ℕ}
+use Rattle.frame.proofs.Outcomes.{halted_loading}
+use Rattle.frame.specs.Given.{load_of}
+use Rattle.frame.specs.declared.outside.Outside.TheVariants.{NoMemory}
+use Rattle.world.proofs.Laws.{no_loads}
 use Rattle.tool_words.specs.Tasks.{valid_prefix_of}
-use Rattle.tool_tasks.proofs.ValidPrefixes.{done, halts, memory_halts}
+use Rattle.tool_tasks.proofs.Preparing.{alone_named, carried}
+use Rattle.tool_tasks.specs.ValidPrefix.{HasValidPrefix}
+use Rattle.tool_tasks.specs.inside.Prepared.{whole_of}
 use Rattle.tool_tasks.proofs.valid_prefix.keep.Goals as goal
 
-pub returns-in-Err-clause-halted : goal.returns-in-Err-clause-halted
-returns-in-Err-clause-halted g c = λ start is.
-    let words = c.args.words.now in let mid = g.W.Inputs.run c.args.world.now in
-    halts (valid_prefix_of words) (words.upload.now ∷ words.out.now ∷ []) start mid mid
-    c.args.upload.now c.valid_prefix-valid.result.now c.facts_of-facts.result NoMemory is c.facts_of-facts.ensures
-    c.valid_prefix-valid.ensures (memory_halts (words.upload.now ∷ words.out.now ∷ [])
-    (record { name = words.out.now; bytes = c.valid_prefix-valid.result.now }) mid)
+pub returns-in-Err : goal.returns-in-Err
+returns-in-Err g c =
+    let old = g.W.Inputs.run c.args.world.now in
+    let request = valid_prefix_of c.args.words.now in
+    let words = request.upload ∷ request.out ∷ [] in
+    halted_loading (HasValidPrefix request) words old old _ [] c.in-Err.halt.why
+    (sym (no_loads old)) (c.in-Err.ensures.stopped words (0, omega arith, refl))
 
-pub returns-in-Err-list_and_make-clause-halted : goal.returns-in-Err-list_and_make-clause-halted
-returns-in-Err-list_and_make-clause-halted g c = λ start is.
-    let words = c.args.words.now in
-    halts (valid_prefix_of words) (words.upload.now ∷ words.out.now ∷ []) start
-    (g.W.Inputs.run c.args.world.now) (g.W.Inputs.run c.list_and_make.new.world)
-    c.args.upload.now c.valid_prefix-valid.result.now c.facts_of-facts.result c.in-Err-list_and_make.halt.why
-    is c.facts_of-facts.ensures c.valid_prefix-valid.ensures c.in-Err-list_and_make.ensures.halted
+pub returns-in-Err-prepare : goal.returns-in-Err-prepare
+returns-in-Err-prepare g c =
+    let request = valid_prefix_of c.args.words.now in
+    halted_loading (HasValidPrefix request) (request.upload ∷ request.out ∷ [])
+    (g.W.Inputs.run c.args.world.now) _ _ (load_of request.upload c.in-Ok.upload.items ∷ []) NoMemory
+    c.in-Ok.ensures.loaded refl
 
-pub returns-clause-done : goal.returns-clause-done
-returns-clause-done g c = λ start is.
-    let words = c.args.words.now in
-    done (valid_prefix_of words) start (g.W.Inputs.run c.args.world.now)
-    (g.W.Inputs.run c.list_and_make.new.world) c.args.upload.now c.valid_prefix-valid.result.now
-    c.as_bytes.result.now c.facts_of-facts.result c.status_of.result is c.facts_of-facts.ensures
-    c.valid_prefix-valid.ensures c.status_of.ensures.status c.in-Ok-list_and_make.ensures.done
+pub returns : goal.returns
+returns g c =
+    let old = g.W.Inputs.run c.args.world.now in
+    let request = valid_prefix_of c.args.words.now in
+    let words = request.upload ∷ request.out ∷ [] in
+    let loads = load_of request.upload c.in-Ok.upload.items ∷ [] in
+    let prepared = c.in-Ok-prepare.prepared in
+    let is = c.in-Ok-prepare.ensures in
+    carried (HasValidPrefix request) words old _ (whole_of loads prepared) prepared.status
+    c.carry_out.result (subst (λ (t : List ℕ). HasValidPrefix request
+    (whole_of (load_of request.upload t ∷ []) prepared) prepared.status) c.deref.ensures.value
+    is.right) (c.carry_out.ensures words old loads c.in-Ok.ensures.loaded
+    (alone_named words request.out prepared is.alone (1, omega arith, refl)))

@@ -1,25 +1,16 @@
-use Rattle.std.proofs.Common.{[], arith, map}
-use Rattle.std.proofs.lemmas.List.{length-map}
+use Rattle.std.proofs.Common.{[]}
 use Rattle.account_rule.specs.TokenRules.{rules_of}
-use Rattle.fare_caps.specs.CapMeanings.{cap_positions, cap_rules, capped_rules_of}
+use Rattle.fare_caps.specs.CapMeanings.{capped_rules_of}
 use Rattle.fare_caps.specs.Represents.{RepresentsSome}
-use Rattle.fare_caps.proofs.FurtherLemmas.{keeps-nothing, positions-few}
+use Rattle.fare_caps.proofs.FurtherLemmas.{keeps-nothing}
 use Rattle.fare_caps.proofs.capped_account.CappedAccount.fresh.Goals as goal
 
 pub returns-clause-holds : goal.returns-clause-holds
 unfolding capped_rules_of
-returns-clause-holds c = λ fares token.
-    let positions = cap_positions fares.meaning.caps in
-    record {
-      account = c.fresh.ensures.holds (rules_of fares token);
-      further = rw c.none.ensures (keeps-nothing (rules_of fares token)
-          (map (cap_rules fares token) positions)
-          (omega (
-            arith,
-            positions-few fares.meaning.caps,
-            length-map positions (cap_rules fares token),
-          )));
-    }
+returns-clause-holds c = λ fares token. record {
+  account = c.fresh.ensures.holds (rules_of fares token);
+  further = λ more. rw c.none.ensures (keeps-nothing fares token);
+}
 
 pub returns-clause-some : goal.returns-clause-some
 unfolding RepresentsSome

@@ -1,4 +1,4 @@
--- With no caps the step is that of the account alone.
+-- With neither caps nor prices the step is that of the account alone.
 use Rattle.std.proofs.Common.{[], ◌∷◌, ◌++◌, sym, ◌∙◌}
 use Rattle.account_rule.specs.Represents as kept
 use Rattle.fare_caps.specs.CapMeanings.{capped_rules_of}
@@ -14,14 +14,14 @@ pub returns-clause-reply : goal.returns-clause-reply
 unfolding capped_rules_of
 returns-clause-reply c = λ taps holds. c.step.ensures.reply taps holds.account
     ∙ sym (empty-reply c.args.table.now c.args.token.now taps c.args.tap
-    (c.has_caps_at.ensures.none c.if-has_caps_at.false))
+    (sym c.has_caps_or_prices_at.ensures ∙ c.if-has_caps_or_prices_at.false))
 
 pub returns-clause-holds : goal.returns-clause-holds
 unfolding capped_rules_of
 returns-clause-holds c = λ taps holds.
     empty-holds c.args.table.now c.args.token.now c.step.new.self
     c.args.self.now.further (taps ++ c.args.tap ∷ [])
-    (c.has_caps_at.ensures.none c.if-has_caps_at.false)
+    (sym c.has_caps_or_prices_at.ensures ∙ c.if-has_caps_or_prices_at.false)
     (c.step.ensures.holds taps holds.account)
 
 pub returns-clause-some : goal.returns-clause-some

@@ -1,10 +1,8 @@
-use Rattle.std.proofs.Common.{arith, map, sym, ap, ◌∙◌}
-use Rattle.std.proofs.lemmas.List.{length-map}
+use Rattle.std.proofs.Common.{sym, ap, ◌∙◌}
 use Rattle.account_rule.specs.TokenRules.{rules_of}
-use Rattle.fare_caps.specs.CapMeanings.{cap_positions, cap_rules, capped_rules_of}
+use Rattle.fare_caps.specs.CapMeanings.{capped_rules_of}
 use Rattle.fare_caps.specs.declared.cap_window.CapWindow.{CapWindow}
-use Rattle.fare_caps.proofs.FurtherLemmas.{keeps-some, positions-none, positions-some}
-use Rattle.fare_caps.proofs.NoCapsLemmas.{window-empty}
+use Rattle.fare_caps.proofs.ExplainLemmas.{empty-window, some-rules}
 use Rattle.fare_caps.proofs.SeenLemmas.{no-window, some-window}
 use Rattle.fare_caps.proofs.capped_account.CappedAccount.window.Goals as goal
 
@@ -16,34 +14,22 @@ returns-in_default c = record {
       ∙ c.in_default.is);
 }
 
-pub returns-then-not-has_caps : goal.returns-then-not-has_caps
+pub returns-then-not-has_caps_or_prices : goal.returns-then-not-has_caps_or_prices
 unfolding capped_rules_of
-returns-then-not-has_caps c = record {
+returns-then-not-has_caps_or_prices c = record {
   window = λ token taps holds.
-      let positions = cap_positions c.args.table.now.meaning.caps in
       sym c.in-Some.is
       ∙ c.window.ensures.window (rules_of c.args.table.now token) taps holds.account
-      ∙ sym (window-empty (rules_of c.args.table.now token)
-      (map (cap_rules c.args.table.now token) positions) taps
-      (omega (
-        arith,
-        length-map positions (cap_rules c.args.table.now token),
-        positions-none c.args.table.now.meaning.caps
-            (c.has_caps.ensures.none c.if-not-has_caps.true),
-      )));
+      ∙ sym (empty-window c.args.table.now token taps
+      (sym c.has_caps_or_prices.ensures ∙ c.if-not-has_caps_or_prices.true));
 }
 
 pub returns : goal.returns
 unfolding capped_rules_of
 returns c = record {
   window = λ token taps holds.
-      let positions = cap_positions c.args.table.now.meaning.caps in
-      let further = keeps-some (map (cap_rules c.args.table.now token) positions)
-      c.args.self.now.further _
-      (λ zero. c.has_caps.ensures.some c.if-not-has_caps.false
-      (positions-some c.args.table.now.meaning.caps
-      (omega (arith, zero, length-map positions (cap_rules c.args.table.now token)))))
-      holds.further in
+      let further = (holds.further (some-rules c.args.table.now token
+      (sym c.has_caps_or_prices.ensures ∙ c.if-not-has_caps_or_prices.false))).states in
       some-window (capped_rules_of c.args.table.now token) taps c.in-Some.view _ _
       (sym (c.window.ensures.window (rules_of c.args.table.now token) taps holds.account)
       ∙ c.in-Some.is)

@@ -1,47 +1,35 @@
 -- The numbers leave room at each step: what the caps leave bounds what the ride costs.
-use Rattle.std.proofs.Common.{Option}
 use Rattle.tariffs.specs.Until.{window_end_in}
-use Rattle.fare_caps.specs.declared.ride_cap.RideCap.{RideCap}
-use Rattle.fare_caps.specs.declared.further.RideCaps.{RideCaps}
-use Rattle.fare_caps.proofs.FurtherLemmas.{charge-cents, charge-room, room-all}
+use Rattle.fare_caps.proofs.FurtherLemmas.{charge-cents, charge-room, room-all, trip-room}
 use Rattle.fare_caps.proofs.further.Further.charge_ride.Goals as goal
-
--- what the caps say of the ride
-abbrev all_say : Option RideCap → Option RideCap → Option RideCap → RideCaps
-all_say first second third = record { first = first; second = second; third = third }
 
 pub charge-charge-requires-clause-room : goal.charge-charge-requires-clause-room
 charge-charge-requires-clause-room c =
     rw c.open.ensures (room-all c.args.clock.now c.args.moment
-    (window_end_in c.args.clock.now c.window_span.result c.args.moment)
-    (all_say c.said.result c.said-2.result c.said-3.result) c.args.self.now
-    c.requires.room).window
+    (window_end_in c.args.clock.now c.window_span.result c.args.moment) c.said-said.result
+    c.args.self.now c.requires.room).window
 
 pub count-requires-clause-room : goal.count-requires-clause-room
 count-requires-clause-room c =
     rw c.open.ensures (room-all c.args.clock.now c.args.moment
-    (window_end_in c.args.clock.now c.window_span.result c.args.moment)
-    (all_say c.said.result c.said-2.result c.said-3.result) c.args.self.now
-    c.requires.room)
+    (window_end_in c.args.clock.now c.window_span.result c.args.moment) c.said-said.result
+    c.args.self.now c.requires.room)
 
 pub count-requires-clause-few : goal.count-requires-clause-few
 count-requires-clause-few c =
-    rw c.charge-charge.ensures (charge-cents c.ride_terms.result
-    (all_say c.said.result c.said-2.result c.said-3.result) c.open.new.self
-    c.ride_terms.ensures.bounds)
+    rw c.charge-charge.ensures (charge-cents c.ride_terms-terms.result c.said-said.result
+    c.open.new.self c.ride_terms-terms.ensures.bounds)
 
 pub returns-clause-few : goal.returns-clause-few
 returns-clause-few c =
-    rw c.charge-charge.ensures (charge-cents c.ride_terms.result
-    (all_say c.said.result c.said-2.result c.said-3.result) c.open.new.self
-    c.ride_terms.ensures.bounds)
+    rw c.charge-charge.ensures (charge-cents c.ride_terms-terms.result c.said-said.result
+    c.open.new.self c.ride_terms-terms.ensures.bounds)
 
 pub returns-clause-room : goal.returns-clause-room
 returns-clause-room c =
-    rw (c.count.ensures, c.charge-charge.ensures, c.open.ensures) (charge-room c.ride_terms.result
-    (all_say c.said.result c.said-2.result c.said-3.result) _ c.ride_terms.ensures.bounds
+    rw (c.count.ensures, c.charge-charge.ensures, c.open.ensures)
+    (trip-room c.ride_terms-terms.result.fare c.args.mode _ c.ride_terms-terms.ensures.bounds.fare
+    (charge-room c.ride_terms-terms.result c.said-said.result _ c.ride_terms-terms.ensures.bounds
     (room-all c.args.clock.now c.args.moment
-    (window_end_in c.args.clock.now c.window_span.result c.args.moment)
-    (all_say c.said.result c.said-2.result c.said-3.result) c.args.self.now
-    c.requires.room) c.said.ensures.ceiling c.said-2.ensures.ceiling
-    c.said-3.ensures.ceiling)
+    (window_end_in c.args.clock.now c.window_span.result c.args.moment) c.said-said.result
+    c.args.self.now c.requires.room) c.said-said.ensures.bounds))

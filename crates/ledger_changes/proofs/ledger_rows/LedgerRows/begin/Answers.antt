@@ -1,11 +1,10 @@
-use Rattle.std.proofs.Common.{◌≡◌, refl, rules, subst, sym}
+use Rattle.std.proofs.Common.{◌≡◌, refl, rules, subst, sym, arith}
 use Rattle.std.proofs.lemmas.Grind.{common_steps}
-use Rattle.std.proofs.Common.{arith}
 use Rattle.fare_texts.specs.LedgerLines.{head_text}
 use Rattle.recorded_lines.specs.Texts.{calls_of, left}
 use Rattle.ledger_changes.specs.Given.{Said}
 use Rattle.ledger_changes.specs.inside.Readings.{IsWrongAs}
-use Rattle.ledger_changes.proofs.Readings.{head_is, head_long, head_none, head_other}
+use Rattle.ledger_changes.proofs.Readings.{head_is, head_long, head_other}
 use Rattle.ledger_changes.proofs.ledger_rows.LedgerRows.begin.Goals as goal
 
 pub returns-in-Ok-Long-clause-wrong : goal.returns-in-Ok-Long-clause-wrong
@@ -17,7 +16,7 @@ returns-in-Ok-Long-clause-wrong c = λ whole can.
 pub returns-in-Ok-End-clause-wrong : goal.returns-in-Ok-End-clause-wrong
 returns-in-Ok-End-clause-wrong c = λ whole can.
     let (none, gone) = rw c.in-Ok-End.field-0-is at (c.in-Ok-End.ensures.next whole can) in
-    (refl, head_none (left c.args.self.now.from whole) none)
+    (refl, rw none)
 
 pub returns-then-ne-clause-wrong : goal.returns-then-ne-clause-wrong
 returns-then-ne-clause-wrong c = λ whole can.

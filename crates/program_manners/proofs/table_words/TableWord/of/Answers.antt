@@ -1,49 +1,30 @@
-use Rattle.std.proofs.Common.{◌∙◌, ap, arith, drop, sym, take}
-use Rattle.std.proofs.lemmas.Bool.{true≢false}
-use Rattle.program_manners.specs.TableWords.{written_date, written_in}
-use Rattle.program_manners.proofs.DatedWords.{cut_name, short_word, uncut_word, whole_name}
+use Rattle.std.proofs.Common.{◌∙◌, ◌≡◌, ◌-◌, Bor, ℕ, List, ap, ap₂, arith, drop, length, length-drop, sym, take}
+use Rattle.std.proofs.Common.{take_all}
+use Rattle.std.specs.List.{slice_range}
+use Rattle.program_manners.specs.TableWords.{file_named, written_date, written_in}
 use Rattle.program_manners.proofs.table_words.TableWord.of.Goals as goal
+use Rattle.program_manners.proofs.table_words.TableWord.of.Goals.{in-Some, in-None}
+use native.Mathlib.Numerals.{unary_clauses}
 
-pub returns-in_default-clause-date : goal.returns-in_default-clause-date
-returns-in_default-clause-date c =
-    sym (short_word c.args.word.now (omega (arith, c.in_default.ensures)))
-
-pub returns-in_default-clause-name : goal.returns-in_default-clause-name
-returns-in_default-clause-name c =
-    sym (whole_name c.args.word.now (sym (returns-in_default-clause-date c)))
-
-pub returns-in_default-split_at_checked-clause-date :
-    goal.returns-in_default-split_at_checked-clause-date
-returns-in_default-split_at_checked-clause-date c =
-    sym (uncut_word c.args.word.now c.in-Some.start c.in-Some.ensures.1 c.in-Some.ensures.0
-    (λ at. true≢false (sym (c.in_default-split_at_checked.ensures.variant.1 at))))
-
-pub returns-in_default-split_at_checked-clause-name :
-    goal.returns-in_default-split_at_checked-clause-name
-returns-in_default-split_at_checked-clause-name c =
-    sym (whole_name c.args.word.now (sym (returns-in_default-split_at_checked-clause-date c)))
-
-pub returns-in-Some-written_in-clause-date : goal.returns-in-Some-written_in-clause-date
+pub returns-clause-date : goal.returns-clause-date
 unfolding written_date
-returns-in-Some-written_in-clause-date c =
-    sym c.in-Some-written_in.is ∙ c.written_in.ensures
-    ∙ ap written_in (c.as_bytes.ensures.value ∙ c.in-Some-split_at_checked.ensures.back
-    ∙ ap (λ n. drop n c.args.word.now) c.in-Some.ensures.1)
+returns-clause-date c =
+    let start = c.saturating_sub-start.result in
+    let bytes = c.as_bytes.result.now in
+    c.written_in-date.ensures
+    ∙ ap written_in (take_all (length bytes - start) (drop start bytes) (omega (arith, length-drop start bytes)))
+    ∙ ap₂ (λ n xs. written_in (drop n xs)) c.saturating_sub-start.ensures c.as_bytes.ensures.value
 
-pub returns-in-Some-written_in-clause-name : goal.returns-in-Some-written_in-clause-name
-returns-in-Some-written_in-clause-name c =
-    c.in-Some-split_at_checked.ensures.front
-    ∙ ap (λ n. take n c.args.word.now) c.in-Some.ensures.1
-    ∙ sym (cut_name c.args.word.now c.in-Some-written_in.date
-    (sym (returns-in-Some-written_in-clause-date c)))
-
-pub returns-in-None-clause-date : goal.returns-in-None-clause-date
-unfolding written_date
-returns-in-None-clause-date c =
-    sym c.in-None.is ∙ c.written_in.ensures
-    ∙ ap written_in (c.as_bytes.ensures.value ∙ c.in-Some-split_at_checked.ensures.back
-    ∙ ap (λ n. drop n c.args.word.now) c.in-Some.ensures.1)
-
-pub returns-in-None-clause-name : goal.returns-in-None-clause-name
-returns-in-None-clause-name c =
-    sym (whole_name c.args.word.now (sym (returns-in-None-clause-date c)))
+pub returns-clause-name : goal.returns-clause-name
+unfolding file_named
+returns-clause-name c =
+    let word = c.args.word.now in
+    let date = sym (returns-clause-date c) in
+    elim c.match-date.branch [
+      | in-Some w ↦ rw (date ∙ w.in-Some.is)
+          (let cut : slice_range word 0 c.saturating_sub-start.result
+          ≡ take c.saturating_sub-start.result word = simp unary_clauses in
+          ap (λ (n : Bor (List ℕ)). n.now) w.name-is ∙ w.range-name.ensures.value ∙ cut
+          ∙ ap (λ (n : ℕ). take n word) c.saturating_sub-start.ensures)
+      | in-None w ↦ rw (date ∙ w.in-None.is) (ap (λ (n : Bor (List ℕ)). n.now) w.name-is)
+    ]

@@ -1,28 +1,27 @@
 -- The first token's account is fresh, so the lines are those of the taps wherever it has no entry.
-use Rattle.std.proofs.Common.{◌≡◌, ℕ, List, [], ◌++◌, sym, ap, subst, ◌∙◌, arith}
-use Rattle.histories.specs.Entry.{own}
+use Rattle.std.proofs.Common.{◌≡◌, ℕ, List, [], ◌++◌, false, sym, ap, subst, ◌∙◌, string_bytes, arith}
 use Rattle.tap_views.specs.declared.token.Token.{Token}
-use Rattle.fare_texts.specs.Lines.{AreUpTo}
+use Rattle.tap_views.specs.Token.{token_eq}
 use Rattle.tap_views.specs.TokenOrder.{IsUpTo}
 use Rattle.fare_texts.proofs.PieceWriting.{consumed_first}
-use Rattle.settled_texts.specs.ExplainedTaps.{AreExplained}
 use Rattle.settlement.specs.Nondecreasing.{TapsNondecreasingFrom}
-use Rattle.settled_texts.proofs.TapsExplained.{consumed_fresh, nondecreasing_first, last_first}
+use Rattle.settled_texts.proofs.TapsExplained.{explains_as, explains_later, nondecreasing_first}
 use Rattle.settled_texts.proofs.slot.WorkerSlot.explain.Goals as goal
 
-pub explain_taps-requires-clause-nondecreasing : goal.explain_taps-requires-clause-nondecreasing
-explain_taps-requires-clause-nondecreasing c =
-    subst (λ (t : Token). TapsNondecreasingFrom t c.args.list.now)
-    (sym (c.of-self.ensures.token ∙ c.token_of-self.ensures))
-    (nondecreasing_first c.requires.sound.from c.args.list.now _ (sym c.in-Some.ensures.value)
-    c.requires.sound.nondecreasing).1
-
-pub explain_taps-requires-clause-consumed : goal.explain_taps-requires-clause-consumed
-explain_taps-requires-clause-consumed c = (
-  [],
-  consumed_first c.args.table.now c.of-self.result
-      (c.of-self.ensures.explained c.args.table.now),
-)
+pub explain_taps-requires-clause-may : goal.explain_taps-requires-clause-may
+explain_taps-requires-clause-may c =
+    let none = c.of-self.ensures.none in
+    record {
+      early = c.requires.sound.early;
+      nondecreasing = subst (λ (t : Token). TapsNondecreasingFrom t c.args.list.now)
+          (sym (c.of-self.ensures.token ∙ c.token_of-self.ensures))
+          (nondecreasing_first c.requires.sound.from c.args.list.now _ (sym c.in-Some.ensures.value)
+          c.requires.sound.nondecreasing).1;
+      earlier = [];
+      consumed = consumed_first c.args.table.now c.of-self.result
+          (c.of-self.ensures.explained c.args.table.now);
+      room = omega (arith, none);
+    }
 
 pub returns : goal.returns
 returns c = λ whole.
@@ -34,16 +33,15 @@ returns c = λ whole.
       first = λ token nondecreasing. subst (λ (t : Token). IsUpTo token t)
           (sym c.token_of-self.ensures)
           (nondecreasing_first token list _ there nondecreasing).0;
-      explained = λ earlier none up.
-          let explained = c.in-Ok.ensures.explained earlier
-          (consumed_fresh fares c.of-self.result earlier
-          (subst (λ (t : Token). own t earlier ≡ []) (sym its) none)
-          (subst (λ (t : Token). AreUpTo earlier t) (sym its) up)
-          (c.of-self.ensures.explained fares)) in
-          subst (λ (bytes : List ℕ). AreExplained fares earlier list c.explain_taps.new.explainer
-          bytes)
-          (sym (explained.2 ∙ ap (λ (front : List ℕ). front ++ explained.0) c.clear.ensures.bytes))
-          explained.1;
-      token = λ from. c.in-Ok.ensures.token ∙ last_first c.of-self.result.token from list _ there;
-      few = omega (arith, c.in-Ok.ensures.few, c.of-self.ensures.none);
+      explains = λ old up apart. explains_later fares old c.of-self.result
+          c.explain_taps.new.explainer list _
+          (λ lines. string_bytes c.explain_taps.new.text ≡ lines) there
+          (c.of-self.ensures.explained fares) c.of-self.ensures.none
+          (subst (λ (t : Token). IsUpTo old.token t) (sym its) up)
+          (subst (λ (t : Token). token_eq old.token t ≡ false) (sym its) apart)
+          (explains_as fares c.of-self.result c.explain_taps.new.explainer list
+          (λ lines. string_bytes c.explain_taps.new.text
+          ≡ string_bytes c.clear.new.self ++ lines)
+          (λ lines. string_bytes c.explain_taps.new.text ≡ lines) c.in-Ok.ensures
+          (λ l is. is ∙ ap (λ (front : List ℕ). front ++ l) c.clear.ensures.bytes));
     }

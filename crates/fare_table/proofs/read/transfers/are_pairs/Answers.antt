@@ -1,0 +1,11 @@
+use Rattle.std.proofs.Common.{◌∙◌, rules}
+use Rattle.std.proofs.lemmas.Iterator.{YieldsList-from_slice}
+use Rattle.std.proofs.lemmas.Iterator.Search.{all_from_yields_List}
+use Rattle.fare_table.proofs.MemberLemmas.{each_item_is_pair, is_pair_of}
+use Rattle.fare_table.proofs.read.transfers.are_pairs.Goals as goal
+
+pub returns : goal.returns
+returns c =
+    all_from_yields_List is_pair_of _ _ _ c.all.ensures.ran
+    (YieldsList-from_slice c.args.array.now.items cc) (λ value is next ran. search rules)
+    ∙ each_item_is_pair c.args.array.now.items

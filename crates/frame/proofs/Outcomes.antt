@@ -1,0 +1,58 @@
+-- How a run ends that was stopped.
+use Rattle.std.proofs.Common.{◌≡◌, ◌∙◌, ℕ, List, [], ap, append-nil, inl, inr, refl, subst}
+use Rattle.world.specs.Origins.{with_loads}
+use Rattle.world.specs.Run.{Load, Run, with_cut}
+use Rattle.world.specs.declared.faults.WriteFault.{WriteFault}
+use Rattle.frame.proofs.Giving.{part_self}
+use Rattle.frame.specs.Given.{Given, IsPart, gave}
+use Rattle.frame.specs.Outcome.{IsHalted, rule_of}
+use Rattle.frame.specs.Outsides.{IsStoppedIn, Leaves}
+use Rattle.frame.specs.declared.outside.Outside.{Outside}
+use Rattle.frame.specs.declared.outside.Outside.TheVariants.{Unwritten}
+
+-- ---- after loads
+pub gave_loads : (r : Run) (loads : List Load)
+    → with_loads r loads ≡ gave r (record { loads = loads; text = []; note = []; files = [] })
+gave_loads r loads = rw (append-nil r.written, append-nil r.said, append-nil r.made) refl
+
+pub halted_loading : (right : Given → ℕ → Type 0) (words : List (List ℕ)) (start mid new : Run)
+    (loads : List Load) (why : Outside) → mid ≡ with_loads start loads → Leaves words why mid new
+    → IsHalted (rule_of right words) start new why
+halted_loading right words start mid new loads why is leaves = record {
+  part = record { loads = loads; text = []; note = []; files = [] };
+  begun = inl refl;
+  leaves = subst (λ r. Leaves words why r new) (is ∙ gave_loads start loads) leaves;
+}
+
+-- ---- what is right is whole
+pub halted_in : (right : Given → ℕ → Type 0) (words : List (List ℕ)) (start new : Run)
+    (whole : Given) (status : ℕ) (why : Outside) → right whole status
+    → IsStoppedIn words start new whole why → IsHalted (rule_of right words) start new why
+halted_in right words start new whole status why is s = record {
+  part = s.part;
+  begun = inr (whole, status, is, s.is_part);
+  leaves = s.leaves;
+}
+
+-- ---- one step after another
+abbrev pub IsGrowing : (Given → Given) → Type 0
+IsGrowing more = (part g : Given) → IsPart part g → IsPart part (more g)
+
+-- what stopped a step stopped what was to follow, too
+pub stopped_early : (words : List (List ℕ)) (start new : Run) (g : Given) (more : Given → Given)
+    (why : Outside) → IsGrowing more → IsStoppedIn words start new g why
+    → IsStoppedIn words start new (more g) why
+stopped_early words start new g more why grows s = record {
+  part = s.part;
+  is_part = grows s.part g s.is_part;
+  leaves = s.leaves;
+}
+
+-- the flush failed after all was given
+pub stopped_flush : (words : List (List ℕ)) (start old new : Run) (g : Given) (why : WriteFault)
+    → old ≡ gave start g → new ≡ with_cut old why → IsStoppedIn words start new g (Unwritten why)
+stopped_flush words start old new g why is cut = record {
+  part = g;
+  is_part = part_self g;
+  leaves = cut ∙ ap (λ r. with_cut r why) is;
+}

@@ -1,0 +1,79 @@
+use Rattle.std.proofs.Common.{◌≡◌, [], arith}
+use Rattle.std.proofs.lemmas.Result.{err_from_is_err_and}
+use Rattle.sorted_taps.specs.Readers.{ahead, IsAdvanced, IsAfterFault, IsStepFault, IsPositionedIn}
+use Rattle.sorted_taps.specs.Sorted.{IsSortedFault}
+use Rattle.sorted_taps.proofs.Known.{at_none, known_all, known_map, known_map2}
+use Rattle.sorted_taps.proofs.Standing.{opening_fault, step_fault}
+use Rattle.sorted_bills.proofs.OwnTaps.{IsOwnRead, none_read, one_read, whole_read}
+use Rattle.sorted_bills.proofs.own_taps.own_of_file.Goals as goal
+
+pub returns-in_err-reader-clause-fault : goal.returns-in_err-reader-clause-fault
+returns-in_err-reader-clause-fault g c =
+    let p = err_from_is_err_and c.from_residual.result c.from_residual.ensures.1 in
+    let fault = c.in_err-reader.field-0.0 in
+    rw (p.1, p.2) (known_map (λ all. IsAfterFault all 0 fault) (λ all. IsSortedFault all fault)
+    (g.F.Placed.bytes c.args.file.now) (λ all is. opening_fault all fault is)
+    c.in_err-reader.ensures.fault)
+
+pub loop-init : goal.loop-init
+loop-init g c =
+    let reader = c.in_ok-reader.reader in
+    let taps = c.new-taps.result.items in
+    let token = c.args.token in
+    let long = c.at.auto.window in
+    let room = c.requires in
+    record {
+      window = omega (arith, long, room);
+      read = known_map (λ all. IsPositionedIn all 0 [] reader)
+          (λ all. IsOwnRead token all taps reader) (g.F.Placed.bytes c.args.file.now)
+          (λ all holds. none_read token all taps reader c.new-taps.ensures.items holds)
+          c.in_ok-reader.ensures.holds;
+    }
+
+pub returns-then-is_none-clause-own : goal.returns-then-is_none-clause-own
+returns-then-is_none-clause-own g c =
+    let reader = c.loop.reader in
+    let token = c.args.token in
+    let none = at_none (ahead reader ≡ []) _ c.head.result c.if-is_none.ensures c.head.ensures in
+    known_map (λ all. IsOwnRead token all c.loop.taps.items reader) _
+    (g.F.Placed.bytes c.args.file.now)
+    (λ all read. whole_read token all (record { taps = c.loop.taps; number = c.passed-number.result })
+    reader read none c.passed-number.ensures)
+    c.loop.invariant.read
+
+pub loop-preserved : goal.loop-preserved
+loop-preserved g c =
+    let old = c.loop.reader in
+    let new = c.advance.new.self in
+    let token = c.args.token in
+    let now = c.loop.taps.items in
+    let more = c.push_head.new.taps.items in
+    let long = c.advance.auto.window in
+    let room = c.loop.invariant.window in
+    record {
+      window = omega (arith, long, room);
+      read = known_map2 (λ all. IsOwnRead token all now old) (λ all. IsAdvanced all old new)
+          (λ all. IsOwnRead token all more new) (g.F.Placed.bytes c.args.file.now)
+          (λ all read step. one_read token all now more old new read c.in_ok-push_head.ensures step)
+          c.loop.invariant.read c.in_ok-advance.ensures.kept;
+    }
+
+pub returns-in_err-push_head-clause-fault : goal.returns-in_err-push_head-clause-fault
+returns-in_err-push_head-clause-fault g c =
+    let p = err_from_is_err_and c.from_residual-in_err-push_head.result
+    c.from_residual-in_err-push_head.ensures.1 in
+    rw (p.1, p.2) (known_all _ (g.F.Placed.bytes c.args.file.now) (λ all. tt))
+
+pub returns-in_err-advance-clause-fault : goal.returns-in_err-advance-clause-fault
+returns-in_err-advance-clause-fault g c =
+    let p = err_from_is_err_and c.from_residual-in_err-advance.result
+    c.from_residual-in_err-advance.ensures.1 in
+    let fault = c.in_err-advance.field-0.0 in
+    let old = c.loop.reader in
+    let token = c.args.token in
+    let now = c.loop.taps.items in
+    rw (p.1, p.2) (known_map2 (λ all. IsOwnRead token all now old)
+    (λ all. IsStepFault all old fault) (λ all. IsSortedFault all fault)
+    (g.F.Placed.bytes c.args.file.now)
+    (λ all read is. step_fault all read.passed old fault read.holds is)
+    c.loop.invariant.read c.in_err-advance.ensures.fault)
