@@ -28,7 +28,7 @@ use Rattle.fare_table.proofs.OverlapLemmas.{holds-insert, comes_after, comes_bef
 use Rattle.fare_table.proofs.OverlapLemmas.{free_apart, rest_holds, with_one}
 use Rattle.fare_table.proofs.PayLemmas.{classes_read}
 use Rattle.fare_table.proofs.ReadLemmas.{number-read}
-use Rattle.fare_table.proofs.TransferLemmas.{transfers-reported}
+use Rattle.fare_table.proofs.TransferLemmas.{AlignedItems, aligned_items, transfers-reported}
 use Rattle.fare_table.specs.Caps.{caps_of}
 use Rattle.fare_table.specs.Classes.{class_named, classes_from, classes_of, default_of}
 use Rattle.fare_table.specs.Faults.{FaultRow, Where, caps_step, class_rows, classes_step}
@@ -166,10 +166,6 @@ abbrev AreEarlier : Members → ℕ → List (ℕ × RangeRest) → Type 0
 AreEarlier tree n earlier =
     (one : ℕ × RangeRest) → list_any (share_number one) earlier ≡ is_earlier (meets tree one) n
 
--- some items are those of a whole from a place on
-abbrev AlignedItems : Items → ℕ → Items → Type 0
-AlignedItems whole n part = (k j : ℕ) → j ≡ n + k → get_item j whole ≡ get_item k part
-
 overlap_if : (b : Bool) (next : List (ℕ × RangeRest)) (f : List (ℕ × RangeRest)
     → OrFault (List (ℕ × RangeRest))) (rest : Option TableFault)
     → (b ≡ false → fault_in (f next) ≡ rest)
@@ -267,10 +263,6 @@ entries_steps None modes rest same = refl
 entries_steps (Some (array ds)) modes rest same =
     entries_if (are_tables ds) modes ds rest (λ tables. same ds refl tables)
 entries_steps (Some _) modes rest same = refl
-
-aligned_items : (whole part : Items) → whole ≡ part → AlignedItems whole 0 part
-aligned_items whole part same k j is = let one : j ≡ k = omega (arith, is) in
-    ap (λ (n : ℕ). get_item n whole) one ∙ ap (get_item k) same
 
 entries-reported : (tree : Members) (modes : List (List ℕ)) → mode_names tree ≡ modes
     → fault_in (ranges_of modes tree)

@@ -144,7 +144,7 @@ priced-known inner one is =
 
 -- ---- one element
 -- some items are those of a whole from a place on
-abbrev AlignedItems : Items → ℕ → Items → Type 0
+abbrev pub AlignedItems : Items → ℕ → Items → Type 0
 AlignedItems whole n part = (k j : ℕ) → j ≡ n + k → get_item j whole ≡ get_item k part
 
 names-reported : (tree : Members) (n : ℕ) (ds : Items) (o : Option (List ℕ × List ℕ))
@@ -219,7 +219,7 @@ listed_steps (Some (array ds)) rest same =
     listed_if (are_pairs ds) ds rest (λ kinds. same ds refl kinds)
 listed_steps (Some _) rest same = refl
 
-aligned_items : (whole part : Items) → whole ≡ part → AlignedItems whole 0 part
+pub aligned_items : (whole part : Items) → whole ≡ part → AlignedItems whole 0 part
 aligned_items whole part same k j is = let one : j ≡ k = omega (arith, is) in
     ap (λ (n : ℕ). get_item n whole) one ∙ ap (get_item k) same
 
