@@ -14,5 +14,4 @@ pub mod RideLemmas
 pub mod RiderLemmas
 pub mod RowLemmas
 pub mod SortLemmas
-pub mod TextFaultLemmas
 pub mod TransferLemmas
