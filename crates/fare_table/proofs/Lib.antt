@@ -1,6 +1,4 @@
-pub mod CapLemmas
 pub mod ElementLemmas
-pub mod FaultLemmas
 pub mod KeyLemmas
 pub mod MemberLemmas
 pub mod NameLemmas
@@ -12,6 +10,4 @@ pub mod PayLemmas
 pub mod ReadLemmas
 pub mod RideLemmas
 pub mod RiderLemmas
-pub mod RowLemmas
 pub mod SortLemmas
-pub mod TransferLemmas
