@@ -10,4 +10,3 @@ pub mod PayLemmas
 pub mod ReadLemmas
 pub mod RideLemmas
 pub mod RiderLemmas
-pub mod SortLemmas

@@ -1,9 +1,5 @@
 //! Theorems about fare tables, each the contract of a function that does nothing.
 ghost use Rattle.std.specs.Prelude.{◌≡◌, ◌↔◌, ℕ, true, List, None, Ok, Some, position};
-ghost use Rattle.std.specs.Cmp.Lexicographic.{slice_cmp};
-ghost use Rattle.std.specs.List.Sorted.{IsStrictlySortedBy};
-ghost use Rattle.std.specs.Map.{keys_of};
-ghost use Rattle.std.specs.Ordering.{nat_cmp};
 ghost use Rattle.toml.specs.Data.{Members, table, get_member};
 ghost use Rattle.toml.specs.Parse.{parse_document};
 ghost use Rattle.fare_table.specs.ByteOrder.{in_byte_order};
@@ -16,7 +12,6 @@ ghost use Rattle.tariffs.specs.TableMeaning.{TableMeaning};
 ghost use Rattle.fare_table.specs.TableMeaning.{meaning_of_tree};
 ghost use Rattle.tariffs.specs.Transfers.{has_pair};
 ghost use Rattle.fare_table.specs.Transfers.{ListsPair};
-ghost use Rattle.tariffs.specs.Validators.{are_disjoint};
 ghost use Rattle.tariffs.specs.declared.terms.Terms.{Terms};
 
 /// A table permits a transfer between two modes exactly if its text lists the pair of their names.
@@ -67,12 +62,4 @@ pub fn rides_are_of_classes()
 pub fn keys_come_in_byte_order()
     ensures { (text key : List ℕ) (tree keys : Members) → parse_document text ≡ Some tree
         → get_member key tree ≡ Some (table keys) → in_byte_order keys ≡ true }
-{}
-
-/// A table's ranges are disjoint and increasing, and its riders in the byte order of their tokens.
-pub fn ranges_and_riders_increase()
-    ensures ranges { (tree : Members) (meaning : TableMeaning) → meaning_of_tree tree ≡ Ok meaning
-        → are_disjoint meaning.ranges ≡ true }
-    ensures riders { (tree : Members) (meaning : TableMeaning) → meaning_of_tree tree ≡ Ok meaning
-        → IsStrictlySortedBy (slice_cmp nat_cmp) (keys_of meaning.riders) }
 {}
