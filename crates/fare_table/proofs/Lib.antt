@@ -2,7 +2,6 @@ pub mod ElementLemmas
 pub mod KeyLemmas
 pub mod MemberLemmas
 pub mod NameLemmas
-pub mod OrderLemmas
 pub mod OverlapLemmas
 pub mod PairLemmas
 pub mod PartLemmas

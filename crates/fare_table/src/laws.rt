@@ -1,8 +1,6 @@
 //! Theorems about fare tables, each the contract of a function that does nothing.
 ghost use Rattle.std.specs.Prelude.{◌≡◌, ◌↔◌, ℕ, true, List, None, Ok, Some, position};
-ghost use Rattle.toml.specs.Data.{Members, table, get_member};
-ghost use Rattle.toml.specs.Parse.{parse_document};
-ghost use Rattle.fare_table.specs.ByteOrder.{in_byte_order};
+ghost use Rattle.toml.specs.Data.{Members};
 ghost use Rattle.fare_table.specs.TextRanges.{RangeGives, RangeHas};
 ghost use Rattle.tariffs.specs.Fares.{class_of, mode_in, ride_terms};
 ghost use Rattle.tariffs.specs.Fares.{terms_at, transfer_terms};
@@ -48,18 +46,11 @@ pub fn terms_are_of_classes()
 /// A ride costs what the `fares` of the token's class say of the mode's name, else the class's own
 /// fare, within its limits, and gives the transfers that the class says, else one within two hours.
 pub fn rides_are_of_classes()
-    ensures pays { (text : List ℕ) (tree : Members) (meaning : TableMeaning)
-        (token name : List ℕ) (mode : ℕ)
-        → parse_document text ≡ Some tree → meaning_of_tree tree ≡ Ok meaning
+    ensures pays { (tree : Members) (meaning : TableMeaning) (token name : List ℕ) (mode : ℕ)
+        → meaning_of_tree tree ≡ Ok meaning
         → position (same_name name) meaning.modes ≡ Some mode
         → PaysOn tree token name (ride_terms meaning (class_of meaning token) mode) }
     ensures gives { (tree : Members) (meaning : TableMeaning) (token : List ℕ)
         → meaning_of_tree tree ≡ Ok meaning
         → Gives tree token (transfer_terms meaning (class_of meaning token)) }
-{}
-
-/// The keys of the tables of a text, as of `classes`, are in the byte order in which they are read.
-pub fn keys_come_in_byte_order()
-    ensures { (text key : List ℕ) (tree keys : Members) → parse_document text ≡ Some tree
-        → get_member key tree ≡ Some (table keys) → in_byte_order keys ≡ true }
 {}
