@@ -1,5 +1,5 @@
 -- What a token pays is what the text's class of the key that names it says, else the default class.
-use Rattle.std.proofs.Common.{◌≡◌, ◌⊎◌, ◌↔◌, ℕ, ◌*◌, Bool, true, false, List, [], ◌∷◌, Option, Some}
+use Rattle.std.proofs.Common.{◌≡◌, ◌⊎◌, ◌↔◌, ℕ, Bool, true, false, List, [], ◌∷◌, Option, Some}
 use Rattle.std.proofs.Common.{None, Ok, Err, cond, refl, sym, ap, ◌∙◌, subst, inl, inr, ⊎_elim}
 use Rattle.std.proofs.Common.{codes, zero-add, ◌++◌, ◌+◌, length, suc, zero, option_map, arith}
 use Rattle.std.proofs.lemmas.Bool.{cases_Bool}

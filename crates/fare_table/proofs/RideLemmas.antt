@@ -13,7 +13,7 @@ use Rattle.std.proofs.lemmas.Option.{get_or_from_slice_get}
 use Rattle.std.specs.List.{list_all, position_or_len}
 use Rattle.std.specs.Option.{ok_or}
 use Rattle.std.specs.Prelude.{nat_le, nat_lt, pos, position, if◌then◌else◌}
-use Rattle.toml.specs.Data.{Data, Items, Members, no_members, member, integer, table, as_table}
+use Rattle.toml.specs.Data.{Data, Items, Members, no_members, member, integer, as_table}
 use Rattle.toml.specs.Data.{get_member, string}
 use Rattle.fare_table.proofs.ElementLemmas.{if_ok}
 use Rattle.fare_table.proofs.PartLemmas.{bind_ok, parts}
@@ -33,7 +33,6 @@ use Rattle.fare_table.specs.Paying.{IsNumberOr, PaysOn, last_named}
 use Rattle.tariffs.specs.TableMeaning.{TableMeaning}
 use Rattle.fare_table.specs.TableMeaning.{meaning_of_tree}
 use Rattle.tariffs.specs.declared.class.Class.{Class}
-use Rattle.fare_table.specs.declared.fault.Key.{Key}
 use Rattle.fare_table.specs.declared.fault.Key.TheVariants as the_key
 use Rattle.fare_table.specs.declared.fault.TableFault.TheVariants.{Kind, Mode, Range}
 use Rattle.tariffs.specs.declared.transfer_terms.TransferTerms.{TransferTerms}
