@@ -13,21 +13,21 @@ use Rattle.std.proofs.lemmas.Option.{get_or_from_slice_get}
 use Rattle.std.specs.List.{list_all, position_or_len}
 use Rattle.std.specs.Option.{ok_or}
 use Rattle.std.specs.Prelude.{nat_le, nat_lt, pos, position, if◌then◌else◌}
-use Rattle.toml.specs.Data.{Data, Items, Members, no_members, member, integer, as_table}
+use Rattle.toml.specs.Data.{Data, Members, no_members, member, integer}
 use Rattle.toml.specs.Data.{get_member, string}
 use Rattle.fare_table.proofs.ElementLemmas.{if_ok}
 use Rattle.fare_table.proofs.PartLemmas.{bind_ok, parts}
 use Rattle.fare_table.proofs.PayLemmas.{AreClassParts, class_if, class_parts, classes_read}
 use Rattle.fare_table.proofs.PayLemmas.{has_terms, position_found, placed, riders_read, same_ok}
 use Rattle.fare_table.proofs.ReadLemmas.{is_number, is_number_or, is_table}
-use Rattle.fare_table.specs.Classes.{class_of as class_by, fares_from, fares_of, position_of}
+use Rattle.fare_table.specs.Classes.{fares_from, fares_of, position_of}
 use Rattle.fare_table.specs.Classes.{ride_transfers_of, taps_of}
 use Rattle.tariffs.specs.Fares.{class_at, class_of, no_class, ride_terms, transfer_terms}
-use Rattle.fare_table.specs.Members.{array_at, hold_numbers, number_in, number_or, of_kind}
-use Rattle.fare_table.specs.Modes.{are_distinct, are_mode_names, is_mode_name, mode_named, modes_of}
+use Rattle.fare_table.specs.Members.{array_at, hold_numbers}
+use Rattle.fare_table.specs.Modes.{are_distinct, are_mode_names, is_mode_name, modes_of}
 use Rattle.tariffs.specs.Names.{same_name}
 use Rattle.fare_table.specs.Modes.{strings_from}
-use Rattle.fare_table.specs.OrFault.{OrFault, ◌>>=◌}
+use Rattle.fare_table.specs.OrFault.{OrFault}
 use Rattle.fare_table.specs.Paying.{AreTaps, Gives, HasTerms, IsClassOf, IsElementOf, IsFareOn}
 use Rattle.fare_table.specs.Paying.{IsNumberOr, PaysOn, last_named}
 use Rattle.tariffs.specs.TableMeaning.{TableMeaning}
@@ -82,13 +82,6 @@ mode_found (Some p) index is = let same : p ≡ index = cc in ap (λ n. Some n) 
 some_position : (one other : ℕ) → Some one ≡ Some other → one ≡ other
 some_position one other is = cc
 
-abbrev by_cents : List (List ℕ) → List ℕ → Members → ℕ → ℕ → OrFault (List ℕ)
-by_cents modes fares more index cents = fares_from modes (set fares index cents) more
-
-abbrev by_position : List (List ℕ) → List ℕ → Data → Members → ℕ → OrFault (List ℕ)
-by_position modes fares value more index =
-    number_in the_key.Fares 0 100_000 value >>= by_cents modes fares more index
-
 -- the key of a mode's name sets its fare, and another key leaves it
 fare_if : (b : Bool) (modes : List (List ℕ)) (name key : List ℕ) (mode index own cents : ℕ)
     (fares : List ℕ) (found : Option Data) (value : Data) → same_name name key ≡ b
@@ -120,23 +113,14 @@ fare_named modes name mode own fares list found no_members at below is has =
     let same : fares ≡ list = cc in
     subst (λ (l : List ℕ). IsNumberOr own found (get_or l mode 0)) same has
 fare_named modes name mode own fares list found (member key value more) at below is has =
-    let index = bind_ok (mode_named modes key) (by_position modes fares value more) list is in
-    let cents = bind_ok (number_in the_key.Fares 0 100_000 value)
-    (by_cents modes fares more index.0)
-    list index.2 in
+    let index = bind_ok _ _ _ is in
+    let cents = bind_ok _ _ _ index.2 in
     let next = set fares index.0 cents.0 in
     fare_named modes name mode own next list (if same_name name key then Some value else found) more
     at (omega (arith, below, length-set fares index.0 cents.0)) cents.2
     (fare_if (same_name name key) modes name key mode index.0 own cents.0 fares found value refl at
     (mode_found (position (same_name key) modes) index.0 index.1) below
     (is_number value the_key.Fares 0 100_000 cents.0 cents.1).is has)
-
-abbrev by_numbers : List (List ℕ) → ℕ → Members → OrFault (List ℕ)
-by_numbers modes own numbers = fares_from modes (replicate 32 own) numbers
-
-abbrev by_named : List (List ℕ) → ℕ → Members → OrFault (List ℕ)
-by_named modes own named =
-    (if hold_numbers named then Ok named else Err (Kind the_key.Fares)) >>= by_numbers modes own
 
 fare_on : (modes : List (List ℕ)) (name : List ℕ) (mode own : ℕ) (o : Option Data)
     (list : List ℕ) → position (same_name name) modes ≡ Some mode → mode < 32
@@ -145,9 +129,8 @@ fare_on modes name mode own None list at below is =
     let same : replicate 32 own ≡ list = cc in
     ap (λ (l : List ℕ). get_or l mode 0) (sym same) ∙ get_or-replicate 32 mode own 0 below
 fare_on modes name mode own (Some value) list at below is =
-    let named = bind_ok (of_kind the_key.Fares (as_table value)) (by_named modes own) list is in
-    let numbers = bind_ok (if hold_numbers named.0 then Ok named.0 else Err (Kind the_key.Fares))
-    (by_numbers modes own) list named.2 in
+    let named = bind_ok _ _ _ is in
+    let numbers = bind_ok _ _ _ named.2 in
     let same : named.0 ≡ numbers.0 =
     same_ok named.0 numbers.0
     (if_ok (hold_numbers named.0) (Ok named.0) (Kind the_key.Fares) numbers.0 numbers.1) in
@@ -166,18 +149,12 @@ names_if : (b : Bool) (names modes : List (List ℕ))
 names_if true names modes is = (refl, cc)
 names_if false names modes is = absurd (cc)
 
-abbrev by_names : List (List ℕ) → OrFault (List (List ℕ))
-by_names names = if are_mode_names names then Ok names else Err (Range the_key.Modes)
-
-abbrev by_items : Items → OrFault (List (List ℕ))
-by_items items = strings_from [] items >>= by_names
-
 modes_few : (tree : Members) (modes : List (List ℕ)) → modes_of tree ≡ Ok modes
     → length modes ≤ 32
 unfolding modes_of
 modes_few tree modes is =
-    let items = bind_ok (array_at (codes "modes") the_key.Modes tree) by_items modes is in
-    let names = bind_ok (strings_from [] items.0) by_names modes items.2 in
+    let items = bind_ok (array_at (codes "modes") the_key.Modes tree) _ _ is in
+    let names = bind_ok (strings_from [] items.0) _ _ items.2 in
     let valid = names_if (are_mode_names names.0) names.0 modes names.2 in
     let low = nat_le 1 (length names.0) in
     let high = nat_le (length names.0) 32 in
@@ -211,11 +188,6 @@ given_by taps minutes = record { taps = taps; time = minutes * 60_000 }
 abbrev by_minutes : ℕ → ℕ → OrFault TransferTerms
 by_minutes taps minutes = Ok (given_by taps minutes)
 
-abbrev by_taps : Members → ℕ → OrFault TransferTerms
-by_taps element taps =
-    number_or 120 the_key.TransferMinutes 1 1_440 (get_member (codes "transfer_minutes") element)
-    >>= by_minutes taps
-
 -- the number of taps and of minutes that the keys of a class say
 record AreGiven (element : Members) (given : TransferTerms) : Type 0 where
   taps : AreTaps (get_member (codes "transfers") element) given.taps
@@ -236,9 +208,8 @@ unfolding ride_transfers_of
 are_given element given is =
     let o = get_member (codes "transfers") element in
     let o' = get_member (codes "transfer_minutes") element in
-    let taps = bind_ok (taps_of o) (by_taps element) given is in
-    let minutes = bind_ok (number_or 120 the_key.TransferMinutes 1 1_440 o') (by_minutes taps.0)
-    given taps.2 in
+    let taps = bind_ok _ _ _ is in
+    let minutes = bind_ok _ _ _ taps.2 in
     same_given element taps.0 minutes.0 given minutes.2
     (record {
       taps = are_taps o taps.0 taps.1;
@@ -267,8 +238,7 @@ token_class tree meaning token is =
     let there = placed meaning.modes meaning.cap_names [] meaning.classes h.class p.table index
     index p.classes
     (position_found (position_of h.class p.table) index h.named) (sym (zero-add index)) in
-    let element = bind_ok (of_kind the_key.Classes (as_table there.has.value))
-    (class_by meaning.modes meaning.cap_names) there.one there.has.read in
+    let element = bind_ok _ _ _ there.has.read in
     let same : there.one ≡ class_at meaning index =
     sym (get_or_from_slice_get meaning.classes index there.one no_class there.at) in
     record {
