@@ -1,10 +1,7 @@
-pub mod CapLemmas
 pub mod ElementLemmas
-pub mod FaultLemmas
 pub mod KeyLemmas
 pub mod MemberLemmas
 pub mod NameLemmas
-pub mod OrderLemmas
 pub mod OverlapLemmas
 pub mod PairLemmas
 pub mod PartLemmas
@@ -12,7 +9,3 @@ pub mod PayLemmas
 pub mod ReadLemmas
 pub mod RideLemmas
 pub mod RiderLemmas
-pub mod RowLemmas
-pub mod SortLemmas
-pub mod TextFaultLemmas
-pub mod TransferLemmas

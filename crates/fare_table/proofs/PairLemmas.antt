@@ -11,14 +11,13 @@ use Rattle.std.proofs.lemmas.Bool.{and_from, and_parts, eq-eqb, eqb-true, or_cas
 use Rattle.std.proofs.lemmas.Bool.{or_right}
 use Rattle.toml.specs.Data.{Members}
 use Rattle.fare_table.proofs.PartLemmas.{bind_ok, parts}
-use Rattle.fare_table.specs.OrFault.{◌>>=◌}
 use Rattle.tariffs.specs.TableMeaning.{TableMeaning}
 use Rattle.fare_table.specs.TableMeaning.{meaning_of_tree}
 use Rattle.tariffs.specs.Transfers.{has_pair, joins}
 use Rattle.fare_table.specs.Transfers.{ListsPair, NamedPair, TextTransfers, at_positions, is_new}
 use Rattle.fare_table.specs.Transfers.{is_other_price, named_pairs, pairs_with, positions_of}
 use Rattle.fare_table.specs.Transfers.{prices_of, same_modes, text_transfers, transfers_from}
-use Rattle.fare_table.specs.Transfers.{transfers_of, with_transfer}
+use Rattle.fare_table.specs.Transfers.{transfers_of}
 use Rattle.tariffs.specs.Transfers.{with_pair}
 use Rattle.tariffs.specs.declared.price.Price.{Price}
 use Rattle.fare_table.specs.declared.fault.Key.TheVariants as the_key
@@ -189,13 +188,10 @@ next : (modes : List (List ℕ)) (found : List TextTransfer) (pair : NamedPair)
     (more : List NamedPair) (all : List TextTransfer)
     → transfers_from modes found (pair ∷ more) ≡ Ok all → Next modes found pair more all
 next modes found pair more all is =
-    let at = bind_ok (positions_of modes pair.0) (λ positions.
-    with_transfer found (at_positions positions pair.1)
-    >>= (λ next. transfers_from modes next more)) all is in
+    let at = bind_ok _ _ _ is in
     let one = at_positions at.0 pair.1 in
-    let kept = bind_ok (with_transfer found one) (λ next. transfers_from modes next more) all at.2 in
-    let new = bind_ok (is_new found one) (λ (new : Bool).
-    Ok (if new then found ++ one ∷ [] else found)) kept.0 kept.1 in
+    let kept = bind_ok _ _ _ at.2 in
+    let new = bind_ok _ _ _ kept.1 in
     let is_new = new_if (is_other_price one (find (same_modes one) found))
     (not (is_some (find (same_modes one) found))) new.0 new.1 in
     let same : Ok (if new.0 then found ++ one ∷ [] else found) ≡ Ok kept.0 = new.2 in
@@ -285,13 +281,8 @@ lists : (modes : List (List ℕ)) (tree : Members) (pairs : List (ℕ × ℕ)) (
     → transfers_of modes tree ≡ Ok (text_transfers pairs prices) → Lists modes tree pairs prices
 unfolding transfers_of
 lists modes tree pairs prices is =
-    let named = bind_ok (named_pairs tree) (λ (names : List NamedPair).
-    transfers_from modes [] names
-    >>= (λ found. Ok (text_transfers (pairs_with [] found) (prices_of found))))
-    (text_transfers pairs prices) is in
-    let read = bind_ok (transfers_from modes [] named.0) (λ (found : List TextTransfer).
-    Ok (text_transfers (pairs_with [] found) (prices_of found))) (text_transfers pairs prices)
-    named.2 in
+    let named = bind_ok _ _ _ is in
+    let read = bind_ok _ _ _ named.2 in
     let both : Ok (text_transfers (pairs_with [] read.0) (prices_of read.0))
     ≡ Ok (text_transfers pairs prices) = read.2 in
     let same : text_transfers (pairs_with [] read.0) (prices_of read.0) ≡ text_transfers pairs prices =
