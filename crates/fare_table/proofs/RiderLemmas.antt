@@ -87,20 +87,16 @@ pub record ReadsRider (classes : Members) (key : List ℕ) (value : Data) (rider
   pub is : value ≡ string class
   pub terms : class_named classes class ≡ Ok rider.1
 
-abbrev pub by_class : List ℕ → ℕ → OrFault (List ℕ × ℕ)
-by_class token terms = Ok (token, terms)
+abbrev rider_by : List ℕ → ℕ → List ℕ × ℕ
+rider_by token terms = (token, terms)
+
+abbrev by_class : List ℕ → ℕ → OrFault (List ℕ × ℕ)
+by_class token terms = Ok (rider_by token terms)
 
 same_rider : (token : List ℕ) (terms : ℕ) (rider : List ℕ × ℕ)
     → by_class token terms ≡ Ok rider → (token ≡ rider.0) × (terms ≡ rider.1)
-same_rider token terms rider is = (ap (token_in token) is, ap (terms_in terms) is)
-  where
-    token_in : List ℕ → OrFault (List ℕ × ℕ) → List ℕ
-    token_in d (Ok r) = r.0
-    token_in d (Err e) = d
-
-    terms_in : ℕ → OrFault (List ℕ × ℕ) → ℕ
-    terms_in d (Ok r) = r.1
-    terms_in d (Err e) = d
+same_rider token terms rider is = let same : rider_by token terms ≡ rider = cc in
+    (ap (λ r. r.0) same, ap (λ r. r.1) same)
 
 pub reads_rider : (classes : Members) (key : List ℕ) (value : Data) (rider : List ℕ × ℕ)
     → rider_of classes key value ≡ Ok rider → ReadsRider classes key value rider
