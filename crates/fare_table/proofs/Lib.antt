@@ -6,6 +6,7 @@ pub mod OverlapLemmas
 pub mod PairLemmas
 pub mod PartLemmas
 pub mod PayLemmas
+pub mod PriceLemmas
 pub mod ReadLemmas
 pub mod RideLemmas
 pub mod RiderLemmas

@@ -2,7 +2,7 @@
 ghost use Rattle.std.specs.Prelude.{◌≡◌, ◌↔◌, ℕ, true, List, None, Ok, Some, position};
 ghost use Rattle.toml.specs.Data.{Members};
 ghost use Rattle.fare_table.specs.TextRanges.{RangeGives, RangeHas};
-ghost use Rattle.tariffs.specs.Fares.{class_of, mode_in, ride_terms};
+ghost use Rattle.tariffs.specs.Fares.{class_of, mode_in, price_of, ride_terms};
 ghost use Rattle.tariffs.specs.Fares.{terms_at, transfer_terms};
 ghost use Rattle.tariffs.specs.Names.{same_name};
 ghost use Rattle.fare_table.specs.Paying.{Gives, NamesRider, Pays, PaysOn};
@@ -12,11 +12,15 @@ ghost use Rattle.tariffs.specs.Transfers.{has_pair};
 ghost use Rattle.fare_table.specs.Transfers.{ListsPair};
 ghost use Rattle.tariffs.specs.declared.terms.Terms.{Terms};
 
-/// A table permits a transfer between two modes exactly if its text lists the pair of their names.
+/// A table permits a transfer between two modes exactly if its text lists the pair of their names,
+/// and the transfer pays what each such pair says.
 pub fn permitted_pairs_are_listed()
-    ensures { (tree : Members) (meaning : TableMeaning) (from to : ℕ)
+    ensures pairs { (tree : Members) (meaning : TableMeaning) (from to : ℕ)
         → meaning_of_tree tree ≡ Ok meaning
         → (has_pair meaning.transfers from to ≡ true) ↔ ListsPair meaning.modes tree from to }
+    ensures prices { (tree : Members) (meaning : TableMeaning) (from to : ℕ)
+        → meaning_of_tree tree ≡ Ok meaning → (listed : ListsPair meaning.modes tree from to)
+        → price_of meaning from to ≡ listed.pair.1 }
 {}
 
 /// A validator's mode is that of the only element of the text's `validators` that has it, if any.
