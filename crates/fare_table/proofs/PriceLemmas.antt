@@ -6,6 +6,7 @@ use Rattle.std.specs.List.{cons_option, find}
 use Rattle.std.specs.Option.{option_and_then, option_or}
 use Rattle.std.specs.Prelude.{Contains}
 use Rattle.std.proofs.lemmas.Bool.{and_parts, cases_Bool, eq-eqb, eqb-true, false≢true}
+use Rattle.std.proofs.lemmas.Bool.{not-false}
 use Rattle.std.proofs.lemmas.Bool.Decides.{nat_tests}
 use Rattle.std.proofs.lemmas.List.Folds.{find-append}
 use Rattle.toml.specs.Data.{Members}
@@ -138,10 +139,6 @@ same_price (Some (More cents)) (Some (More other)) is =
     ap (λ (n : ℕ). Some (More n)) (eqb-true cents other is)
 same_price _ _ is = absurd (false≢true is)
 
-not_false : (b : Bool) → not b ≡ false → b ≡ true
-not_false true is = refl
-not_false false is = absurd (false≢true (sym is))
-
 first_pays : (earlier : Option TextTransfer) (found : List TextTransfer) (one : TextTransfer)
     → find (same_modes one) found ≡ earlier → is_other_price one earlier ≡ false
     → FirstPays (added earlier found one) one.from one.to one.pays
@@ -152,7 +149,7 @@ first_pays None found one is agrees = (
   refl,
 )
 first_pays (Some earlier) found one is agrees =
-    (earlier, is, same_price earlier.pays one.pays (not_false _ agrees))
+    (earlier, is, same_price earlier.pays one.pays (not-false _ agrees))
 
 still_pays : (modes : List (List ℕ)) (found : List TextTransfer) (names : List NamedPair)
     (all : List TextTransfer) → transfers_from modes found names ≡ Ok all → (from to : ℕ)

@@ -1,4 +1,3 @@
-pub mod ByteOrder
 pub mod Caps
 pub mod Classes
 pub mod Key
