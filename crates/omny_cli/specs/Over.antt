@@ -11,9 +11,10 @@ use Rattle.world.specs.declared.faults.LoadFault.{LoadFault}
 -- and as they are.
 abbrev pub EndsOver : {D S W E : Type 0} → (D → List ℕ → Option (List ℕ)) → (D → List ℕ → Origin)
     → (S → Option (List Loaded)) → (S → Option (Option (List ℕ) × LoadFault))
-    → (W → Option (List ℕ)) → (E → Option (List ℕ)) → List (List ℕ) → D → S → S → Output W → Output W
-    → Complaints E → Complaints E → ℕ → Type 0
-EndsOver under origin loaded refused written said words disk source source' out out' err err' status =
+    → (W → Option (List ℕ)) → (E → Option (List ℕ)) → List (List ℕ) → D → S → S → Output W
+    → Output W → Complaints E → Complaints E → ℕ → Type 0
+EndsOver under origin loaded refused written said words disk source source' out out' err err'
+    status =
     Ends words (record {
       under = under disk;
       origin = origin disk;
