@@ -8,7 +8,7 @@ use Rattle.sorted_taps.specs.Merged.{BeginsNotBefore}
 use Rattle.sorted_taps.specs.Reading.{AreTapsBetween}
 use Rattle.sorted_taps.specs.declared.reader.TapReader.{TapReader}
 use Rattle.sorted_taps.specs.inside.Steps.{BeginsBefore, IsMovedOn, IsRefilled}
-use Rattle.sorted_taps.proofs.Between.{between_none}
+use Rattle.sorted_taps.proofs.Batches.{front_none}
 
 -- to the next tap in memory
 pub next_moved : (all : List ℕ) (reader : TapReader) → reader.next + 1 < length reader.taps.items
@@ -17,7 +17,7 @@ next_moved all reader more =
     let items = reader.taps.items in
     record {
       read = [];
-      between = between_none all reader.offset;
+      between = front_none (drop reader.offset all);
       goes_on = sym (drop-drop 1 reader.next items) ∙ sym (append-nil (drop 1 (ahead reader)));
       end = λ none.
           let zero_left = ap length none in

@@ -15,7 +15,7 @@ use Rattle.tap_views.proofs.Reading.{no_batch}
 use Rattle.tap_views.proofs.ParseLemmas.{no_bytes}
 use Rattle.tap_parts.specs.Canonical.{tap_cmp}
 use Rattle.sorted_taps.specs.Merged.{BeginsNotBefore}
-use Rattle.sorted_taps.specs.Reading.{AreTapsBetween}
+use Rattle.sorted_taps.specs.Reading.{AreBatches, AreTapsBetween}
 use Rattle.sorted_taps.specs.Readers.{ahead, IsPositionedIn, IsAdvanced, IsStepFault}
 use Rattle.sorted_taps.specs.Readers.{IsAfterFault}
 use Rattle.sorted_taps.specs.Sorted.{IsSortedFile, IsDamagedAt, IsSortedFault}
@@ -23,8 +23,7 @@ use Rattle.sorted_taps.specs.declared.fault.SortedFault.{SortedFault}
 use Rattle.sorted_taps.specs.declared.fault.SortedFault.TheVariants.{Layout, OutOfOrder, Unread}
 use Rattle.sorted_taps.specs.declared.fault.SortedFault.TheVariants.{NoMemory}
 use Rattle.sorted_taps.specs.declared.reader.TapReader.{TapReader}
-use Rattle.sorted_taps.proofs.Batches.{batches_join}
-use Rattle.sorted_taps.proofs.Between.{between_more}
+use Rattle.sorted_taps.proofs.Batches.{file_of, front_append}
 
 last_of : (xs : List TapFields) (tap d : TapFields)
     → get_or (xs ++ tap ∷ []) (length (xs ++ tap ∷ []) - 1) d ≡ tap
@@ -61,7 +60,8 @@ pub holds_on : (all : List ℕ) (from : ℕ) (passed : List TapFields) (old new 
     → IsPositionedIn all from (passed ++ is.tap ∷ []) new
 holds_on all from passed old new holds is =
     let whole : AreTapsBetween all from new.offset ((passed ++ is.tap ∷ is.trailing) ++ is.read) =
-    between_more all from old.offset new.offset (passed ++ is.tap ∷ is.trailing) is.read
+    front_append (drop from all) (drop old.offset all) (drop new.offset all)
+    (passed ++ is.tap ∷ is.trailing) is.read
     (subst (λ l. AreTapsBetween all from old.offset (passed ++ l)) is.stood holds.between)
     is.between in
     let up : IsSorted tap_cmp (passed ++ is.tap ∷ []) =
@@ -80,15 +80,12 @@ holds_on all from passed old new holds is =
 -- taps up to the file's end are the file's
 pub whole_file : (all : List ℕ) (to : ℕ) (taps : List TapFields) → AreTapsBetween all 0 to taps
     → drop to all ≡ [] → IsFileOf all taps
-whole_file all to taps between end =
-    let whole : all ≡ between.front ++ [] = between.cut ∙ ap (λ l. between.front ++ l) end in
-    record {
-      batches = between.batches ++ [];
-      is_file = subst (λ l. IsFile l (between.batches ++ []) []) (sym whole)
-          (batches_join between.front [] [] between.batches [] between.are (refl, no_bytes));
-      read = ap (λ l. map fields_of (taps_of_batches l)) (append-nil between.batches)
-          ∙ between.read;
-    }
+whole_file all to taps between end = record {
+  batches = between.batches;
+  is_file = file_of all [] between.batches
+      (subst (λ l. AreBatches all between.batches l) end between.are) no_bytes;
+  read = between.read;
+}
 
 -- a reader that came to the end of its file has passed all taps
 pub sorted_at_end : (all : List ℕ) (passed : List TapFields) (reader : TapReader)
@@ -109,21 +106,17 @@ damaged all at taps fault between sorted some is =
     let rest = drop at all in
     let left = length-drop at all in
     record {
-      batches = between.batches ++ [];
+      batches = between.batches;
       read = record {
         rest = rest;
-        is_file = subst (λ l. IsFile l (between.batches ++ []) rest) (sym between.cut)
-            (batches_join between.front rest rest between.batches [] between.are
-            (refl, no_batch rest fault is));
+        is_file = file_of all rest between.batches between.are (no_batch rest fault is);
         is_end = record {
           some_byte = some;
           is_fault = is;
           holds_at = omega (arith, left, some);
         };
       };
-      sorted = subst (λ l. IsSorted tap_cmp l)
-          (sym (ap (λ l. map fields_of (taps_of_batches l)) (append-nil between.batches)
-          ∙ between.read)) sorted;
+      sorted = subst (λ l. IsSorted tap_cmp l) (sym between.read) sorted;
     }
 
 -- the fault of a reader that does not begin is the file's
@@ -146,7 +139,8 @@ pub step_fault : (all : List ℕ) (passed : List TapFields) (old : TapReader) (f
     → IsPositionedIn all 0 passed old → IsStepFault all old fault → IsSortedFault all fault
 step_fault all passed old (OutOfOrder number) holds is =
     let whole : AreTapsBetween all 0 is.to ((passed ++ is.tap ∷ is.trailing) ++ is.read) =
-    between_more all 0 old.offset is.to (passed ++ is.tap ∷ is.trailing) is.read
+    front_append all (drop old.offset all) (drop is.to all)
+    (passed ++ is.tap ∷ is.trailing) is.read
     (subst (λ l. AreTapsBetween all 0 old.offset (passed ++ l)) is.stood holds.between)
     is.between in
     let before = holds.number in
@@ -166,7 +160,8 @@ step_fault all passed old (OutOfOrder number) holds is =
     }
 step_fault all passed old (Layout at fault) holds (one, is) =
     damaged all at ((passed ++ ahead old) ++ []) fault
-    (between_more all 0 old.offset at (passed ++ ahead old) [] holds.between is.between)
+    (front_append all (drop old.offset all) (drop at all) (passed ++ ahead old) [] holds.between
+    is.between)
     (subst (λ l. IsSorted tap_cmp l)
     (ap (λ l. passed ++ l) (one_tap (ahead old) one) ∙ sym (append-nil (passed ++ ahead old)))
     holds.sorted) is.some is.is_fault

@@ -3,12 +3,12 @@
 ghost use Rattle.std.specs.Prelude.{◌≡◌, ◌+◌, ◌*◌, ◌<◌, ℕ, List, get_or, length, set, IfOk};
 ghost use Rattle.std.specs.Prelude.{[], MatchOption, Some, option_map, true, false};
 ghost use Rattle.tap_parts.specs.Keys.{tap_of_key};
-ghost use Rattle.sorted_taps.specs.Heads.{HasLeaves, IsChosen, IsNotAfter, IsRanked, tap_of};
+ghost use Rattle.sorted_taps.specs.Heads.{HasLeaves, IsNotAfter, IsRanked, no_head, tap_of};
 ghost use Rattle.sorted_taps.specs.Merges.{AreAtEnd, IsLeastHead};
 ghost use Rattle.sorted_taps.specs.Readers.{ahead, head_of};
 ghost use Rattle.sorted_taps.specs.declared.heads.Head.{Head};
 ghost use Rattle.sorted_taps.specs.declared.reader.TapReader.{TapReader};
-ghost use Rattle.sorted_taps.specs.inside.Choosing.{IsChosenAnew};
+ghost use Rattle.sorted_taps.specs.inside.Choosing.{IsChosen, IsChosenAnew};
 
 use crate::reader::TapReader;
 use std::alloc::{AllocError, Global};
@@ -59,8 +59,8 @@ fn lesser(tree: &[Head], left: usize, right: usize) -> usize
     requires left { left < length tree.now }
     requires right { right < length tree.now }
     ensures within { result < length tree.now }
-    ensures chosen { (d : Head) → IsChosen (get_or tree.now left d) (get_or tree.now right d)
-        (get_or tree.now result d) }
+    ensures chosen { IsChosen (get_or tree.now left no_head) (get_or tree.now right no_head)
+        (get_or tree.now result no_head) }
 {
     if is_before(&tree[right], &tree[left]) {
         right
@@ -72,7 +72,7 @@ fn lesser(tree: &[Head], left: usize, right: usize) -> usize
 #[inline(always)]
 fn head_at(tree: &[Head], position: usize) -> Head
     requires { position < length tree.now }
-    ensures { result ≡ get_or tree.now position result }
+    ensures { result ≡ get_or tree.now position no_head }
 {
     let head = &tree[position];
     *head

@@ -3,7 +3,7 @@ use Rattle.std.proofs.lemmas.List.{get_or-set_same, length-set, set-set}
 use Rattle.sorted_taps.specs.Heads.{HasLeaves, IsRanked, tap_of}
 use Rattle.sorted_taps.specs.Readers.{head_of}
 use Rattle.sorted_taps.specs.declared.reader.TapReader.{TapReader}
-use Rattle.sorted_taps.proofs.Ranking.{AreChosenBut, chosen_above, leaves_kept, put_chosen}
+use Rattle.sorted_taps.proofs.Ranking.{AreChosenBut, chosen_set, leaves_kept, put_chosen}
 use Rattle.sorted_taps.proofs.Ranking.{put_leaf}
 use Rattle.sorted_taps.proofs.heads.put.Goals as goal
 
@@ -61,9 +61,9 @@ loop-position-preserved c =
           let same = length-set readers head.at is in
           leaves_kept (set readers head.at is) tree (position / 2) anew.head
           (omega (arith, within, size, same)) (inv.leaves is tap);
-      chosen = chosen_above (length readers) tree position (position / 2) anew.head refl
-          (omega (arith, more))
-          (omega (arith, within)) inv.chosen anew.chosen;
+      chosen = λ place some low apart. chosen_set tree (position / 2) anew.head place
+          (omega (arith, more)) (omega (arith, within)) anew.chosen apart
+          (inv.chosen place some low);
       size = omega (arith, long, size);
       within = omega (arith, long, within);
     })
