@@ -2,7 +2,7 @@
 use Rattle.std.proofs.Common.{◌≡◌, ℕ, ◌-◌, ◌<◌, List, [], ◌∷◌, ◌++◌, length, take, drop}
 use Rattle.std.proofs.Common.{refl, sym, ap, subst, ◌∙◌, arith, false, append-nil, append_assoc}
 use Rattle.std.proofs.Common.{get_or, map, length-append}
-use Rattle.std.proofs.lemmas.List.{length-drop}
+use Rattle.std.proofs.lemmas.List.{get_or_push, length-drop}
 use Rattle.std.proofs.lemmas.List.Kept.{IsSortedBy-push}
 use Rattle.std.specs.List.Sorted.{IsSorted}
 use Rattle.std.specs.Ordering.{is_lt}
@@ -29,12 +29,7 @@ last_of : (xs : List TapFields) (tap d : TapFields)
     → get_or (xs ++ tap ∷ []) (length (xs ++ tap ∷ []) - 1) d ≡ tap
 last_of xs tap d =
     let long = length-append xs (tap ∷ []) in
-    let at : length (xs ++ tap ∷ []) - 1 ≡ length xs = omega (arith, long) in
-    ap (λ n. get_or (xs ++ tap ∷ []) n d) at ∙ trailing xs
-  where
-    trailing : (xs : List TapFields) → get_or (xs ++ tap ∷ []) (length xs) d ≡ tap
-    trailing [] = refl
-    trailing (x ∷ xs) = trailing xs
+    get_or_push xs tap d (length (xs ++ tap ∷ []) - 1) (omega (arith, long))
 
 -- one more tap, which is not before the last
 sorted_more : (xs : List TapFields) (tap : TapFields) (rest : List TapFields)
@@ -54,26 +49,49 @@ regroup passed trailing read next tap goes_on =
     ∙ ap (λ l. passed ++ tap ∷ l) (sym goes_on)
     ∙ sym (append_assoc passed (tap ∷ []) next)
 
--- a reader that goes on stands in its file
+-- the reader has passed these taps since an offset, whatever it has counted
+abbrev pub LiesIn : List ℕ → ℕ → List TapFields → TapReader → Type 0
+LiesIn all from passed reader =
+    IsPositionedIn all from passed (record reader { passed = length passed })
+
+pub lies_of : (all : List ℕ) (from : ℕ) (passed : List TapFields) (reader : TapReader)
+    → IsPositionedIn all from passed reader → LiesIn all from passed reader
+lies_of all from passed reader holds = record {
+  between = holds.between;
+  sorted = holds.sorted;
+  end = holds.end;
+  number = refl;
+}
+
+-- a reader that goes on is in its file
+pub lies_on : (all : List ℕ) (from : ℕ) (passed : List TapFields) (old new : TapReader)
+    → LiesIn all from passed old → (is : IsAdvanced all old new)
+    → LiesIn all from (passed ++ is.tap ∷ []) new
+lies_on all from passed old new lies is = record {
+  between = subst (λ l. AreTapsBetween all from new.offset l)
+      (regroup passed is.trailing is.read (ahead new) is.tap is.goes_on)
+      (front_append (drop from all) (drop old.offset all) (drop new.offset all)
+      (passed ++ is.tap ∷ is.trailing) is.read
+      (subst (λ l. AreTapsBetween all from old.offset (passed ++ l)) is.stood lies.between)
+      is.between);
+  sorted = sorted_more passed is.tap (ahead new)
+      (subst (λ l. IsSorted tap_cmp (passed ++ take 1 l)) is.stood lies.sorted) is.order;
+  end = is.end;
+  number = refl;
+}
+
 pub holds_on : (all : List ℕ) (from : ℕ) (passed : List TapFields) (old new : TapReader)
     → IsPositionedIn all from passed old → (is : IsAdvanced all old new)
     → IsPositionedIn all from (passed ++ is.tap ∷ []) new
 holds_on all from passed old new holds is =
-    let whole : AreTapsBetween all from new.offset ((passed ++ is.tap ∷ is.trailing) ++ is.read) =
-    front_append (drop from all) (drop old.offset all) (drop new.offset all)
-    (passed ++ is.tap ∷ is.trailing) is.read
-    (subst (λ l. AreTapsBetween all from old.offset (passed ++ l)) is.stood holds.between)
-    is.between in
-    let up : IsSorted tap_cmp (passed ++ is.tap ∷ []) =
-    subst (λ l. IsSorted tap_cmp (passed ++ take 1 l)) is.stood holds.sorted in
+    let lies = lies_on all from passed old new (lies_of all from passed old holds) is in
     let long = length-append passed (is.tap ∷ []) in
     let before = holds.number in
     let after = is.number in
     record {
-      between = subst (λ l. AreTapsBetween all from new.offset l)
-          (regroup passed is.trailing is.read (ahead new) is.tap is.goes_on) whole;
-      sorted = sorted_more passed is.tap (ahead new) up is.order;
-      end = is.end;
+      between = lies.between;
+      sorted = lies.sorted;
+      end = lies.end;
       number = omega (arith, long, before, after);
     }
 

@@ -1,4 +1,5 @@
-//! Bounds of parts of files, from a sample of the files' tokens, which suits batches of 512 taps.
+//! Bounds of ranges and parts of files, from a sample of their tokens, which suits batches of 512
+//! taps.
 //! Nothing but speed rests on it.
 
 ghost use Rattle.std.specs.Prelude.{◌≡◌, ◌+◌, ◌-◌, ◌<◌, ◌≤◌, IfOk, IsTrue, OnOk, get_or, length};
@@ -9,10 +10,13 @@ ghost use Rattle.sorted_taps.specs.Ranges.{AreTokensIncreasing};
 
 use crate::fault::SortedFault;
 use crate::file_batches::FIRST_READ_BYTES;
-use crate::ranges::{BATCH_TAPS, token_at};
+use crate::ranges::{BATCH_TAPS, all_batches, token_at};
 use placed_files::Placed;
 use std::alloc::{AllocError, Global};
 use tap_views::{TAP1_HEADER_BYTES, TAP1_TAP_BYTES, Token};
+
+/// Files of fewer batches together are not worth ranges.
+const SHORT_BATCHES: u64 = 64;
 
 /// How many tokens are read for a part.
 const PART_TOKENS: u64 = 64;
@@ -122,4 +126,19 @@ pub fn bounds_of_parts<F: Placed>(
     let wanted = (most as u64 + 1) * PART_TOKENS;
     let tokens = sample_of(alloc, files, wanted.min(MOST_TOKENS))?;
     Ok(picked(alloc, &tokens, most)?)
+}
+
+/// At most `most` tokens, increasing, between which the files' taps are in ranges of about equal
+/// size. Fewer if a token has the taps of several ranges, and none if the files are short.
+pub fn bounds_of<F: Placed>(
+    alloc: Global,
+    files: &[F],
+    most: u32,
+) -> Result<Vec<Token>, SortedFault>
+    ensures { IfOk result (λ bounds. length bounds.items ≤ most) }
+{
+    if all_batches(files)? < SHORT_BATCHES {
+        return Ok(Vec::new(alloc));
+    }
+    bounds_of_parts(alloc, files, most)
 }
