@@ -4,8 +4,8 @@ use Rattle.sorted_taps.specs.Heads.{tap_of}
 use Rattle.sorted_taps.specs.declared.heads.Head.{Head}
 use Rattle.sorted_taps.specs.Readers.{first_of, head_of}
 use Rattle.sorted_taps.proofs.Ranking.{chosen_set, leaves_kept, put_chosen, put_leaf}
-use Rattle.sorted_taps.proofs.Ranking.{same_head_ranked}
-use Rattle.sorted_taps.proofs.Climbing.{all_chosen, climbed_at, climbed_at_leaf, climbs}
+use Rattle.sorted_taps.proofs.Ranking.{same_head_ranked, all_chosen, climbed_at, climbed_at_leaf}
+use Rattle.sorted_taps.proofs.Ranking.{climbs}
 use Rattle.sorted_taps.proofs.heads.put_back.Goals as goal
 
 pub returns-in_default : goal.returns-in_default

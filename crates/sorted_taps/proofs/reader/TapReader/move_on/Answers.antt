@@ -1,7 +1,7 @@
 use Rattle.std.proofs.Common.{◌+◌, refl, arith, IfSome}
 use Rattle.sorted_taps.specs.inside.Steps.{IsMovedOn, IsRefilled}
 use Rattle.sorted_taps.proofs.Known.{known_all, known_map, on_ok}
-use Rattle.sorted_taps.proofs.Moves.{next_moved, refill_moved}
+use Rattle.sorted_taps.proofs.Standing.{next_moved, refill_moved}
 use Rattle.sorted_taps.proofs.reader.TapReader.move_on.Goals as goal
 
 pub returns-then-self-len-clause-kept : goal.returns-then-self-len-clause-kept
