@@ -1,12 +1,12 @@
 -- Taps between places: what readers pass that begin at one place and come to another.
-use Rattle.std.proofs.Common.{◌≡◌, ℕ, suc, zero, ◌+◌, ◌<◌, List, [], ◌∷◌, ◌++◌, length, map}
-use Rattle.std.proofs.Common.{take, drop, get_or, refl, sym, ap, subst, ◌∙◌, arith, None, Some}
-use Rattle.std.proofs.Common.{append_assoc, append-nil, length-append, false}
+use Rattle.std.proofs.Common.{◌≡◌, ℕ, suc, zero, ◌+◌, ◌<◌, List, [], ◌∷◌, ◌++◌, length, map, take}
+use Rattle.std.proofs.Common.{drop, get_or, refl, sym, ap, subst, ◌∙◌, arith, None, Some}
+use Rattle.std.proofs.Common.{append_assoc, length-append, false}
 use Rattle.std.specs.Prelude.{Option, flat_map}
 use Rattle.std.specs.List.Sorted.{IsSorted}
 use Rattle.std.specs.Ordering.{is_lt}
 use Rattle.std.proofs.Math.ListN.{get_or-append}
-use Rattle.std.proofs.Math.Seq.{drop-append_seam, drop-length, get_or-append_seam}
+use Rattle.std.proofs.Math.Seq.{drop-append_seam, drop-length}
 use Rattle.std.proofs.lemmas.List.{get_or_default}
 use Rattle.tap_views.specs.Encoding.{fields_of}
 use Rattle.tap_views.specs.Files.{IsFile, taps_of_batches}
@@ -16,8 +16,8 @@ use Rattle.tap_views.proofs.ParseLemmas.{no_bytes}
 use Rattle.tap_parts.specs.Canonical.{tap_cmp, IsCanonical}
 use Rattle.sorted_taps.specs.Merged.{BeginsNotBefore}
 use Rattle.sorted_taps.specs.Merges.{AreTaken}
-use Rattle.sorted_taps.specs.Positions.{ArePlaced, AreSpanned, DoSpan, IsAt, IsLeftAfter}
-use Rattle.sorted_taps.specs.Positions.{IsPlaced, IsPlacedAnew, IsSpanned, first_position}
+use Rattle.sorted_taps.specs.Positions.{ArePlaced, AreSpanned, DoSpan, IsAt, IsLeftAfter, IsPlaced}
+use Rattle.sorted_taps.specs.Positions.{IsSpanned, first_position}
 use Rattle.sorted_taps.specs.Readers.{ahead}
 use Rattle.sorted_taps.specs.Reading.{AreBatches, AreTapsBetween}
 use Rattle.sorted_taps.specs.Represents.{AreAlignedWith, IsAlignedWith}
@@ -26,7 +26,6 @@ use Rattle.sorted_taps.specs.declared.positions.Position.{Position}
 use Rattle.sorted_taps.specs.declared.reader.TapReader.{TapReader}
 use Rattle.sorted_taps.proofs.After.{after_read, none_of_nothing}
 use Rattle.sorted_taps.proofs.Batches.{batches_of, file_of, front_append}
-use Rattle.sorted_taps.proofs.Files.{each_more}
 use Rattle.sorted_taps.proofs.Merging.{merged_canonical, none_before, sorted_cons, tail}
 use Rattle.sorted_taps.proofs.Taking.{HasPassed, passed_lengths, some_of, taken_passed}
 
@@ -269,36 +268,4 @@ span_alike files positions ones others spans aligned many ends = record {
         at_alike (get_or files k []) (get_or spans k s).to (get_or ones k d) (get_or others k d)
             (aligned.each k d (omega (arith, inside, many))) to,
       );
-}
-
--- ---- one file more
-pub placed_more : (files : List (List ℕ)) (positions : List Position) (readers : List TapReader)
-    (position : Position) (reader : TapReader) → length positions ≡ length readers
-    → ArePlaced files positions readers
-    → IsPlacedAnew (get_or files (length readers) []) position reader
-    → ArePlaced files (positions ++ position ∷ []) (readers ++ reader ∷ [])
-placed_more files positions readers position reader number placed at = record {
-  each = λ k p d inside. each_more
-      (λ k r. (p : Position)
-      → IsPlacedAnew (get_or files k []) (get_or (positions ++ position ∷ []) k p) r)
-      readers reader
-      (λ k d low p. subst (λ q. IsPlacedAnew (get_or files k []) q (get_or readers k d))
-      (sym (get_or-append positions (position ∷ []) p k (omega (arith, low, number))))
-      (placed.each k p d low))
-      (λ p. subst (λ q. IsPlacedAnew (get_or files (length readers) []) q reader)
-      (sym (ap (λ n. get_or (positions ++ position ∷ []) n p) (sym number)
-      ∙ get_or-append_seam positions position [] p)) at) k d inside p;
-}
-
-pub span_more : (files : List (List ℕ)) (positions : List Position) (readers : List TapReader)
-    (spans : List FileSpan) (span : FileSpan) → DoSpan files positions readers spans
-    → ((p : Position) → span.from ≡ get_or positions (length spans) p)
-    → ((d : TapReader) → IsAt (get_or files (length spans) []) span.to
-    (get_or readers (length spans) d))
-    → DoSpan files positions readers (spans ++ span ∷ [])
-span_more files positions readers spans span are from to = record {
-  each = λ k p d s inside. each_more
-      (λ k (one : FileSpan). (p : Position) (d : TapReader)
-      → (one.from ≡ get_or positions k p) × IsAt (get_or files k []) one.to (get_or readers k d))
-      spans span (λ k s low p d. are.each k p d s low) (λ p d. (from p, to d)) k s inside p d;
 }

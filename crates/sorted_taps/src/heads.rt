@@ -113,28 +113,18 @@ pub(crate) fn tree_of(alloc: Global, readers: &[TapReader]) -> Result<Vec<Head>,
     Ok(tree)
 }
 
-#[inline(always)]
-fn put(tree: &mut [Head], readers: &[TapReader], head: Head)
-    requires within { head.at < length readers.now }
-    requires ranked { (was : TapReader) × IsRanked (set readers.now head.at was) tree.old }
-    ensures { (is : TapReader) → tap_of head ≡ head_of is
-        → IsRanked (set readers.now head.at is) tree.new }
-{
-    let mut position = readers.len() + head.at;
-    tree[position] = head;
-    while position > 1 {
-        position /= 2;
-        choose(tree, position);
-    }
-}
-
 pub(crate) fn put_end(tree: &mut [Head], readers: &[TapReader], at: usize)
     requires within { at < length readers.now }
     requires ranked { (was : TapReader) × IsRanked (set readers.now at was) tree.old }
     ensures { (gone : TapReader) → ahead gone ≡ []
         → IsRanked (set readers.now at gone) tree.new }
 {
-    put(tree, readers, Head { key: None, at });
+    let mut position = readers.len() + at;
+    tree[position] = Head { key: None, at };
+    while position > 1 {
+        position /= 2;
+        choose(tree, position);
+    }
 }
 
 /// The tree has the end of the reader's file, above which are the least of the other heads. So

@@ -113,17 +113,6 @@ pub(crate) fn reader_near<F: Placed>(
 ) -> Result<TapReader, SortedFault>
     requires { window_bytes ≤ length window.old }
 {
-    let PlacedReader {
-        position: _,
-        reader,
-    } = reader_from(alloc, file, token, PASSED_TAPS, window)?;
+    let PlacedReader { reader, .. } = reader_from(alloc, file, token, PASSED_TAPS, window)?;
     Ok(reader)
-}
-
-pub(crate) fn all_batches<F: Placed>(files: &[F]) -> Result<u64, SortedFault> {
-    let mut batches = 0u64;
-    for file in files {
-        batches = batches.saturating_add(batches_in(file)?);
-    }
-    Ok(batches)
 }

@@ -10,13 +10,13 @@ ghost use Rattle.sorted_taps.specs.Ranges.{AreTokensIncreasing};
 
 use crate::fault::SortedFault;
 use crate::file_batches::FIRST_READ_BYTES;
-use crate::ranges::{BATCH_TAPS, all_batches, token_at};
+use crate::ranges::{BATCH_TAPS, token_at};
 use placed_files::Placed;
 use std::alloc::{AllocError, Global};
 use tap_views::{TAP1_HEADER_BYTES, TAP1_TAP_BYTES, Token};
 
-/// Files of fewer batches together are not worth ranges.
-const SHORT_BATCHES: u64 = 64;
+/// Files of fewer taps together are not worth ranges.
+const FEW_TAPS: u64 = 32_768;
 
 /// How many tokens are read for a part.
 const PART_TOKENS: u64 = 64;
@@ -56,15 +56,19 @@ fn push_tokens<F: Placed>(
     Ok(tap.saturating_sub(taps))
 }
 
-/// At equal distances, in increasing order.
-fn sample_of<F: Placed>(alloc: Global, files: &[F], most: u64) -> Result<Vec<Token>, SortedFault>
-    requires { 1 ≤ most }
-{
+fn all_taps<F: Placed>(files: &[F]) -> Result<u64, SortedFault> {
     let mut taps = 0u64;
     for file in files {
         taps = taps.saturating_add(taps_in(file)?);
     }
-    let step = (taps / most).saturating_add(1);
+    Ok(taps)
+}
+
+/// At equal distances, in increasing order.
+fn sample_of<F: Placed>(alloc: Global, files: &[F], most: u64) -> Result<Vec<Token>, SortedFault>
+    requires { 1 ≤ most }
+{
+    let step = (all_taps(files)? / most).saturating_add(1);
     let mut next = step / 2;
     let mut tokens = Vec::new(alloc);
     for file in files {
@@ -137,7 +141,7 @@ pub fn bounds_of<F: Placed>(
 ) -> Result<Vec<Token>, SortedFault>
     ensures { IfOk result (λ bounds. length bounds.items ≤ most) }
 {
-    if all_batches(files)? < SHORT_BATCHES {
+    if all_taps(files)? < FEW_TAPS {
         return Ok(Vec::new(alloc));
     }
     bounds_of_parts(alloc, files, most)

@@ -1,31 +1,32 @@
-use Rattle.std.proofs.Common.{◌≡◌, ◌/◌, ◌+◌, ◌*◌, ◌<◌, length, set, arith, refl, sym, subst}
+use Rattle.std.proofs.Common.{◌≡◌, ◌/◌, ◌+◌, ◌*◌, ◌<◌, [], ap, length, None, set, arith, refl, sym}
+use Rattle.std.proofs.Common.{subst}
 use Rattle.std.proofs.lemmas.List.{get_or-set_same, length-set, set-set}
-use Rattle.sorted_taps.specs.Heads.{HasLeaves, IsRanked, tap_of}
-use Rattle.sorted_taps.specs.Readers.{head_of}
+use Rattle.sorted_taps.specs.Heads.{HasLeaves, IsRanked}
+use Rattle.sorted_taps.specs.Readers.{ahead, first_of}
+use Rattle.sorted_taps.specs.declared.heads.Head.{Head}
 use Rattle.sorted_taps.specs.declared.reader.TapReader.{TapReader}
-use Rattle.sorted_taps.proofs.Ranking.{AreChosenBut, chosen_set, leaves_kept, put_chosen}
-use Rattle.sorted_taps.proofs.Ranking.{put_leaf}
-use Rattle.sorted_taps.proofs.heads.put.Goals as goal
+use Rattle.sorted_taps.proofs.Ranking.{AreChosenBut, chosen_set, leaves_kept, put_chosen, put_leaf}
+use Rattle.sorted_taps.proofs.heads.put_end.Goals as goal
 
 pub loop-position-init : goal.loop-position-init
 loop-position-init c =
     let (was, is) = c.requires.ranked in
     let readers = c.args.readers.now in
     let tree = c.args.tree.now in
-    let head = c.args.head in
-    let at = head.at in
+    let at = c.args.at in
+    let head : Head = record { key = None; at = at } in
     let low = c.requires.within in
     let size = is.leaves.size in
     let number = length-set readers at was in
     let long = length-set tree (length readers + at) head in
     record {
-      leaves = λ reader tap.
-          let has = set readers at reader in
-          let same = length-set readers at reader in
+      leaves = λ gone end.
+          let has = set readers at gone in
+          let same = length-set readers at gone in
           subst (λ n. HasLeaves has (set tree (n + at) head)) same
-          (put_leaf has tree at was reader head (omega (arith, same, low))
-          (subst (λ rs. IsRanked rs tree) (sym (set-set readers at reader was)) is)
-          (sym (get_or-set_same readers at reader reader low)) tap refl);
+          (put_leaf has tree at was gone head (omega (arith, same, low))
+          (subst (λ rs. IsRanked rs tree) (sym (set-set readers at gone was)) is)
+          (sym (get_or-set_same readers at gone gone low)) (sym (ap first_of end)) refl);
       chosen = put_chosen readers tree at was head is;
       size = omega (arith, size, number, long);
       within = omega (arith, long, size, number, low);
@@ -44,23 +45,23 @@ loop-position-preserved c =
     let readers = c.args.readers.now in
     let tree = c.loop-position.tree in
     let position = c.loop-position.position in
-    let head = c.args.head in
+    let at = c.args.at in
     let anew = c.choose.ensures in
     let within = inv.within in
     let size = inv.size in
     let more = c.loop-position-test.true in
     let long = length-set tree (position / 2) anew.head in
     subst (λ t. record {
-      leaves : (is : TapReader) → tap_of head ≡ head_of is → HasLeaves (set readers head.at is) t;
+      leaves : (gone : TapReader) → ahead gone ≡ [] → HasLeaves (set readers at gone) t;
       chosen : AreChosenBut (length readers) t (position / 2);
       size : length t ≡ 2 * length readers;
       within : position / 2 < length t;
     }) (sym anew.put)
     (record {
-      leaves = λ is tap.
-          let same = length-set readers head.at is in
-          leaves_kept (set readers head.at is) tree (position / 2) anew.head
-          (omega (arith, within, size, same)) (inv.leaves is tap);
+      leaves = λ gone end.
+          let same = length-set readers at gone in
+          leaves_kept (set readers at gone) tree (position / 2) anew.head
+          (omega (arith, within, size, same)) (inv.leaves gone end);
       chosen = λ place some low apart. chosen_set tree (position / 2) anew.head place
           (omega (arith, more)) (omega (arith, within)) anew.chosen apart
           (inv.chosen place some low);
