@@ -35,3 +35,12 @@ loop-position-preserved c =
           (λ other. inv.chosen place some (omega (arith, other, high)) low);
       most = omega (arith, most);
     })
+
+pub returns : goal.returns
+returns c =
+    let inv = c.loop-position.invariant in
+    let least = c.loop-position-test.false in
+    record {
+      leaves = inv.leaves;
+      inner = λ place some low. inv.chosen place some (omega (arith, some, least)) low;
+    }

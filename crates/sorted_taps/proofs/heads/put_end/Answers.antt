@@ -68,3 +68,14 @@ loop-position-preserved c =
       size = omega (arith, long, size);
       within = omega (arith, long, within);
     })
+
+pub returns : goal.returns
+returns c = λ gone end.
+    let inv = c.loop-position.invariant in
+    let same = length-set c.args.readers.now c.args.at gone in
+    let least = c.loop-position-test.false in
+    record {
+      leaves = inv.leaves gone end;
+      inner = λ place some low. inv.chosen place some (omega (arith, low, same))
+          (λ e. omega (arith, e, some, least));
+    }
