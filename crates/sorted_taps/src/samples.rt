@@ -18,6 +18,9 @@ use tap_views::{TAP1_HEADER_BYTES, TAP1_TAP_BYTES, Token};
 /// Files of fewer taps together are not worth ranges.
 const FEW_TAPS: u64 = 32_768;
 
+/// How many tokens are read for a range.
+const RANGE_TOKENS: u64 = 8;
+
 /// How many tokens are read for a part.
 const PART_TOKENS: u64 = 64;
 
@@ -144,5 +147,7 @@ pub fn bounds_of<F: Placed>(
     if all_taps(files)? < FEW_TAPS {
         return Ok(Vec::new(alloc));
     }
-    bounds_of_parts(alloc, files, most)
+    let wanted = (most as u64 + 1) * RANGE_TOKENS;
+    let tokens = sample_of(alloc, files, wanted.min(MOST_TOKENS))?;
+    Ok(picked(alloc, &tokens, most)?)
 }
