@@ -1,15 +1,16 @@
 -- Parts that are read one after the other, and merged.
 use Rattle.std.proofs.Common.{◌≡◌, ◌∙◌, ◌+◌, ◌<◌, ◌≤◌, ℕ, suc, zero, Bool, true, false, List, [], ◌∷◌}
 use Rattle.std.proofs.Common.{◌++◌, Some, Result, Ok, Err, All, ap, append-nil, append_assoc, arith, drop}
-use Rattle.std.proofs.Common.{get_or, length, map, refl, set, subst, sym, take}
+use Rattle.std.proofs.Common.{get_or, length, length-take, map, refl, set, subst, sym, take}
 use Rattle.std.specs.Prelude.{nat_le, slice_get}
 use Rattle.std.specs.List.{AllZip}
 use Rattle.std.proofs.lemmas.Bool.Decides.{nat_tests}
 use Rattle.std.proofs.lemmas.List.{drop-set-lt, drop_all, drop_more, length-drop, length-set}
-use Rattle.std.proofs.lemmas.List.{length-take, take_all, take_more_set}
+use Rattle.std.proofs.lemmas.List.{take_all, take_more_set}
 use Rattle.std.proofs.lemmas.List.Elements.{All-map, All-push, All-weaker}
 use Rattle.recorded_lines.specs.Texts.{CanBe, Follows, IsEndAt, IsFresh, calls_of}
 use Rattle.recorded_lines.specs.declared.text.Lines.{Lines}
+use Rattle.histories.specs.Sums.{sums_of}
 use Rattle.report_texts.specs.declared.wrong.Wrong.TheVariants.{Form}
 use Rattle.world.specs.Run.{Calls, Run, with_written}
 use Rattle.world.specs.Streams.{IsWhole}
@@ -30,7 +31,7 @@ use Rattle.part_texts.specs.declared.fronts.Open.{Open}
 use Rattle.part_texts.proofs.Parts.{all_begun, can_be_read, can_before, can_here, follow_length}
 use Rattle.part_texts.proofs.Parts.{follow_on, follow_self, follow_set, view_at, views_length}
 use Rattle.part_texts.proofs.Parts.{views_set}
-use Rattle.part_texts.proofs.Written.{written_more, written_none, written_on}
+use Rattle.part_texts.proofs.Written.{cut_on, written_more, written_none, written_on}
 
 -- ---- faults
 at_set : (from : List Lines) (i : ℕ) (one : Lines) → i < length from
@@ -112,38 +113,36 @@ none_copied : (is_copied : Bool) → all_copied is_copied [] ≡ []
 none_copied true = refl
 none_copied false = refl
 
-module _ {is_copied : Bool} {now mid then : FrontsView} {parts parts' : List Open}
-    {start from : List Lines} {i : ℕ} {before after wrote : Run} {part : Open} {next : Lines}
-    (d : Lines) (at : IsAtPart is_copied now parts parts' start from i before after)
-    (some : i < length start) (part_is : part ≡ get_or parts' i part)
-    (begins : mid ≡ at_part i (nat_le (length start) (i + 1)) part.stage (view_of part []).part now)
-    where
-  abbrev old : Lines
-  old = get_or from i d
-
+module _ {is_copied : Bool} {now : FrontsView} {parts parts' : List Open} {start from : List Lines}
+    {i : ℕ} {before after : Run} {part : Open} (d : Lines)
+    (at : IsAtPart is_copied now parts parts' start from i before after) (some : i < length start)
+    (part_is : part ≡ get_or parts' i part) where
   few : length parts' ≡ length from
   few = at.same ∙ sym (follow_length start from at.follow)
 
   inside : i < length from
   inside = let l = follow_length start from at.follow in omega (arith, l, some)
 
-  module _ (on : Follows old next) where
+  -- the part at the place, and those after it
+  abbrev views : List (List ℕ) → List PartView
+  views texts = views_of parts' from texts
+
+  abbrev lines : List (List ℕ) → List (List ℕ)
+  lines texts = lines_at (get_or from i d) (get_or texts i [])
+
+  module _ {next : Lines} (on : Follows (get_or from i d) next) where
     ons : AllZip Follows from (set from i next)
     ons = follow_set from i next d inside on
 
     pub follow_next : AllZip Follows start (set from i next)
     follow_next = follow_on start from (set from i next) at.follow ons
 
+    pub same_next : length parts' ≡ length (set from i next)
+    same_next = few ∙ sym (length-set from i next)
+
     back : (texts : List (List ℕ)) → AllZip CanBe (map calls_of (set from i next)) texts
         → AllZip CanBe (map calls_of from) texts
     back texts can = can_before from (set from i next) texts ons can
-
-    -- the part at the place, and those after it
-    abbrev views : List (List ℕ) → List PartView
-    views texts = views_of parts' from texts
-
-    abbrev lines : List (List ℕ) → List (List ℕ)
-    lines texts = lines_at old (get_or texts i [])
 
     split : (texts : List (List ℕ)) → AllZip CanBe (map calls_of (set from i next)) texts
         → drop i (views texts) ≡ view_of part (lines texts) ∷ drop (i + 1) (views texts)
@@ -154,25 +153,6 @@ module _ {is_copied : Bool} {now mid then : FrontsView} {parts parts' : List Ope
         (view_at parts' from texts i part d no_view (omega (arith, few, inside)) few (back texts can)
         ∙ ap (λ p. view_of p (lines texts)) (sym part_is))
 
-    by_part : (texts : List (List ℕ)) → AllZip CanBe (map calls_of (set from i next)) texts
-        → read_all is_copied no_fronts [] (views_of parts start texts)
-        ≡ and_then (read_of is_copied i part.number mid (lines texts)) (λ read.
-        read_all is_copied read.1 (take i (views texts) ++ left_of read ∷ []) (drop (i + 1) (views texts)))
-    by_part texts can =
-        let l = views_length parts' from texts few (back texts can) in
-        let f = follow_length start from at.follow in
-        let number : length (take i (views texts)) ≡ i =
-        (let t = length-take i (views texts) in omega (arith, t, l, inside)) in
-        let later : length start ≡ (i + 1) + length (drop (i + 1) (views texts)) =
-        (let t = length-drop (i + 1) (views texts) in omega (arith, t, l, f, inside)) in
-        at.gives texts (back texts can)
-        ∙ rw (
-          split texts can,
-          number,
-          ← (at_place i (length start) (drop (i + 1) (views texts)) later),
-          ← begins,
-        )
-
     by_lines : (texts : List (List ℕ)) → AllZip CanBe (map calls_of (set from i next)) texts
         → all_copied is_copied (views_of parts start texts)
         ≡ at.text ++ (copied is_copied (lines texts) ++ all_copied is_copied (drop (i + 1) (views texts)))
@@ -181,11 +161,34 @@ module _ {is_copied : Bool} {now mid then : FrontsView} {parts parts' : List Ope
         ∙ ap (λ l. at.text ++ l) (ap (all_copied is_copied) (split texts can)
         ∙ first_copied is_copied (view_of part (lines texts)) (drop (i + 1) (views texts)))
 
-  pub one_read : {number : ℕ} (left : Open)
-      → (read : IsRead is_copied (i, part.number) mid then old next after wrote (Ok number))
+    module _ {mid : FrontsView} (begins : mid
+        ≡ at_part i (nat_le (length start) (i + 1)) part.stage (sums_of part.part) now) where
+      by_part : (texts : List (List ℕ)) → AllZip CanBe (map calls_of (set from i next)) texts
+          → read_all is_copied no_fronts [] (views_of parts start texts)
+          ≡ and_then (read_of is_copied i part.number mid (lines texts)) (λ read.
+          read_all is_copied read.1 (take i (views texts) ++ left_of read ∷ [])
+          (drop (i + 1) (views texts)))
+      by_part texts can =
+          let l = views_length parts' from texts few (back texts can) in
+          let f = follow_length start from at.follow in
+          let number : length (take i (views texts)) ≡ i =
+          (let t = length-take {A = PartView} in omega (arith, t, l, inside)) in
+          let later : length start ≡ (i + 1) + length (drop (i + 1) (views texts)) =
+          (let t = length-drop (i + 1) (views texts) in omega (arith, t, l, f, inside)) in
+          at.gives texts (back texts can)
+          ∙ rw (
+            split texts can,
+            number,
+            ← (at_place i (length start) (drop (i + 1) (views texts)) later),
+            ← begins,
+          )
+
+  pub one_read : {next : Lines} {mid then : FrontsView} {wrote : Run} {number : ℕ} (begins : mid
+      ≡ at_part i (nat_le (length start) (i + 1)) part.stage (sums_of part.part) now) (left : Open)
+      → IsRead is_copied (i, part.number) mid then (get_or from i d) next after wrote (Ok number)
       → ((lines : List (List ℕ)) → left_of (number, then, lines) ≡ view_of left lines)
       → IsAtPart is_copied then parts (set parts' i left) start (set from i next) (i + 1) before wrote
-  one_read {number = number} left (on, more, is, end, said) shown = record {
+  one_read {next = next} {wrote = wrote} begins left (on, more, is, end, said) shown = record {
     same = length-set parts' i left ∙ at.same;
     follow = follow_next on;
     ended = λ copies. subst (All IsEndAt) (sym (take_more_set from i next inside))
@@ -195,37 +198,39 @@ module _ {is_copied : Bool} {now mid then : FrontsView} {parts parts' : List Ope
     gives = λ texts can.
         let l = views_length parts' from texts few (back on texts can) in
         let (read, text) = said (get_or texts i []) (can_here from next texts i inside can) in
-        by_part on texts can
+        by_part on begins texts can
         ∙ rw (
           read,
           shown (lines_at next (get_or texts i [])),
-          ← (take_more_set (views on texts) i (view_of left (lines_at next (get_or texts i [])))
+          ← (take_more_set (views texts) i (view_of left (lines_at next (get_or texts i [])))
               (omega (arith, l, inside))),
-          passed on texts,
+          passed texts,
           ← (views_set parts' from texts i left next),
         );
     lines = λ texts can.
         let (read, text) = said (get_or texts i []) (can_here from next texts i inside can) in
         by_lines on texts can
-        ∙ rw (text, passed on texts, ← (views_set parts' from texts i left next))
+        ∙ rw (text, passed texts, ← (views_set parts' from texts i left next))
         (sym (append_assoc at.text more _));
   }
     where
-      passed : (on : Follows old next) (texts : List (List ℕ)) → drop (i + 1) (views on texts)
-          ≡ drop (i + 1) (set (views on texts) i (view_of left (lines_at next (get_or texts i []))))
-      passed on texts = sym (drop-set-lt (i + 1) (views on texts) i _ (omega arith))
+      passed : (texts : List (List ℕ)) → drop (i + 1) (views texts)
+          ≡ drop (i + 1) (set (views texts) i (view_of left (lines_at next (get_or texts i []))))
+      passed texts = sym (drop-set-lt (i + 1) (views texts) i _ (omega arith))
 
-  pub not_read : (fault : MergeFault) (opens : List Open)
-      → IsRead is_copied (i, part.number) mid then old next after wrote (Err fault)
+  pub not_read : {next : Lines} {mid : FrontsView} (begins : mid
+      ≡ at_part i (nat_le (length start) (i + 1)) part.stage (sums_of part.part) now)
+      (then : FrontsView) (wrote : Run) (fault : MergeFault) (opens : List Open)
+      → IsRead is_copied (i, part.number) mid then (get_or from i d) next after wrote (Err fault)
       → AreRead is_copied parts opens start (set from i next) before wrote (Err fault)
-  not_read fault opens (on, more, leaves, said) = (
+  not_read {next = next} begins then wrote fault opens (on, more, leaves, said) = (
     at.text ++ more,
     subst (λ r. Leaves fault r wrote)
         (ap (λ r. with_written r more) at.wrote ∙ written_more before at.text more) leaves,
     λ texts can.
         let (wrong, rest, text) = said (get_or texts i []) (can_here from next texts i inside can) in (
-          part_fault _ _ _ from i next fault inside (by_part on texts can) wrong,
-          rest ++ all_copied is_copied (drop (i + 1) (views on texts)),
+          part_fault _ _ _ from i next fault inside (by_part on begins texts can) wrong,
+          rest ++ all_copied is_copied (drop (i + 1) (views texts)),
           by_lines on texts can ∙ rw text (simp append_assoc),
         ),
   )

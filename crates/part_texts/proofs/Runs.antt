@@ -1,6 +1,6 @@
 -- One part, read line by line.
-use Rattle.std.proofs.Common.{◌≡◌, ◌∙◌, ◌+◌, ℕ, Bool, true, false, cond, List, [], ◌∷◌, ◌++◌, Option}
-use Rattle.std.proofs.Common.{Some, None, Result, Ok, Err, ap, append-nil, append_assoc, flat_map, length}
+use Rattle.std.proofs.Common.{◌≡◌, ◌∙◌, ◌+◌, ℕ, Bool, true, false, List, [], ◌∷◌, ◌++◌}
+use Rattle.std.proofs.Common.{Some, None, Result, Ok, Err, ap, append-nil, append_assoc, length}
 use Rattle.std.proofs.Common.{refl, subst, sym}
 use Rattle.std.specs.Prelude.{nat_lt}
 use Rattle.line_folds.specs.Folds.{bounded, carry, run}
@@ -14,7 +14,7 @@ use Rattle.world.specs.Writes.{IsCut}
 use Rattle.world.specs.declared.faults.WriteFault.{WriteFault}
 use Rattle.part_texts.specs.Fronts.{FrontsView}
 use Rattle.part_texts.specs.FrontSteps.{front_step, is_over, part_end}
-use Rattle.part_texts.specs.Merged.{end_or, ended}
+use Rattle.part_texts.specs.Merged.{ended}
 use Rattle.part_texts.specs.Reads.{Leaves}
 use Rattle.part_texts.specs.inside.Opened.{IsPartFault, IsRead, copied, lines_at, piece}
 use Rattle.part_texts.specs.declared.fault.MergeFault.{MergeFault}

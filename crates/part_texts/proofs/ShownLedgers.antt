@@ -1,5 +1,5 @@
 -- Ledgers of parts, as they are printed, are merged into the ledger of the whole.
-use Rattle.std.proofs.Common.{◌≡◌, ◌∙◌, ◌+◌, ℕ, Bool, true, false, List, [], ◌∷◌, ◌++◌, length, map}
+use Rattle.std.proofs.Common.{◌≡◌, ◌∙◌, ℕ, Bool, true, false, List, [], ◌∷◌, ◌++◌, length, map}
 use Rattle.std.proofs.Common.{Option, None, Result, Ok, Err, refl, sym, ap, arith, append_assoc}
 use Rattle.std.proofs.Common.{codes, cond}
 use Rattle.fare_texts.specs.LedgerLines.{head_text}

@@ -134,16 +134,14 @@ front_shown position first last s p before after is (f, l, stage, part, so_far, 
 
 -- ---- all sections
 one_section : (position number : ℕ) (first last : Bool) (before after : SoFar) (p : PartReport)
-    (s : FrontsView) → s.part ≡ p.totals → IsNextPart first last before p after
-    → (next : ℕ) × (read_of true position number (tokens_at s (length p.tokens) before.last no_sums)
-    (lines_of (token_lines p)) ≡ Ok (next, tokens_at s 0 (last_of before.last p.tokens) s.part, []))
-one_section position number first last before after p s same is =
+    (s : FrontsView) → s.part ≡ p.totals → s.last ≡ before.last → IsNextPart first last before p after
+    → (next : ℕ) × (read_of true position number (tokens_at s (length p.tokens) s.last no_sums)
+    (lines_of (token_lines p)) ≡ Ok (next, tokens_at s 0 (last_of s.last p.tokens) s.part, []))
+one_section position number first last before after p s same at is =
     let r = is.right in
-    let (next, read) = (tokens_taken s before.last no_sums s.part p.tokens r.tokens
-    is.increase (rw same r.tokens_add)).on number [] in (
-      next,
-      rw (← (append-nil (token_lines p)), read, tokens_end s (last_of before.last p.tokens)),
-    )
+    let (next, read) = (tokens_taken s s.last no_sums s.part p.tokens r.tokens (rw at is.increase)
+    (rw same r.tokens_add)).on number [] in
+    (next, rw (← (append-nil (token_lines p)), read, tokens_end s (last_of s.last p.tokens)))
 
 sections_shown : (s : FrontsView) (done : List PartView) (first : Bool) (before after : SoFar)
     (parts : List PartReport) (opens : List PartView) → s.last ≡ before.last
@@ -157,11 +155,11 @@ sections_shown s done first before after (p ∷ ps) (opening ∷ opens) same (ne
     (number, shown, others) =
     let here = at_part (length done) (is_none_left opens) (Tokens (length p.tokens)) p.totals s in
     let (after_it, one) =
-    one_section (length done) number first (is_none_left ps) before next p here refl is in
-    let then = tokens_at here 0 (last_of before.last p.tokens) p.totals in
+    one_section (length done) number first (is_none_left ps) before next p here refl same is in
+    let then = tokens_at here 0 (last_of s.last p.tokens) p.totals in
     let (end, rest) = sections_shown then (done ++ left_of (after_it, then, []) ∷ []) false next after
-    ps opens (sym is.last_is) more others in
-    (end, rw (shown, same, one) rest)
+    ps opens (ap (λ last. last_of last p.tokens) same ∙ sym is.last_is) more others in
+    (end, rw (shown, one) rest)
 
 tokens_flat : (parts : List PartReport)
     → flat_map token_lines parts ≡ flat_map token_line (tokens_of parts)

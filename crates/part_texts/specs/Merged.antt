@@ -1,5 +1,5 @@
 -- What the texts of parts are merged into.
-use Rattle.std.specs.Prelude.{◌+◌, ℕ, Bool, true, false, cond, List, [], ◌∷◌, ◌++◌, flat_map}
+use Rattle.std.specs.Prelude.{ℕ, Bool, true, false, cond, List, [], ◌∷◌, ◌++◌, flat_map}
 use Rattle.std.specs.Prelude.{Option, Some, None, Result, Ok, Err, codes, length, map}
 use Rattle.histories.specs.Sums.{Sums}
 use Rattle.tap_views.specs.declared.upload_end.UploadEnd.TheVariants.{Posted}

@@ -274,14 +274,14 @@ impl Fronts {
     }
 
     /// Goes on with the part at this place of so many.
-    pub(crate) fn begin(&mut self, open: &Open, position: usize, count: usize)
-        ensures { fronts_view self.new ≡ at_part position (nat_le count (position + 1)) open.now.stage
-            (sums_of open.now.part) (fronts_view self.old) }
+    pub(crate) fn begin(&mut self, part: &Open, position: usize, count: usize)
+        ensures { fronts_view self.new ≡ at_part position (nat_le count (position + 1)) part.now.stage
+            (sums_of part.now.part) (fronts_view self.old) }
     {
-        self.stage = open.stage;
+        self.stage = part.stage;
         self.is_first = position == 0;
         self.is_last = count <= position.saturating_add(1);
-        self.part = open.part;
+        self.part = part.part;
         self.so_far = no_totals();
     }
 

@@ -1,6 +1,6 @@
 //! Texts of parts, merged.
 
-ghost use Rattle.std.specs.Prelude.{◌≡◌, ◌++◌, IfErr, IfOk, OnOk, All, length, map, string_bytes};
+ghost use Rattle.std.specs.Prelude.{◌≡◌, ◌++◌, ◌<◌, IfErr, IfOk, OnOk, All, length, map, string_bytes};
 ghost use Rattle.std.specs.List.{AllZip, flat_map};
 ghost use Rattle.fare_texts.specs.LedgerLines.{head_text};
 ghost use Rattle.fare_texts.specs.ReportLines.{validator_line};
@@ -57,16 +57,16 @@ fn read_part<W: World>(
         }
         match from.read_line(&mut line) {
             Ok(NextLine::Whole) => {}
-            Ok(NextLine::End) => {
-                return match parts.end() {
-                    None => Ok(number),
-                    Some(why) => Err(MergeFault::Line {
+            Ok(NextLine::End) => match parts.end() {
+                None => return Ok(number),
+                Some(why) => {
+                    return Err(MergeFault::Line {
                         text: position,
                         number,
                         why,
-                    }),
-                };
-            }
+                    });
+                }
+            },
             Ok(NextLine::Long) => {
                 return Err(MergeFault::Line {
                     text: position,
@@ -207,6 +207,36 @@ fn begun(alloc: Global, count: usize) -> Result<Vec<Open>, AllocError>
     Ok(opens)
 }
 
+fn merge_begun<W: World>(
+    alloc: Global,
+    parts: &mut [Lines],
+    opens: &mut [Open],
+    world: &mut W,
+) -> Result<(), MergeFault>
+    requires some { 0 < length parts.old }
+    requires fresh { All IsFresh parts.old }
+    requires begun { All IsBegun opens.old }
+    requires number { length opens.old ≡ length parts.old }
+    ensures follow { AllZip Follows parts.old parts.new }
+    ensures merges { MergesAs (map calls_of parts.new) (W.run world.old) (W.run world.new) result }
+{
+    let fronts = match read_parts(alloc, parts, opens, false, world) {
+        Ok(fronts) => fronts,
+        Err(fault) => return Err(fault),
+    };
+    let Ok(text) = whole_front(alloc, fronts) else {
+        return Err(MergeFault::NoMemory);
+    };
+    match world.write(&text) {
+        Ok(()) => {}
+        Err(why) => return Err(MergeFault::Write(why)),
+    }
+    match read_parts(alloc, parts, opens, true, world) {
+        Ok(_) => Ok(()),
+        Err(fault) => Err(fault),
+    }
+}
+
 /// Merges the texts of parts, in their order: all reports, or all ledgers. All fronts are read
 /// before the first byte is written.
 pub fn merge<W: World>(alloc: Global, parts: &mut [Lines], world: &mut W) -> Result<(), MergeFault>
@@ -224,19 +254,5 @@ pub fn merge<W: World>(alloc: Global, parts: &mut [Lines], world: &mut W) -> Res
     let Ok(mut opens) = begun(alloc, parts.len()) else {
         return Err(MergeFault::NoMemory);
     };
-    let fronts = match read_parts(alloc, parts, &mut opens, false, world) {
-        Ok(fronts) => fronts,
-        Err(fault) => return Err(fault),
-    };
-    let Ok(text) = whole_front(alloc, fronts) else {
-        return Err(MergeFault::NoMemory);
-    };
-    match world.write(&text) {
-        Ok(()) => {}
-        Err(why) => return Err(MergeFault::Write(why)),
-    }
-    match read_parts(alloc, parts, &mut opens, true, world) {
-        Ok(_) => Ok(()),
-        Err(fault) => Err(fault),
-    }
+    merge_begun(alloc, parts, &mut opens, world)
 }
