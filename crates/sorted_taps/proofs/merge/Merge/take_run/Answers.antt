@@ -20,8 +20,7 @@ put_end-requires-clause-ranked g c =
     let reader = c.index-reader.result.now in
     let same : set readers at reader ≡ readers =
     ap (λ (r : TapReader). set readers at r) c.index-reader.ensures
-    ∙ set-get_or readers at reader in
-    (
+    ∙ set-get_or readers at reader in (
       reader,
       rw (c.deref-2.ensures.value, c.deref_mut.ensures.value)
           (subst (λ rs. IsRanked rs c.args.self.now.heads.items) (sym same) c.requires.ranked),
@@ -64,7 +63,7 @@ returns-clause-taken g c =
     let least = MatchOption-at_some (AreAtEnd readers)
     (λ (least : ℕ × TapFields). IsLeastHead readers least.0 least.1) (at, c.in-Some.tap)
     c.in-Some.is (c.least_of.ensures readers start) in
-    let within = least.within
+    let within = least.within in
     let reader = c.index_mut-reader.result.now in
     let other = option_map tap_of_key c.least_key-other.result in
     let gone = record reader { next = length reader.taps.items } in
