@@ -7,7 +7,7 @@ ghost use Rattle.fare_texts.specs.ReportLines.{validator_line};
 ghost use Rattle.histories.specs.Sums.{sums_of};
 ghost use Rattle.tap_views.specs.declared.upload_end.UploadEnd.TheVariants.{Posted};
 ghost use Rattle.recorded_lines.specs.Texts.{Follows, IsFresh, calls_of};
-ghost use Rattle.report_texts.specs.Report.{upload_lines};
+ghost use Rattle.report_texts.specs.Report.{upload_lines, uploads_section, validators_section};
 ghost use Rattle.world.specs.Run.{with_written};
 ghost use Rattle.world.specs.Writes.{IsCut};
 ghost use Rattle.part_texts.specs.inside.Fronts.{fronts_view, shown_sums};
@@ -139,6 +139,15 @@ fn read_parts<W: World>(
 
 fn write_uploads(text: &mut String, taps: &[u64]) -> Result<(), AllocError>
     ensures { OnOk result (string_bytes text.new
+        ≡ string_bytes text.old ++ uploads_section (map Posted taps.now)) }
+{
+    write_section_head(text, "uploads ", taps.len() as u128)?;
+    write_upload_lines(text, taps)
+}
+
+#[tactic(auto, using(crate::proofs::WholeTexts::uploads_more))]
+fn write_upload_lines(text: &mut String, taps: &[u64]) -> Result<(), AllocError>
+    ensures { OnOk result (string_bytes text.new
         ≡ string_bytes text.old ++ upload_lines 0 (map Posted taps.now)) }
 {
     for (upload, taps) in taps.iter().enumerate() {
@@ -148,6 +157,18 @@ fn write_uploads(text: &mut String, taps: &[u64]) -> Result<(), AllocError>
 }
 
 fn write_validators(text: &mut String, validators: &BTreeMap<u32, Totals>) -> Result<(), AllocError>
+    ensures { OnOk result (string_bytes text.new ≡ string_bytes text.old
+        ++ validators_section (shown_sums sums_of validators.now.entries)) }
+{
+    write_section_head(text, "validators ", validators.len() as u128)?;
+    write_validator_lines(text, validators)?;
+    Ok(())
+}
+
+fn write_validator_lines(
+    text: &mut String,
+    validators: &BTreeMap<u32, Totals>,
+) -> Result<(), AllocError>
     ensures { OnOk result (string_bytes text.new ≡ string_bytes text.old
         ++ flat_map validator_line (shown_sums sums_of validators.now.entries)) }
 {
@@ -164,10 +185,8 @@ fn report_front(alloc: Global, fronts: Fronts) -> Result<Vec<u8>, AllocError>
 {
     let taps = fronts.taps.into_vec();
     let mut text = String::new(alloc);
-    write_section_head(&mut text, "uploads ", taps.len() as u128)?;
     write_uploads(&mut text, &taps)?;
     write_totals(&mut text, &fronts.totals)?;
-    write_section_head(&mut text, "validators ", fronts.validators.len() as u128)?;
     write_validators(&mut text, &fronts.validators)?;
     write_section_head(&mut text, "tokens ", u128::from(fronts.tokens))?;
     Ok(text.into_bytes())
