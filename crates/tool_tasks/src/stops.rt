@@ -3,7 +3,7 @@ ghost use Rattle.tool_tasks.specs.inside.Does.{IsEndedAs};
 
 use crate::fault::Fault;
 use frame::{Outside, report};
-use world::{MakeFault, World, WriteFault};
+use world::{MakeFault, World};
 
 /// What stopped a run, and the line that says so.
 #[derive(Drop)]
@@ -20,8 +20,7 @@ pub(crate) fn line_of<'a>(why: Outside, word: &'a str, begun: Fault<'a>) -> Faul
         Outside::Unmade(_, true) => begun,
         Outside::Unmade(MakeFault::Exists, false) => Fault::Exists(word),
         Outside::Unmade(MakeFault::Unmade, false) => Fault::Unmade(word),
-        Outside::Unwritten(WriteFault::Closed) => Fault::Closed,
-        Outside::Unwritten(WriteFault::Refused) => Fault::Write,
+        Outside::Unwritten(why) => Fault::from(why),
     }
 }
 
