@@ -68,8 +68,8 @@ returns-in-Ok-prepare g c =
     (c.carry.ensures (names_of request) old [] (c.in-Ok.ensures.unchanged ∙ sym (no_loads old))
     (ends_named request ends [] 0 prepared of) (0, omega arith, refl))
 
-pub returns-in-Err-prepare : goal.returns-in-Err-prepare
-returns-in-Err-prepare g c =
+pub returns-in-Ok-merged : goal.returns-in-Ok-merged
+returns-in-Ok-merged g c =
     let request = sorting_of c.args.words.now in let old = g.W.Inputs.run c.args.world.now in
     halted_loading (MergesOrRefuses request _) (names_of request) old old _ [] NoMemory
     (sym (no_loads old)) (c.discard.ensures ∙ c.in-Ok.ensures.unchanged)
