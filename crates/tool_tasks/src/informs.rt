@@ -7,10 +7,7 @@ use crate::loads::load_word;
 use world::{Inputs, World};
 
 /// All bytes of the file that the word names.
-pub(crate) fn load_file<'a, I: Inputs>(
-    word: &'a str,
-    files: &mut I,
-) -> Result<Vec<u8>, Fault<'a>> {
+pub(crate) fn load_file<'a, I: Inputs>(word: &'a str, files: &mut I) -> Result<Vec<u8>, Fault<'a>> {
     match load_word(files, word) {
         Ok(bytes) => Ok(bytes),
         Err(why) => Err(Fault::of_load(word, why)),
