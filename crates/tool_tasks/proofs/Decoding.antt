@@ -22,7 +22,7 @@ use Rattle.tool_tasks.specs.inside.Decode.{StopsDecoding, with_decoded}
 
 -- ---- one more
 -- of the bytes that were loaded
-pub decoded_of : (word upload bytes rows : List ℕ) (fault : Option (ℕ × LayoutFault))
+abbrev pub decoded_of : (word upload bytes rows : List ℕ) (fault : Option (ℕ × LayoutFault))
     → bytes ≡ upload → IsDecoded bytes rows fault → Decoded
 decoded_of word upload bytes rows fault same is = record {
   word = word;

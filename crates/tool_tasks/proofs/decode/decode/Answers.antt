@@ -67,7 +67,7 @@ loop-number-preserved g c =
       decoded ++ one ∷ [],
       words_push words number _ decoded one c.loop-number-test.true are word,
       whole_push decoded one ∙ ap (λ (b : Bool). b && is_none one.fault) whole
-          ∙ ap (λ (b : Bool). c.loop-number.succeeded && b) is_whole ∙ sym c.both.ensures,
+          ∙ ap (λ (b : Bool). c.loop-number.succeeded && b) is_whole ∙ sym c.both-succeeded.ensures,
       adds old (decoding_of decoded) (c.show_count.ensures ∙ is)
           ∙ ap (gave old) (decoding_push decoded one),
     )

@@ -25,7 +25,7 @@ returns-in-Err-clause-stopped g c =
 pub returns-in-Err-push-clause-stopped : goal.returns-in-Err-push-clause-stopped
 returns-in-Err-push-clause-stopped g c =
     let all = c.loop-number.invariant in
-    let word = c.index.result.now in
+    let word = c.index.result.now.now in
     let text = c.in-Ok.upload.items in
     let one = load_of word text ∷ [] in (
       all.loads ++ one,
