@@ -12,7 +12,7 @@ pub(crate) struct Halt<'a> {
     pub(crate) line: Fault<'a>,
 }
 
-/// The line of what stopped a run. Of a file, this is its word; if it is partial, `partial` is the line.
+/// The line of what stopped a run. Of a file, this is its word, and the line if it is partial.
 pub(crate) fn line_of<'a>(why: Outside, word: &'a str, partial: Fault<'a>) -> Fault<'a> {
     match why {
         Outside::Unread(why) => Fault::of_load(word, why),
