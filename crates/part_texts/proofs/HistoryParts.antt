@@ -183,27 +183,23 @@ increasing_few cmp [] = omega arith
 increasing_few cmp (key ∷ keys) =
     omega (arith, increasing_few cmp keys, insert_few cmp (increasing cmp keys) key)
 
-pub tokens_few : (history : List Entry) → length (sums_by_token history) ≤ length history
-unfolding sums_by_token tokens
-tokens_few history =
+keys_few : {K : Type 0} (cmp : K → K → Ordering) (key : Entry → K) (f : K → Sums) (history : List Entry)
+    → length (map (λ k. (k, f k)) (increasing cmp (map key history))) ≤ length history
+keys_few {K = K} cmp key f history =
     omega (
       arith,
-      length-map {B = Token × Sums} (increasing token_cmp (map token_of history))
-          (λ t. (t, sums (own t history))),
-      increasing_few token_cmp (map token_of history),
-      length-map history token_of,
+      length-map {B = K × Sums} (increasing cmp (map key history)) (λ k. (k, f k)),
+      increasing_few cmp (map key history),
+      length-map history key,
     )
+
+pub tokens_few : (history : List Entry) → length (sums_by_token history) ≤ length history
+unfolding sums_by_token tokens
+tokens_few history = keys_few token_cmp token_of _ history
 
 validators_few : (history : List Entry) → length (sums_by_validator history) ≤ length history
 unfolding sums_by_validator validators
-validators_few history =
-    omega (
-      arith,
-      length-map {B = ℕ × Sums} (increasing nat_cmp (map validator_of history))
-          (λ v. (v, sums (entries_of_validator v history))),
-      increasing_few nat_cmp (map validator_of history),
-      length-map history validator_of,
-    )
+validators_few history = keys_few nat_cmp validator_of _ history
 
 -- ---- spans
 abbrev pub from_ends : List FileSpan → List (Option Position)
