@@ -55,7 +55,8 @@ unfolding live
 live-push taps tap = live_after-push [] taps tap
 
 -- a tap that is not live changes no trip
-trips-same : (rules : TokenRules) (taps : List TapIn) (tap : TapIn) → live_tap taps tap ≡ None
+-- a tap that is not live leaves the trips as they were
+pub trips-same : (rules : TokenRules) (taps : List TapIn) (tap : TapIn) → live_tap taps tap ≡ None
     → trips rules (taps ++ tap ∷ []) ≡ trips rules taps
 unfolding trips
 trips-same rules taps tap none = rw (live-push taps tap, none, append-nil) refl
@@ -66,7 +67,8 @@ pub trip-same : (rules : TokenRules) (taps : List TapIn) (tap : TapIn) → live_
 unfolding last_trip
 trip-same rules taps tap none = rw (trips-same rules taps tap none) refl
 
-trips-push : (rules : TokenRules) (taps : List TapIn) (tap : TapIn) (shown : LiveTap)
+-- a live tap is one of the last trip, or begins one
+pub trips-push : (rules : TokenRules) (taps : List TapIn) (tap : TapIn) (shown : LiveTap)
     → live_tap taps tap ≡ Some shown
     → trips rules (taps ++ tap ∷ []) ≡ extend (continues rules.transfers) (trips rules taps) shown
 unfolding trips
@@ -121,7 +123,7 @@ after_tap true None tap = None
 after_tap true (Some trip) tap =
     Some (record { ride = trip.ride; last = tap; given = trip.given + 1 })
 
-last_tap-push : (first : LiveTap) (taps : List LiveTap) (tap : LiveTap)
+pub last_tap-push : (first : LiveTap) (taps : List LiveTap) (tap : LiveTap)
     → last_tap first (taps ++ tap ∷ []) ≡ tap
 unfolding last_tap
 last_tap-push first [] tap = refl
@@ -144,7 +146,7 @@ unfolding continues gives trip_of last_tap
 trip_of-after rules [] tap = refl
 trip_of-after rules (ride ∷ given) tap = trip_of-if _ ride given tap
 
-longer-if : (b : Bool) (ride : LiveTap) (given : List LiveTap) (tap : LiveTap)
+pub longer-if : (b : Bool) (ride : LiveTap) (given : List LiveTap) (tap : LiveTap)
     → nat_lt 1 (length (cond b (ride ∷ (given ++ tap ∷ [])) (tap ∷ []))) ≡ b
 longer-if true ride given tap =
     lt-ltb 1 (suc (length (given ++ tap ∷ []))) (omega (arith, length-push given tap))

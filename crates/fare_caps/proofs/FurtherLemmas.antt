@@ -26,6 +26,7 @@ use Rattle.account_rule.specs.Trips.{last_tap}
 use Rattle.account_rule.specs.Windows.{charge}
 use Rattle.account_rule.specs.Windows as rule
 use Rattle.account_rule.proofs.LimitLemmas.{charge-min}
+use Rattle.account_rule.proofs.TapLemmas.{last_tap-push}
 use Rattle.fare_caps.specs.CapMeanings.{cap_positions, cap_rules, capped_rules_of, pays_of, said_of}
 use Rattle.fare_caps.specs.CapStates.{CapStates, after_dues, after_ride, at_ride, charge_at}
 use Rattle.fare_caps.specs.CapStates.{extra_charge, extra_terms, no_rides, ride_charge, states, with_charge}
@@ -48,7 +49,7 @@ use Rattle.fare_caps.specs.inside.Further.{counted_by, counted_cents}
 use Rattle.fare_caps.specs.inside.Further.{extra_of, least_of, left_by, opened_all, opened_by}
 use Rattle.fare_caps.specs.inside.Further.{raised, said_by, transfer_reason, transferred}
 use Rattle.fare_caps.specs.inside.Further.{with_new_trip, with_some_cents}
-use Rattle.fare_caps.proofs.PriceLemmas.{extra-is, last-push, price-push}
+use Rattle.fare_caps.proofs.PriceLemmas.{extra-is, price-push}
 use Rattle.fare_caps.proofs.LoweredLemmas.{IsAtMost, lowered-few, charge-within, lesser-here}
 use Rattle.fare_caps.proofs.LoweredLemmas.{lesser-keeps, lesser-none, lowered-le, lowered-paid}
 use Rattle.fare_caps.proofs.LoweredLemmas.{most-le, paid-below}
@@ -628,7 +629,7 @@ last-of : (fares : Fares) (token : List ℕ) (moment : ℕ) (mode : Mode) (ride 
     → mode ≡ (last_tap ride (given ++ live_at moment mode ∷ [])).mode
 unfolding live_at
 last-of fares token moment mode ride given =
-    sym (ap (λ (t : LiveTap). t.mode) (last-push ride given (live_at moment mode)))
+    sym (ap (λ (t : LiveTap). t.mode) (last_tap-push ride given (live_at moment mode)))
 
 -- the trip with the transfer
 trip-with : (fares : Fares) (token : List ℕ) (moment : ℕ) (mode : Mode) (further : Further)

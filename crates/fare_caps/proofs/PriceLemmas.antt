@@ -8,8 +8,8 @@ use Rattle.account_rule.specs.TokenRules.{TokenRules}
 use Rattle.account_rule.specs.Taps.{LiveTap, live_tap}
 use Rattle.account_rule.specs.Trips.{continues, last_tap, rides, trips}
 use Rattle.account_rule.specs.declared.tap.TapIn.{TapIn}
-use Rattle.account_rule.proofs.BlockLemmas.{blocks_by-push, extend}
-use Rattle.account_rule.proofs.TapLemmas.{live-push}
+use Rattle.account_rule.proofs.BlockLemmas.{extend}
+use Rattle.account_rule.proofs.TapLemmas.{trips-push}
 use Rattle.fare_caps.specs.Caps.{CapRules, CappedRules}
 use Rattle.fare_caps.specs.Prices.{Due, dues, dues_after, extra, fare, of_ride, pays_to}
 use Rattle.fare_caps.specs.Prices.{price, price_after, transfer_due, trip_dues, wanted}
@@ -53,12 +53,6 @@ pub price-low : (capped : CappedRules) (ride : LiveTap) (given : List LiveTap)
     → fare capped ride ≤ price capped (ride ∷ given)
 unfolding price
 price-low capped ride given = price_after-low capped ride ride (fare capped ride) given
-
-pub last-push : (last : LiveTap) (given : List LiveTap) (tap : LiveTap)
-    → last_tap last (given ++ tap ∷ []) ≡ tap
-unfolding last_tap
-last-push last [] tap = refl
-last-push last (next ∷ given) tap = last-push next given tap
 
 -- what the transfer raises it by
 pub extra-is : (capped : CappedRules) (ride : LiveTap) (given : List LiveTap) (tap : LiveTap)
@@ -136,20 +130,6 @@ dues-extend capped joins (trip ∷ next ∷ more) tap none =
 continues-none : (rules : TokenRules) → Continues (continues rules.transfers)
 unfolding continues
 continues-none rules = λ tap. refl
-
--- the trips with one more live tap
-pub trips-push : (rules : TokenRules) (taps : List TapIn) (tap : TapIn) (shown : LiveTap)
-    → live_tap taps tap ≡ Some shown
-    → trips rules (taps ++ tap ∷ []) ≡ extend (continues rules.transfers) (trips rules taps) shown
-unfolding trips
-trips-push rules taps tap shown some =
-    rw (live-push taps tap, some) (blocks_by-push (continues rules.transfers) _ shown)
-
--- a tap that is not live changes no trip
-pub trips-same : (rules : TokenRules) (taps : List TapIn) (tap : TapIn) → live_tap taps tap ≡ None
-    → trips rules (taps ++ tap ∷ []) ≡ trips rules taps
-unfolding trips
-trips-same rules taps tap none = rw (live-push taps tap, none, append-nil) refl
 
 -- the taps that may cost something, with one more live tap
 pub dues-push : (capped : CappedRules) (taps : List TapIn) (tap : TapIn) (shown : LiveTap)

@@ -1,8 +1,8 @@
 -- What one more tap makes of the trips, by why it is answered as it is.
-use Rattle.std.proofs.Common.{◌≡◌, suc, Bool, true, false, cond, List, [], ◌∷◌, ◌++◌, Some}
-use Rattle.std.proofs.Common.{None, length, nat_lt, arith}
+use Rattle.std.proofs.Common.{◌≡◌, Bool, true, false, cond, List, [], ◌∷◌, ◌++◌, Some}
+use Rattle.std.proofs.Common.{None, length, nat_lt}
 use Rattle.std.proofs.Common.{refl, sym, ap, ◌∙◌, ⊎_elim}
-use Rattle.std.proofs.lemmas.Bool.{cases_Bool, lt-ltb, true≢false}
+use Rattle.std.proofs.lemmas.Bool.{cases_Bool, true≢false}
 use Rattle.tariffs.specs.declared.mode.Mode.{Mode}
 use Rattle.account_rule.specs.declared.reason.Reason.{Reason}
 use Rattle.account_rule.specs.declared.reason.Reason.TheVariants.{Ride, Stale, Transfer, Unknown}
@@ -14,13 +14,12 @@ use Rattle.account_rule.specs.Taps.{LiveTap, is_later, live_at, live_tap}
 use Rattle.account_rule.specs.Trips.{continues, ends_in_transfer, last_trip, trip_of}
 use Rattle.account_rule.specs.Trips.{trips}
 use Rattle.account_rule.specs.Windows.{windows}
-use Rattle.account_rule.proofs.BlockLemmas.{last_block-extend, length-push}
+use Rattle.account_rule.proofs.BlockLemmas.{last_block-extend}
 use Rattle.account_rule.proofs.ReasonLemmas.{reason_live, reason_stale, reason_transfer}
 use Rattle.account_rule.proofs.ReasonLemmas.{reason_unknown}
 use Rattle.account_rule.proofs.StepLemmas.{is_live, not_known, not_later}
-use Rattle.account_rule.proofs.TapLemmas.{last_window-ride}
+use Rattle.account_rule.proofs.TapLemmas.{last_window-ride, longer-if, trips-push, trips-same}
 use Rattle.account_rule.proofs.WindowLemmas.{after_ride as after_window}
-use Rattle.fare_caps.proofs.PriceLemmas.{trips-push, trips-same}
 
 -- whether the reason is that of a live tap
 abbrev pub is_of_live : Reason → Bool
@@ -66,12 +65,6 @@ pub trip-push : (rules : TokenRules) (taps : List TapIn) (tap : TapIn) (shown : 
 trip-push rules taps tap shown some =
     ap last_block (trips-push rules taps tap shown some)
     ∙ last_block-extend (continues rules.transfers) (trips rules taps) shown
-
-longer-if : (b : Bool) (ride : LiveTap) (given : List LiveTap) (tap : LiveTap)
-    → nat_lt 1 (length (cond b (ride ∷ (given ++ tap ∷ [])) (tap ∷ []))) ≡ b
-longer-if true ride given tap =
-    lt-ltb 1 (suc (length (given ++ tap ∷ []))) (omega (arith, length-push given tap))
-longer-if false ride given tap = refl
 
 longer : (rules : TokenRules) (trip : List LiveTap) (tap : LiveTap)
     → nat_lt 1 (length (cond (continues rules.transfers trip tap) (trip ++ tap ∷ []) (tap ∷ [])))

@@ -8,16 +8,16 @@ use Rattle.std.specs.List.{find, list_any}
 use Rattle.std.specs.Ordering.{nat_cmp}
 use Rattle.std.specs.Prelude.{pos, nat_le, if◌then◌else◌}
 use Rattle.toml.specs.Data.{Data, Items, no_items, item, Members, string, integer, array, table}
-use Rattle.toml.specs.Data.{as_table, get_member, get_item}
+use Rattle.toml.specs.Data.{get_member, get_item}
 use Rattle.fare_table.proofs.OverlapLemmas.{holds-insert, comes_after, comes_before}
 use Rattle.fare_table.proofs.OverlapLemmas.{free_apart, rest_holds, with_one}
 use Rattle.fare_table.proofs.PartLemmas.{bind_ok, parts}
 use Rattle.fare_table.proofs.ReadLemmas.{array-read, is_table, number-read, text-read}
 use Rattle.fare_table.specs.TextRanges.{RangeGives, RangeHas, HasRange, HasValidator, NamesMode}
 use Rattle.tariffs.specs.Fares.{has_number, mode_in, range_at}
-use Rattle.fare_table.specs.Members.{are_tables, array_at, number_at, of_kind, text_at}
+use Rattle.fare_table.specs.Members.{are_tables}
 use Rattle.fare_table.specs.Modes.{mode_named}
-use Rattle.fare_table.specs.OrFault.{OrFault, ◌>>=◌}
+use Rattle.fare_table.specs.OrFault.{OrFault}
 use Rattle.tariffs.specs.TableMeaning.{TableMeaning}
 use Rattle.fare_table.specs.TableMeaning.{meaning_of_tree}
 use Rattle.tariffs.specs.Validators.{are_disjoint}
@@ -143,18 +143,6 @@ span_of last mode = record { last = last; mode = mode }
 abbrev pub by_mode : ℕ → ℕ → ℕ → OrFault (ℕ × RangeRest)
 by_mode first last mode = Ok (first, span_of last mode)
 
-abbrev by_name : List (List ℕ) → ℕ → ℕ → List ℕ → OrFault (ℕ × RangeRest)
-by_name modes first last name = mode_named modes name >>= by_mode first last
-
-abbrev by_last : List (List ℕ) → Members → ℕ → ℕ → OrFault (ℕ × RangeRest)
-by_last modes element first last =
-    text_at (codes "mode") the_key.ModeName element >>= by_name modes first last
-
-abbrev by_first : List (List ℕ) → Members → ℕ → OrFault (ℕ × RangeRest)
-by_first modes element first =
-    number_at (codes "last") the_key.Last first 4_294_967_295 element >>= by_last modes element
-    first
-
 one_range : (first last mode : ℕ) (range : ℕ × RangeRest) → by_mode first last mode ≡ Ok range
     → (first ≡ range.0) × (last ≡ range.1.last) × (mode ≡ range.1.mode)
 one_range first last mode range is =
@@ -176,13 +164,10 @@ reads_table : (modes : List (List ℕ)) (value : Data) (element : Members) (rang
     → value ≡ table element → range_of modes element ≡ Ok range → Reads modes value range
 unfolding range_of
 reads_table modes value element range whole is =
-    let first = bind_ok (number_at (codes "first") the_key.First 0 4_294_967_295 element)
-    (by_first modes element) range is in
-    let last = bind_ok (number_at (codes "last") the_key.Last first.0 4_294_967_295 element)
-    (by_last modes element first.0) range first.2 in
-    let name = bind_ok (text_at (codes "mode") the_key.ModeName element)
-    (by_name modes first.0 last.0) range last.2 in
-    let mode = bind_ok (mode_named modes name.0) (by_mode first.0 last.0) range name.2 in
+    let first = bind_ok _ _ _ is in
+    let last = bind_ok _ _ _ first.2 in
+    let name = bind_ok _ _ _ last.2 in
+    let mode = bind_ok _ _ _ name.2 in
     let same = one_range first.0 last.0 mode.0 range mode.2 in
     let from = number-read (codes "first") the_key.First 0 4_294_967_295 element first.0 first.1 in
     let upto = number-read (codes "last") the_key.Last first.0 4_294_967_295 element last.0
@@ -203,7 +188,7 @@ reads_table modes value element range whole is =
 pub reads : (modes : List (List ℕ)) (value : Data) (range : ℕ × RangeRest)
     → range_in modes value ≡ Ok range → Reads modes value range
 reads modes value range is =
-    let element = bind_ok (of_kind the_key.Validators (as_table value)) (range_of modes) range is in
+    let element = bind_ok _ _ _ is in
     reads_table modes value element.0 range (is_table value the_key.Validators element.0 element.1)
     element.2
 
@@ -226,20 +211,14 @@ pub record Steps (modes : List (List ℕ)) (earlier : List (ℕ × RangeRest)) (
       ≡ cond (has_number n range) (Some range) (find (has_number n) earlier)
   pub rest : ranges_from modes next more ≡ Ok ranges
 
-abbrev after_range : List (List ℕ) → List (ℕ × RangeRest) → Items → ℕ × RangeRest
-    → OrFault (List (ℕ × RangeRest))
-after_range modes earlier more range =
-    with_range earlier range >>= (λ ranges. ranges_from modes ranges more)
-
 pub step : (modes : List (List ℕ)) (earlier : List (ℕ × RangeRest)) (value : Data) (more : Items)
     (ranges : List (ℕ × RangeRest))
     → ranges_from modes earlier (item value more) ≡ Ok ranges → are_disjoint earlier ≡ true
     → Steps modes earlier value more ranges
 unfolding with_one
 step modes earlier value more ranges is holds =
-    let one = bind_ok (range_in modes value) (after_range modes earlier more) ranges is in
-    let two = bind_ok (with_range earlier one.0) (λ next. ranges_from modes next more) ranges
-    one.2 in
+    let one = bind_ok _ _ _ is in
+    let two = bind_ok _ _ _ one.2 in
     let added = adds_range earlier two.0 one.0 two.1 in
     let order = (reads modes value one.0 one.1).order in
     record {
@@ -409,16 +388,11 @@ pub record AreRead (modes : List (List ℕ)) (tree : Members) (ranges : List (�
   pub listed : get_member (codes "validators") tree ≡ Some (array items)
   pub read : ranges_from modes [] items ≡ Ok ranges
 
-abbrev pub by_tables : List (List ℕ) → Items → OrFault (List (ℕ × RangeRest))
-by_tables modes items = if are_tables items then ranges_from modes [] items else Err
-    (Kind the_key.Validators)
-
 pub ranges_read : (modes : List (List ℕ)) (tree : Members) (ranges : List (ℕ × RangeRest))
     → ranges_of modes tree ≡ Ok ranges → AreRead modes tree ranges
 unfolding ranges_of
 ranges_read modes tree ranges is =
-    let items = bind_ok (array_at (codes "validators") the_key.Validators tree) (by_tables modes)
-    ranges is in
+    let items = bind_ok _ _ _ is in
     record {
       items = items.0;
       listed = array-read (codes "validators") the_key.Validators tree items.0 items.1;

@@ -15,7 +15,7 @@ use Rattle.toml.proofs.Views.{is_before-sorted}
 use Rattle.toml.specs.Data.{Members, no_members, member, is_before}
 use Rattle.toml.specs.View.{members_view}
 use Rattle.toml.specs.declared.value.Value.{Value}
-use Rattle.fare_table.specs.ByteOrder.{in_byte_order}
+use Rattle.fare_table.specs.inside.ByteOrder.{in_byte_order}
 use Rattle.fare_table.specs.Classes.{count_of, position_of}
 use Rattle.tariffs.specs.Names.{same_name}
 use Rattle.fare_table.specs.Members.{names_in}

@@ -11,28 +11,27 @@ use Rattle.std.proofs.lemmas.Bool.{and_from, and_parts, eq-eqb, eqb-true, or_cas
 use Rattle.std.proofs.lemmas.Bool.{or_right}
 use Rattle.toml.specs.Data.{Members}
 use Rattle.fare_table.proofs.PartLemmas.{bind_ok, parts}
-use Rattle.fare_table.specs.OrFault.{◌>>=◌}
 use Rattle.tariffs.specs.TableMeaning.{TableMeaning}
 use Rattle.fare_table.specs.TableMeaning.{meaning_of_tree}
 use Rattle.tariffs.specs.Transfers.{has_pair, joins}
 use Rattle.fare_table.specs.Transfers.{ListsPair, NamedPair, TextTransfers, at_positions, is_new}
 use Rattle.fare_table.specs.Transfers.{is_other_price, named_pairs, pairs_with, positions_of}
 use Rattle.fare_table.specs.Transfers.{prices_of, same_modes, text_transfers, transfers_from}
-use Rattle.fare_table.specs.Transfers.{transfers_of, with_transfer}
+use Rattle.fare_table.specs.Transfers.{transfers_of}
 use Rattle.tariffs.specs.Transfers.{with_pair}
 use Rattle.tariffs.specs.declared.price.Price.{Price}
 use Rattle.fare_table.specs.declared.fault.Key.TheVariants as the_key
 use Rattle.fare_table.specs.declared.fault.TableFault.TheVariants.{Range}
 use Rattle.fare_table.specs.declared.read.transfers.TextTransfer.{TextTransfer}
 
-abbrev pair_by : ℕ → ℕ → ℕ × ℕ
+abbrev pub pair_by : ℕ → ℕ → ℕ × ℕ
 pair_by a b = (a, b)
 
 same_pair : (a b c d : ℕ) → a ≡ c → b ≡ d → pair_by a b ≡ pair_by c d
 same_pair a b c d one other = cc
 
 -- what stands in a list stands first, or among the others
-cons_cases : {X : Type 0} (x : X) (xs : List X) (y : X) (k : ℕ) → k < length (x ∷ xs)
+pub cons_cases : {X : Type 0} (x : X) (xs : List X) (y : X) (k : ℕ) → k < length (x ∷ xs)
     → slice_index_or (x ∷ xs) k y ≡ y → (x ≡ y) ⊎ Contains xs y
 cons_cases x xs y zero below is = inl is
 cons_cases x xs y (suc k) below is = inr (k, omega arith, is)
@@ -83,7 +82,7 @@ only : (pairs : List (ℕ × ℕ)) (f t from to : ℕ) → has_pair (with_pair p
 only pairs f t from to has = only_if (has_pair pairs f t) pairs f t from to has
 
 -- the transfer goes between the modes of these places
-abbrev between : ℕ → ℕ → TextTransfer → Bool
+abbrev pub between : ℕ → ℕ → TextTransfer → Bool
 between from to other = (from == other.from) && (to == other.to)
 
 -- ---- the pairs of transfers
@@ -128,7 +127,7 @@ pairs-came pairs (one ∷ more) from to has =
     (pairs-came (with_pair pairs one.from one.to) more from to has)
 
 -- ---- the transfers of pairs of names
-abbrev added : Option TextTransfer → List TextTransfer → TextTransfer → List TextTransfer
+abbrev pub added : Option TextTransfer → List TextTransfer → TextTransfer → List TextTransfer
 added earlier found one = if not (is_some earlier) then found ++ one ∷ [] else found
 
 added-keeps : (earlier : Option TextTransfer) (found : List TextTransfer) (one : TextTransfer)
@@ -173,29 +172,28 @@ added-only None found one from to is =
 added-only (Some earlier) found one from to is = inl is
 
 -- the next pair was read, and the others
-record Next (modes : List (List ℕ)) (found : List TextTransfer) (pair : NamedPair)
+pub record Next (modes : List (List ℕ)) (found : List TextTransfer) (pair : NamedPair)
     (more : List NamedPair) (all : List TextTransfer) : Type 0 where
-  positions : ℕ × ℕ
-  known : positions_of modes pair.0 ≡ Ok positions
-  rest : transfers_from modes (added (find (same_modes (at_positions positions pair.1)) found) found
-      (at_positions positions pair.1)) more ≡ Ok all
+  pub positions : ℕ × ℕ
+  pub known : positions_of modes pair.0 ≡ Ok positions
+  pub agrees : is_other_price (at_positions positions pair.1)
+      (find (same_modes (at_positions positions pair.1)) found) ≡ false
+  pub rest : transfers_from modes (added (find (same_modes (at_positions positions pair.1)) found)
+      found (at_positions positions pair.1)) more ≡ Ok all
 
 new_if : (b new is_new : Bool) → (if b then Err (Range the_key.Transfers) else Ok new) ≡ Ok is_new
-    → new ≡ is_new
+    → (b ≡ false) × (new ≡ is_new)
 new_if true new is_new is = absurd (cc)
-new_if false new is_new is = cc
+new_if false new is_new is = (refl, cc)
 
-next : (modes : List (List ℕ)) (found : List TextTransfer) (pair : NamedPair)
+pub next : (modes : List (List ℕ)) (found : List TextTransfer) (pair : NamedPair)
     (more : List NamedPair) (all : List TextTransfer)
     → transfers_from modes found (pair ∷ more) ≡ Ok all → Next modes found pair more all
 next modes found pair more all is =
-    let at = bind_ok (positions_of modes pair.0) (λ positions.
-    with_transfer found (at_positions positions pair.1)
-    >>= (λ next. transfers_from modes next more)) all is in
+    let at = bind_ok _ _ _ is in
     let one = at_positions at.0 pair.1 in
-    let kept = bind_ok (with_transfer found one) (λ next. transfers_from modes next more) all at.2 in
-    let new = bind_ok (is_new found one) (λ (new : Bool).
-    Ok (if new then found ++ one ∷ [] else found)) kept.0 kept.1 in
+    let kept = bind_ok _ _ _ at.2 in
+    let new = bind_ok _ _ _ kept.1 in
     let is_new = new_if (is_other_price one (find (same_modes one) found))
     (not (is_some (find (same_modes one) found))) new.0 new.1 in
     let same : Ok (if new.0 then found ++ one ∷ [] else found) ≡ Ok kept.0 = new.2 in
@@ -203,7 +201,9 @@ next modes found pair more all is =
     record {
       positions = at.0;
       known = at.1;
-      rest = ap (λ (b : Bool). transfers_from modes (if b then found ++ one ∷ [] else found) more) is_new
+      agrees = is_new.0;
+      rest = ap (λ (b : Bool). transfers_from modes (if b then found ++ one ∷ [] else found) more)
+          is_new.1
           ∙ ap (λ (all : List TextTransfer). transfers_from modes all more) whole ∙ kept.2;
     }
 
@@ -273,25 +273,21 @@ came modes found (first ∷ more) all is from to has =
     (came modes (added (find (same_modes one) found) found one) more all n.rest from to has)
 
 -- the transfers of a text, and the names that it lists
-record Lists (modes : List (List ℕ)) (tree : Members) (pairs : List (ℕ × ℕ)) (prices : List Price)
-    : Type 0 where
-  names : List NamedPair
-  listed : named_pairs tree ≡ Ok names
-  all : List TextTransfer
-  found : transfers_from modes [] names ≡ Ok all
-  same : pairs_with [] all ≡ pairs
+pub record Lists (modes : List (List ℕ)) (tree : Members) (pairs : List (ℕ × ℕ))
+    (prices : List Price) : Type 0 where
+  pub names : List NamedPair
+  pub listed : named_pairs tree ≡ Ok names
+  pub all : List TextTransfer
+  pub found : transfers_from modes [] names ≡ Ok all
+  pub same : pairs_with [] all ≡ pairs
+  pub same_prices : prices_of all ≡ prices
 
-lists : (modes : List (List ℕ)) (tree : Members) (pairs : List (ℕ × ℕ)) (prices : List Price)
+pub lists : (modes : List (List ℕ)) (tree : Members) (pairs : List (ℕ × ℕ)) (prices : List Price)
     → transfers_of modes tree ≡ Ok (text_transfers pairs prices) → Lists modes tree pairs prices
 unfolding transfers_of
 lists modes tree pairs prices is =
-    let named = bind_ok (named_pairs tree) (λ (names : List NamedPair).
-    transfers_from modes [] names
-    >>= (λ found. Ok (text_transfers (pairs_with [] found) (prices_of found))))
-    (text_transfers pairs prices) is in
-    let read = bind_ok (transfers_from modes [] named.0) (λ (found : List TextTransfer).
-    Ok (text_transfers (pairs_with [] found) (prices_of found))) (text_transfers pairs prices)
-    named.2 in
+    let named = bind_ok _ _ _ is in
+    let read = bind_ok _ _ _ named.2 in
     let both : Ok (text_transfers (pairs_with [] read.0) (prices_of read.0))
     ≡ Ok (text_transfers pairs prices) = read.2 in
     let same : text_transfers (pairs_with [] read.0) (prices_of read.0) ≡ text_transfers pairs prices =
@@ -302,6 +298,7 @@ lists modes tree pairs prices is =
       all = read.0;
       found = read.1;
       same = ap (λ (t : TextTransfers). t.pairs) same;
+      same_prices = ap (λ (t : TextTransfers). t.prices) same;
     }
 
 -- a table's pairs are exactly those that are listed

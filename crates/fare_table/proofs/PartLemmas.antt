@@ -1,7 +1,7 @@
 -- Rules that were read, taken apart into what each key of the text gives.
-use Rattle.std.proofs.Common.{◌≡◌, ℕ, List, [], Option, Ok, Err, refl, subst}
+use Rattle.std.proofs.Common.{◌≡◌, [], Ok, Err, refl, subst}
 use Rattle.toml.specs.Data.{Members}
-use Rattle.fare_table.specs.Caps.{TextCaps, caps_of, text_caps}
+use Rattle.fare_table.specs.Caps.{caps_of, text_caps}
 use Rattle.fare_table.specs.Classes.{classes_from, classes_of, default_of}
 use Rattle.fare_table.specs.Members.{names_in}
 use Rattle.fare_table.specs.Modes.{modes_of}
@@ -9,13 +9,10 @@ use Rattle.fare_table.specs.OrFault.{OrFault, ◌>>=◌}
 use Rattle.fare_table.specs.Riders.{riders_of}
 use Rattle.tariffs.specs.TableMeaning.{TableMeaning}
 use Rattle.fare_table.specs.TableMeaning.{meaning_of_tree}
-use Rattle.fare_table.specs.Transfers.{TextTransfers, text_transfers, transfers_of}
+use Rattle.fare_table.specs.Transfers.{text_transfers, transfers_of}
 use Rattle.fare_table.specs.Validators.{ranges_of}
 use Rattle.fare_table.specs.Window.{window_of}
 use Rattle.fare_table.specs.Zone.{zone_of}
-use Rattle.tariffs.specs.declared.class.Class.{Class}
-use Rattle.tariffs.specs.declared.validators.RangeRest.{RangeRest}
-use Rattle.tariffs.specs.declared.window_span.WindowSpan.{WindowSpan}
 
 -- two steps that came to an end: the first gave a value, and the second went on with it
 pub bind_ok : {A B : Type 0} (o : OrFault A) (f : A → OrFault B) (b : B) → (o >>= f) ≡ Ok b
@@ -40,62 +37,6 @@ pub record AreParts (tree : Members) (meaning : TableMeaning) : Type 0 where
   pub zone : zone_of tree ≡ Ok meaning.zone
   pub window : window_of tree ≡ Ok meaning.window
 
-abbrev by_window : List (List ℕ) → TextTransfers → TextCaps → Members → List Class → ℕ
-    → List (ℕ × RangeRest) → List (List ℕ × ℕ) → Option (List ℕ) → WindowSpan
-    → OrFault TableMeaning
-by_window modes transfers capped table classes standard ranges riders zone window = Ok (record {
-  modes = modes;
-  transfers = transfers.pairs;
-  prices = transfers.prices;
-  classes = classes;
-  names = names_in table;
-  caps = capped.caps;
-  cap_names = capped.names;
-  standard = standard;
-  ranges = ranges;
-  riders = riders;
-  zone = zone;
-  window = window;
-})
-
-abbrev by_zone : Members → List (List ℕ) → TextTransfers → TextCaps → Members → List Class → ℕ
-    → List (ℕ × RangeRest) → List (List ℕ × ℕ) → Option (List ℕ) → OrFault TableMeaning
-by_zone tree modes transfers capped table classes standard ranges riders zone =
-    window_of tree >>= by_window modes transfers capped table classes standard ranges riders zone
-
-abbrev by_riders : Members → List (List ℕ) → TextTransfers → TextCaps → Members → List Class → ℕ
-    → List (ℕ × RangeRest) → List (List ℕ × ℕ) → OrFault TableMeaning
-by_riders tree modes transfers capped table classes standard ranges riders =
-    zone_of tree >>= by_zone tree modes transfers capped table classes standard ranges riders
-
-abbrev by_ranges : Members → List (List ℕ) → TextTransfers → TextCaps → Members → List Class → ℕ
-    → List (ℕ × RangeRest) → OrFault TableMeaning
-by_ranges tree modes transfers capped table classes standard ranges =
-    riders_of table tree >>= by_riders tree modes transfers capped table classes standard ranges
-
-abbrev by_default : Members → List (List ℕ) → TextTransfers → TextCaps → Members → List Class → ℕ
-    → OrFault TableMeaning
-by_default tree modes transfers capped table classes standard =
-    ranges_of modes tree >>= by_ranges tree modes transfers capped table classes standard
-
-abbrev by_classes : Members → List (List ℕ) → TextTransfers → TextCaps → Members → List Class
-    → OrFault TableMeaning
-by_classes tree modes transfers capped table classes =
-    default_of table tree >>= by_default tree modes transfers capped table classes
-
-abbrev by_table : Members → List (List ℕ) → TextTransfers → TextCaps → Members → OrFault TableMeaning
-by_table tree modes transfers capped table =
-    classes_from modes capped.names [] table >>= by_classes tree modes transfers capped table
-
-abbrev by_caps : Members → List (List ℕ) → TextTransfers → TextCaps → OrFault TableMeaning
-by_caps tree modes transfers capped = classes_of tree >>= by_table tree modes transfers capped
-
-abbrev by_transfers : Members → List (List ℕ) → TextTransfers → OrFault TableMeaning
-by_transfers tree modes transfers = caps_of modes tree >>= by_caps tree modes transfers
-
-abbrev by_modes : Members → List (List ℕ) → OrFault TableMeaning
-by_modes tree modes = transfers_of modes tree >>= by_transfers tree modes
-
 abbrev outcome_of : TableMeaning → OrFault TableMeaning
 outcome_of meaning = Ok meaning
 
@@ -111,31 +52,16 @@ pub parts : (tree : Members) (meaning : TableMeaning) → meaning_of_tree tree �
     → AreParts tree meaning
 unfolding meaning_of_tree
 parts tree meaning is =
-    let modes = bind_ok (modes_of tree) (by_modes tree) meaning is in
-    let transfers = bind_ok (transfers_of modes.0 tree) (by_transfers tree modes.0) meaning
-    modes.2 in
-    let capped = bind_ok (caps_of modes.0 tree) (by_caps tree modes.0 transfers.0) meaning
-    transfers.2 in
-    let table = bind_ok (classes_of tree) (by_table tree modes.0 transfers.0 capped.0) meaning
-    capped.2 in
-    let classes = bind_ok (classes_from modes.0 capped.0.names [] table.0)
-    (by_classes tree modes.0 transfers.0 capped.0 table.0)
-    meaning table.2 in
-    let standard = bind_ok (default_of table.0 tree)
-    (by_default tree modes.0 transfers.0 capped.0 table.0 classes.0) meaning classes.2 in
-    let ranges = bind_ok (ranges_of modes.0 tree)
-    (by_ranges tree modes.0 transfers.0 capped.0 table.0 classes.0 standard.0) meaning standard.2 in
-    let riders = bind_ok (riders_of table.0 tree)
-    (by_riders tree modes.0 transfers.0 capped.0 table.0 classes.0 standard.0 ranges.0) meaning
-    ranges.2 in
-    let zone = bind_ok (zone_of tree)
-    (by_zone tree modes.0 transfers.0 capped.0 table.0 classes.0 standard.0 ranges.0 riders.0)
-    meaning
-    riders.2 in
-    let window = bind_ok (window_of tree)
-    (by_window modes.0 transfers.0 capped.0 table.0 classes.0 standard.0 ranges.0 riders.0 zone.0)
-    meaning
-    zone.2 in
+    let modes = bind_ok _ _ _ is in
+    let transfers = bind_ok _ _ _ modes.2 in
+    let capped = bind_ok _ _ _ transfers.2 in
+    let table = bind_ok _ _ _ capped.2 in
+    let classes = bind_ok _ _ _ table.2 in
+    let standard = bind_ok _ _ _ classes.2 in
+    let ranges = bind_ok _ _ _ standard.2 in
+    let riders = bind_ok _ _ _ ranges.2 in
+    let zone = bind_ok _ _ _ riders.2 in
+    let window = bind_ok _ _ _ zone.2 in
     let whole : TableMeaning = record {
       modes = modes.0;
       transfers = transfers.0.pairs;

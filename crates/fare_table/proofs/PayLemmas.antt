@@ -1,5 +1,5 @@
 -- What a token pays is what the text's class of the key that names it says, else the default class.
-use Rattle.std.proofs.Common.{◌≡◌, ◌⊎◌, ◌↔◌, ℕ, ◌*◌, Bool, true, false, List, [], ◌∷◌, Option, Some}
+use Rattle.std.proofs.Common.{◌≡◌, ◌⊎◌, ◌↔◌, ℕ, Bool, true, false, List, [], ◌∷◌, Option, Some}
 use Rattle.std.proofs.Common.{None, Ok, Err, cond, refl, sym, ap, ◌∙◌, subst, inl, inr, ⊎_elim}
 use Rattle.std.proofs.Common.{codes, zero-add, ◌++◌, ◌+◌, length, suc, zero, option_map, arith}
 use Rattle.std.proofs.lemmas.Bool.{cases_Bool}
@@ -8,7 +8,7 @@ use Rattle.std.specs.Option.{ok_or, unwrap_or}
 use Rattle.std.specs.Ordering.{nat_cmp}
 use Rattle.std.specs.Prelude.{pos, if◌then◌else◌, slice_get, slice_index_or}
 use Rattle.toml.specs.Data.{Data, Members, no_members, member, string, integer, table}
-use Rattle.toml.specs.Data.{as_table, get_member}
+use Rattle.toml.specs.Data.{get_member}
 use Rattle.fare_table.proofs.ElementLemmas.{if_ok}
 use Rattle.fare_table.proofs.PartLemmas.{bind_ok, parts}
 use Rattle.fare_table.proofs.ReadLemmas.{is_number_or, is_table, number-read, table-read}
@@ -23,9 +23,8 @@ use Rattle.tariffs.specs.declared.class.Class.{Class}
 use Rattle.std.proofs.lemmas.Map.Text.{is_eq-slice_cmp}
 use Rattle.tariffs.specs.Fares.{class_of as class_of_token, no_class, terms_at}
 use Rattle.std.proofs.lemmas.Option.{get_or_from_slice_get}
-use Rattle.fare_table.specs.Members.{hold_strings, hold_tables, number_at, number_or, of_kind}
-use Rattle.fare_table.specs.Members.{table_at, text_at}
-use Rattle.fare_table.specs.OrFault.{OrFault, ◌>>=◌}
+use Rattle.fare_table.specs.Members.{hold_strings, hold_tables}
+use Rattle.fare_table.specs.OrFault.{OrFault}
 use Rattle.fare_table.specs.Paying.{HasTerms, IsClassOf, IsNumberOr, NamesRider, Pays}
 use Rattle.fare_table.specs.Riders.{riders_from, riders_at, riders_of}
 use Rattle.tariffs.specs.TableMeaning.{TableMeaning}
@@ -44,17 +43,6 @@ terms_by fare rides ceiling = record { fare = fare; rides = rides; ceiling = cei
 
 abbrev by_ceiling : ℕ → ℕ → ℕ → OrFault Terms
 by_ceiling fare rides ceiling = Ok (terms_by fare rides ceiling)
-
-abbrev by_rides : Members → ℕ → ℕ → OrFault Terms
-by_rides element fare rides =
-    number_or (own_ceiling rides fare) the_key.Ceiling 1 100_000_000
-    (get_member (codes "ceiling") element)
-    >>= by_ceiling fare rides
-
-abbrev by_fare : Members → ℕ → OrFault Terms
-by_fare element fare =
-    number_or 60_000 the_key.Rides 1 1_000 (get_member (codes "rides") element)
-    >>= by_rides element fare
 
 -- the class of this name is in the table, and its element has these terms
 pub record IsNamed (classes : Members) (class : List ℕ) (terms : Terms) : Type 0 where
@@ -79,14 +67,10 @@ unfolding terms_of
 entry_terms classes element class terms holds is =
     let named = get_member (codes "rides") element in
     let cap = get_member (codes "ceiling") element in
-    let fare = bind_ok (number_at (codes "fare") the_key.Fare 0 100_000 element) (by_fare element)
-    terms
-    is in
-    let rides = bind_ok (number_or 60_000 the_key.Rides 1 1_000 named) (by_rides element fare.0)
-    terms fare.2 in
+    let fare = bind_ok _ _ _ is in
+    let rides = bind_ok _ _ _ fare.2 in
     let own = own_ceiling rides.0 fare.0 in
-    let ceiling = bind_ok (number_or own the_key.Ceiling 1 100_000_000 cap)
-    (by_ceiling fare.0 rides.0) terms rides.2 in
+    let ceiling = bind_ok _ _ _ rides.2 in
     moved classes class fare.0 rides.0 ceiling.0 terms ceiling.2
     (record {
       element = element;
@@ -111,18 +95,6 @@ class_by terms fares ceilings transfers =
 abbrev by_transfers : Terms → List ℕ → List ℕ → TransferTerms → OrFault Class
 by_transfers terms fares ceilings transfers = Ok (class_by terms fares ceilings transfers)
 
-abbrev by_ceilings : Members → Terms → List ℕ → List ℕ → OrFault Class
-by_ceilings element terms fares ceilings =
-    ride_transfers_of element >>= by_transfers terms fares ceilings
-
-abbrev by_fares : List (List ℕ) → Members → Terms → List ℕ → OrFault Class
-by_fares caps element terms fares =
-    ceilings_of caps (get_member (codes "caps") element) >>= by_ceilings element terms fares
-
-abbrev by_terms : List (List ℕ) → List (List ℕ) → Members → Terms → OrFault Class
-by_terms modes caps element terms =
-    fares_of modes terms.fare (get_member (codes "fares") element) >>= by_fares caps element terms
-
 -- the parts of a class, as each key of its element gives them
 pub record AreClassParts (modes caps : List (List ℕ)) (element : Members) (one : Class)
     : Type 0 where
@@ -142,13 +114,10 @@ pub class_parts : (modes caps : List (List ℕ)) (element : Members) (one : Clas
     → class_of modes caps element ≡ Ok one → AreClassParts modes caps element one
 unfolding class_of
 class_parts modes caps element one is =
-    let terms = bind_ok (terms_of element) (by_terms modes caps element) one is in
-    let fares = bind_ok (fares_of modes terms.0.fare (get_member (codes "fares") element))
-    (by_fares caps element terms.0) one terms.2 in
-    let ceilings = bind_ok (ceilings_of caps (get_member (codes "caps") element))
-    (by_ceilings element terms.0 fares.0) one fares.2 in
-    let transfers = bind_ok (ride_transfers_of element)
-    (by_transfers terms.0 fares.0 ceilings.0) one ceilings.2 in
+    let terms = bind_ok _ _ _ is in
+    let fares = bind_ok _ _ _ terms.2 in
+    let ceilings = bind_ok _ _ _ fares.2 in
+    let transfers = bind_ok _ _ _ ceilings.2 in
     same_class_parts modes caps element (class_by terms.0 fares.0 ceilings.0 transfers.0) one
     transfers.2 (record {
       terms = terms.1;
@@ -160,18 +129,10 @@ class_parts modes caps element one is =
 named_terms : (modes caps : List (List ℕ)) (classes : Members) (name : List ℕ) (one : Class)
     → HasClass modes caps classes name one → IsNamed classes name one.terms
 named_terms modes caps classes name one has =
-    let element = bind_ok (of_kind the_key.Classes (as_table has.value)) (class_of modes caps) one
-    has.read in
+    let element = bind_ok _ _ _ has.read in
     entry_terms classes element.0 name one.terms (has.holds
     ∙ ap (λ (d : Data). Some d) (is_table has.value the_key.Classes element.0 element.1))
     (class_parts modes caps element.0 one element.2).terms
-
-abbrev pub by_tables : Members → Members → OrFault Members
-by_tables tree tables = if is_empty tables then Err (Range the_key.Classes) else Ok tables
-
-abbrev pub by_table : Members → Members → OrFault Members
-by_table tree classes = (if hold_tables classes then Ok classes else Err (Kind the_key.Classes))
-    >>= by_tables tree
 
 pub if_else : {A : Type 0} (b : Bool) (o : OrFault A) (e : TableFault) (a : A)
     → (if b then Err e else o) ≡ Ok a → o ≡ Ok a
@@ -188,10 +149,8 @@ pub classes_read : (tree classes : Members) → classes_of tree ≡ Ok classes
     → get_member (codes "classes") tree ≡ Some (table classes)
 unfolding classes_of
 classes_read tree classes is =
-    let read = bind_ok (table_at (codes "classes") the_key.Classes tree) (by_table tree) classes
-    is in
-    let tables = bind_ok (if hold_tables read.0 then Ok read.0 else Err (Kind the_key.Classes))
-    (by_tables tree) classes read.2 in
+    let read = bind_ok _ _ _ is in
+    let tables = bind_ok _ _ _ read.2 in
     let one : read.0 ≡ tables.0 =
     same_ok read.0 tables.0
     (if_ok (hold_tables read.0) (Ok read.0) (Kind the_key.Classes) tables.0 tables.1) in
@@ -208,9 +167,7 @@ kept-class : (modes caps : List (List ℕ)) (n : ℕ) (earlier list : List Class
 kept-class modes caps n earlier list one no_members is at =
     let same : earlier ≡ list = cc in ap (λ l. slice_get l n) (sym same) ∙ at
 kept-class modes caps n earlier list one (member key value more) is at =
-    let first = bind_ok (class_in modes caps value)
-    (λ c. classes_from modes caps (earlier ++ c ∷ []) more)
-    list is in
+    let first = bind_ok (class_in modes caps value) _ _ is in
     kept-class modes caps n (earlier ++ first.0 ∷ []) list one more first.2
     (within n earlier first.0 one at)
   where
@@ -239,9 +196,7 @@ pub placed : (modes caps : List (List ℕ)) (earlier list : List Class) (name : 
     → IsPlaced modes caps list there part name
 placed modes caps earlier list name no_members position there is at same = absurd (cc)
 placed modes caps earlier list name (member key value more) position there is at same =
-    let first = bind_ok (class_in modes caps value)
-    (λ c. classes_from modes caps (earlier ++ c ∷ []) more)
-    list is in
+    let first = bind_ok _ _ _ is in
     elim (cases_Bool (same_name name key)) [
       | inl here ↦
           let zero_position : position ≡ 0 = first_position (rw here at at) in
@@ -360,11 +315,6 @@ one_terms tree class terms terms' one two =
     all_same terms.fare terms'.fare terms.rides terms'.rides terms.ceiling terms'.ceiling fare rides
     ceiling
 
--- ---- the laws
-abbrev pub by_strings : Members → Members → OrFault (List (List ℕ × ℕ))
-by_strings classes text =
-    if hold_strings text then riders_from classes [] text else Err (Kind the_key.Riders)
-
 -- the riders are those of the text's key, or none if it has no such key
 unfoldable pub AreRiders : Members → Option Data → List (List ℕ × ℕ) → Type 0
 AreRiders classes o riders =
@@ -376,7 +326,7 @@ are_riders : (classes : Members) (o : Option Data) (riders : List (List ℕ × �
 unfolding AreRiders
 are_riders classes None riders is = let same : [] ≡ riders = cc in inl (refl, sym same)
 are_riders classes (Some value) riders is =
-    let text = bind_ok (of_kind the_key.Riders (as_table value)) (by_strings classes) riders is in
+    let text = bind_ok _ _ _ is in
     inr (
       text.0,
       ap (λ (d : Data). Some d) (is_table value the_key.Riders text.0 text.1),
@@ -429,16 +379,12 @@ came_from classes tree riders token terms are at = ⊎_elim
     (came classes token [] some.0 riders terms some.2 at))
     are
 
-abbrev by_name : Members → List ℕ → OrFault ℕ
-by_name classes name = class_named classes name
-
 default_named : (classes tree : Members) (terms : ℕ) → default_of classes tree ≡ Ok terms
     → (class : List ℕ) × (get_member (codes "default_class") tree ≡ Some (string class))
     × (class_named classes class ≡ Ok terms)
 unfolding default_of
 default_named classes tree terms is =
-    let name = bind_ok (text_at (codes "default_class") the_key.DefaultClass tree) (by_name classes)
-    terms is in
+    let name = bind_ok _ _ _ is in
     (name.0, text-read (codes "default_class") the_key.DefaultClass tree name.0 name.1, name.2)
 
 -- the class by which a token pays, and its place

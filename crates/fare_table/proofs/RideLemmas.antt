@@ -4,49 +4,40 @@ use Rattle.std.proofs.Common.{◌≡◌, ◌≢◌, ℕ, ◌*◌, ◌<◌, ◌�
 use Rattle.std.proofs.Common.{Some, None, Ok, Err, cond, refl, sym, ap, ◌∙◌, subst, inl, inr, arith}
 use Rattle.std.proofs.Common.{codes, get_or, get_or-set_other, length, length-set, set, replicate}
 use Rattle.std.proofs.Common.{zero-add}
-use Rattle.std.proofs.lemmas.Bool.{and_parts, cases_Bool, false≢true, leb-true, ltb-true}
+use Rattle.std.proofs.lemmas.Bool.{and_parts, false≢true, leb-true, ltb-true}
 use Rattle.std.proofs.lemmas.Grind.{get_or-set_at}
 use Rattle.std.proofs.lemmas.List.{get_or-replicate, length-replicate}
 use Rattle.std.proofs.lemmas.List.Sums.{passes_at_first}
 use Rattle.std.proofs.lemmas.Map.Text.{is_eq-slice_cmp}
 use Rattle.std.proofs.lemmas.Option.{get_or_from_slice_get}
-use Rattle.std.specs.Cmp.Lexicographic.{slice_cmp}
 use Rattle.std.specs.List.{list_all, position_or_len}
 use Rattle.std.specs.Option.{ok_or}
-use Rattle.std.specs.Ordering.{is_eq, nat_cmp}
 use Rattle.std.specs.Prelude.{nat_le, nat_lt, pos, position, if◌then◌else◌}
-use Rattle.toml.specs.Data.{Data, Items, Members, no_members, member, integer, table, as_table}
-use Rattle.toml.specs.Data.{get_member, is_before, string}
-use Rattle.toml.specs.Parse.{parse_document}
+use Rattle.toml.specs.Data.{Data, Members, no_members, member, integer}
+use Rattle.toml.specs.Data.{get_member, string}
 use Rattle.fare_table.proofs.ElementLemmas.{if_ok}
-use Rattle.fare_table.proofs.OrderLemmas.{nested-ordered}
 use Rattle.fare_table.proofs.PartLemmas.{bind_ok, parts}
 use Rattle.fare_table.proofs.PayLemmas.{AreClassParts, class_if, class_parts, classes_read}
 use Rattle.fare_table.proofs.PayLemmas.{has_terms, position_found, placed, riders_read, same_ok}
 use Rattle.fare_table.proofs.ReadLemmas.{is_number, is_number_or, is_table}
-use Rattle.fare_table.specs.ByteOrder.{in_byte_order}
-use Rattle.fare_table.specs.Classes.{class_of as class_by, fares_from, fares_of, position_of}
+use Rattle.fare_table.specs.Classes.{fares_from, fares_of, position_of}
 use Rattle.fare_table.specs.Classes.{ride_transfers_of, taps_of}
 use Rattle.tariffs.specs.Fares.{class_at, class_of, no_class, ride_terms, transfer_terms}
-use Rattle.fare_table.specs.Members.{array_at, hold_numbers, number_in, number_or, of_kind}
-use Rattle.fare_table.specs.Modes.{are_distinct, are_mode_names, is_mode_name, mode_named, modes_of}
+use Rattle.fare_table.specs.Members.{array_at, hold_numbers}
+use Rattle.fare_table.specs.Modes.{are_distinct, are_mode_names, is_mode_name, modes_of}
 use Rattle.tariffs.specs.Names.{same_name}
 use Rattle.fare_table.specs.Modes.{strings_from}
-use Rattle.fare_table.specs.OrFault.{OrFault, ◌>>=◌}
+use Rattle.fare_table.specs.OrFault.{OrFault}
 use Rattle.fare_table.specs.Paying.{AreTaps, Gives, HasTerms, IsClassOf, IsElementOf, IsFareOn}
-use Rattle.fare_table.specs.Paying.{IsNumberOr, PaysOn}
+use Rattle.fare_table.specs.Paying.{IsNumberOr, PaysOn, last_named}
 use Rattle.tariffs.specs.TableMeaning.{TableMeaning}
 use Rattle.fare_table.specs.TableMeaning.{meaning_of_tree}
 use Rattle.tariffs.specs.declared.class.Class.{Class}
-use Rattle.fare_table.specs.declared.fault.Key.{Key}
 use Rattle.fare_table.specs.declared.fault.Key.TheVariants as the_key
 use Rattle.fare_table.specs.declared.fault.TableFault.TheVariants.{Kind, Mode, Range}
 use Rattle.tariffs.specs.declared.transfer_terms.TransferTerms.{TransferTerms}
-use Rattle.fare_table.proofs.NameLemmas.{before_rest}
 use Rattle.fare_table.proofs.RiderLemmas.{Named}
 use Rattle.tariffs.proofs.ByteLemmas.{is_itself, same_bytes}
-use Rattle.fare_table.proofs.KeyLemmas.{member-here, member-later}
-use Rattle.tap_views.proofs.Orderings.{less_of}
 
 -- ---- names of modes
 same_by : (name key other : List ℕ) → same_name name other ≡ true → same_name key other ≡ true
@@ -83,18 +74,6 @@ one_name names name key index one two =
     same_by name key (get_or names index []) (is_at (same_name name) names index one).passes
     (is_at (same_name key) names index two).passes
 
--- ---- keys in byte order
-
--- a key does not come again behind itself
-not_later : (key : List ℕ) (more : Members) → is_before key more ≡ true → in_byte_order more ≡ true
-    → get_member key more ≡ None
-not_later key no_members before order = refl
-not_later key (member first value rest) before order =
-    let less = less_of (slice_cmp nat_cmp key first) before in
-    let parts = and_parts (is_before first rest) (in_byte_order rest) order in
-    member-later key first value rest (ap is_eq less)
-    ∙ not_later key rest (before_rest key first rest less parts.0) parts.1
-
 -- ---- the fares of a class
 mode_found : (o : Option ℕ) (index : ℕ) → ok_or o Mode ≡ Ok index → o ≡ Some index
 mode_found None index is = absurd (cc)
@@ -103,77 +82,55 @@ mode_found (Some p) index is = let same : p ≡ index = cc in ap (λ n. Some n) 
 some_position : (one other : ℕ) → Some one ≡ Some other → one ≡ other
 some_position one other is = cc
 
-abbrev by_cents : List (List ℕ) → List ℕ → Members → ℕ → ℕ → OrFault (List ℕ)
-by_cents modes fares more index cents = fares_from modes (set fares index cents) more
+-- the key of a mode's name sets its fare, and another key leaves it
+fare_if : (b : Bool) (modes : List (List ℕ)) (name key : List ℕ) (mode index own cents : ℕ)
+    (fares : List ℕ) (found : Option Data) (value : Data) → same_name name key ≡ b
+    → position (same_name name) modes ≡ Some mode → position (same_name key) modes ≡ Some index
+    → mode < length fares → value ≡ integer (pos cents)
+    → IsNumberOr own found (get_or fares mode 0)
+    → IsNumberOr own (if b then Some value else found) (get_or (set fares index cents) mode 0)
+fare_if true modes name key mode index own cents fares found value same at other below is has =
+    let one : name ≡ key = same_bytes name key (is_eq-slice_cmp name key ∙ same) in
+    let here : mode ≡ index =
+    some_position mode index (sym at ∙ ap (λ (n : List ℕ). position (same_name n) modes) one
+    ∙ other) in
+    is ∙ ap (λ (n : ℕ). integer (pos n))
+    (sym (get_or-set_at fares index mode cents 0 here (omega (arith, below, here))))
+fare_if false modes name key mode index own cents fares found value apart at other below is has =
+    let no : mode ≢ index =
+    λ same. false≢true (sym apart
+    ∙ ap (λ (k : List ℕ). same_name name k)
+    (sym (one_name modes name key mode at (other ∙ ap (λ (n : ℕ). Some n) (sym same))))
+    ∙ sym (is_eq-slice_cmp name name) ∙ is_itself name) in
+    subst (λ (n : ℕ). IsNumberOr own found n) (sym (get_or-set_other fares index mode cents 0 no)) has
 
-abbrev by_position : List (List ℕ) → List ℕ → Data → Members → ℕ → OrFault (List ℕ)
-by_position modes fares value more index =
-    number_in the_key.Fares 0 100_000 value >>= by_cents modes fares more index
-
-fare_named : (modes : List (List ℕ)) (name : List ℕ) (mode : ℕ) (fares list : List ℕ)
-    (named : Members) (own : ℕ) → position (same_name name) modes ≡ Some mode
-    → mode < length fares → in_byte_order named ≡ true → fares_from modes fares named ≡ Ok list
-    → get_or fares mode 0 ≡ own → IsNumberOr own (get_member name named) (get_or list mode 0)
-fare_named modes name mode fares list no_members own at below order is has =
-    let same : fares ≡ list = cc in ap (λ (l : List ℕ). get_or l mode 0) (sym same) ∙ has
-fare_named modes name mode fares list (member key value more) own at below order is has =
-    let parts = and_parts (is_before key more) (in_byte_order more) order in
-    let index = bind_ok (mode_named modes key) (by_position modes fares value more) list is in
-    let cents = bind_ok (number_in the_key.Fares 0 100_000 value)
-    (by_cents modes fares more index.0)
-    list index.2 in
-    let found = mode_found (position (same_name key) modes) index.0 index.1 in
+fare_named : (modes : List (List ℕ)) (name : List ℕ) (mode own : ℕ) (fares list : List ℕ)
+    (found : Option Data) (named : Members) → position (same_name name) modes ≡ Some mode
+    → mode < length fares → fares_from modes fares named ≡ Ok list
+    → IsNumberOr own found (get_or fares mode 0)
+    → IsNumberOr own (last_named name found named) (get_or list mode 0)
+fare_named modes name mode own fares list found no_members at below is has =
+    let same : fares ≡ list = cc in
+    subst (λ (l : List ℕ). IsNumberOr own found (get_or l mode 0)) same has
+fare_named modes name mode own fares list found (member key value more) at below is has =
+    let index = bind_ok _ _ _ is in
+    let cents = bind_ok _ _ _ index.2 in
     let next = set fares index.0 cents.0 in
-    let long : mode < length next = omega (arith, below, length-set fares index.0 cents.0) in
-    elim (cases_Bool (is_eq (slice_cmp nat_cmp name key))) [
-      | inl same ↦
-          let one : name ≡ key = same_bytes name key same in
-          let here : mode ≡ index.0 =
-          some_position mode index.0 (sym at ∙ ap (λ (n : List ℕ). position (same_name n) modes) one
-          ∙ found) in
-          let room : index.0 < length fares = omega (arith, below, here) in
-          let rest = fare_named modes name mode next list more cents.0 at long parts.1 cents.2
-          (get_or-set_at fares index.0 mode cents.0 0 here room) in
-          let none : get_member name more ≡ None =
-          ap (λ (n : List ℕ). get_member n more) one ∙ not_later key more parts.0 parts.1 in
-          let fare : get_or list mode 0 ≡ cents.0 =
-          subst (λ (o : Option Data). IsNumberOr cents.0 o (get_or list mode 0)) none rest in
-          let first : get_member name (member key value more) ≡ Some value =
-          ap (λ (n : List ℕ). get_member n (member key value more)) one
-          ∙ member-here key value more in
-          subst (λ (o : Option Data). IsNumberOr own o (get_or list mode 0)) (sym first)
-          ((is_number value the_key.Fares 0 100_000 cents.0 cents.1).is
-          ∙ ap (λ (n : ℕ). integer (pos n)) (sym fare))
-      | inr other ↦
-          let apart : mode ≢ index.0 =
-          λ same. false≢true (sym other
-          ∙ ap (λ (k : List ℕ). is_eq (slice_cmp nat_cmp name k))
-          (sym (one_name modes name key mode at (found ∙ ap (λ (n : ℕ). Some n) (sym same))))
-          ∙ is_itself name) in
-          let rest = fare_named modes name mode next list more own at long parts.1 cents.2
-          (get_or-set_other fares index.0 mode cents.0 0 apart ∙ has) in
-          subst (λ (o : Option Data). IsNumberOr own o (get_or list mode 0))
-          (sym (member-later name key value more other)) rest
-    ]
-
-abbrev by_numbers : List (List ℕ) → ℕ → Members → OrFault (List ℕ)
-by_numbers modes own numbers = fares_from modes (replicate 32 own) numbers
-
-abbrev by_named : List (List ℕ) → ℕ → Members → OrFault (List ℕ)
-by_named modes own named =
-    (if hold_numbers named then Ok named else Err (Kind the_key.Fares)) >>= by_numbers modes own
+    fare_named modes name mode own next list (if same_name name key then Some value else found) more
+    at (omega (arith, below, length-set fares index.0 cents.0)) cents.2
+    (fare_if (same_name name key) modes name key mode index.0 own cents.0 fares found value refl at
+    (mode_found (position (same_name key) modes) index.0 index.1) below
+    (is_number value the_key.Fares 0 100_000 cents.0 cents.1).is has)
 
 fare_on : (modes : List (List ℕ)) (name : List ℕ) (mode own : ℕ) (o : Option Data)
     (list : List ℕ) → position (same_name name) modes ≡ Some mode → mode < 32
-    → ((named : Members) → o ≡ Some (table named) → in_byte_order named ≡ true)
     → fares_of modes own o ≡ Ok list → IsFareOn own o name (get_or list mode 0)
-fare_on modes name mode own None list at below order is =
+fare_on modes name mode own None list at below is =
     let same : replicate 32 own ≡ list = cc in
     ap (λ (l : List ℕ). get_or l mode 0) (sym same) ∙ get_or-replicate 32 mode own 0 below
-fare_on modes name mode own (Some value) list at below order is =
-    let named = bind_ok (of_kind the_key.Fares (as_table value)) (by_named modes own) list is in
-    let numbers = bind_ok (if hold_numbers named.0 then Ok named.0 else Err (Kind the_key.Fares))
-    (by_numbers modes own) list named.2 in
+fare_on modes name mode own (Some value) list at below is =
+    let named = bind_ok _ _ _ is in
+    let numbers = bind_ok _ _ _ named.2 in
     let same : named.0 ≡ numbers.0 =
     same_ok named.0 numbers.0
     (if_ok (hold_numbers named.0) (Ok named.0) (Kind the_key.Fares) numbers.0 numbers.1) in
@@ -181,8 +138,7 @@ fare_on modes name mode own (Some value) list at below order is =
     let long : mode < length (replicate 32 own) = omega (arith, below, length-replicate 32 own) in (
       named.0,
       read,
-      fare_named modes name mode (replicate 32 own) list named.0 own at long
-          (order named.0 (ap (λ (d : Data). Some d) read))
+      fare_named modes name mode own (replicate 32 own) list None named.0 at long
           (ap (fares_from modes (replicate 32 own)) same ∙ numbers.2)
           (get_or-replicate 32 mode own 0 below),
     )
@@ -193,18 +149,12 @@ names_if : (b : Bool) (names modes : List (List ℕ))
 names_if true names modes is = (refl, cc)
 names_if false names modes is = absurd (cc)
 
-abbrev by_names : List (List ℕ) → OrFault (List (List ℕ))
-by_names names = if are_mode_names names then Ok names else Err (Range the_key.Modes)
-
-abbrev by_items : Items → OrFault (List (List ℕ))
-by_items items = strings_from [] items >>= by_names
-
 modes_few : (tree : Members) (modes : List (List ℕ)) → modes_of tree ≡ Ok modes
     → length modes ≤ 32
 unfolding modes_of
 modes_few tree modes is =
-    let items = bind_ok (array_at (codes "modes") the_key.Modes tree) by_items modes is in
-    let names = bind_ok (strings_from [] items.0) by_names modes items.2 in
+    let items = bind_ok (array_at (codes "modes") the_key.Modes tree) _ _ is in
+    let names = bind_ok (strings_from [] items.0) _ _ items.2 in
     let valid = names_if (are_mode_names names.0) names.0 modes names.2 in
     let low = nat_le 1 (length names.0) in
     let high = nat_le (length names.0) 32 in
@@ -238,11 +188,6 @@ given_by taps minutes = record { taps = taps; time = minutes * 60_000 }
 abbrev by_minutes : ℕ → ℕ → OrFault TransferTerms
 by_minutes taps minutes = Ok (given_by taps minutes)
 
-abbrev by_taps : Members → ℕ → OrFault TransferTerms
-by_taps element taps =
-    number_or 120 the_key.TransferMinutes 1 1_440 (get_member (codes "transfer_minutes") element)
-    >>= by_minutes taps
-
 -- the number of taps and of minutes that the keys of a class say
 record AreGiven (element : Members) (given : TransferTerms) : Type 0 where
   taps : AreTaps (get_member (codes "transfers") element) given.taps
@@ -263,9 +208,8 @@ unfolding ride_transfers_of
 are_given element given is =
     let o = get_member (codes "transfers") element in
     let o' = get_member (codes "transfer_minutes") element in
-    let taps = bind_ok (taps_of o) (by_taps element) given is in
-    let minutes = bind_ok (number_or 120 the_key.TransferMinutes 1 1_440 o') (by_minutes taps.0)
-    given taps.2 in
+    let taps = bind_ok _ _ _ is in
+    let minutes = bind_ok _ _ _ taps.2 in
     same_given element taps.0 minutes.0 given minutes.2
     (record {
       taps = are_taps o taps.0 taps.1;
@@ -294,8 +238,7 @@ token_class tree meaning token is =
     let there = placed meaning.modes meaning.cap_names [] meaning.classes h.class p.table index
     index p.classes
     (position_found (position_of h.class p.table) index h.named) (sym (zero-add index)) in
-    let element = bind_ok (of_kind the_key.Classes (as_table there.has.value))
-    (class_by meaning.modes meaning.cap_names) there.one there.has.read in
+    let element = bind_ok _ _ _ there.has.read in
     let same : there.one ≡ class_at meaning index =
     sym (get_or_from_slice_get meaning.classes index there.one no_class there.at) in
     record {
@@ -315,12 +258,11 @@ token_class tree meaning token is =
     }
 
 -- ---- the laws
-pub pays-on : (text : List ℕ) (tree : Members) (meaning : TableMeaning) (token name : List ℕ)
-    (mode : ℕ)
-    → parse_document text ≡ Some tree → meaning_of_tree tree ≡ Ok meaning
+pub pays-on : (tree : Members) (meaning : TableMeaning) (token name : List ℕ) (mode : ℕ)
+    → meaning_of_tree tree ≡ Ok meaning
     → position (same_name name) meaning.modes ≡ Some mode
     → PaysOn tree token name (ride_terms meaning (class_of meaning token) mode)
-pays-on text tree meaning token name mode written is at =
+pays-on tree meaning token name mode is at =
     let modes = meaning.modes in
     let t = token_class tree meaning token is in
     let one = class_at meaning (class_of meaning token) in
@@ -335,9 +277,7 @@ pays-on text tree meaning token name mode written is at =
       own = one.terms;
       has = t.has;
       fare = fare_on modes name mode one.terms.fare (get_member (codes "fares") t.element) one.fares
-          at below
-          (λ named here. nested-ordered text (codes "classes") t.class (codes "fares") tree
-          t.keys.classes t.element named written t.keys.listed t.keys.holds here) t.reads.fares;
+          at below t.reads.fares;
       rides = refl;
       ceiling = refl;
     }

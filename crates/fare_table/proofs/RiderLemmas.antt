@@ -10,12 +10,11 @@ use Rattle.std.specs.Map.{lookup}
 use Rattle.std.specs.Option.{is_some}
 use Rattle.std.specs.Ordering.{is_eq, match_ordering, nat_cmp}
 use Rattle.std.specs.Prelude.{if◌then◌else◌}
-use Rattle.toml.specs.Data.{Data, Members, no_members, member, string, as_str, get_member}
+use Rattle.toml.specs.Data.{Data, Members, no_members, member, string, get_member}
 use Rattle.fare_table.proofs.PartLemmas.{bind_ok}
 use Rattle.fare_table.proofs.ReadLemmas.{is_text}
 use Rattle.fare_table.specs.Classes.{class_named}
-use Rattle.fare_table.specs.Members.{of_kind}
-use Rattle.fare_table.specs.OrFault.{OrFault, ◌>>=◌}
+use Rattle.fare_table.specs.OrFault.{OrFault}
 use Rattle.fare_table.specs.Riders.{is_rider, rider_of, riders_from, token_of_digits, with_rider}
 use Rattle.fare_table.specs.declared.fault.Key.TheVariants as the_key
 use Rattle.fare_table.specs.declared.fault.TableFault.TheVariants.{Rider}
@@ -88,34 +87,23 @@ pub record ReadsRider (classes : Members) (key : List ℕ) (value : Data) (rider
   pub is : value ≡ string class
   pub terms : class_named classes class ≡ Ok rider.1
 
-abbrev pub by_class : List ℕ → ℕ → OrFault (List ℕ × ℕ)
-by_class token terms = Ok (token, terms)
+abbrev rider_by : List ℕ → ℕ → List ℕ × ℕ
+rider_by token terms = (token, terms)
 
-abbrev by_text : Members → List ℕ → List ℕ → OrFault (List ℕ × ℕ)
-by_text classes token name = class_named classes name >>= by_class token
-
-abbrev by_token : Members → Data → List ℕ → OrFault (List ℕ × ℕ)
-by_token classes value token = of_kind the_key.Riders (as_str value) >>= by_text classes token
+abbrev by_class : List ℕ → ℕ → OrFault (List ℕ × ℕ)
+by_class token terms = Ok (rider_by token terms)
 
 same_rider : (token : List ℕ) (terms : ℕ) (rider : List ℕ × ℕ)
     → by_class token terms ≡ Ok rider → (token ≡ rider.0) × (terms ≡ rider.1)
-same_rider token terms rider is = (ap (token_in token) is, ap (terms_in terms) is)
-  where
-    token_in : List ℕ → OrFault (List ℕ × ℕ) → List ℕ
-    token_in d (Ok r) = r.0
-    token_in d (Err e) = d
-
-    terms_in : ℕ → OrFault (List ℕ × ℕ) → ℕ
-    terms_in d (Ok r) = r.1
-    terms_in d (Err e) = d
+same_rider token terms rider is = let same : rider_by token terms ≡ rider = cc in
+    (ap (λ r. r.0) same, ap (λ r. r.1) same)
 
 pub reads_rider : (classes : Members) (key : List ℕ) (value : Data) (rider : List ℕ × ℕ)
     → rider_of classes key value ≡ Ok rider → ReadsRider classes key value rider
 reads_rider classes key value rider is =
-    let token = bind_ok (token_of_digits key) (by_token classes value) rider is in
-    let name = bind_ok (of_kind the_key.Riders (as_str value)) (by_text classes token.0) rider
-    token.2 in
-    let terms = bind_ok (class_named classes name.0) (by_class token.0) rider name.2 in
+    let token = bind_ok _ _ _ is in
+    let name = bind_ok _ _ _ token.2 in
+    let terms = bind_ok _ _ _ name.2 in
     let same = same_rider token.0 terms.0 rider terms.2 in
     record {
       token = token.1 ∙ ap (λ t. Ok t) same.0;
@@ -135,19 +123,13 @@ pub record StepsRider (classes : Members) (earlier : List (List ℕ × ℕ)) (ke
       (Named token earlier)
   pub rest : riders_from classes next more ≡ Ok riders
 
-abbrev pub after_rider : Members → List (List ℕ × ℕ) → Members → List ℕ × ℕ
-    → OrFault (List (List ℕ × ℕ))
-after_rider classes earlier more rider =
-    with_rider earlier rider.0 rider.1 >>= (λ riders. riders_from classes riders more)
-
 step : (classes : Members) (earlier : List (List ℕ × ℕ)) (key : List ℕ) (value : Data)
     (more : Members) (riders : List (List ℕ × ℕ))
     → riders_from classes earlier (member key value more) ≡ Ok riders
     → StepsRider classes earlier key value more riders
 step classes earlier key value more riders is =
-    let one = bind_ok (rider_of classes key value) (after_rider classes earlier more) riders is in
-    let two = bind_ok (with_rider earlier one.0.0 one.0.1) (λ next. riders_from classes next more)
-    riders one.2 in
+    let one = bind_ok _ _ _ is in
+    let two = bind_ok _ _ _ one.2 in
     let added = adds_rider earlier two.0 one.0.0 one.0.1 two.1 in
     record {
       rider = one.0;

@@ -1,7 +1,5 @@
-pub mod ByteOrder
 pub mod Caps
 pub mod Classes
-pub mod Faults
 pub mod Key
 pub mod Meaning
 pub mod Members

@@ -1,8 +1,10 @@
 -- What a token pays by the text: its class, the terms of the class, and what its rides give.
 use Rattle.std.specs.Prelude.{◌≡◌, ◌⊎◌, ℕ, ◌*◌, pos, List, Option, None, Some, Ok, codes}
-use Rattle.toml.specs.Data.{Data, Members, string, integer, table, get_member}
+use Rattle.std.specs.Prelude.{if◌then◌else◌}
+use Rattle.toml.specs.Data.{Data, Members, no_members, member, string, integer, table, get_member}
 use Rattle.fare_table.specs.Classes.{own_ceiling}
 use Rattle.fare_table.specs.Riders.{token_of_digits}
+use Rattle.tariffs.specs.Names.{same_name}
 use Rattle.tariffs.specs.declared.terms.Terms.{Terms}
 use Rattle.tariffs.specs.declared.transfer_terms.TransferTerms.{TransferTerms}
 
@@ -54,12 +56,19 @@ AreTaps None taps = taps ≡ 1
 AreTaps (Some value) taps =
     (value ≡ integer (pos taps)) ⊎ ((value ≡ string (codes "any")) × (taps ≡ 255))
 
+-- the value of the last key of this name, else the one that was found before. A TOML text has no
+-- key twice
+abbrev pub last_named : List ℕ → Option Data → Members → Option Data
+last_named name found no_members = found
+last_named name found (member key value more) =
+    last_named name (if same_name name key then Some value else found) more
+
 -- the fare of the mode of this name: the one that the key `fares` of a class has for it, else the
 -- class's own
 abbrev pub IsFareOn : ℕ → Option Data → List ℕ → ℕ → Type 0
 IsFareOn own None name fare = fare ≡ own
 IsFareOn own (Some value) name fare =
-    (fares : Members) × (value ≡ table fares) × IsNumberOr own (get_member name fares) fare
+    (fares : Members) × (value ≡ table fares) × IsNumberOr own (last_named name None fares) fare
 
 -- the terms of a ride of the token on the mode of this name: the mode's fare, under the limits of
 -- the class that the token pays by

@@ -1,12 +1,11 @@
 -- The key `transfers`: the pairs of modes between which a ride includes a transfer, and their prices.
 use Rattle.std.specs.Prelude.{ℕ, ◌≡◌, ◌==◌, ◌&&◌, ◌||◌, ◌++◌, ◌∷◌, [], Bool, true, false, not}
 use Rattle.std.specs.Prelude.{Contains, List, Option, None, Some, Ok, Err, codes, option_map}
-use Rattle.std.specs.Prelude.{◌<◌, if◌then◌else◌, is_some, IfSome}
+use Rattle.std.specs.Prelude.{if◌then◌else◌, is_some}
 use Rattle.std.specs.List.{cons_option, find}
 use Rattle.std.specs.Option.{option_and_then}
 use Rattle.toml.specs.Data.{Data, Items, no_items, item, Members, as_array, as_str, as_table}
 use Rattle.tariffs.specs.Names.{same_name}
-use Rattle.tariffs.specs.Prices.{IsBoundedPays}
 use Rattle.tariffs.specs.Transfers.{with_pair}
 use Rattle.tariffs.specs.declared.price.Pays.{Pays}
 use Rattle.tariffs.specs.declared.price.Pays.TheVariants.{Difference, More}
@@ -122,12 +121,6 @@ is_new found one =
 abbrev pub with_transfer : List TextTransfer → TextTransfer → OrFault (List TextTransfer)
 with_transfer found one =
     is_new found one >>= (λ new. Ok (if new then found ++ one ∷ [] else found))
-
--- its modes are within the most that a table has, and its cents within their bound
-pub record IsBoundedTransfer (one : TextTransfer) : Type 0 where
-  pub from : one.from < 32
-  pub to : one.to < 32
-  pub pays : IfSome one.pays IsBoundedPays
 
 -- the transfer between the modes of these places, which pays this
 abbrev pub at_positions : ℕ × ℕ → Option Pays → TextTransfer

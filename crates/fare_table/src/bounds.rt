@@ -1,8 +1,6 @@
 //! The bounds of the numbers of a table's text.
-ghost use Rattle.std.specs.Prelude.{◌≡◌, ◌≢◌, ℤ, false, IfSome, None, Some};
-ghost use Rattle.toml.specs.Data.{Members, integer};
-ghost use Rattle.fare_table.specs.Faults.{is_from, is_in_bounds, is_kind};
-ghost use Rattle.fare_table.specs.declared.fault.Key.{Key};
+ghost use Rattle.std.specs.Prelude.{◌≡◌};
+ghost use Rattle.fare_table.specs.Key.{bounds_of};
 
 use crate::fault::Key;
 
@@ -34,19 +32,11 @@ pub const MAX_TRANSFER_MINUTES: u32 = 1_440;
 pub const MAX_MODE_NAME_BYTES: usize = 16;
 
 impl Key {
-    ghost use Rattle.std.specs.Prelude.{◌≡◌, ◌≢◌, ℤ, false, IfSome, None, Some};
-    ghost use Rattle.toml.specs.Data.{Members, integer};
-    ghost use Rattle.fare_table.specs.Faults.{is_from, is_in_bounds, is_kind};
-
     /// The least and the greatest number that the key may have, or `None` if it takes no number.
     /// Those of `Fares` and `ClassCaps` are of each number in it; `Last` may also not be below the
     /// `first` beside it, and `RideTransfers` and `Pays` may also be a text.
     pub fn bounds(self) -> Option<(u32, u32)>
-        ensures bounds { IfSome result (λ b. self ≢ Key.Last → (beside : Members) (number : ℤ)
-            → is_in_bounds self beside (integer number) ≡ is_from b.0 b.1 (integer number)) }
-        ensures last { self ≡ Key.Last → result ≡ Some (0, 4_294_967_295) }
-        ensures none { result ≡ None → (self ≢ Key.Fares)
-            × ((number : ℤ) → is_kind self (integer number) ≡ false) }
+        ensures { result ≡ bounds_of self }
     {
         match self {
             Key::Pays => Some((1, MAX_PAYS_CENTS)),

@@ -1,7 +1,6 @@
 //! Why a text is not a fare table.
 ghost use Rattle.std.specs.Prelude.{◌≡◌, Some};
-ghost use Rattle.fare_table.specs.Faults.{key_word};
-ghost use Rattle.fare_table.specs.Key.{key_name};
+ghost use Rattle.fare_table.specs.Key.{key_name, key_word};
 
 use std::alloc::{AllocError, AllocFailed};
 use std::fmt;

@@ -1,37 +1,26 @@
 //! Theorems about fare tables, each the contract of a function that does nothing.
-ghost use Rattle.std.specs.Prelude.{◌≡◌, ◌≢◌, ◌⊎◌, ◌↔◌, ℕ, true, List};
-ghost use Rattle.std.specs.Prelude.{Err, None, Ok, Some, IfErr, IfOk, IsErrOf, IsUtf8, position};
-ghost use Rattle.std.specs.Cmp.Lexicographic.{slice_cmp};
-ghost use Rattle.std.specs.List.Sorted.{IsStrictlySortedBy};
-ghost use Rattle.std.specs.Map.{keys_of};
-ghost use Rattle.std.specs.Ordering.{nat_cmp};
-ghost use Rattle.toml.specs.Data.{Members, table, get_member};
-ghost use Rattle.toml.specs.Parse.{parse_document};
-ghost use Rattle.fare_table.specs.ByteOrder.{in_byte_order};
+ghost use Rattle.std.specs.Prelude.{◌≡◌, ◌↔◌, ℕ, true, List, None, Ok, Some, position};
+ghost use Rattle.toml.specs.Data.{Members};
 ghost use Rattle.fare_table.specs.TextRanges.{RangeGives, RangeHas};
-ghost use Rattle.tariffs.specs.Fares.{class_of, mode_in, ride_terms};
+ghost use Rattle.tariffs.specs.Fares.{class_of, mode_in, price_of, ride_terms};
 ghost use Rattle.tariffs.specs.Fares.{terms_at, transfer_terms};
-ghost use Rattle.fare_table.specs.Faults.{first_fault};
 ghost use Rattle.tariffs.specs.Names.{same_name};
 ghost use Rattle.fare_table.specs.Paying.{Gives, NamesRider, Pays, PaysOn};
 ghost use Rattle.tariffs.specs.TableMeaning.{TableMeaning};
-ghost use Rattle.fare_table.specs.TableMeaning.{meaning_in, meaning_of_tree};
+ghost use Rattle.fare_table.specs.TableMeaning.{meaning_of_tree};
 ghost use Rattle.tariffs.specs.Transfers.{has_pair};
 ghost use Rattle.fare_table.specs.Transfers.{ListsPair};
-ghost use Rattle.tariffs.specs.Validators.{are_disjoint};
-ghost use Rattle.fare_table.specs.declared.fault.TableFault.{TableFault};
 ghost use Rattle.tariffs.specs.declared.terms.Terms.{Terms};
 
-use crate::fault::TableFault;
-use crate::read_table::ReadFareTable;
-use std::alloc::Global;
-use tariffs::FareTable;
-
-/// A table permits a transfer between two modes exactly if its text lists the pair of their names.
+/// A table permits a transfer between two modes exactly if its text lists the pair of their names,
+/// and the transfer pays what each such pair says.
 pub fn permitted_pairs_are_listed()
-    ensures { (tree : Members) (meaning : TableMeaning) (from to : ℕ)
+    ensures pairs { (tree : Members) (meaning : TableMeaning) (from to : ℕ)
         → meaning_of_tree tree ≡ Ok meaning
         → (has_pair meaning.transfers from to ≡ true) ↔ ListsPair meaning.modes tree from to }
+    ensures prices { (tree : Members) (meaning : TableMeaning) (from to : ℕ)
+        → meaning_of_tree tree ≡ Ok meaning → (listed : ListsPair meaning.modes tree from to)
+        → price_of meaning from to ≡ listed.pair.1 }
 {}
 
 /// A validator's mode is that of the only element of the text's `validators` that has it, if any.
@@ -61,47 +50,11 @@ pub fn terms_are_of_classes()
 /// A ride costs what the `fares` of the token's class say of the mode's name, else the class's own
 /// fare, within its limits, and gives the transfers that the class says, else one within two hours.
 pub fn rides_are_of_classes()
-    ensures pays { (text : List ℕ) (tree : Members) (meaning : TableMeaning)
-        (token name : List ℕ) (mode : ℕ)
-        → parse_document text ≡ Some tree → meaning_of_tree tree ≡ Ok meaning
+    ensures pays { (tree : Members) (meaning : TableMeaning) (token name : List ℕ) (mode : ℕ)
+        → meaning_of_tree tree ≡ Ok meaning
         → position (same_name name) meaning.modes ≡ Some mode
         → PaysOn tree token name (ride_terms meaning (class_of meaning token) mode) }
     ensures gives { (tree : Members) (meaning : TableMeaning) (token : List ℕ)
         → meaning_of_tree tree ≡ Ok meaning
         → Gives tree token (transfer_terms meaning (class_of meaning token)) }
 {}
-
-/// The keys of the tables of a text, as of `classes`, are in the byte order in which they are read.
-pub fn keys_come_in_byte_order()
-    ensures { (text key : List ℕ) (tree keys : Members) → parse_document text ≡ Some tree
-        → get_member key tree ≡ Some (table keys) → in_byte_order keys ≡ true }
-{}
-
-/// A table's ranges are disjoint and increasing, and its riders in the byte order of their tokens.
-pub fn ranges_and_riders_increase()
-    ensures ranges { (tree : Members) (meaning : TableMeaning) → meaning_of_tree tree ≡ Ok meaning
-        → are_disjoint meaning.ranges ≡ true }
-    ensures riders { (tree : Members) (meaning : TableMeaning) → meaning_of_tree tree ≡ Ok meaning
-        → IsStrictlySortedBy (slice_cmp nat_cmp) (keys_of meaning.riders) }
-{}
-
-/// A text has a fault exactly if a row of the table of faults holds: that of the first such row.
-pub fn first_row_reports_the_fault()
-    ensures fault { (text : List ℕ) (fault : TableFault)
-        → (meaning_in text ≡ Err fault) ↔ (first_fault (parse_document text) ≡ Some fault) }
-    ensures none { (text : List ℕ) → ((meaning : TableMeaning) × (meaning_in text ≡ Ok meaning))
-        ↔ (first_fault (parse_document text) ≡ None) }
-{}
-
-/// The same of `FareTable::read`, which it calls: a text of which a row holds is answered by the
-/// fault of the first such row, or by an allocation failure, and never by a table.
-pub fn read_reports_the_first_row(alloc: Global, text: &[u8]) -> Result<FareTable, TableFault>
-    ensures reported { IsUtf8 text.now → (fault : TableFault)
-        → first_fault (parse_document text.now) ≡ Some fault
-        → IsErrOf result fault ⊎ IsErrOf result TableFault.NoMemory }
-    ensures first { IfErr result (λ fault. fault ≢ TableFault.NoMemory → IsUtf8 text.now
-        → first_fault (parse_document text.now) ≡ Some fault) }
-    ensures none { IfOk result (λ _. first_fault (parse_document text.now) ≡ None) }
-{
-    FareTable::read(alloc, text)
-}

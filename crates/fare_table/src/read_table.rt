@@ -14,8 +14,6 @@ use toml::Table;
 /// How a fare table comes of a text. `FareTable` alone has it: call `FareTable::read`.
 pub trait ReadFareTable {
     ghost use Rattle.std.specs.Prelude.{◌≡◌, ◌≢◌, ◌⊎◌, [], IfErr, IfOk, IsErrOf, IsUtf8, Err, Ok};
-    ghost use Rattle.std.specs.Prelude.{None};
-    ghost use Rattle.toml.specs.Parse.{parse_document};
     ghost use Rattle.toml.specs.View.{table_view};
     ghost use Rattle.fare_table.specs.Meaning.{IsClockOf};
     ghost use Rattle.fare_table.specs.TableMeaning.{meaning_in, meaning_of_tree};
@@ -34,9 +32,7 @@ pub trait ReadFareTable {
         ensures refused { IsUtf8 text.now → (e : TableFault) → meaning_in text.now ≡ Err e
             → IsErrOf result e ⊎ IsErrOf result TableFault.NoMemory }
 
-        // The text fault comes only if the text is not TOML, and always if it is not UTF-8.
-        ensures text { IsErrOf result TableFault.Text → IsUtf8 text.now
-            → parse_document text.now ≡ None }
+        // A text that is not UTF-8 has the text fault.
         ensures not_text { ¬ IsUtf8 text.now
             → IsErrOf result TableFault.Text ⊎ IsErrOf result TableFault.NoMemory };
 

@@ -8,7 +8,6 @@ use Rattle.jiff_fmt.specs.Text.{date_text, pad2, year_text}
 use Rattle.tariffs.specs.Fares.{Fares}
 use Rattle.fare_caps.specs.CapMeanings.{capped_rules_of}
 use Rattle.fare_caps.specs.CappedReplies.{capped_reply}
-use Rattle.fare_caps.specs.declared.cap_charge.CapCharge.{CapCharge}
 use Rattle.fare_caps.specs.declared.capped_reason.CappedReason.{CappedReason}
 use Rattle.fare_caps.specs.declared.capped_reason.CappedReason.TheVariants.{PaidTransfer, Ride}
 use Rattle.fare_caps.specs.declared.capped_reason.CappedReason.TheVariants.{Stale, Transfer, Unknown}

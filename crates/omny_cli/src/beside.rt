@@ -1,6 +1,6 @@
 //! A run with a line beside it that says what it does.
 ghost use Rattle.std.specs.Prelude.{map, string_bytes};
-ghost use Rattle.fare_program.specs.Ends.{Ends};
+ghost use Rattle.omny_cli.specs.Over.{EndsOver};
 
 use fare_program::{Complaints, Disk, Output, Source, main_over};
 use run_progress::Ticker;
@@ -11,41 +11,6 @@ use std::sync::Wait;
 use std::thread;
 use std::thread::Threads;
 use std::time::Clock;
-
-fn run<
-    R: Threads + Wait + RandomSource + Sync + AllocGlobal,
-    D: Disk + Sync,
-    S: Source,
-    W: Write,
-    E: Write,
->(
-    rt: &R,
-    words: &[String],
-    ticker: &Ticker,
-    disk: &D,
-    source: &mut S,
-    out: &mut Output<W>,
-    err: &mut Complaints<E>,
-) -> u8
-    ensures { Ends (map string_bytes words.now) (record {
-      under = D.bytes_under disk.now;
-      origin = D.origin disk.now;
-      loaded = S.loaded source.old;
-      loaded' = S.loaded source.new;
-      refused = S.refused source.new;
-      out = W.contents out.old.writer;
-      out' = W.contents out.new.writer;
-      end = out.new.end;
-      flushed = out.new.is_flushed;
-      said = E.contents err.old.writer;
-      said' = E.contents err.new.writer;
-      failed = err.new.failed;
-    }) result }
-{
-    let status = main_over(rt, rt.alloc(), words, disk, source, out, err);
-    ticker.end(rt);
-    status
-}
 
 /// Runs the whole program as `main_over` does, while the ticker shows what it does. If no thread
 /// can be started, no line is shown: then `tick` comes last, and sees that all is over.
@@ -64,25 +29,22 @@ pub fn run_beside_line<
     out: &mut Output<W>,
     err: &mut Complaints<E>,
 ) -> u8
-    ensures { Ends (map string_bytes words.now) (record {
-      under = D.bytes_under disk.now;
-      origin = D.origin disk.now;
-      loaded = S.loaded source.old;
-      loaded' = S.loaded source.new;
-      refused = S.refused source.new;
-      out = W.contents out.old.writer;
-      out' = W.contents out.new.writer;
-      end = out.new.end;
-      flushed = out.new.is_flushed;
-      said = E.contents err.old.writer;
-      said' = E.contents err.new.writer;
-      failed = err.new.failed;
-    }) result }
+    ensures { EndsOver D.bytes_under D.origin S.loaded S.refused W.contents E.contents
+        (map string_bytes words.now) disk.now source.old source.new out.old out.new err.old err.new
+        result }
 {
     let (_, status) = thread::join_mut(
         rt,
         &mut || ticker.tick(rt),
-        &mut || run(rt, words, ticker, disk, source, out, err),
+        &mut || -> u8
+            ensures { EndsOver D.bytes_under D.origin S.loaded S.refused W.contents E.contents
+                (map string_bytes words.entry.now) disk.entry.now source.entry.now source.exit.now
+                out.entry.now out.exit.now err.entry.now err.exit.now result }
+        {
+            let status = main_over(rt, rt.alloc(), words, disk, source, out, err);
+            ticker.end(rt);
+            status
+        },
     );
     status
 }

@@ -19,16 +19,16 @@ use Rattle.world.specs.declared.faults.WriteFault.{WriteFault}
 use Rattle.part_texts.specs.Fronts.{FrontsView, no_fronts}
 use Rattle.part_texts.specs.FrontSteps.{at_part}
 use Rattle.part_texts.specs.inside.Fronts.{fronts_view}
-use Rattle.part_texts.specs.Merged.{PartView, WrongLine, and_then, begun, is_none_left, left_of}
+use Rattle.part_texts.specs.Merged.{PartView, WrongLine, and_then, initial, is_none_left, left_of}
 use Rattle.part_texts.specs.Merged.{lines_left, merge_of, merged, read_all, read_of, whole_front}
 use Rattle.part_texts.specs.Reads.{HasStarted, IsFaultOf, Leaves, MergesAs, read_by}
-use Rattle.part_texts.specs.inside.Opened.{AreRead, IsBegun, IsPartFault, IsRead, all_copied, copied}
+use Rattle.part_texts.specs.inside.Opened.{AreRead, IsInitial, IsPartFault, IsRead, all_copied, copied}
 use Rattle.part_texts.specs.inside.Opened.{lines_at, view_of, views_of}
 use Rattle.part_texts.specs.declared.fault.MergeFault.{MergeFault}
 use Rattle.part_texts.specs.declared.fault.MergeFault.TheVariants.{Line, Unread, Write, NoMemory}
 use Rattle.part_texts.specs.declared.fronts.Fronts.{Fronts}
 use Rattle.part_texts.specs.declared.fronts.Open.{Open}
-use Rattle.part_texts.proofs.Parts.{all_begun, can_be_read, can_before, can_here, follow_length}
+use Rattle.part_texts.proofs.Parts.{all_initial, can_be_read, can_before, can_here, follow_length}
 use Rattle.part_texts.proofs.Parts.{follow_on, follow_self, follow_set, view_at, views_length}
 use Rattle.part_texts.proofs.Parts.{views_set}
 use Rattle.part_texts.proofs.Written.{cut_on, written_more, written_none, written_on}
@@ -66,13 +66,13 @@ fault_goes said next whole calls NoMemory is wrong = tt
 
 -- ---- parts, one after the other
 -- where the part stands among all parts
-at_place : {A : Type 0} (position count : ℕ) (later : List A) → count ≡ (position + 1) + length later
+at_count : {A : Type 0} (position count : ℕ) (later : List A) → count ≡ (position + 1) + length later
     → nat_le count (position + 1) ≡ is_none_left later
-at_place position count [] is = grind (arith, nat_tests, is)
-at_place position count (one ∷ later) is = grind (arith, nat_tests, is)
+at_count position count [] is = grind (arith, nat_tests, is)
+at_count position count (one ∷ later) is = grind (arith, nat_tests, is)
 
 no_view : PartView
-no_view = begun []
+no_view = initial []
 
 -- The parts from this place on give what all of them give, and what was read is written, if it is
 -- copied.
@@ -179,7 +179,7 @@ module _ {is_copied : Bool} {now : FrontsView} {parts parts' : List Open} {start
           ∙ rw (
             split texts can,
             number,
-            ← (at_place i (length start) (drop (i + 1) (views texts)) later),
+            ← (at_count i (length start) (drop (i + 1) (views texts)) later),
             ← begins,
           )
 
@@ -296,7 +296,7 @@ none_before (x ∷ a) b is = absurd (cc)
 
 -- the fronts are read, and nothing is written
 module _ (start from : List Lines) (parts parts' : List Open) (r next : Run) (some : 0 < length start)
-    (fresh : All IsFresh start) (none : All IsBegun parts) (same : length parts ≡ length start)
+    (fresh : All IsFresh start) (none : All IsInitial parts) (same : length parts ≡ length start)
     (follow : AllZip Follows start from) where
   merge_is : (texts : List (List ℕ)) → AllZip CanBe (map calls_of from) texts
       → merge_of texts
@@ -305,11 +305,11 @@ module _ (start from : List Lines) (parts parts' : List Open) (r next : Run) (so
       let before = can_before start from texts follow can in
       by start texts some before
       ∙ ap (λ views. and_then (read_all false no_fronts [] views) merged)
-      (sym (all_begun parts start texts none same fresh before))
+      (sym (all_initial parts start texts none same fresh before))
     where
       by : (start : List Lines) (texts : List (List ℕ)) → 0 < length start
           → AllZip CanBe (map calls_of start) texts
-          → merge_of texts ≡ and_then (read_all false no_fronts [] (map begun texts)) merged
+          → merge_of texts ≡ and_then (read_all false no_fronts [] (map initial texts)) merged
       by [] texts some can = absurd (omega (arith, some))
       by (one ∷ start) [] some can = absurd can
       by (one ∷ start) (text ∷ texts) some can = refl

@@ -10,9 +10,9 @@ use Rattle.recorded_lines.specs.Texts.{CanBe, Follows, IsFresh, calls_of, left}
 use Rattle.recorded_lines.specs.declared.text.Lines.{Lines}
 use Rattle.recorded_lines.proofs.Reading.{follows_on, follows_self}
 use Rattle.world.specs.Run.{Calls}
-use Rattle.part_texts.specs.Merged.{PartView, begun}
+use Rattle.part_texts.specs.Merged.{PartView, initial}
 use Rattle.part_texts.specs.Reads.{read_by}
-use Rattle.part_texts.specs.inside.Opened.{IsBegun, lines_at, view_of, views_of}
+use Rattle.part_texts.specs.inside.Opened.{IsInitial, lines_at, view_of, views_of}
 use Rattle.part_texts.specs.declared.fronts.Open.{Open}
 
 -- ---- what the texts can be
@@ -116,19 +116,19 @@ views_set (p ∷ parts) (f ∷ from) (t ∷ texts) (suc i) part one =
     ap (λ views. view_of p (lines_at f t) ∷ views) (views_set parts from texts i part one)
 
 -- nothing is read of any
-pub all_begun : (parts : List Open) (from : List Lines) (texts : List (List ℕ)) → All IsBegun parts
+pub all_initial : (parts : List Open) (from : List Lines) (texts : List (List ℕ)) → All IsInitial parts
     → length parts ≡ length from → All IsFresh from → AllZip CanBe (map calls_of from) texts
-    → views_of parts from texts ≡ map begun texts
-all_begun [] [] [] none same fresh can = refl
-all_begun [] [] (text ∷ texts) none same fresh can = absurd can
-all_begun [] (one ∷ from) texts none same fresh can = absurd (omega (arith, same))
-all_begun (part ∷ parts) [] texts none same fresh can = absurd (omega (arith, same))
-all_begun (part ∷ parts) (one ∷ from) [] none same fresh can = absurd can
-all_begun (part ∷ parts) (one ∷ from) (text ∷ texts) none same fresh can =
+    → views_of parts from texts ≡ map initial texts
+all_initial [] [] [] none same fresh can = refl
+all_initial [] [] (text ∷ texts) none same fresh can = absurd can
+all_initial [] (one ∷ from) texts none same fresh can = absurd (omega (arith, same))
+all_initial (part ∷ parts) [] texts none same fresh can = absurd (omega (arith, same))
+all_initial (part ∷ parts) (one ∷ from) [] none same fresh can = absurd can
+all_initial (part ∷ parts) (one ∷ from) (text ∷ texts) none same fresh can =
     let is = All-head IsFresh one from fresh in
     let whole : left one text ≡ text = rw (is.none, is.unread) in
     ap (λ (p : PartView). record p { lines = lines_at one text } ∷ views_of parts from texts)
-    (All-head IsBegun part parts none)
-    ∙ ap (λ (t : List ℕ). record (begun []) { lines = lines_of t } ∷ views_of parts from texts) whole
-    ∙ ap (λ views. begun text ∷ views) (all_begun parts from texts (All-tail IsBegun part parts none)
+    (All-head IsInitial part parts none)
+    ∙ ap (λ (t : List ℕ). record (initial []) { lines = lines_of t } ∷ views_of parts from texts) whole
+    ∙ ap (λ views. initial text ∷ views) (all_initial parts from texts (All-tail IsInitial part parts none)
     (omega (arith, same)) (All-tail IsFresh one from fresh) can.1)

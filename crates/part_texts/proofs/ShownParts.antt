@@ -4,7 +4,7 @@ use Rattle.std.specs.Prelude.{◌==◌, flat_map, nat_eq}
 use Rattle.std.proofs.lemmas.Bool.Decides.{nat_tests}
 use Rattle.line_folds.specs.Folds.{lines_of, to_first}
 use Rattle.part_texts.specs.Fronts.{FrontsView, no_sums}
-use Rattle.part_texts.specs.Merged.{PartView, begun, is_none_left, left_of, lines_left, read_all}
+use Rattle.part_texts.specs.Merged.{PartView, initial, is_none_left, left_of, lines_left, read_all}
 use Rattle.part_texts.specs.Merged.{read_of}
 use Rattle.part_texts.specs.inside.Shown.{are_next}
 use Rattle.part_texts.specs.declared.fronts.Stage.TheVariants.{Head}
@@ -59,7 +59,7 @@ module _ {P Q : Type 0} (text lines : P → List ℕ) (opening : ℕ → P → P
       pub more : List PartView
       pub now : IsAfter after next
       pub opened : are_opened parts more
-      pub read : read_all false s done (map begun (map text parts)) ≡ Ok (next, done ++ more)
+      pub read : read_all false s done (map initial (map text parts)) ≡ Ok (next, done ++ more)
 
   pub fronts_shown : ((position : ℕ) (first last : Bool) (s : FrontsView) (p : P) (before after : Q)
       → IsNext first last before p after → IsAfter before s → IsFrontRead position first last s p after)
@@ -83,7 +83,7 @@ module _ {P Q : Type 0} (text lines : P → List ℕ) (opening : ℕ → P → P
         more = o ∷ rest.more;
         now = rest.now;
         opened = (front.number, front.is, rest.opened);
-        read = rw (none_left begun (map text ps), none_left text ps, front.read)
+        read = rw (none_left initial (map text ps), none_left text ps, front.read)
             (rest.read ∙ ap (λ os. Ok (rest.next, os)) (append_assoc done (o ∷ []) rest.more));
       }
 

@@ -32,8 +32,8 @@ pub record PartView : Type 0 where
   pub lines : List (List ℕ)
 
 -- nothing is read of the text
-abbrev pub begun : List ℕ → PartView
-begun text = record { stage = Head; part = no_sums; number = 1; lines = lines_of text }
+abbrev pub initial : List ℕ → PartView
+initial text = record { stage = Head; part = no_sums; number = 1; lines = lines_of text }
 
 abbrev pub left_of : ℕ × FrontsView × List (List ℕ) → PartView
 left_of read =
@@ -94,4 +94,4 @@ merged read =
 -- first line that is wrong, and why: the fronts of all parts come before the lines after them.
 abbrev pub merge_of : List (List ℕ) → Result (List ℕ) WrongLine
 merge_of [] = Err (0, (1, Form))
-merge_of (text ∷ texts) = and_then (read_all false no_fronts [] (map begun (text ∷ texts))) merged
+merge_of (text ∷ texts) = and_then (read_all false no_fronts [] (map initial (text ∷ texts))) merged

@@ -448,7 +448,7 @@ impl Fronts {
         Ok(())
     }
 
-    /// Whether no more lines are to be read: those behind the front are copied, or are not read.
+    /// Whether no more lines are to be read: those after the front are copied, or are not read.
     pub(crate) fn is_over(&self, is_copied: bool) -> bool
         ensures { result ≡ is_over is_copied (fronts_view self.now) }
     {

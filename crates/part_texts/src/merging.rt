@@ -13,7 +13,7 @@ ghost use Rattle.world.specs.Writes.{IsCut};
 ghost use Rattle.part_texts.specs.inside.Fronts.{fronts_view, shown_sums};
 ghost use Rattle.part_texts.specs.Merged.{report_front, whole_front};
 ghost use Rattle.part_texts.specs.Reads.{MergesAs};
-ghost use Rattle.part_texts.specs.inside.Opened.{AreRead, IsBegun, IsRead, piece};
+ghost use Rattle.part_texts.specs.inside.Opened.{AreRead, IsInitial, IsRead, piece};
 
 use crate::fault::MergeFault;
 use crate::fronts::{Fronts, Open, Refusal, Stage, no_totals};
@@ -210,9 +210,9 @@ fn whole_front(alloc: Global, fronts: Fronts) -> Result<Vec<u8>, AllocError>
     }
 }
 
-fn begun(alloc: Global, count: usize) -> Result<Vec<Open>, AllocError>
+fn initial(alloc: Global, count: usize) -> Result<Vec<Open>, AllocError>
     ensures number { IfOk result (λ opens. length opens.items ≡ count) }
-    ensures none { IfOk result (λ opens. All IsBegun opens.items) }
+    ensures none { IfOk result (λ opens. All IsInitial opens.items) }
 {
     let mut opens = Vec::new(alloc);
     opens.resize(
@@ -226,7 +226,7 @@ fn begun(alloc: Global, count: usize) -> Result<Vec<Open>, AllocError>
     Ok(opens)
 }
 
-fn merge_begun<W: World>(
+fn merge_initial<W: World>(
     alloc: Global,
     parts: &mut [Lines],
     opens: &mut [Open],
@@ -234,7 +234,7 @@ fn merge_begun<W: World>(
 ) -> Result<(), MergeFault>
     requires some { 0 < length parts.old }
     requires fresh { All IsFresh parts.old }
-    requires begun { All IsBegun opens.old }
+    requires initial { All IsInitial opens.old }
     requires number { length opens.old ≡ length parts.old }
     ensures follow { AllZip Follows parts.old parts.new }
     ensures merges { MergesAs (map calls_of parts.new) (W.run world.old) (W.run world.new) result }
@@ -270,8 +270,8 @@ pub fn merge<W: World>(alloc: Global, parts: &mut [Lines], world: &mut W) -> Res
             why: Wrong::Form,
         });
     }
-    let Ok(mut opens) = begun(alloc, parts.len()) else {
+    let Ok(mut opens) = initial(alloc, parts.len()) else {
         return Err(MergeFault::NoMemory);
     };
-    merge_begun(alloc, parts, &mut opens, world)
+    merge_initial(alloc, parts, &mut opens, world)
 }

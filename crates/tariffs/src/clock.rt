@@ -53,12 +53,11 @@ impl Clock {
         Clock { zone }
     }
 
-    /// The end of a window of this span that starts at the moment, before 2100-01-01T00:00Z.
-    /// Without a zone `n` days are `n * 24` hours, and a calendar span (a week from Monday) ends in
-    /// UTC when a day starts, at 00:00 unless the span says otherwise. With a zone each ends so by
-    /// its clocks, and `n` days on the `n`th day after the start's (seven days are the MTA's, the
-    /// end is this project's choice). A time that clocks skip takes the offset before the gap, and
-    /// of two the earlier counts. Takes no memory.
+    /// The end of a window of this span that starts at the moment, before 2100-01-01T00:00Z. Without
+    /// a zone `n` days are `n * 24` hours, and a calendar span (a week from Monday) ends in UTC when a
+    /// day starts. With a zone each ends so by its clocks, and `n` days on the `n`th day after the
+    /// start's (seven days are the MTA's, the end is this project's choice). A time that clocks skip
+    /// takes the offset before the gap, and of two the earlier counts. Takes no memory.
     #[inline]
     pub fn window_end(&self, span: WindowSpan, moment: u64) -> u64
         requires span { IsBoundedSpan span }
@@ -73,8 +72,7 @@ impl Clock {
         }
     }
 
-    /// The moment of 00:00 of a date, by the rules of `window_end`. `None` for a date before 1970
-    /// or after 2099, or if the moment is before 1970-01-01T00:00Z.
+    /// The moment of 00:00 of a date from 1970 to 2099, by the rules of `window_end`, if not below 0.
     pub fn midnight(&self, date: Date) -> Option<u64>
         ensures moment { IfSome result (λ moment. moment_nanos moment
             ≡ midnight_by self.now.rule (epoch_day date)) }

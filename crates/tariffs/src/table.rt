@@ -33,8 +33,7 @@ use tap_views::{NoMemory, Token};
 pub struct FareTable {
     /// One for all clones: each book has a clone, and none changes it.
     first: Arc<Tariff>,
-    /// The moment from which the next tariff is valid, for one compare. `u64::MAX` if none follows,
-    /// and 0 if there are caps or prices.
+    /// When the next tariff begins, `u64::MAX` if none does, or 0 if there are caps or prices.
     until: u64,
     /// Whether one of the tariffs names the price of a transfer.
     priced: bool,

@@ -13,12 +13,25 @@ use Rattle.frame.specs.declared.outside.Outside.{Outside}
 use Rattle.frame.specs.declared.outside.Outside.TheVariants.{NoMemory}
 use Rattle.frame.proofs.Giving.{gave_load, part_note, part_self, part_text, stopped_at}
 use Rattle.frame.proofs.Outcomes.{stopped_early}
+use Rattle.tap_rows.specs.Decoded.{IsDecoded}
 use Rattle.tap_rows.specs.TapTables.{head}
+use Rattle.tap_views.specs.declared.fault.LayoutFault.{LayoutFault}
 use Rattle.world.specs.Run.{Run, with_load}
 use Rattle.tool_tasks.specs.Decode.{Decoded, are_whole, decode_rule, decoding_of, layout_line, words_of}
 use Rattle.tool_tasks.specs.inside.Decode.{StopsDecoding, with_decoded}
 
 -- ---- one more
+-- of the bytes that were loaded
+abbrev pub decoded_of : (word upload bytes rows : List ℕ) (fault : Option (ℕ × LayoutFault))
+    → bytes ≡ upload → IsDecoded bytes rows fault → Decoded
+decoded_of word upload bytes rows fault same is = record {
+  word = word;
+  upload = upload;
+  rows = rows;
+  fault = fault;
+  is_decoded = subst (λ (b : List ℕ). IsDecoded b rows fault) same is;
+}
+
 pub decoding_push : (decoded : List Decoded) (one : Decoded)
     → with_decoded (decoding_of decoded) one ≡ decoding_of (decoded ++ one ∷ [])
 decoding_push decoded one =
@@ -139,7 +152,7 @@ pub halted_at : (words : List (List ℕ)) (start mid new : Run) (decoded : List 
     → IsHalted (decode_rule words) start new why
 halted_at words start mid new decoded rest why named is leaves = record {
   part = decoding_of decoded;
-  begun = record { decoded = decoded; rest = rest; named = named; is_part = part_self _ };
+  partial = record { decoded = decoded; rest = rest; named = named; is_part = part_self _ };
   leaves = subst (λ r. Leaves words why r new) is leaves;
 }
 
@@ -156,7 +169,7 @@ halted_one words start mid new n d decoded why within are is (inr (one, word, st
     let s = stops start (decoding_of decoded) is in
     record {
       part = s.part;
-      begun = record {
+      partial = record {
         decoded = decoded ++ one ∷ [];
         rest = map (λ w. w.now) (drop (n + 1) words);
         named = words_rest words (n + 1) (decoded ++ one ∷ [])

@@ -6,6 +6,7 @@ ghost use Rattle.std.specs.List.{find};
 ghost use Rattle.toml.specs.View.{view, array_view, table_view};
 ghost use Rattle.tariffs.specs.Prices.{IsBoundedPays, IsBoundedPrice};
 ghost use Rattle.fare_table.specs.inside.OrFault.{Answers};
+ghost use Rattle.fare_table.specs.inside.TextTransfers.{IsBoundedTransfer};
 ghost use Rattle.fare_table.specs.Transfers as spec;
 ghost use Rattle.fare_table.specs.Transfers.{named_pair, same_modes, text_transfers};
 
@@ -173,7 +174,7 @@ fn transfers_from(
     ensures answer { Answers (λ v. v.items) result
         (spec.transfers_from (map string_bytes modes.now) []
         (map (λ p. named_pair p.from.now p.to.now p.pays) pairs.now)) }
-    ensures bounds { IfOk result (λ v. All spec.IsBoundedTransfer v.items) }
+    ensures bounds { IfOk result (λ v. All IsBoundedTransfer v.items) }
 {
     let mut found = Vec::new(alloc);
     for pair in pairs {
@@ -241,7 +242,7 @@ fn same_pays(one: Option<Pays>, other: Option<Pays>) -> bool
 }
 
 fn pairs_of(alloc: Global, found: &[TextTransfer]) -> Result<Transfers, TableFault>
-    requires { All spec.IsBoundedTransfer found.now }
+    requires { All IsBoundedTransfer found.now }
     ensures { Answers (λ t. t) result (Ok (spec.pairs_with [] found.now)) }
 {
     let mut transfers = Transfers::new(alloc);
@@ -252,7 +253,7 @@ fn pairs_of(alloc: Global, found: &[TextTransfer]) -> Result<Transfers, TableFau
 }
 
 fn prices_of(alloc: Global, found: &[TextTransfer]) -> Result<Vec<Price>, TableFault>
-    requires { All spec.IsBoundedTransfer found.now }
+    requires { All IsBoundedTransfer found.now }
     ensures answer { Answers (λ v. v.items) result (Ok (spec.prices_of found.now)) }
     ensures bounds { IfOk result (λ v. All IsBoundedPrice v.items) }
 {

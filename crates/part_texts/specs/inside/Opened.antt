@@ -9,7 +9,7 @@ use Rattle.recorded_lines.specs.Unread.{IsUnread}
 use Rattle.recorded_lines.specs.declared.text.Lines.{Lines}
 use Rattle.world.specs.Run.{Calls, Run, with_written}
 use Rattle.part_texts.specs.Fronts.{FrontsView, no_fronts}
-use Rattle.part_texts.specs.Merged.{PartView, WrongLine, begun, lines_left, read_all, read_of}
+use Rattle.part_texts.specs.Merged.{PartView, WrongLine, initial, lines_left, read_all, read_of}
 use Rattle.part_texts.specs.Reads.{IsFaultOf, Leaves}
 use Rattle.part_texts.specs.declared.fault.MergeFault.{MergeFault}
 use Rattle.part_texts.specs.declared.fault.MergeFault.TheVariants.{Line, Unread, Write, NoMemory}
@@ -39,8 +39,8 @@ views_of (part ∷ parts) (one ∷ from) (text ∷ texts) =
     view_of part (lines_at one text) ∷ views_of parts from texts
 
 -- nothing of the part is read
-abbrev pub IsBegun : Open → Type 0
-IsBegun part = view_of part [] ≡ begun []
+abbrev pub IsInitial : Open → Type 0
+IsInitial part = view_of part [] ≡ initial []
 
 -- what is written for a line
 abbrev pub piece : Bool → List ℕ → List ℕ

@@ -12,8 +12,7 @@ use tap_views::{NoMemory, Token};
 /// The least number of marks for each token: most other tokens then have none.
 const FILTER_BITS_FOR_EACH: usize = 8;
 
-/// A one-hash Bloom filter of tokens: a mark at the index that a token's last bits give. A token
-/// without a mark is none of them. One with a mark may be, since tokens share marks.
+/// A one-hash Bloom filter of tokens, by their last bits. A token without a mark is none of them.
 #[derive(Drop)]
 pub(crate) struct RiderFilter {
     /// A power of two of them, so that an index needs no division. None if there is no token.

@@ -9,8 +9,7 @@ use tap_views::NoMemory;
 /// The steps for each range: two ranges then rarely end in one step.
 const STEPS_FOR_EACH: u64 = 4;
 
-/// Hints of which of some disjoint ranges has a number, which the caller checks. The numbers are
-/// divided into steps of one width, each with the first range that ends in it or after it.
+/// Of each step of numbers the first of some disjoint ranges that ends in it or after it.
 #[derive(Drop)]
 pub(crate) struct Hints {
     lowest: u32,

@@ -2,7 +2,7 @@ use Rattle.std.proofs.Common.{◌∙◌, ap, arith, length, subst, sym}
 use Rattle.std.specs.Prelude.{All}
 use Rattle.std.proofs.lemmas.Bool.Decides.{nat_tests}
 use Rattle.std.proofs.lemmas.List.{nil_from_length}
-use Rattle.part_texts.specs.inside.Opened.{IsBegun}
+use Rattle.part_texts.specs.inside.Opened.{IsInitial}
 use Rattle.part_texts.proofs.AllParts.{no_memory, no_parts}
 use Rattle.part_texts.proofs.Parts.{follow_self}
 use Rattle.part_texts.proofs.merging.merge.Goals as goal
@@ -23,13 +23,13 @@ pub returns-in_default-clause-merges : goal.returns-in_default-clause-merges
 returns-in_default-clause-merges g c =
     no_memory c.args.parts.now (g.W.Inputs.run c.args.world.now)
 
-pub merge_begun-requires-clause-some : goal.merge_begun-requires-clause-some
-merge_begun-requires-clause-some g c = grind (arith, nat_tests, c.is_empty.ensures, c.if-is_empty.false)
+pub merge_initial-requires-clause-some : goal.merge_initial-requires-clause-some
+merge_initial-requires-clause-some g c = grind (arith, nat_tests, c.is_empty.ensures, c.if-is_empty.false)
 
-pub merge_begun-requires-clause-begun : goal.merge_begun-requires-clause-begun
-merge_begun-requires-clause-begun g c =
-    subst (All IsBegun) (sym c.deref_mut.ensures.value) c.in-Ok.ensures.none
+pub merge_initial-requires-clause-initial : goal.merge_initial-requires-clause-initial
+merge_initial-requires-clause-initial g c =
+    subst (All IsInitial) (sym c.deref_mut.ensures.value) c.in-Ok.ensures.none
 
-pub merge_begun-requires-clause-number : goal.merge_begun-requires-clause-number
-merge_begun-requires-clause-number g c =
+pub merge_initial-requires-clause-number : goal.merge_initial-requires-clause-number
+merge_initial-requires-clause-number g c =
     ap length c.deref_mut.ensures.value ∙ c.in-Ok.ensures.number

@@ -7,7 +7,8 @@ use Rattle.std.proofs.lemmas.Grind.{common_steps}
 use Rattle.std.proofs.lemmas.Result.{err_from_is_err_and}
 use Rattle.fare_table.specs.OrFault.{OrFault, ◌>>=◌}
 use Rattle.fare_table.specs.Transfers as spec
-use Rattle.fare_table.specs.Transfers.{IsBoundedTransfer, at_positions, is_new, named_pair}
+use Rattle.fare_table.specs.inside.TextTransfers.{IsBoundedTransfer}
+use Rattle.fare_table.specs.Transfers.{at_positions, is_new, named_pair}
 use Rattle.fare_table.specs.Transfers.{positions_of, transfers_from, with_transfer}
 use Rattle.fare_table.specs.declared.read.transfers.NamedPair.{NamedPair}
 use Rattle.fare_table.specs.declared.read.transfers.TextTransfer.{TextTransfer}

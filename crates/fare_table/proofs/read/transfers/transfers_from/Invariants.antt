@@ -1,5 +1,6 @@
 use Rattle.std.proofs.Common.{◌≡◌, [], All, drop, map, string_bytes}
-use Rattle.fare_table.specs.Transfers.{IsBoundedTransfer, named_pair, transfers_from}
+use Rattle.fare_table.specs.inside.TextTransfers.{IsBoundedTransfer}
+use Rattle.fare_table.specs.Transfers.{named_pair, transfers_from}
 use Rattle.fare_table.proofs.read.transfers.transfers_from.Given as goal
 
 abbrev pub invariant-loop-pair : goal.invariant-loop-pair

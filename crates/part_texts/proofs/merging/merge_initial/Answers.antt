@@ -1,27 +1,27 @@
 use Rattle.part_texts.proofs.AllParts.{all_merged, front_cut, no_fronts_read, not_merged}
 use Rattle.part_texts.proofs.AllParts.{still_no_memory}
 use Rattle.part_texts.proofs.Parts.{follow_on}
-use Rattle.part_texts.proofs.merging.merge_begun.Goals as goal
+use Rattle.part_texts.proofs.merging.merge_initial.Goals as goal
 
 pub returns-in-Err-clause-merges : goal.returns-in-Err-clause-merges
 returns-in-Err-clause-merges g c =
     no_fronts_read c.args.parts.now c.read_parts.new.from c.args.opens.now c.read_parts.new.opens
     (g.W.Inputs.run c.args.world.now) (g.W.Inputs.run c.read_parts.new.world) c.requires.some
-    c.requires.fresh c.requires.begun c.requires.number c.read_parts.ensures.follow c.in-Err.fault
+    c.requires.fresh c.requires.initial c.requires.number c.read_parts.ensures.follow c.in-Err.fault
     c.in-Err.ensures.read
 
 pub returns-in_default-clause-merges : goal.returns-in_default-clause-merges
 returns-in_default-clause-merges g c =
     still_no_memory c.args.parts.now c.read_parts.new.from c.args.opens.now c.read_parts.new.opens
     (g.W.Inputs.run c.args.world.now) (g.W.Inputs.run c.read_parts.new.world) c.requires.some
-    c.requires.fresh c.requires.begun c.requires.number c.read_parts.ensures.follow c.in-Ok.fronts
+    c.requires.fresh c.requires.initial c.requires.number c.read_parts.ensures.follow c.in-Ok.fronts
     c.in-Ok.ensures.read
 
 pub returns-in-Err-write-clause-merges : goal.returns-in-Err-write-clause-merges
 returns-in-Err-write-clause-merges g c =
     front_cut c.args.parts.now c.read_parts.new.from c.args.opens.now c.read_parts.new.opens
     (g.W.Inputs.run c.args.world.now) (g.W.Inputs.run c.read_parts.new.world) c.requires.some
-    c.requires.fresh c.requires.begun c.requires.number c.read_parts.ensures.follow c.in-Ok.fronts
+    c.requires.fresh c.requires.initial c.requires.number c.read_parts.ensures.follow c.in-Ok.fronts
     c.in-Ok.ensures.read (g.W.Inputs.run c.write.new.self) c.in-Err-write.why
     (rw (c.deref.ensures.value, c.in-Ok-whole_front.ensures) at c.in-Err-write.ensures.cut)
 
@@ -37,7 +37,7 @@ pub returns-in-Ok-read_parts-clause-merges : goal.returns-in-Ok-read_parts-claus
 returns-in-Ok-read_parts-clause-merges g c =
     all_merged c.args.parts.now c.read_parts.new.from c.args.opens.now c.read_parts.new.opens
     (g.W.Inputs.run c.args.world.now) (g.W.Inputs.run c.read_parts.new.world) c.requires.some
-    c.requires.fresh c.requires.begun c.requires.number c.read_parts.ensures.follow c.in-Ok.fronts
+    c.requires.fresh c.requires.initial c.requires.number c.read_parts.ensures.follow c.in-Ok.fronts
     c.in-Ok.ensures.read c.read_parts-2.new.from c.read_parts-2.new.opens
     (g.W.Inputs.run c.write.new.self) (g.W.Inputs.run c.read_parts-2.new.world)
     c.read_parts-2.ensures.follow
@@ -53,7 +53,7 @@ pub returns-clause-merges : goal.returns-clause-merges
 returns-clause-merges g c =
     not_merged c.args.parts.now c.read_parts.new.from c.args.opens.now c.read_parts.new.opens
     (g.W.Inputs.run c.args.world.now) (g.W.Inputs.run c.read_parts.new.world) c.requires.some
-    c.requires.fresh c.requires.begun c.requires.number c.read_parts.ensures.follow c.in-Ok.fronts
+    c.requires.fresh c.requires.initial c.requires.number c.read_parts.ensures.follow c.in-Ok.fronts
     c.in-Ok.ensures.read c.read_parts-2.new.from c.read_parts-2.new.opens
     (g.W.Inputs.run c.write.new.self) (g.W.Inputs.run c.read_parts-2.new.world)
     c.read_parts-2.ensures.follow
