@@ -1,13 +1,14 @@
 //! The fields of a ledger's line that are not plain numbers.
 
-ghost use Rattle.std.specs.Prelude.{◌≡◌};
+ghost use Rattle.std.specs.Prelude.{◌≡◌, ◌≤◌, length};
 ghost use Rattle.std.specs.List.{list_all};
+ghost use Rattle.line_forms.specs.Columns.{column_in};
 ghost use Rattle.ledger_fields.specs.Fields.{fits, is_reason_byte, is_token_byte, is_word_byte};
 
 use crate::moment::is_moment;
-use line_forms::column::column_before;
 use line_forms::form::FormOf;
 use line_forms::number::number_32_of;
+use memchr::memchr2;
 
 /// The first year after those of the moments of taps.
 const TAP_YEAR_LIMIT: u64 = 2_100;
@@ -74,6 +75,17 @@ fn are_reason_bytes(text: &[u8]) -> bool
     ensures { result ≡ list_all is_reason_byte text.now }
 {
     text.iter().all(|byte| is_reason_byte(*byte))
+}
+
+/// How many bytes the column at the front of the text has.
+fn column_before(text: &[u8]) -> usize
+    ensures value { result ≡ column_in text.now }
+    ensures within { result ≤ length text.now }
+{
+    match memchr2(b',', b'\n', text) {
+        Some(at) => at,
+        None => text.len(),
+    }
 }
 
 impl Field {

@@ -23,15 +23,14 @@ use Rattle.tap_views.proofs.Lists.{All-back, All-front, each-back, each-front}
 use Rattle.tap_views.proofs.TokenLemmas.{token_cmp-total, token_cmp-ties}
 use Rattle.histories.specs.Increasing.{increasing}
 use Rattle.histories.specs.Sums.{Sums, add_sums, sums, sums_of_replies}
-use Rattle.histories.specs.Entry.{own}
-use Rattle.histories.specs.SumsByKey.{entries_of_validator, sums_by_token, sums_by_validator}
+use Rattle.histories.specs.SumsByKey.{sums_by_token, sums_by_validator}
 use Rattle.histories.specs.SumsByKey.{token_of, tokens, validator_of, validators}
 use Rattle.histories.specs.declared.entry.Entry.{Entry}
 use Rattle.histories.proofs.IncreasingLemmas.{increasing-is}
 use Rattle.histories.proofs.SumsByToken.{by_token_joined}
 use Rattle.histories.proofs.SumsLemmas.{add_assoc, add_none, none_add, sums-append, sums-taps}
 use Rattle.report_texts.specs.Report.{report}
-use Rattle.part_texts.specs.Fronts.{is_above, is_token_above, may_end, no_sums}
+use Rattle.part_texts.specs.Fronts.{is_above, may_end, may_follow, no_sums}
 use Rattle.part_texts.specs.HistoryParts.{AreRight, AreIncreasing, Fits, HistoryPart, added}
 use Rattle.part_texts.specs.HistoryParts.{histories_of, numbers_of, report_of, whole_history}
 use Rattle.part_texts.specs.Merged.{is_none_left, merge_of}
@@ -104,7 +103,7 @@ tokens_above f last [] below increases = tt
 tokens_above f last (k ∷ keys) below increases =
     (first_above last below, tokens_above f (Some k) keys increases.0 increases.1)
   where
-    first_above : (last : Option Token) → LastIsBelow last (k ∷ keys) → is_token_above last k ≡ true
+    first_above : (last : Option Token) → LastIsBelow last (k ∷ keys) → may_follow true last k ≡ true
     first_above None below = refl
     first_above (Some token) below = ap is_lt below.0
 
@@ -183,27 +182,23 @@ increasing_few cmp [] = omega arith
 increasing_few cmp (key ∷ keys) =
     omega (arith, increasing_few cmp keys, insert_few cmp (increasing cmp keys) key)
 
-pub tokens_few : (history : List Entry) → length (sums_by_token history) ≤ length history
-unfolding sums_by_token tokens
-tokens_few history =
+keys_few : {K : Type 0} (cmp : K → K → Ordering) (key : Entry → K) (f : K → Sums) (history : List Entry)
+    → length {A = K × Sums} (map (λ k. (k, f k)) (increasing cmp (map key history))) ≤ length history
+keys_few {K = K} cmp key f history =
     omega (
       arith,
-      length-map {B = Token × Sums} (increasing token_cmp (map token_of history))
-          (λ t. (t, sums (own t history))),
-      increasing_few token_cmp (map token_of history),
-      length-map history token_of,
+      length-map {B = K × Sums} (increasing cmp (map key history)) (λ k. (k, f k)),
+      increasing_few cmp (map key history),
+      length-map history key,
     )
+
+pub tokens_few : (history : List Entry) → length (sums_by_token history) ≤ length history
+unfolding sums_by_token tokens
+tokens_few history = keys_few token_cmp token_of _ history
 
 validators_few : (history : List Entry) → length (sums_by_validator history) ≤ length history
 unfolding sums_by_validator validators
-validators_few history =
-    omega (
-      arith,
-      length-map {B = ℕ × Sums} (increasing nat_cmp (map validator_of history))
-          (λ v. (v, sums (entries_of_validator v history))),
-      increasing_few nat_cmp (map validator_of history),
-      length-map history validator_of,
-    )
+validators_few history = keys_few nat_cmp validator_of _ history
 
 -- ---- spans
 abbrev pub from_ends : List FileSpan → List (Option Position)

@@ -1,6 +1,6 @@
 -- The sums of validators, as the program keeps them.
 use Rattle.std.proofs.Common.{◌≡◌, ◌∙◌, ℕ, Bool, List, [], ◌∷◌, Option, Some}
-use Rattle.std.proofs.Common.{None, option_map, refl, sym, ap}
+use Rattle.std.proofs.Common.{option_map, refl, sym, ap}
 use Rattle.std.specs.Prelude.{unwrap_or}
 use Rattle.std.specs.BTreeMap.{insert_entry, is_at}
 use Rattle.std.specs.Map.{lookup}
@@ -13,21 +13,12 @@ use Rattle.std.proofs.lemmas.Map.Made.{lookup-map_values}
 use Rattle.part_texts.specs.Fronts.{no_sums, sums_within, with_validator}
 use Rattle.part_texts.specs.inside.Fronts.{shown_sums}
 
-pub kept_some : (test : ℕ → Bool) (entries : List (ℕ × Totals)) (found : Option Totals)
-    (kept : Totals)
-    → found ≡ lookup test entries → found ≡ Some kept
-    → sums_of kept ≡ unwrap_or (lookup test (shown_sums sums_of entries)) no_sums
-kept_some test entries found kept is some =
-    sym (ap (λ o. unwrap_or o no_sums) (lookup-map_values sums_of test entries)
-    ∙ ap (λ o. unwrap_or (option_map sums_of o) no_sums) (sym is ∙ some))
-
-pub kept_none : (test : ℕ → Bool) (entries : List (ℕ × Totals)) (found : Option Totals)
-    (kept : Sums)
-    → found ≡ lookup test entries → found ≡ None → kept ≡ no_sums
+pub kept_is : (test : ℕ → Bool) (entries : List (ℕ × Totals)) (found : Option Totals) (kept : Sums)
+    → found ≡ lookup test entries → kept ≡ unwrap_or (option_map sums_of found) no_sums
     → kept ≡ unwrap_or (lookup test (shown_sums sums_of entries)) no_sums
-kept_none test entries found kept is none same =
-    same ∙ sym (ap (λ o. unwrap_or o no_sums) (lookup-map_values sums_of test entries)
-    ∙ ap (λ o. unwrap_or (option_map sums_of o) no_sums) (sym is ∙ none))
+kept_is test entries found kept is has =
+    has ∙ ap (λ o. unwrap_or (option_map sums_of o) no_sums) is
+    ∙ ap (λ o. unwrap_or o no_sums) (sym (lookup-map_values sums_of test entries))
 
 -- one more is shown as one more
 inserted_shown : (v : ℕ) (totals : Totals) (entries : List (ℕ × Totals))

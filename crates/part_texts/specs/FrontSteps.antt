@@ -10,7 +10,7 @@ use Rattle.report_texts.specs.declared.wrong.Wrong.TheVariants.{Form, NotPosted,
 use Rattle.report_texts.specs.declared.wrong.Wrong.TheVariants.{Totals as OtherTotals}
 use Rattle.part_texts.specs.EntryLines.{entry_token_in}
 use Rattle.part_texts.specs.HeadForms.{span_in}
-use Rattle.part_texts.specs.Fronts.{FrontsView, is_above, is_token_above, may_end, may_follow}
+use Rattle.part_texts.specs.Fronts.{FrontsView, is_above, may_end, may_follow}
 use Rattle.part_texts.specs.Fronts.{no_sums, position_eq, plus}
 use Rattle.part_texts.specs.Fronts.{posted_in, starts, sums_eq, sums_within, taps_before}
 use Rattle.part_texts.specs.Fronts.{with_validator}
@@ -117,7 +117,7 @@ entry_step is_first s line =
 abbrev pub token_step : ℕ → FrontsView → List ℕ → Result FrontsView Wrong
 token_step left s line =
     said (token_line_in line) (λ sum.
-    where_holds (is_token_above s.last sum.0) Order
+    where_holds (may_follow true s.last sum.0) Order
     (found_or OtherTotals (sums_within s.so_far sum.1) (λ so_far.
     Ok (record s { stage = Tokens (left - 1); so_far = so_far; last = Some sum.0 }))))
 

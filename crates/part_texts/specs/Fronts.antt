@@ -108,12 +108,8 @@ abbrev pub is_above : Option ℕ → ℕ → Bool
 is_above None key = true
 is_above (Some last) key = nat_lt last key
 
-abbrev pub is_token_above : Option Token → Token → Bool
-is_token_above None token = true
-is_token_above (Some last) token = is_lt (token_cmp last token)
-
--- whether the token of an entry may follow the last one: it is above that of an earlier part, and
--- not below that of the line before
+-- whether a token may follow the last one: it is above that of an earlier part or of another token's
+-- line, and not below that of an entry before it
 abbrev pub may_follow : Bool → Option Token → Token → Bool
 may_follow is_first None token = true
 may_follow true (Some last) token = is_lt (token_cmp last token)

@@ -15,6 +15,7 @@ ghost use Rattle.part_texts.specs.Merged.{merge_of};
 ghost use Rattle.part_texts.specs.Shown.{part_text};
 
 /// The reports of parts that join and rise by token are merged into that of all parts' history.
+#[tactic(auto, using(crate::proofs::HistoryParts::histories_merge))]
 pub fn reports_are_merged()
     ensures { (files : ℕ) (part : HistoryPart) (parts : List HistoryPart)
         → AreRight files (part ∷ parts)

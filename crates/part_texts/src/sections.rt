@@ -3,7 +3,7 @@
 ghost use Rattle.std.specs.Prelude.{◌≡◌, ◌<◌, option_map};
 ghost use Rattle.part_texts.specs.EntryLines.{entry_token_in, first_of};
 ghost use Rattle.part_texts.specs.FrontSteps.{entry_step, part_end, token_step};
-ghost use Rattle.part_texts.specs.Fronts.{is_token_above, may_follow};
+ghost use Rattle.part_texts.specs.Fronts.{may_follow};
 ghost use Rattle.part_texts.specs.inside.Fronts.{TakesAs, fronts_view};
 ghost use Rattle.report_texts.specs.Forms.{token_read};
 
@@ -27,15 +27,6 @@ fn entry_token_in(line: &[u8]) -> Option<Token>
     match row_fields(line) {
         Some(_) => front_token(line),
         None => None,
-    }
-}
-
-fn is_token_above(last: Option<Token>, token: Token) -> bool
-    ensures { result ≡ is_token_above last token }
-{
-    match last {
-        Some(last) => last < token,
-        None => true,
     }
 }
 
@@ -74,7 +65,7 @@ impl Fronts {
             result }
     {
         let sum = token_line_in(line).ok_or(Refusal::Wrong(Wrong::Form))?;
-        if !is_token_above(self.last, sum.token) {
+        if !may_follow(true, self.last, sum.token) {
             return Err(Refusal::Wrong(Wrong::Order));
         }
         let so_far = added(&self.so_far, &sum.totals).ok_or(Refusal::Wrong(Wrong::Totals))?;

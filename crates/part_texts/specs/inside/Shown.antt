@@ -7,7 +7,7 @@ use Rattle.tap_views.specs.declared.token.Token.{Token}
 use Rattle.tap_views.specs.declared.upload_end.UploadEnd.TheVariants.{Posted}
 use Rattle.report_texts.specs.Numbers.{AreCounts, IsTokenSum, IsValidatorSum}
 use Rattle.report_texts.specs.Report.{report}
-use Rattle.part_texts.specs.Fronts.{is_above, is_token_above, may_end, no_sums, starts}
+use Rattle.part_texts.specs.Fronts.{is_above, may_end, may_follow, no_sums, starts}
 use Rattle.part_texts.specs.Fronts.{sums_within, taps_before, with_validator}
 use Rattle.part_texts.specs.Merged.{is_none_left}
 use Rattle.sorted_taps.specs.declared.positions.FileSpan.{FileSpan}
@@ -42,7 +42,7 @@ are_increasing last (one ∷ more) = (is_above last one.0 ≡ true) × are_incre
 -- each token is above the one before
 abbrev pub are_tokens_increasing : Option Token → List (Token × Sums) → Type 0
 are_tokens_increasing last [] = Unit {0}
-are_tokens_increasing last (one ∷ more) = (is_token_above last one.0 ≡ true) × are_tokens_increasing (Some one.0) more
+are_tokens_increasing last (one ∷ more) = (may_follow true last one.0 ≡ true) × are_tokens_increasing (Some one.0) more
 
 -- the token that no later part may have, nor one below it
 abbrev pub last_of : Option Token → List (Token × Sums) → Option Token

@@ -1,17 +1,15 @@
 use Rattle.std.proofs.Common.{Some, None, refl}
 use Rattle.std.specs.BTreeMap.{is_at}
 use Rattle.std.specs.Ordering.{nat_cmp}
-use Rattle.histories.specs.Sums.{sums_of}
-use Rattle.part_texts.proofs.Kept.{kept_none, kept_some}
+use Rattle.part_texts.proofs.Kept.{kept_is}
 use Rattle.part_texts.proofs.fronts.kept_of.Goals as goal
 
 pub returns-in-Some : goal.returns-in-Some
 returns-in-Some c =
-    kept_some (is_at (nat_cmp c.args.validator)) c.args.validators.now.entries
-    (Some c.in-Some.kept.now)
-    c.in-Some.kept.now c.in-Some.ensures.value refl
+    kept_is (is_at (nat_cmp c.args.validator)) c.args.validators.now.entries
+    (Some c.in-Some.kept.now) _ c.in-Some.ensures.value refl
 
 pub returns-in-None : goal.returns-in-None
 returns-in-None c =
-    kept_none (is_at (nat_cmp c.args.validator)) c.args.validators.now.entries None
-    (sums_of c.no_totals.result) c.in-None.ensures.value refl c.no_totals.ensures
+    kept_is (is_at (nat_cmp c.args.validator)) c.args.validators.now.entries None _
+    c.in-None.ensures.value c.no_totals.ensures
