@@ -1,5 +1,5 @@
-use Rattle.std.proofs.Common.{◌≡◌, ◌≤◌, ℕ, suc, zero, Bool, List, None, Option, Some, arith, false}
-use Rattle.std.proofs.Common.{inl, inr, map, refl, subst, sym, true}
+use Rattle.std.proofs.Common.{◌≡◌, ◌≤◌, ℕ, suc, zero, Bool, List, None, Option, Some, arith}
+use Rattle.std.proofs.Common.{inl, inr, map, refl, subst}
 use Rattle.std.specs.Prelude.{◌≢◌, ◌⊎◌, string_bytes}
 use Rattle.std.proofs.KnownBytes.{Appends-kept, Keeps-refl}
 use Rattle.clap.specs.Words.{IsAmong, Text, fault_of, kind_of}
