@@ -20,7 +20,7 @@ pub halted_loading : (right : Given → ℕ → Type 0) (words : List (List ℕ)
     → IsHalted (rule_of right words) start new why
 halted_loading right words start mid new loads why is leaves = record {
   part = record { loads = loads; text = []; note = []; files = [] };
-  begun = inl refl;
+  partial = inl refl;
   leaves = subst (λ r. Leaves words why r new) (is ∙ gave_loads start loads) leaves;
 }
 
@@ -30,7 +30,7 @@ pub halted_in : (right : Given → ℕ → Type 0) (words : List (List ℕ)) (st
     → IsStoppedIn words start new whole why → IsHalted (rule_of right words) start new why
 halted_in right words start new whole status why is s = record {
   part = s.part;
-  begun = inr (whole, status, is, s.is_part);
+  partial = inr (whole, status, is, s.is_part);
   leaves = s.leaves;
 }
 

@@ -9,18 +9,18 @@ use Rattle.frame.specs.declared.outside.Outside.{Outside}
 -- outside stops the run, and what this leaves of the run.
 pub record Rule : Type 1 where
   pub Right : Given → ℕ → Type 0
-  pub Begun : Given → Type 0
+  pub Partial : Given → Type 0
   pub Leaves : Outside → Run → Run → Type 0
 
 -- Only files were loaded; or this is a part of what is right.
-abbrev pub IsBegun : (Given → ℕ → Type 0) → Given → Type 0
-IsBegun Right part = (part ≡ record nothing { loads = part.loads })
+abbrev pub IsPartial : (Given → ℕ → Type 0) → Given → Type 0
+IsPartial Right part = (part ≡ record nothing { loads = part.loads })
     ⊎ ((whole : Given) × (status : ℕ) × Right whole status × IsPart part whole)
 
 -- what is asked for is this, of files that these words name
 abbrev pub rule_of : (Given → ℕ → Type 0) → List (List ℕ) → Rule
 rule_of right words =
-    record { Right = right; Begun = IsBegun right; Leaves = Leaves words }
+    record { Right = right; Partial = IsPartial right; Leaves = Leaves words }
 
 -- All that is asked for was done, and nothing else.
 pub record IsDone (rule : Rule) (old new : Run) (status : ℕ) : Type 0 where
@@ -31,7 +31,7 @@ pub record IsDone (rule : Rule) (old new : Run) (status : ℕ) : Type 0 where
 -- Something outside stopped the run after a part of what is asked for.
 pub record IsHalted (rule : Rule) (old new : Run) (why : Outside) : Type 0 where
   pub part : Given
-  pub begun : rule.Begun part
+  pub partial : rule.Partial part
   pub leaves : rule.Leaves why (gave old part) new
 
 -- It was reported, and the run failed.

@@ -15,7 +15,7 @@ abbrev pub Leaves : List (List ℕ) → Outside → Run → Run → Type 0
 Leaves words (Unread why) before after =
     (word : List ℕ) × Contains words word × IsRefused before after (file_named word) why
 Leaves words (Unwritten why) before after = after ≡ with_cut before why
-Leaves words (Unmade why is_begun) before after =
+Leaves words (Unmade why is_partial) before after =
     (word : List ℕ) × Contains words word × IsUnmade before after word why
 Leaves words NoMemory before after = after ≡ before
 
@@ -39,7 +39,7 @@ is_closed Refused = false
 abbrev pub is_quiet : Outside → Bool
 is_quiet (Unread why) = false
 is_quiet (Unwritten why) = is_closed why
-is_quiet (Unmade why is_begun) = false
+is_quiet (Unmade why is_partial) = false
 is_quiet NoMemory = false
 
 -- It was reported, and nothing else was done; or the reader of the output is gone, and nothing was.

@@ -2,7 +2,7 @@
 use Rattle.std.specs.Prelude.{◌≡◌, Bool, MatchBool, None, false, true}
 use Rattle.fare_table.specs.declared.fault.TableFault.TheVariants as table
 use Rattle.frame.specs.Failing.{Cause, no_memory, unread, unwritten, wrong}
-use Rattle.frame.specs.Stops.{is_closed}
+use Rattle.frame.specs.Outsides.{is_closed}
 use Rattle.program_manners.specs.TableWords.{TableNames, file_named}
 use Rattle.program_manners.specs.declared.table_loads.TablesFault.{TablesFault}
 use Rattle.program_manners.specs.declared.table_loads.TablesFault.TheVariants as tables

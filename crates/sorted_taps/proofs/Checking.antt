@@ -1,14 +1,12 @@
 -- Several files that are checked, one after the other.
-use Rattle.std.proofs.Common.{◌≡◌, ◌⊎◌, ℕ, ◌+◌, ◌<◌, ◌≤◌, List, [], ◌∷◌, ◌++◌, length, map, get_or}
-use Rattle.std.proofs.Common.{refl, sym, ap, subst, ◌∙◌, arith, length-append, inl, inr}
-use Rattle.std.proofs.lemmas.List.{map-append}
-use Rattle.std.proofs.Math.ListN.{get_or-append}
-use Rattle.std.proofs.Math.Seq.{get_or-append_seam}
-use Rattle.std.proofs.lemmas.Bool.{cases_lt}
+use Rattle.std.proofs.Common.{◌≡◌, ℕ, ◌+◌, ◌<◌, List, [], ◌∷◌, ◌++◌, length, map, get_or}
+use Rattle.std.proofs.Common.{refl, sym, ap, subst, ◌∙◌, arith, length-append}
+use Rattle.std.proofs.lemmas.List.{get_or_default, map-append}
 use Rattle.tap_views.specs.declared.encoder.TapFields.{TapFields}
 use Rattle.sorted_taps.specs.Checked.{AreCountedFiles, IsFirstFault}
 use Rattle.sorted_taps.specs.Sorted.{IsSortedFile, IsSortedFault}
 use Rattle.sorted_taps.specs.declared.fault.FileFault.{FileFault}
+use Rattle.sorted_taps.proofs.Files.{each_more}
 
 -- the first files are sorted, and the numbers are those of their taps
 pub record AreCounted (files : List (List ℕ)) (count : ℕ) (numbers : List ℕ) : Type 0 where
@@ -37,27 +35,14 @@ counted_more files count numbers more taps are sorted is =
     record {
       lists = are.lists ++ taps ∷ [];
       number = omega (arith, many, long);
-      each = λ k inside. by_case k inside (cases_lt k count);
+      each = λ k inside. each_more (λ k list. IsSortedFile (get_or files k []) list) are.lists taps
+          (λ k d low. subst (IsSortedFile (get_or files k [])) (get_or_default are.lists k [] d low)
+          (are.each k (omega (arith, low, many))))
+          (subst (λ n. IsSortedFile (get_or files n []) taps) (sym many) sorted) k []
+          (omega (arith, inside, many, long));
       counted = is ∙ ap (λ l. l ++ length taps ∷ []) are.counted
           ∙ sym (map-append length are.lists (taps ∷ []));
     }
-  where
-    by_case : (k : ℕ) → k < count + 1 → (k < count) ⊎ (count ≤ k)
-        → IsSortedFile (get_or files k []) (get_or (are.lists ++ taps ∷ []) k [])
-    by_case k inside (inl less) =
-        let many = are.number in
-        subst (IsSortedFile (get_or files k []))
-        (sym (get_or-append are.lists (taps ∷ []) [] k (omega (arith, less, many))))
-        (are.each k less)
-    by_case k inside (inr last) =
-        let many = are.number in
-        let same : length are.lists ≡ k = omega (arith, many, inside, last) in
-        let here : count ≡ k = omega (arith, inside, last) in
-        subst (λ n. IsSortedFile (get_or files n []) (get_or (are.lists ++ taps ∷ []) k [])) here
-        (subst (λ n. IsSortedFile (get_or files count []) (get_or (are.lists ++ taps ∷ []) n []))
-        same
-        (subst (IsSortedFile (get_or files count []))
-        (sym (get_or-append_seam are.lists taps [] [])) sorted))
 
 -- when each file is counted, all are
 pub counted_all : (files : List (List ℕ)) (count : ℕ) (numbers : List ℕ)

@@ -50,3 +50,19 @@ each_more P xs x before now k d within = by_case (cases_lt k (length xs))
         let same : length xs ≡ k = omega (arith, long, last, within) in
         subst (λ n. P n (get_or (xs ++ x ∷ []) n d)) same
         (subst (P (length xs)) (sym (get_or-append_seam xs x [] d)) now)
+
+-- what holds of each of the files so far holds with one more
+pub known_more : {X A : Type 0} (known : X → Option (List ℕ)) (files : List X)
+    (P : ℕ → List ℕ → A → Type 0) (xs : List A) (x : A) (index : ℕ) (file : X)
+    → length xs ≡ index → index < length files → file ≡ get_or files index file
+    → IfSome (known file) (λ a. P index a x)
+    → ((all : List (List ℕ)) → map known files ≡ map Some all
+    → (k : ℕ) (d : A) → k < length xs → P k (get_or all k []) (get_or xs k d))
+    → (ys : List A) → ys ≡ xs ++ x ∷ [] → (all : List (List ℕ)) → map known files ≡ map Some all
+    → (k : ℕ) (d : A) → k < length ys → P k (get_or all k []) (get_or ys k d)
+known_more {A = A} known files P xs x index file number within is here before ys items all are =
+    subst (λ l. (k : ℕ) (d : A) → k < length l → P k (get_or all k []) (get_or l k d)) (sym items)
+    (each_more (λ k y. P k (get_or all k []) y) xs x (before all are)
+    (subst (λ n. P n (get_or all n []) x) (sym number)
+    (if_known (λ a. P index a x) (known file) (get_or all index [])
+    (known_at known files all index file are within is) here)))

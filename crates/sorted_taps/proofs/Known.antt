@@ -1,6 +1,5 @@
 -- What holds of bytes if they are known.
-use Rattle.std.specs.Prelude.{◌≡◌, Option, None, Some, IfSome, MatchOption, Result, Ok, Err, OnOk}
-use Rattle.std.specs.Prelude.{true, false}
+use Rattle.std.specs.Prelude.{◌≡◌, Option, None, Some, IfSome, MatchOption, true, false}
 use Rattle.std.specs.Option.{is_some}
 
 -- each fact of the first kind gives one of the second
@@ -20,12 +19,6 @@ pub known_map2 : {A : Type 0} (P Q R : A → Type 0) (known : Option A)
     → ((a : A) → P a → Q a → R a) → IfSome known P → IfSome known Q → IfSome known R
 known_map2 P Q R None f one two = tt
 known_map2 P Q R (Some a) f one two = f a one two
-
--- what holds after success gives more
-pub on_ok : {T E : Type 0} (P Q : Type 0) (result : Result T E) → (P → Q) → OnOk result P
-    → OnOk result Q
-on_ok P Q (Ok value) f given = f given
-on_ok P Q (Err fault) f given = tt
 
 -- what holds if there is no value
 pub at_none : {A : Type 0} (P : Type 0) (Q : A → Type 0) (answer : Option A)

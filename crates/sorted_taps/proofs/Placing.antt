@@ -1,12 +1,12 @@
 -- Taps between places: what readers pass that begin at one place and come to another.
-use Rattle.std.proofs.Common.{◌≡◌, ℕ, suc, zero, ◌+◌, ◌<◌, List, [], ◌∷◌, ◌++◌, length, map}
-use Rattle.std.proofs.Common.{take, drop, get_or, refl, sym, ap, subst, ◌∙◌, arith, None, Some}
-use Rattle.std.proofs.Common.{append_assoc, append-nil, length-append, false}
+use Rattle.std.proofs.Common.{◌≡◌, ℕ, suc, zero, ◌+◌, ◌<◌, List, [], ◌∷◌, ◌++◌, length, map, take}
+use Rattle.std.proofs.Common.{drop, get_or, refl, sym, ap, subst, ◌∙◌, arith, None, Some}
+use Rattle.std.proofs.Common.{append_assoc, length-append, false}
 use Rattle.std.specs.Prelude.{Option, flat_map}
 use Rattle.std.specs.List.Sorted.{IsSorted}
 use Rattle.std.specs.Ordering.{is_lt}
 use Rattle.std.proofs.Math.ListN.{get_or-append}
-use Rattle.std.proofs.Math.Seq.{drop-append_seam, drop-length, get_or-append_seam}
+use Rattle.std.proofs.Math.Seq.{drop-append_seam, drop-length}
 use Rattle.std.proofs.lemmas.List.{get_or_default}
 use Rattle.tap_views.specs.Encoding.{fields_of}
 use Rattle.tap_views.specs.Files.{IsFile, taps_of_batches}
@@ -14,21 +14,18 @@ use Rattle.tap_views.specs.Layout.{Tap}
 use Rattle.tap_views.specs.declared.encoder.TapFields.{TapFields}
 use Rattle.tap_views.proofs.ParseLemmas.{no_bytes}
 use Rattle.tap_parts.specs.Canonical.{tap_cmp, IsCanonical}
-use Rattle.sorted_taps.specs.Fronts.{AreBatches}
 use Rattle.sorted_taps.specs.Merged.{BeginsNotBefore}
 use Rattle.sorted_taps.specs.Merges.{AreTaken}
-use Rattle.sorted_taps.specs.Positions.{ArePlaced, AreSpanned, DoSpan, IsAt, IsLeftAfter}
-use Rattle.sorted_taps.specs.Positions.{IsPlaced, IsPlacedAnew, IsSpanned, first_position}
+use Rattle.sorted_taps.specs.Positions.{ArePlaced, AreSpanned, DoSpan, IsAt, IsLeftAfter, IsPlaced}
+use Rattle.sorted_taps.specs.Positions.{IsSpanned, first_position}
 use Rattle.sorted_taps.specs.Readers.{ahead}
-use Rattle.sorted_taps.specs.Reading.{AreTapsBetween}
+use Rattle.sorted_taps.specs.Reading.{AreBatches, AreTapsBetween}
 use Rattle.sorted_taps.specs.Represents.{AreAlignedWith, IsAlignedWith}
 use Rattle.sorted_taps.specs.declared.positions.FileSpan.{FileSpan}
 use Rattle.sorted_taps.specs.declared.positions.Position.{Position}
 use Rattle.sorted_taps.specs.declared.reader.TapReader.{TapReader}
-use Rattle.sorted_taps.proofs.Batches.{batches_join}
 use Rattle.sorted_taps.proofs.After.{after_read, none_of_nothing}
-use Rattle.sorted_taps.proofs.Between.{between_more}
-use Rattle.sorted_taps.proofs.Files.{each_more}
+use Rattle.sorted_taps.proofs.Batches.{batches_of, file_of, front_append}
 use Rattle.sorted_taps.proofs.Merging.{merged_canonical, none_before, sorted_cons, tail}
 use Rattle.sorted_taps.proofs.Taking.{HasPassed, passed_lengths, some_of, taken_passed}
 
@@ -67,26 +64,17 @@ left_file : (all : List ℕ) (from : ℕ) (taps : List TapFields)
     (between : AreTapsBetween all from (length all) taps)
     → IsFile (drop from all) between.batches []
 left_file all from taps between =
-    let whole : drop from all ≡ between.front ++ [] =
-    between.cut ∙ ap (λ l. between.front ++ l) (drop-length all) in
-    subst (λ batches. IsFile (drop from all) batches []) (append-nil between.batches)
-    (subst (λ l. IsFile l (between.batches ++ []) []) (sym whole)
-    (batches_join between.front [] [] between.batches [] between.are (refl, no_bytes)))
-
-batches_of_file : (bytes : List ℕ) (batches : List (List Tap)) → IsFile bytes batches []
-    → AreBatches bytes batches
-batches_of_file bytes [] file = file.0
-batches_of_file bytes (batch ∷ batches) (front, back, is, whole, file) =
-    (front, back, is, whole, batches_of_file back batches file)
+    file_of (drop from all) [] between.batches
+    (subst (λ l. AreBatches (drop from all) between.batches l) (drop-length all) between.are)
+    no_bytes
 
 file_left : (all : List ℕ) (from : ℕ) (batches : List (List Tap))
     → IsFile (drop from all) batches []
     → AreTapsBetween all from (length all) (map fields_of (taps_of_batches batches))
 file_left all from batches file = record {
-  front = drop from all;
   batches = batches;
-  cut = sym (append-nil (drop from all)) ∙ ap (λ l. drop from all ++ l) (sym (drop-length all));
-  are = batches_of_file (drop from all) batches file;
+  are = subst (λ l. AreBatches (drop from all) batches l) (sym (drop-length all))
+      (batches_of (drop from all) [] batches file);
   read = refl;
 }
 
@@ -104,13 +92,7 @@ goes_on : (all : List ℕ) (to : Option Position) (reader : TapReader) (rest : L
 goes_on all None reader rest at end left = record {
   more = [];
   is = left ∙ sym (ap (λ (l : List TapFields). l ++ []) at);
-  between = record {
-    front = [];
-    batches = [];
-    cut = end at ∙ sym (drop-length all);
-    are = refl;
-    read = refl;
-  };
+  between = record { batches = []; are = end at ∙ sym (drop-length all); read = refl };
   none = λ _. refl;
 }
 goes_on all (Some position) reader rest at end left =
@@ -163,8 +145,8 @@ spanned_one all span begin new list placed passed at =
           let skip = placed.skip in
           record {
             taps = whole;
-            between = between_more all span.from.offset new.offset (length all)
-                ((p ++ list) ++ here) on.more lies.between on.between;
+            between = front_append (drop span.from.offset all) (drop new.offset all)
+                (drop (length all) all) ((p ++ list) ++ here) on.more lies.between on.between;
             skip = omega (arith, long, both, skip);
             rest_is = ap (λ l. list ++ l) on.is
                 ∙ sym (drop-append_seam p (list ++ (here ++ on.more)))
@@ -286,36 +268,4 @@ span_alike files positions ones others spans aligned many ends = record {
         at_alike (get_or files k []) (get_or spans k s).to (get_or ones k d) (get_or others k d)
             (aligned.each k d (omega (arith, inside, many))) to,
       );
-}
-
--- ---- one file more
-pub placed_more : (files : List (List ℕ)) (positions : List Position) (readers : List TapReader)
-    (position : Position) (reader : TapReader) → length positions ≡ length readers
-    → ArePlaced files positions readers
-    → IsPlacedAnew (get_or files (length readers) []) position reader
-    → ArePlaced files (positions ++ position ∷ []) (readers ++ reader ∷ [])
-placed_more files positions readers position reader number placed at = record {
-  each = λ k p d inside. each_more
-      (λ k r. (p : Position)
-      → IsPlacedAnew (get_or files k []) (get_or (positions ++ position ∷ []) k p) r)
-      readers reader
-      (λ k d low p. subst (λ q. IsPlacedAnew (get_or files k []) q (get_or readers k d))
-      (sym (get_or-append positions (position ∷ []) p k (omega (arith, low, number))))
-      (placed.each k p d low))
-      (λ p. subst (λ q. IsPlacedAnew (get_or files (length readers) []) q reader)
-      (sym (ap (λ n. get_or (positions ++ position ∷ []) n p) (sym number)
-      ∙ get_or-append_seam positions position [] p)) at) k d inside p;
-}
-
-pub span_more : (files : List (List ℕ)) (positions : List Position) (readers : List TapReader)
-    (spans : List FileSpan) (span : FileSpan) → DoSpan files positions readers spans
-    → ((p : Position) → span.from ≡ get_or positions (length spans) p)
-    → ((d : TapReader) → IsAt (get_or files (length spans) []) span.to
-    (get_or readers (length spans) d))
-    → DoSpan files positions readers (spans ++ span ∷ [])
-span_more files positions readers spans span are from to = record {
-  each = λ k p d s inside. each_more
-      (λ k (one : FileSpan). (p : Position) (d : TapReader)
-      → (one.from ≡ get_or positions k p) × IsAt (get_or files k []) one.to (get_or readers k d))
-      spans span (λ k s low p d. are.each k p d s low) (λ p d. (from p, to d)) k s inside p d;
 }

@@ -14,7 +14,7 @@ use Rattle.tap_views.specs.Layout.{moment_limit}
 use Rattle.tap_views.specs.declared.encoder.TapFields.{TapFields}
 use Rattle.tap_views.proofs.Texts.{more_text, no_text}
 use Rattle.tap_parts.proofs.FullBatches.{zip_more}
-use Rattle.sorted_taps.specs.Written.{AreBatchesOf, AreFilled, IsPartlyWritten, IsWritten}
+use Rattle.sorted_taps.specs.Written.{AreBatchesOf, AreFilled, IsWritten}
 use Rattle.sorted_taps.specs.inside.Waiting.{HasPut, IsBatchWritten, MayWait}
 
 abbrev IsFull : List TapFields → Type 0
@@ -109,12 +109,14 @@ if_any Q (Err fault) holds = holds fault
 -- at the begin nothing is written, and no tap waits
 pub put_none : (old : Option (List ℕ)) → HasPut old old [] []
 put_none old = record {
-  text = [];
-  batches = [];
-  are = record { texts = []; each = tt; all_bytes = refl };
-  full = tt;
+  part = record {
+    text = [];
+    batches = [];
+    are = record { texts = []; each = tt; all_bytes = refl };
+    full = tt;
+    appended = Appends-nil old;
+  };
   reads = no_text;
-  appended = Appends-nil old;
   all_taps = refl;
 }
 
@@ -122,33 +124,33 @@ put_none old = record {
 pub put_batch : (old here there : Option (List ℕ)) (taps waiting : List TapFields)
     → HasPut old here taps waiting → length waiting ≡ 512 → IsBatchWritten here there waiting
     → HasPut old there taps []
-put_batch old here there taps waiting put full (text, encoded, appended) = record {
-  text = put.text ++ text;
-  batches = put.batches ++ waiting ∷ [];
-  are = batches_more put.text text put.batches waiting put.are encoded;
-  full = full_more put.batches waiting put.full full;
-  reads = subst (λ taps. IsFileOf (put.text ++ text) taps)
-      (sym (joined_more put.batches waiting))
-      (more_text put.text text (joined put.batches) waiting put.reads encoded);
-  appended = Appends-trans old here there put.text text put.appended appended;
-  all_taps = put.all_taps ∙ sym (joined_more put.batches waiting)
-      ∙ sym (append-nil (joined (put.batches ++ waiting ∷ [])));
-}
+put_batch old here there taps waiting put full (text, encoded, appended) =
+    let part = put.part in
+    record {
+      part = record {
+        text = part.text ++ text;
+        batches = part.batches ++ waiting ∷ [];
+        are = batches_more part.text text part.batches waiting part.are encoded;
+        full = full_more part.batches waiting part.full full;
+        appended = Appends-trans old here there part.text text part.appended appended;
+      };
+      reads = subst (λ taps. IsFileOf (part.text ++ text) taps)
+          (sym (joined_more part.batches waiting))
+          (more_text part.text text (joined part.batches) waiting put.reads encoded);
+      all_taps = put.all_taps ∙ sym (joined_more part.batches waiting)
+          ∙ sym (append-nil (joined (part.batches ++ waiting ∷ [])));
+    }
 
 -- one tap more waits
 pub put_tap : (old new : Option (List ℕ)) (taps waiting more : List TapFields) (tap : TapFields)
     → HasPut old new taps waiting → more ≡ waiting ++ tap ∷ []
     → HasPut old new (taps ++ tap ∷ []) more
 put_tap old new taps waiting more tap put is = record {
-  text = put.text;
-  batches = put.batches;
-  are = put.are;
-  full = put.full;
+  part = put.part;
   reads = put.reads;
-  appended = put.appended;
   all_taps = ap (λ l. l ++ tap ∷ []) put.all_taps
-      ∙ append_assoc (joined put.batches) waiting (tap ∷ [])
-      ∙ ap (λ l. joined put.batches ++ l) (sym is);
+      ∙ append_assoc (joined put.part.batches) waiting (tap ∷ [])
+      ∙ ap (λ l. joined put.part.batches ++ l) (sym is);
 }
 
 -- the same under other names
@@ -158,33 +160,22 @@ put_same old here out taps waiting pending same is put =
     subst (λ o. HasPut old o taps pending) (sym same)
     (subst (λ l. HasPut old here taps l) (sym is) put)
 
--- what stands there are whole batches
-pub put_started : (old new : Option (List ℕ)) (taps waiting : List TapFields)
-    → HasPut old new taps waiting → IsPartlyWritten old new
-put_started old new taps waiting put = record {
-  text = put.text;
-  batches = put.batches;
-  are = put.are;
-  full = put.full;
-  appended = put.appended;
-}
-
 -- no tap waits
 pub written_whole : (old new : Option (List ℕ)) (taps waiting : List TapFields)
     → HasPut old new taps waiting → waiting ≡ [] → IsWritten old new taps
 written_whole old new taps waiting put none =
-    let all : taps ≡ joined put.batches =
-    put.all_taps ∙ ap (λ l. joined put.batches ++ l) none ∙ append-nil (joined put.batches) in
+    let all : taps ≡ joined put.part.batches =
+    put.all_taps ∙ ap (λ l. joined put.part.batches ++ l) none ∙ append-nil (joined put.part.batches) in
     record {
-      file = put.text;
+      file = put.part.text;
       is_file = record {
-        reads = subst (λ taps. IsFileOf put.text taps) (sym all) put.reads;
-        batches = put.batches;
-        are = put.are;
+        reads = subst (λ taps. IsFileOf put.part.text taps) (sym all) put.reads;
+        batches = put.part.batches;
+        are = put.part.are;
         all_taps = all;
-        filled = filled_whole put.batches put.full;
+        filled = filled_whole put.part.batches put.part.full;
       };
-      appended = put.appended;
+      appended = put.part.appended;
     }
 
 -- the taps that waited were written as the last batch
@@ -192,17 +183,17 @@ pub written_more : (old here there : Option (List ℕ)) (taps waiting : List Tap
     → HasPut old here taps waiting → 0 < length waiting → length waiting ≤ 512
     → IsBatchWritten here there waiting → IsWritten old there taps
 written_more old here there taps waiting put some most (text, encoded, appended) =
-    let all : taps ≡ joined (put.batches ++ waiting ∷ []) =
-    put.all_taps ∙ sym (joined_more put.batches waiting) in
+    let all : taps ≡ joined (put.part.batches ++ waiting ∷ []) =
+    put.all_taps ∙ sym (joined_more put.part.batches waiting) in
     record {
-      file = put.text ++ text;
+      file = put.part.text ++ text;
       is_file = record {
-        reads = subst (λ taps. IsFileOf (put.text ++ text) taps) (sym put.all_taps)
-            (more_text put.text text (joined put.batches) waiting put.reads encoded);
-        batches = put.batches ++ waiting ∷ [];
-        are = batches_more put.text text put.batches waiting put.are encoded;
+        reads = subst (λ taps. IsFileOf (put.part.text ++ text) taps) (sym put.all_taps)
+            (more_text put.part.text text (joined put.part.batches) waiting put.reads encoded);
+        batches = put.part.batches ++ waiting ∷ [];
+        are = batches_more put.part.text text put.part.batches waiting put.part.are encoded;
         all_taps = all;
-        filled = filled_more put.batches waiting put.full some most;
+        filled = filled_more put.part.batches waiting put.part.full some most;
       };
-      appended = Appends-trans old here there put.text text put.appended appended;
+      appended = Appends-trans old here there put.part.text text put.part.appended appended;
     }

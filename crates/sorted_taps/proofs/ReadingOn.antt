@@ -1,21 +1,27 @@
 -- Batches that are decoded at an offset of a file.
-use Rattle.std.proofs.Common.{◌≡◌, ◌⊎◌, ℕ, ◌+◌, ◌*◌, ◌<◌, ◌≤◌, List, [], ◌∷◌, ◌++◌, length, take}
-use Rattle.std.proofs.Common.{drop, refl, sym, ap, subst, ◌∙◌, arith, inl, inr, None, Some}
-use Rattle.std.proofs.Common.{length-append, append_assoc, IfSome}
-use Rattle.std.specs.Prelude.{Option}
+use Rattle.std.proofs.Common.{◌≡◌, ◌⊎◌, ◌∙◌, ℕ, ◌+◌, ◌<◌, ◌≤◌, List, [], ◌++◌, ap, append_assoc}
+use Rattle.std.proofs.Common.{arith, drop, drop_at, drop-drop, inl, inr, length, length-append}
+use Rattle.std.proofs.Common.{None, Some, subst, sym, take, take_all, take-append-drop}
+use Rattle.std.proofs.Common.{length-take-le, ◌*◌, codes, length-drop, refl}
 use Rattle.std.proofs.lemmas.Bool.{cases_lt}
-use Rattle.std.proofs.lemmas.List.{take-append-drop, length-take-le, drop-drop, nil_from_length}
-use Rattle.tap_views.specs.Faults.{IsFault, header, width, layout_in, count_in}
-use Rattle.tap_views.specs.Layout.{Layout, Tap1, Tap2}
+use Rattle.std.proofs.lemmas.List.{nil_from_length, take-append-le, drop-append-le}
+use Rattle.tap_views.specs.Faults.{IsFault, header, width, layout_in, count_in, flags_in, size_in}
+use Rattle.tap_views.specs.Faults.{moment_in, Row, fault_order}
+use Rattle.tap_views.specs.Layout.{Tap, num, moment_limit, Layout, Tap1, Tap2}
 use Rattle.tap_views.specs.declared.encoder.TapFields.{TapFields}
 use Rattle.tap_views.specs.declared.fault.LayoutFault.{LayoutFault}
-use Rattle.tap_views.specs.declared.fault.LayoutFault.TheVariants.{Short, Magic, Flags, TooMany}
-use Rattle.tap_views.specs.declared.fault.LayoutFault.TheVariants.{Length, Moment}
-use Rattle.sorted_taps.specs.inside.Final.{IsFinal}
 use Rattle.sorted_taps.specs.declared.decoded_taps.Decoded.{Decoded}
 use Rattle.sorted_taps.specs.inside.Decoding.{IsDecodedAt, IsReadOn}
-use Rattle.sorted_taps.proofs.Fronts.{fault_of_front}
+use Rattle.sorted_taps.specs.Reading.{AreBatches}
+use Rattle.sorted_taps.proofs.Batches.{front_cut, front_longer}
+use Rattle.sorted_taps.proofs.Files.{if_known}
+use Rattle.std.specs.Prelude.{nat_eq, if◌then◌else◌}
+use Rattle.std.specs.Cmp.Lexicographic.{pointwise}
+use Rattle.std.specs.List.{starts_with}
+use Rattle.tap_views.specs.declared.fault.LayoutFault.TheVariants.{Short, Magic, Flags, TooMany}
+use Rattle.tap_views.specs.declared.fault.LayoutFault.TheVariants.{Length, Moment}
 
+-- ---- A fault of as many bytes as the longest batch has is a fault of more bytes.
 header_most : (layout : Layout) → header layout ≤ 12
 header_most Tap1 = omega arith
 header_most (Tap2 validator) = omega arith
@@ -25,60 +31,141 @@ size_most : (layout : Layout) (count : ℕ) → count ≤ 4096
 size_most Tap1 count few = omega (arith, few)
 size_most (Tap2 validator) count few = omega (arith, few)
 
--- more bytes mend no fault of 114696 bytes or more
-pub long_decides : (bytes : List ℕ) (fault : LayoutFault) → IsFault bytes fault
-    → 114696 ≤ length bytes → IsFinal fault
-long_decides bytes (Short have) is long =
-    let short = is.holds.1 in
-    let most = header_most (layout_in bytes) in
-    omega (arith, short, most, long)
-long_decides bytes Magic is long = tt
-long_decides bytes Flags is long = tt
-long_decides bytes (TooMany count) is long = tt
-long_decides bytes (Length want have) is long = by_count (cases_lt 4096 (count_in bytes))
-  where
-    by_count : (4096 < count_in bytes) ⊎ (count_in bytes ≤ 4096) → IsFinal (Length want have)
-    by_count (inl many) = is.first (TooMany (count_in bytes)) (omega arith) (refl, many)
-    by_count (inr few) =
-        let most = size_most (layout_in bytes) (count_in bytes) few in
-        let (size, all, less) = is.holds in
-        omega (arith, size, all, less, most, long)
-long_decides bytes (Moment index) is long = tt
+moment_within : (layout : Layout) (index : ℕ) → index < 4096
+    → (28 + width layout * index) + 8 ≤ 114696
+moment_within Tap1 index few = omega (arith, few)
+moment_within (Tap2 validator) index few = omega (arith, few)
 
+module _ (front more : List ℕ) (long : 114696 ≤ length front) where
+  abbrev whole : List ℕ
+  whole = front ++ more
+
+  same_part : (at n : ℕ) → at + n ≤ 114696 → take n (drop at whole) ≡ take n (drop at front)
+  same_part at n within =
+      let left = length-drop at front in
+      ap (take n) (drop-append-le at front more (omega (arith, within, long)))
+      ∙ take-append-le n (drop at front) more (omega (arith, left, within, long))
+
+  magic : take 4 whole ≡ take 4 front
+  magic = take-append-le 4 front more (omega (arith, long))
+
+  begins : starts_with nat_eq whole (codes "TAP2") ≡ starts_with nat_eq front (codes "TAP2")
+  begins = ap (pointwise nat_eq (codes "TAP2")) magic
+
+  layout : layout_in whole ≡ layout_in front
+  layout =
+      ap (λ b. if b then Tap2 (take 4 (drop 8 whole)) else Tap1) begins
+      ∙ ap (λ name. if starts_with nat_eq front (codes "TAP2") then Tap2 name else Tap1)
+      (same_part 8 4 (omega arith))
+
+  flags : flags_in whole ≡ flags_in front
+  flags = ap num (same_part 6 2 (omega arith))
+
+  count : count_in whole ≡ count_in front
+  count = ap num (same_part 4 2 (omega arith))
+
+  size : size_in whole ≡ size_in front
+  size = ap (λ l. header l + width l * count_in whole) layout
+      ∙ ap (λ n. header (layout_in front) + width (layout_in front) * n) count
+
+  moment : (index : ℕ) → index < 4096 → moment_in whole index ≡ moment_in front index
+  moment index few =
+      ap (λ l. num (take 8 (drop (28 + width l * index) whole))) layout
+      ∙ ap num (same_part (28 + width (layout_in front) * index) 8
+      (moment_within (layout_in front) index few))
+
+  few_of : (fault : LayoutFault) → 4 < fault_order fault → IsFault front fault
+      → count_in front ≤ 4096
+  few_of fault late is = by_count (cases_lt 4096 (count_in front))
+    where
+      by_count : (4096 < count_in front) ⊎ (count_in front ≤ 4096) → count_in front ≤ 4096
+      by_count (inl many) = absurd (is.first (TooMany (count_in front)) late (refl, many))
+      by_count (inr few) = few
+
+  -- an earlier row of the whole is one of the front
+  back : (other : LayoutFault) → fault_order other < 6
+      → (4 < fault_order other → count_in front ≤ 4096) → Row other whole → Row other front
+  back (Short have) before few row =
+      let most = header_most (layout_in whole) in
+      let all = length-append front more in
+      let less = row.1 in
+      absurd (omega (arith, less, most, all, long))
+  back Magic before few row = subst (λ t. ¬ (t ≡ codes "TAP1") × ¬ (t ≡ codes "TAP2")) magic row
+  back Flags before few row = subst (λ n. ¬ (n ≡ 0)) flags row
+  back (TooMany n) before few row = (row.0 ∙ count, row.1)
+  back (Length want have) before few row =
+      let most = size_most (layout_in front) (count_in front) (few (omega arith)) in
+      let all = length-append front more in
+      let same = size in
+      let (wanted, had, less) = row in
+      absurd (omega (arith, wanted, had, less, same, most, all, long))
+  back (Moment index) before few row = absurd (omega (arith, before))
+
+  pub fault_of_front : (fault : LayoutFault) → IsFault front fault → IsFault whole fault
+  fault_of_front (Short have) is =
+      let most = header_most (layout_in front) in
+      let less = is.holds.1 in
+      absurd (omega (arith, less, most, long))
+  fault_of_front (Length want have) is =
+      let most = size_most (layout_in front) (count_in front)
+      (few_of (Length want have) (omega arith) is) in
+      let (wanted, had, less) = is.holds in
+      absurd (omega (arith, wanted, had, less, most, long))
+  fault_of_front Magic is = record {
+    holds = subst (λ t. ¬ (t ≡ codes "TAP1") × ¬ (t ≡ codes "TAP2")) (sym magic) is.holds;
+    first = λ other before row. is.first other before
+        (back other (omega (arith, before)) (λ late. absurd (omega (arith, before, late))) row);
+  }
+  fault_of_front Flags is = record {
+    holds = subst (λ n. ¬ (n ≡ 0)) (sym flags) is.holds;
+    first = λ other before row. is.first other before
+        (back other (omega (arith, before)) (λ late. absurd (omega (arith, before, late))) row);
+  }
+  fault_of_front (TooMany n) is = record {
+    holds = (is.holds.0 ∙ sym count, is.holds.1);
+    first = λ other before row. is.first other before
+        (back other (omega (arith, before)) (λ late. absurd (omega (arith, before, late))) row);
+  }
+  fault_of_front (Moment index) is =
+      let few = few_of (Moment index) (omega arith) is in
+      let (inside, at, earlier) = is.holds in
+      record {
+        holds = (
+          subst (λ n. index < n) (sym count) inside,
+          subst (λ n. moment_limit ≤ n) (sym (moment index (omega (arith, inside, few)))) at,
+          λ k before. subst (λ n. n < moment_limit)
+              (sym (moment k (omega (arith, before, inside, few)))) (earlier k before),
+        );
+        first = λ other before row. is.first other before (back other before (λ late. few) row);
+      }
+
+-- ---- what was decoded at an offset
 module _ (all : List ℕ) (offset room : ℕ) (taps : List TapFields) (decoded : Decoded)
     (at : IsDecodedAt all offset room taps decoded) where
   abbrev left : List ℕ
   left = drop offset all
 
-  read : length (take at.count left) ≡ at.count
-  read = length-take-le at.count left at.within
+  abbrev more : List ℕ
+  more = drop at.count left
 
-  used_front : decoded.used ≡ length at.is_decoded.front_taps.front
-  used_front =
-      let d = at.is_decoded in
-      let size = d.size in
-      let long = ap length d.front_taps.cut ∙ length-append d.front_taps.front d.rest in
-      omega (arith, size, long)
+  abbrev some_batches : List (List Tap)
+  some_batches = at.is_decoded.front_taps.batches
 
-  -- what was decoded stands in the file
-  cut : left ≡ at.is_decoded.front_taps.front ++ drop (offset + decoded.used) all
-  cut =
-      let d = at.is_decoded in
-      let f = d.front_taps.front in
-      let more = d.rest ++ drop at.count left in
-      let whole : left ≡ f ++ more =
-      sym (take-append-drop at.count left)
-      ∙ ap (λ l. l ++ drop at.count left) d.front_taps.cut
-      ∙ append_assoc f d.rest (drop at.count left) in
-      let trailing : drop (offset + decoded.used) all ≡ more =
-      sym (drop-drop decoded.used offset all)
-      ∙ ap (λ n. drop n left) used_front
-      ∙ ap (drop (length f)) whole ∙ drop_front f more in
-      whole ∙ ap (λ l. f ++ l) (sym trailing)
-    where
-      drop_front : (xs ys : List ℕ) → drop (length xs) (xs ++ ys) ≡ ys
-      drop_front [] ys = refl
-      drop_front (x ∷ xs) ys = drop_front xs ys
+  joined : take at.count left ++ more ≡ left
+  joined = take-append-drop at.count left
+
+  -- what follows what was decoded
+  follows : at.is_decoded.rest ++ more ≡ drop (offset + decoded.used) all
+  follows =
+      let rest = at.is_decoded.rest in
+      let (front, cut) = front_cut (take at.count left) rest some_batches
+      at.is_decoded.front_taps.are in
+      let size = at.is_decoded.size in
+      let long = ap length cut ∙ length-append front rest in
+      sym (drop_at front (rest ++ more) decoded.used (omega (arith, size, long)))
+      ∙ ap (drop decoded.used) (sym (append_assoc front rest more)
+      ∙ ap (λ l. l ++ more) (sym cut) ∙ joined)
+      ∙ drop-drop decoded.used offset all
 
   -- batches were decoded, or the file ends
   pub read_on : 0 < room → (decoded.used ≡ 0 → decoded.fault ≡ None)
@@ -87,15 +174,15 @@ module _ (all : List ℕ) (offset room : ℕ) (taps : List TapFields) (decoded :
       let d = at.is_decoded in
       record {
         between = record {
-          front = d.front_taps.front;
-          batches = d.front_taps.batches;
-          cut = cut;
-          are = d.front_taps.are;
+          batches = some_batches;
+          are = subst (λ l. AreBatches left some_batches l) follows
+              (subst (λ l. AreBatches l some_batches (d.rest ++ more)) joined
+              (front_longer (take at.count left) d.rest more some_batches d.front_taps.are));
           read = d.front_taps.read;
         };
         end = λ none.
             let nothing = ap length (d.some none (sound none)) in
-            let count = read in
+            let count = length-take-le at.count left at.within in
             let short = at.short (omega (arith, nothing, count, some_room)) in
             nil_from_length left (omega (arith, nothing, count, short));
       }
@@ -103,45 +190,34 @@ module _ (all : List ℕ) (offset room : ℕ) (taps : List TapFields) (decoded :
   -- nothing was decoded for a fault
   pub read_fault : (fault : LayoutFault) → 114696 ≤ room → decoded.used ≡ 0
       → decoded.fault ≡ Some fault → IsFault left fault × (0 < length left)
-  read_fault fault much none is = by_count (cases_lt at.count room)
+  read_fault fault much none is = (by_count (cases_lt at.count room), some)
     where
-      nothing : at.is_decoded.front_taps.front ≡ []
-      nothing = let u = used_front in
-          nil_from_length at.is_decoded.front_taps.front (omega (arith, u, none))
-
-      rest : take at.count left ≡ at.is_decoded.rest
-      rest = at.is_decoded.front_taps.cut ∙ ap (λ f. f ++ at.is_decoded.rest) nothing
-
       found : IsFault (take at.count left) fault × (0 < length (take at.count left))
-      found = subst (λ r. IsFault r fault × (0 < length r)) (sym rest)
-          (of_fault decoded.fault is at.is_decoded.fault)
-        where
-          of_fault : (reported : Option LayoutFault) → reported ≡ Some fault
-              → IfSome reported
-              (λ fault. IsFault at.is_decoded.rest fault × (0 < length at.is_decoded.rest))
-              → IsFault at.is_decoded.rest fault × (0 < length at.is_decoded.rest)
-          of_fault reported e is = subst
-              (λ t. IfSome t
-              (λ fault. IsFault at.is_decoded.rest fault × (0 < length at.is_decoded.rest))) e is
+      found =
+          let rest = at.is_decoded.rest in
+          let (front, cut) = front_cut (take at.count left) rest some_batches
+          at.is_decoded.front_taps.are in
+          let size = at.is_decoded.size in
+          let long = ap length cut ∙ length-append front rest in
+          let nothing : front ≡ [] = nil_from_length front (omega (arith, size, long, none)) in
+          subst (λ r. IsFault r fault × (0 < length r))
+          (sym (cut ∙ ap (λ f. f ++ rest) nothing))
+          (if_known (λ f. IsFault rest f × (0 < length rest)) decoded.fault fault is
+          at.is_decoded.fault)
 
       some : 0 < length left
-      some = let few = found.1 in let r = read in let w = at.within in omega (arith, few, r, w)
+      some =
+          let few = found.1 in
+          let count = length-take-le at.count left at.within in
+          let within = at.within in
+          omega (arith, few, count, within)
 
-      by_count : (at.count < room) ⊎ (room ≤ at.count) → IsFault left fault × (0 < length left)
+      by_count : (at.count < room) ⊎ (room ≤ at.count) → IsFault left fault
       by_count (inl less) =
-          let all_read = at.short less in (
-            subst (λ r. IsFault r fault) (ap (λ n. take n left) all_read ∙ take_all left) found.0,
-            some,
-          )
-        where
-          take_all : (xs : List ℕ) → take (length xs) xs ≡ xs
-          take_all [] = refl
-          take_all (x ∷ xs) = ap (λ l. x ∷ l) (take_all xs)
+          let short = at.short less in
+          subst (λ l. IsFault l fault) (take_all at.count left (omega (arith, short))) found.0
       by_count (inr full) =
-          let r = read in
-          let final = long_decides (take at.count left) fault found.0
-          (omega (arith, r, full, much)) in (
-            subst (λ l. IsFault l fault) (take-append-drop at.count left)
-                (fault_of_front (take at.count left) (drop at.count left) fault final found.0),
-            some,
-          )
+          let count = length-take-le at.count left at.within in
+          subst (λ l. IsFault l fault) joined
+          (fault_of_front (take at.count left) more (omega (arith, count, full, much)) fault
+          found.0)

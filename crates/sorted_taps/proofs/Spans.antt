@@ -136,6 +136,20 @@ module _ (files : List (List ℕ)) (more : ℕ → ℕ) where
       let (last, rest, end) = all_shifted first mid taps next then taken in
       (last, (first, one, rest), end)
 
+-- a reader that is aligned with one that is aligned with one that another is aligned with
+aligned_by : (m n p q : ℕ) (one two three other : TapReader) → q + p ≡ m + n
+    → IsAlignedWith m one two → IsAlignedWith n two three → IsAlignedWith p other three
+    → IsAlignedWith q one other
+aligned_by m n p q one two three other sum first then last =
+    let a = first.number in
+    let b = then.number in
+    let c = last.number in
+    record {
+      offset = first.offset ∙ then.offset ∙ sym last.offset;
+      ahead = first.ahead ∙ then.ahead ∙ sym last.ahead;
+      number = omega (arith, sum, a, b, c);
+    }
+
 -- a span that begins where readers stand
 pub consumed_on : (files : List (List ℕ)) (from readers end : List TapReader)
     (before taps : List TapFields) (span : Span) → HaveConsumed files from before readers
@@ -156,18 +170,11 @@ consumed_on files from readers end before taps span consumed is started at_begin
       number = number ∙ sym started ∙ sym begins;
       each = λ k d inside.
           let within : k < length readers = omega (arith, number, inside) in
-          let one = consumed.aligned.each k d inside in
-          let two = at_begin k d within in
-          let three = is.begins.each k d (omega (arith, number, begins, started, inside)) in
           let base = get_or-map (λ (r : TapReader). r.passed) readers k d 0 within in
-          let a = one.number in
-          let b = two.number in
-          let e = three.number in
-          record {
-            offset = one.offset ∙ two.offset ∙ sym three.offset;
-            ahead = one.ahead ∙ two.ahead ∙ sym three.ahead;
-            number = omega (arith, a, b, e, base);
-          };
+          aligned_by 0 (get_or readers k d).passed 0 (more k) (get_or consumed.to k d)
+          (get_or readers k d) (get_or span.begin.items k d) (get_or is.from k d)
+          (omega (arith, base)) (consumed.aligned.each k d inside) (at_begin k d within)
+          (is.begins.each k d (omega (arith, number, begins, started, inside)));
     } in
     let (last, taken, holds) =
     all_shifted files more consumed.to is.from taps is.consumed.to shifted
@@ -180,18 +187,11 @@ consumed_on files from readers end before taps span consumed is started at_begin
         number = as_long ∙ ends ∙ sym ended;
         each = λ k d inside.
             let within : k < length readers = omega (arith, as_long, ends, sized, inside) in
-            let one = holds.each k d inside in
-            let two = is.consumed.aligned.each k d (omega (arith, as_long, inside)) in
-            let three = at_end k d within in
             let base = get_or-map (λ (r : TapReader). r.passed) readers k d 0 within in
-            let a = one.number in
-            let b = two.number in
-            let e = three.number in
-            record {
-              offset = one.offset ∙ two.offset ∙ sym three.offset;
-              ahead = one.ahead ∙ two.ahead ∙ sym three.ahead;
-              number = omega (arith, a, b, e, base);
-            };
+            aligned_by (more k) 0 (get_or readers k d).passed 0 (get_or last k d)
+            (get_or is.consumed.to k d) (get_or span.end.items k d) (get_or end k d)
+            (omega (arith, base)) (holds.each k d inside)
+            (is.consumed.aligned.each k d (omega (arith, as_long, inside))) (at_end k d within);
       };
     }
 

@@ -1,56 +1,22 @@
 -- Taps that are taken of files, also from their begins to their ends.
-use Rattle.std.proofs.Common.{◌≡◌, ◌≢◌, ◌⊎◌, ℕ, suc, zero, ◌+◌, ◌<◌, List, [], ◌∷◌, ◌++◌, length}
+use Rattle.std.proofs.Common.{◌≡◌, ℕ, suc, ◌+◌, ◌<◌, List, [], ◌∷◌, ◌++◌, length}
 use Rattle.std.proofs.Common.{map, take, drop, refl, sym, ap, subst, ◌∙◌, arith, append_assoc}
-use Rattle.std.proofs.Common.{get_or, set, All, inl, inr, length-append, append-nil}
+use Rattle.std.proofs.Common.{get_or, set, inl, inr, append-nil, replicate}
 use Rattle.std.specs.Prelude.{flat_map}
 use Rattle.std.specs.List.Sorted.{IsSorted}
 use Rattle.std.proofs.lemmas.Bool.{cases_eq}
 use Rattle.std.proofs.lemmas.List.{get_or_default, get_or-set_same, get_or-set_other, length-set}
-use Rattle.std.proofs.lemmas.List.{set_split, set-get_or}
-use Rattle.std.proofs.lemmas.List.Elements.{All-nil, All-cons}
+use Rattle.std.proofs.lemmas.List.{set_split, set-get_or, get_or-replicate, length-replicate}
+use Rattle.std.proofs.lemmas.List.Elements.{All-replicate}
 use Rattle.tap_views.specs.declared.encoder.TapFields.{TapFields}
 use Rattle.tap_parts.specs.Canonical.{tap_cmp, IsCanonical}
-use Rattle.sorted_taps.specs.Merged.{BeginsNotBefore, IsMerged, IsLeastTaken}
+use Rattle.sorted_taps.specs.Merged.{BeginsNotBefore, IsMerged}
 use Rattle.sorted_taps.specs.Merges.{AreAtEnd, AreStarted, AreSortedFiles, AreTaken, IsTapTaken}
-use Rattle.sorted_taps.specs.Readers.{ahead, IsPositionedIn, IsAdvanced}
+use Rattle.sorted_taps.specs.Readers.{ahead, IsAdvanced}
 use Rattle.sorted_taps.specs.Sorted.{IsSortedFile}
 use Rattle.sorted_taps.specs.declared.reader.TapReader.{TapReader}
 use Rattle.sorted_taps.proofs.Merging.{merged_canonical}
-use Rattle.sorted_taps.proofs.Standing.{sorted_at_end, holds_on}
-
--- the reader has passed these taps since an offset, whatever it has counted
-abbrev pub LiesIn : List ℕ → ℕ → List TapFields → TapReader → Type 0
-LiesIn all from passed reader =
-    IsPositionedIn all from passed (record reader { passed = length passed })
-
-pub lies_of : (all : List ℕ) (from : ℕ) (passed : List TapFields) (reader : TapReader)
-    → IsPositionedIn all from passed reader → LiesIn all from passed reader
-lies_of all from passed reader holds = record {
-  between = holds.between;
-  sorted = holds.sorted;
-  end = holds.end;
-  number = refl;
-}
-
--- a reader that goes on
-pub lies_on : (all : List ℕ) (from : ℕ) (passed : List TapFields) (old new : TapReader)
-    → LiesIn all from passed old → (is : IsAdvanced all old new)
-    → LiesIn all from (passed ++ is.tap ∷ []) new
-lies_on all from passed old new lies is =
-    let long = length-append passed (is.tap ∷ []) in
-    holds_on all from passed (record old { passed = length passed })
-    (record new { passed = length (passed ++ is.tap ∷ []) }) lies
-    (record {
-      tap = is.tap;
-      trailing = is.trailing;
-      read = is.read;
-      stood = is.stood;
-      between = is.between;
-      goes_on = is.goes_on;
-      order = is.order;
-      end = is.end;
-      number = omega (arith, long);
-    })
+use Rattle.sorted_taps.proofs.Standing.{LiesIn, lies_of, lies_on, sorted_at_end}
 
 -- the reader has passed the taps of the list
 pub record HasPassed (all : List ℕ) (old : TapReader) (list : List TapFields) (new : TapReader)
@@ -79,24 +45,6 @@ passed_step all old mid new step list is = record {
   number = let more = is.number in let one = step.number in omega (arith, more, one);
 }
 
--- a list without taps for each reader
-abbrev nils : List TapReader → List (List TapFields)
-nils [] = []
-nils (reader ∷ readers) = [] ∷ nils readers
-
-nils_number : (readers : List TapReader) → length (nils readers) ≡ length readers
-nils_number [] = refl
-nils_number (reader ∷ readers) = ap suc (nils_number readers)
-
-nils_at : (readers : List TapReader) (k : ℕ) → get_or (nils readers) k [] ≡ []
-nils_at [] k = refl
-nils_at (reader ∷ readers) zero = refl
-nils_at (reader ∷ readers) (suc k) = nils_at readers k
-
-nils_all : (readers : List TapReader) → All (λ list. list ≡ []) (nils readers)
-nils_all [] = All-nil (λ list. list ≡ [])
-nils_all (reader ∷ readers) = All-cons (λ list. list ≡ []) [] (nils readers) refl (nils_all readers)
-
 -- the taps of each file that its reader has passed: merged they are those that were taken
 pub record ArePassed (files : List (List ℕ)) (old new : List TapReader) (taps : List TapFields)
     : Type 0 where
@@ -112,132 +60,122 @@ pub same_head : (was : List TapFields) (one other : TapFields) (rest more : List
     → was ≡ one ∷ rest → was ≡ other ∷ more → one ≡ other
 same_head was one other rest more e f = let h : one ∷ rest ≡ other ∷ more = sym e ∙ f in cc
 
-module _ (files : List (List ℕ)) (old mid : List TapReader) (tap : TapFields)
-    (taken : IsTapTaken files old tap mid) where
+-- a tap is taken before those that the readers pass then
+module _ (files : List (List ℕ)) (old mid end : List TapReader) (tap : TapFields)
+    (taps : List TapFields) (taken : IsTapTaken files old tap mid)
+    (then : ArePassed files mid end taps) where
+  abbrev at : ℕ
+  at = taken.at
+
   abbrev file : List ℕ
   file = get_or files taken.at []
+
+  abbrev lists : List (List TapFields)
+  lists = then.lists
+
+  abbrev rest : List TapFields
+  rest = get_or then.lists taken.at []
+
+  abbrev before : List (List TapFields)
+  before = set then.lists taken.at (tap ∷ get_or then.lists taken.at [])
 
   within : taken.at < length old
   within = taken.least.within
 
+  number : length then.lists ≡ length mid
+  number = then.number
+
+  many : length mid ≡ length old
+  many = ap length taken.moved ∙ length-set old taken.at taken.is
+
+  size : length before ≡ length then.lists
+  size = length-set lists at (tap ∷ rest)
+
+  inside_lists : taken.at < length then.lists
+  inside_lists = let w = within in let m = many in let n = number in omega (arith, w, m, n)
+
   there : (d : TapReader) → get_or old taken.at d ≡ taken.was
-  there d = get_or_default old taken.at d taken.was within ∙ sym taken.there
+  there d = get_or_default old at d taken.was within ∙ sym taken.there
 
   now : (d : TapReader) → get_or mid taken.at d ≡ taken.is
-  now d = ap (λ l. get_or l taken.at d) taken.moved
-      ∙ get_or-set_same old taken.at taken.is d within
-
-  other : (k : ℕ) (d : TapReader) → k ≢ taken.at → get_or mid k d ≡ get_or old k d
-  other k d apart = ap (λ l. get_or l k d) taken.moved
-      ∙ get_or-set_other old taken.at k taken.is d apart
-
-  as_many : length mid ≡ length old
-  as_many = ap length taken.moved ∙ length-set old taken.at taken.is
+  now d = ap (λ l. get_or l at d) taken.moved ∙ get_or-set_same old at taken.is d within
 
   the_tap : taken.step.tap ≡ tap
   the_tap =
-      let (rest, holds) = taken.least.head taken.was in
-      same_head (ahead taken.was) taken.step.tap tap taken.step.trailing rest taken.step.stood
+      let (others, holds) = taken.least.head taken.was in
+      same_head (ahead taken.was) taken.step.tap tap taken.step.trailing others taken.step.stood
       (ap ahead (sym (there taken.was)) ∙ holds)
 
-  module _ (lists : List (List TapFields)) (end : List TapReader)
-      (number : length lists ≡ length mid)
-      (each : (k : ℕ) (d : TapReader) → k < length mid
-      → HasPassed (get_or files k []) (get_or mid k d) (get_or lists k []) (get_or end k d)) where
-    abbrev rest : List TapFields
-    rest = get_or lists taken.at []
+  first : (d : TapReader) → HasPassed file taken.was (tap ∷ rest) (get_or end taken.at d)
+  first d =
+      let w = within in
+      let m = many in
+      subst (λ t. HasPassed file taken.was (t ∷ rest) (get_or end at d)) the_tap
+      (passed_step file taken.was taken.is (get_or end at d) taken.step rest
+      (subst (λ r. HasPassed file r rest (get_or end at d)) (now d)
+      (then.each at d (omega (arith, w, m)))))
 
-    abbrev before : List (List TapFields)
-    before = set lists taken.at (tap ∷ rest)
+  each : (k : ℕ) (d : TapReader) → k < length old
+      → HasPassed (get_or files k []) (get_or old k d) (get_or before k []) (get_or end k d)
+  each k d inside = elim (cases_eq k at) [
+    | inl same ↦
+        subst (λ n. HasPassed (get_or files n []) (get_or old n d) (get_or before n [])
+        (get_or end n d)) (sym same)
+        (subst (λ r. HasPassed file r (get_or before at []) (get_or end at d)) (sym (there d))
+        (subst (λ l. HasPassed file taken.was l (get_or end at d))
+        (sym (get_or-set_same lists at (tap ∷ rest) [] inside_lists)) (first d)))
+    | inr apart ↦
+        let m = many in
+        subst (λ r. HasPassed (get_or files k []) r (get_or before k []) (get_or end k d))
+        (ap (λ l. get_or l k d) taken.moved ∙ get_or-set_other old at k taken.is d apart)
+        (subst (λ l. HasPassed (get_or files k []) (get_or mid k d) l (get_or end k d))
+        (sym (get_or-set_other lists at k (tap ∷ rest) [] apart))
+        (then.each k d (omega (arith, inside, m))))
+  ]
 
-    inside_lists : taken.at < length lists
-    inside_lists = let w = within in let m = as_many in omega (arith, w, m, number)
-
-    passed_before : (d : TapReader)
-        → HasPassed file taken.was (tap ∷ rest) (get_or end taken.at d)
-    passed_before d =
-        let w = within in
-        let m = as_many in
-        subst (λ t. HasPassed file taken.was (t ∷ rest) (get_or end taken.at d)) the_tap
-        (passed_step file taken.was taken.is (get_or end taken.at d) taken.step rest
-        (subst (λ r. HasPassed file r rest (get_or end taken.at d)) (now d)
-        (each taken.at d (omega (arith, w, m)))))
-
-    each_before : (k : ℕ) (d : TapReader) → k < length old
-        → HasPassed (get_or files k []) (get_or old k d) (get_or before k []) (get_or end k d)
-    each_before k d inside = by_position (cases_eq k taken.at)
-      where
-        by_position : (k ≡ taken.at) ⊎ (k ≢ taken.at)
-            → HasPassed (get_or files k []) (get_or old k d) (get_or before k []) (get_or end k d)
-        by_position (inl same) =
-            subst
-            (λ n. HasPassed (get_or files n []) (get_or old n d) (get_or before n [])
-            (get_or end n d))
-            (sym same)
-            (subst (λ r. HasPassed file r (get_or before taken.at []) (get_or end taken.at d))
-            (sym (there d))
-            (subst (λ l. HasPassed file taken.was l (get_or end taken.at d))
-            (sym (get_or-set_same lists taken.at (tap ∷ rest) [] inside_lists))
-            (passed_before d)))
-        by_position (inr apart) =
-            let m = as_many in
-            subst (λ r. HasPassed (get_or files k []) r (get_or before k []) (get_or end k d))
-            (other k d apart)
-            (subst (λ l. HasPassed (get_or files k []) (get_or mid k d) l (get_or end k d))
-            (sym (get_or-set_other lists taken.at k (tap ∷ rest) [] apart))
-            (each k d (omega (arith, inside, m))))
-
-    least_taken : IsLeastTaken before tap lists
-    least_taken =
-        record {
-          least = (λ j d inside.
-              let m = as_many in
-              let long = length-set lists taken.at (tap ∷ rest) in
-              let within_old : j < length old = omega (arith, inside, m, long, number) in
-              subst (λ l. BeginsNotBefore tap l) (get_or_default before j [] d inside)
-              ((each_before j taken.was within_old).begins tap
-              (taken.least.least j taken.was within_old)));
-          front = take taken.at lists;
-          rest = rest;
-          back = drop (suc taken.at) lists;
-          were = set_split lists taken.at (tap ∷ rest) inside_lists;
-          are = sym (set-get_or lists taken.at []) ∙ set_split lists taken.at rest inside_lists;
-        }
-
-    number_before : length before ≡ length old
-    number_before =
-        let m = as_many in
-        let long = length-set lists taken.at (tap ∷ rest) in
-        omega (arith, m, long, number)
+  tap_passed : ArePassed files old end (tap ∷ taps)
+  tap_passed =
+      let m = many in
+      let long = size in
+      let n = number in
+      record {
+        lists = before;
+        number = omega (arith, m, long, n);
+        each = each;
+        merged = (
+          lists,
+          record {
+            least = λ j d inside.
+                let low : j < length old = omega (arith, inside, m, long, n) in
+                subst (λ l. BeginsNotBefore tap l) (get_or_default before j [] d inside)
+                ((each j taken.was low).begins tap (taken.least.least j taken.was low));
+            front = take at lists;
+            rest = rest;
+            back = drop (suc at) lists;
+            were = set_split lists at (tap ∷ rest) inside_lists;
+            are = sym (set-get_or lists at []) ∙ set_split lists at rest inside_lists;
+          },
+          then.merged,
+        );
+        as_many = then.as_many ∙ many;
+      }
 
 -- the taps that are taken are those that the readers pass, merged
 pub taken_passed : (files : List (List ℕ)) (taps : List TapFields) (old new : List TapReader)
     → AreTaken files old taps new → ArePassed files old new taps
-taken_passed files [] old new taken =
-    record {
-      lists = nils old;
-      number = nils_number old;
-      each = λ k d inside.
-          subst (λ l. HasPassed (get_or files k []) (get_or old k d) l (get_or new k d))
-          (sym (nils_at old k))
-          (subst (λ rs. HasPassed (get_or files k []) (get_or old k d) [] (get_or rs k d)) taken
-          (passed_none (get_or files k []) (get_or old k d)));
-      merged = nils_all old;
-      as_many = sym (ap length taken);
-    }
+taken_passed files [] old new taken = record {
+  lists = replicate (length old) [];
+  number = length-replicate (length old) [];
+  each = λ k d inside.
+      subst (λ l. HasPassed (get_or files k []) (get_or old k d) l (get_or new k d))
+      (sym (get_or-replicate (length old) k [] [] inside))
+      (subst (λ rs. HasPassed (get_or files k []) (get_or old k d) [] (get_or rs k d)) taken
+      (passed_none (get_or files k []) (get_or old k d)));
+  merged = All-replicate (λ (list : List TapFields). list ≡ []) (length old) [] refl;
+  as_many = sym (ap length taken);
+}
 taken_passed files (tap ∷ taps) old new (mid, taken, more) =
-    let then = taken_passed files taps mid new more in
-    record {
-      lists = before files old mid tap taken then.lists new then.number then.each;
-      number = number_before files old mid tap taken then.lists new then.number then.each;
-      each = each_before files old mid tap taken then.lists new then.number then.each;
-      merged = (
-        then.lists,
-        least_taken files old mid tap taken then.lists new then.number then.each,
-        then.merged,
-      );
-      as_many = then.as_many ∙ as_many files old mid tap taken;
-    }
+    tap_passed files old mid new tap taps taken (taken_passed files taps mid new more)
 
 -- an element of a list that has one
 pub some_of : (readers : List TapReader) (k : ℕ) → k < length readers → TapReader

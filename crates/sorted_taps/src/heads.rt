@@ -3,12 +3,12 @@
 ghost use Rattle.std.specs.Prelude.{◌≡◌, ◌+◌, ◌*◌, ◌<◌, ℕ, List, get_or, length, set, IfOk};
 ghost use Rattle.std.specs.Prelude.{[], MatchOption, Some, option_map, true, false};
 ghost use Rattle.tap_parts.specs.Keys.{tap_of_key};
-ghost use Rattle.sorted_taps.specs.Heads.{HasLeaves, IsChosen, IsNotAfter, IsRanked, tap_of};
+ghost use Rattle.sorted_taps.specs.Heads.{HasLeaves, IsNotAfter, IsRanked, no_head, tap_of};
 ghost use Rattle.sorted_taps.specs.Merges.{AreAtEnd, IsLeastHead};
 ghost use Rattle.sorted_taps.specs.Readers.{ahead, head_of};
 ghost use Rattle.sorted_taps.specs.declared.heads.Head.{Head};
 ghost use Rattle.sorted_taps.specs.declared.reader.TapReader.{TapReader};
-ghost use Rattle.sorted_taps.specs.inside.Choosing.{IsChosenAnew};
+ghost use Rattle.sorted_taps.specs.inside.Choosing.{IsChosen, IsChosenAnew};
 
 use crate::reader::TapReader;
 use std::alloc::{AllocError, Global};
@@ -59,8 +59,8 @@ fn lesser(tree: &[Head], left: usize, right: usize) -> usize
     requires left { left < length tree.now }
     requires right { right < length tree.now }
     ensures within { result < length tree.now }
-    ensures chosen { (d : Head) → IsChosen (get_or tree.now left d) (get_or tree.now right d)
-        (get_or tree.now result d) }
+    ensures chosen { IsChosen (get_or tree.now left no_head) (get_or tree.now right no_head)
+        (get_or tree.now result no_head) }
 {
     if is_before(&tree[right], &tree[left]) {
         right
@@ -72,7 +72,7 @@ fn lesser(tree: &[Head], left: usize, right: usize) -> usize
 #[inline(always)]
 fn head_at(tree: &[Head], position: usize) -> Head
     requires { position < length tree.now }
-    ensures { result ≡ get_or tree.now position result }
+    ensures { result ≡ get_or tree.now position no_head }
 {
     let head = &tree[position];
     *head
@@ -113,28 +113,18 @@ pub(crate) fn tree_of(alloc: Global, readers: &[TapReader]) -> Result<Vec<Head>,
     Ok(tree)
 }
 
-#[inline(always)]
-fn put(tree: &mut [Head], readers: &[TapReader], head: Head)
-    requires within { head.at < length readers.now }
-    requires ranked { (was : TapReader) × IsRanked (set readers.now head.at was) tree.old }
-    ensures { (is : TapReader) → tap_of head ≡ head_of is
-        → IsRanked (set readers.now head.at is) tree.new }
-{
-    let mut position = readers.len() + head.at;
-    tree[position] = head;
-    while position > 1 {
-        position /= 2;
-        choose(tree, position);
-    }
-}
-
 pub(crate) fn put_end(tree: &mut [Head], readers: &[TapReader], at: usize)
     requires within { at < length readers.now }
     requires ranked { (was : TapReader) × IsRanked (set readers.now at was) tree.old }
     ensures { (gone : TapReader) → ahead gone ≡ []
         → IsRanked (set readers.now at gone) tree.new }
 {
-    put(tree, readers, Head { key: None, at });
+    let mut position = readers.len() + at;
+    tree[position] = Head { key: None, at };
+    while position > 1 {
+        position /= 2;
+        choose(tree, position);
+    }
 }
 
 /// The tree has the end of the reader's file, above which are the least of the other heads. So

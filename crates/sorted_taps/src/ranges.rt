@@ -22,9 +22,6 @@ const FULL_HEADER: [u8; TAP1_HEADER_BYTES] = *b"TAP1\x02\x00\x00\x00";
 
 const TOKEN_BYTES: usize = 16;
 
-/// Files of fewer batches together are not worth ranges.
-const SHORT_BATCHES: u64 = 64;
-
 /// How many taps in front of a range are passed at most.
 const PASSED_TAPS: u64 = 1024;
 
@@ -116,58 +113,6 @@ pub(crate) fn reader_near<F: Placed>(
 ) -> Result<TapReader, SortedFault>
     requires { window_bytes ≤ length window.old }
 {
-    let PlacedReader {
-        position: _,
-        reader,
-    } = reader_from(alloc, file, token, PASSED_TAPS, window)?;
+    let PlacedReader { reader, .. } = reader_from(alloc, file, token, PASSED_TAPS, window)?;
     Ok(reader)
-}
-
-fn longest<F: Placed>(files: &[F]) -> Result<Option<&F>, SortedFault> {
-    let mut most = 0u64;
-    let mut longest = None;
-    for file in files {
-        let batches = batches_in(file)?;
-        if batches > most {
-            most = batches;
-            longest = Some(file);
-        }
-    }
-    Ok(longest)
-}
-
-fn all_batches<F: Placed>(files: &[F]) -> Result<u64, SortedFault> {
-    let mut batches = 0u64;
-    for file in files {
-        batches = batches.saturating_add(batches_in(file)?);
-    }
-    Ok(batches)
-}
-
-/// At most `most` tokens, increasing, between which the files' taps are in ranges of about equal
-/// size. Fewer if a token has the taps of several ranges, and none if the files are short.
-pub fn bounds_of<F: Placed>(
-    alloc: Global,
-    files: &[F],
-    most: u32,
-) -> Result<Vec<Token>, SortedFault>
-    ensures { IfOk result (λ bounds. length bounds.items ≤ most) }
-{
-    let mut bounds = Vec::new(alloc);
-    let Some(file) = longest(files)? else {
-        return Ok(bounds);
-    };
-    if all_batches(files)? < SHORT_BATCHES {
-        return Ok(bounds);
-    }
-    let taps = batches_in(file)?.saturating_mul(BATCH_TAPS);
-    let step = taps / (most as u64 + 1);
-    for bound in 0..most {
-        if let Some(token) = token_at(file, step.saturating_mul(bound as u64 + 1))? {
-            if bounds.last().is_none_or(|last| *last < token) {
-                bounds.push(token)?;
-            }
-        }
-    }
-    Ok(bounds)
 }

@@ -1,4 +1,5 @@
-//! Bounds of parts of files, from a sample of the files' tokens, which suits batches of 512 taps.
+//! Bounds of ranges and parts of files, from a sample of their tokens, which suits batches of 512
+//! taps.
 //! Nothing but speed rests on it.
 
 ghost use Rattle.std.specs.Prelude.{◌≡◌, ◌+◌, ◌-◌, ◌<◌, ◌≤◌, IfOk, IsTrue, OnOk, get_or, length};
@@ -13,6 +14,12 @@ use crate::ranges::{BATCH_TAPS, token_at};
 use placed_files::Placed;
 use std::alloc::{AllocError, Global};
 use tap_views::{TAP1_HEADER_BYTES, TAP1_TAP_BYTES, Token};
+
+/// Files of fewer taps together are not worth ranges.
+const FEW_TAPS: u64 = 32_768;
+
+/// How many tokens are read for a range.
+const RANGE_TOKENS: u64 = 8;
 
 /// How many tokens are read for a part.
 const PART_TOKENS: u64 = 64;
@@ -52,15 +59,19 @@ fn push_tokens<F: Placed>(
     Ok(tap.saturating_sub(taps))
 }
 
-/// At equal distances, in increasing order.
-fn sample_of<F: Placed>(alloc: Global, files: &[F], most: u64) -> Result<Vec<Token>, SortedFault>
-    requires { 1 ≤ most }
-{
+fn all_taps<F: Placed>(files: &[F]) -> Result<u64, SortedFault> {
     let mut taps = 0u64;
     for file in files {
         taps = taps.saturating_add(taps_in(file)?);
     }
-    let step = (taps / most).saturating_add(1);
+    Ok(taps)
+}
+
+/// At equal distances, in increasing order.
+fn sample_of<F: Placed>(alloc: Global, files: &[F], most: u64) -> Result<Vec<Token>, SortedFault>
+    requires { 1 ≤ most }
+{
+    let step = (all_taps(files)? / most).saturating_add(1);
     let mut next = step / 2;
     let mut tokens = Vec::new(alloc);
     for file in files {
@@ -120,6 +131,23 @@ pub fn bounds_of_parts<F: Placed>(
     ensures increase { IfOk result (λ bounds. AreTokensIncreasing bounds.items) }
 {
     let wanted = (most as u64 + 1) * PART_TOKENS;
+    let tokens = sample_of(alloc, files, wanted.min(MOST_TOKENS))?;
+    Ok(picked(alloc, &tokens, most)?)
+}
+
+/// At most `most` tokens, increasing, between which the files' taps are in ranges of about equal
+/// size. Fewer if a token has the taps of several ranges, and none if the files are short.
+pub fn bounds_of<F: Placed>(
+    alloc: Global,
+    files: &[F],
+    most: u32,
+) -> Result<Vec<Token>, SortedFault>
+    ensures { IfOk result (λ bounds. length bounds.items ≤ most) }
+{
+    if all_taps(files)? < FEW_TAPS {
+        return Ok(Vec::new(alloc));
+    }
+    let wanted = (most as u64 + 1) * RANGE_TOKENS;
     let tokens = sample_of(alloc, files, wanted.min(MOST_TOKENS))?;
     Ok(picked(alloc, &tokens, most)?)
 }

@@ -139,7 +139,7 @@ pub halted_at : (words : List (List ℕ)) (start mid new : Run) (decoded : List 
     → IsHalted (decode_rule words) start new why
 halted_at words start mid new decoded rest why named is leaves = record {
   part = decoding_of decoded;
-  begun = record { decoded = decoded; rest = rest; named = named; is_part = part_self _ };
+  partial = record { decoded = decoded; rest = rest; named = named; is_part = part_self _ };
   leaves = subst (λ r. Leaves words why r new) is leaves;
 }
 
@@ -156,7 +156,7 @@ halted_one words start mid new n d decoded why within are is (inr (one, word, st
     let s = stops start (decoding_of decoded) is in
     record {
       part = s.part;
-      begun = record {
+      partial = record {
         decoded = decoded ++ one ∷ [];
         rest = map (λ w. w.now) (drop (n + 1) words);
         named = words_rest words (n + 1) (decoded ++ one ∷ [])

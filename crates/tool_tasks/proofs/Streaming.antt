@@ -35,7 +35,7 @@ leaves_kept : (words : List (List ℕ)) (calls : List Calls) (why : Outside) (b 
     → LeavesOf words calls why b m → IsKept m a → LeavesOf words calls why b a
 leaves_kept words calls (Unread why) b m a (failed, kept) more = (failed, kept_twice b m a kept more)
 leaves_kept words calls (Unwritten why) b m a kept more = kept_twice (with_cut b why) m a kept more
-leaves_kept words calls (Unmade why is_begun) b m a bad more = absurd bad
+leaves_kept words calls (Unmade why is_partial) b m a bad more = absurd bad
 leaves_kept words calls NoMemory b m a kept more = kept_twice b m a kept more
 
 cut_kept : (b m a : Run) (fault : WriteFault) → IsKept b m → a ≡ with_cut m fault
@@ -49,7 +49,7 @@ leaves_cut : (words : List (List ℕ)) (calls : List Calls) (why : Outside) (b m
 leaves_cut words calls (Unread why) b m a fault (failed, kept) cut = cut_kept b m a fault kept cut
 leaves_cut words calls (Unwritten why) b m a fault kept cut =
     cut_kept (with_cut b why) m a fault kept cut
-leaves_cut words calls (Unmade why is_begun) b m a fault bad cut = absurd bad
+leaves_cut words calls (Unmade why is_partial) b m a fault bad cut = absurd bad
 leaves_cut words calls NoMemory b m a fault kept cut = cut_kept b m a fault kept cut
 
 -- ---- what was given
@@ -63,10 +63,10 @@ gave_noted r text note = rw (append-nil r.loads, append-nil r.made) refl
 
 module _ (Whole : List Calls → List ℕ → List ℕ → ℕ → Type 0) (Part : List Calls → List ℕ → Type 0)
     (words : List (List ℕ)) (before after calls : List Calls) (all : after ≡ before ++ calls) where
-  begun_by : (text : List ℕ) → (text ≡ []) ⊎ Part calls text
+  partial_by : (text : List ℕ) → (text ≡ []) ⊎ Part calls text
       → (text ≡ []) ⊎ ((c : List Calls) × (after ≡ before ++ c) × Part c text)
-  begun_by text (inl none) = inl none
-  begun_by text (inr part) = inr (calls, all, part)
+  partial_by text (inl none) = inl none
+  partial_by text (inr part) = inr (calls, all, part)
 
   does : (old mid new : Run) (streamed : Result Noted Halt) (result : Result ℕ Halt)
       → IsStreamed Whole Part words calls old mid streamed → IsFinished streamed mid new result
@@ -86,7 +86,7 @@ module _ (Whole : List Calls → List ℕ → List ℕ → ℕ → Type 0) (Part
   }
   does old mid new (Ok noted) (Err halt) (text, is, part, whole) (fault, why, cut) = record {
     part = written_of text [];
-    begun = (text, refl, begun_by text part);
+    partial = (text, refl, partial_by text part);
     leaves = (
       calls,
       all,
@@ -97,7 +97,7 @@ module _ (Whole : List Calls → List ℕ → List ℕ → ℕ → Type 0) (Part
   does old mid new (Err first) (Ok status) s bad = absurd bad
   does old mid new (Err first) (Err halt) (text, part, leaves) (inl (why, kept)) = record {
     part = written_of text [];
-    begun = (text, refl, begun_by text part);
+    partial = (text, refl, partial_by text part);
     leaves = (
       calls,
       all,
@@ -108,7 +108,7 @@ module _ (Whole : List Calls → List ℕ → List ℕ → ℕ → Type 0) (Part
   }
   does old mid new (Err first) (Err halt) (text, part, leaves) (inr (fault, why, cut)) = record {
     part = written_of text [];
-    begun = (text, refl, begun_by text part);
+    partial = (text, refl, partial_by text part);
     leaves = (
       calls,
       all,
@@ -132,7 +132,7 @@ pub unopened_in : (words : List (List ℕ)) (word : List ℕ) (calls : Calls) (w
 unopened_in words word calls (Unread why) has unread =
     (word, has, calls, (0, omega arith, refl), unread)
 unopened_in words word calls (Unwritten why) has bad = absurd bad
-unopened_in words word calls (Unmade why is_begun) has bad = absurd bad
+unopened_in words word calls (Unmade why is_partial) has bad = absurd bad
 unopened_in words word calls NoMemory has none = tt
 
 pub unopened_leaves : (words : List (List ℕ)) (calls more : List Calls) (why : Outside) (run : Run)
@@ -140,5 +140,5 @@ pub unopened_leaves : (words : List (List ℕ)) (calls more : List Calls) (why :
 unopened_leaves words calls more (Unread why) run (word, has, failed, in_calls, unread) =
     ((word, has, failed, Contains-append_left calls more failed in_calls, unread), inl (written_none run))
 unopened_leaves words calls more (Unwritten why) run bad = absurd bad
-unopened_leaves words calls more (Unmade why is_begun) run bad = absurd bad
+unopened_leaves words calls more (Unmade why is_partial) run bad = absurd bad
 unopened_leaves words calls more NoMemory run none = inl (written_none run)

@@ -60,6 +60,6 @@ pub record IsPartlyDecoded (words : List (List ℕ)) (part : Given) : Type 0 whe
 abbrev pub decode_rule : List (List ℕ) → Rule
 decode_rule words = record {
   Right = IsTapTableOf words;
-  Begun = IsPartlyDecoded words;
+  Partial = IsPartlyDecoded words;
   Leaves = Leaves words;
 }

@@ -24,7 +24,7 @@ IsKept before after = (after ≡ before) ⊎ (after ≡ with_flushed before)
 abbrev pub LeavesOf : List (List ℕ) → List Calls → Outside → Run → Run → Type 0
 LeavesOf words calls (Unread why) before after = HasFailed words calls × IsKept before after
 LeavesOf words calls (Unwritten why) before after = IsKept (with_cut before why) after
-LeavesOf words calls (Unmade why is_begun) before after = ⊥
+LeavesOf words calls (Unmade why is_partial) before after = ⊥
 LeavesOf words calls NoMemory before after = IsKept before after
 
 -- What is asked for of the calls that followed: a text and a note that are right with a status, and
@@ -34,7 +34,7 @@ abbrev pub stream_rule : (List Calls → List ℕ → List ℕ → ℕ → Type 
 stream_rule Whole Part words before after = record {
   Right = λ given status. (calls : List Calls) × (after ≡ before ++ calls) × (text : List ℕ)
       × (note : List ℕ) × (given ≡ written_of text note) × Whole calls text note status;
-  Begun = λ part. (text : List ℕ) × (part ≡ written_of text [])
+  Partial = λ part. (text : List ℕ) × (part ≡ written_of text [])
       × ((text ≡ []) ⊎ ((calls : List Calls) × (after ≡ before ++ calls) × Part calls text));
   Leaves = λ why old new. (calls : List Calls) × (after ≡ before ++ calls)
       × LeavesOf words calls why old new;

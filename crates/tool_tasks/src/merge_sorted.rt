@@ -14,7 +14,7 @@ use crate::fault::Fault;
 use crate::known::Known;
 use crate::names::word_at;
 use crate::placed::{PlacedFiles, open_placed};
-use crate::prepared::{Begun, carry, refusal};
+use crate::prepared::{Partial, carry, refusal};
 use crate::sort::{failed, prepare};
 use crate::stops::{Halt, ended, line_of};
 use frame::Outside;
@@ -137,12 +137,12 @@ fn merge<'a, D: PlacedFiles, W: World>(
     match merged {
         Ok(ends) => match prepare(alloc, words, &ends, String::new(alloc), 0) {
             Ok(prepared) => {
-                let begun = Begun {
+                let partial = Partial {
                     name: words.out,
                     file,
                     unmade: Fault::Unmade(words.out),
                 };
-                carry(&prepared, Some(begun), world)
+                carry(&prepared, Some(partial), world)
             }
             Err(AllocError) => {
                 world.discard(file);

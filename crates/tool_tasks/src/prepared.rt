@@ -3,8 +3,8 @@ ghost use Rattle.std.specs.Prelude.{◌≡◌, [], ℕ, List, IfErr, IfOk, OnOk}
 ghost use Rattle.frame.specs.Given.{Adds, with_files};
 ghost use Rattle.frame.specs.Outsides.{Leaves, StopsIn};
 ghost use Rattle.tool_tasks.specs.Fault.{fault_text};
-ghost use Rattle.tool_tasks.specs.inside.Prepared.{AreNamed, Carries, IsBegunIn, IsKnown, IsNamedIn};
-ghost use Rattle.tool_tasks.specs.inside.Prepared.{IsRefusal, begun_files, files_in, given_of};
+ghost use Rattle.tool_tasks.specs.inside.Prepared.{AreNamed, Carries, IsPartialIn, IsKnown, IsNamedIn};
+ghost use Rattle.tool_tasks.specs.inside.Prepared.{IsRefusal, partial_files, files_in, given_of};
 ghost use Rattle.tool_tasks.specs.inside.Prepared.{whole_of, with_prepared};
 ghost use Rattle.world.specs.Origins.{with_loads};
 ghost use Rattle.world.specs.Run.{Load, Run};
@@ -27,7 +27,7 @@ pub(crate) struct NewFile<'a> {
 
 /// A file that was begun: it has its name once all else but the note is given.
 #[derive(Drop)]
-pub(crate) struct Begun<'a, F: Drop> {
+pub(crate) struct Partial<'a, F: Drop> {
     pub(crate) name: &'a str,
     pub(crate) file: F,
     pub(crate) unmade: Fault<'a>,
@@ -41,7 +41,7 @@ pub(crate) struct Prepared<'a> {
     pub(crate) first: Option<NewFile<'a>>,
     /// Made after the text, as an upload that is no text.
     pub(crate) upload: Option<NewFile<'a>>,
-    /// Begun before anything is given out, and made after it, as the rows that are not taps.
+    /// Partial before anything is given out, and made after it, as the rows that are not taps.
     pub(crate) held: Option<NewFile<'a>>,
     pub(crate) note: String,
     pub(crate) status: u8,
@@ -110,20 +110,20 @@ fn give<'a, W: World>(prepared: &Prepared<'a>, world: &mut W) -> Result<(), Halt
 
 /// Gives the file its name, if there is one.
 #[tactic(auto, using(frame::proofs::Giving::gave_no_files))]
-fn finish_begun<'a, W: World>(
-    begun: Option<Begun<'a, W::File>>,
+fn finish_partial<'a, W: World>(
+    partial: Option<Partial<'a, W::File>>,
     world: &mut W,
 ) -> Result<(), Halt<'a>>
-    requires { IsKnown W.File.contents begun }
+    requires { IsKnown W.File.contents partial }
     ensures made { OnOk result (Adds (W.run world.old) (W.run world.new)
-        (λ g. with_files g (begun_files W.File.contents begun.entry))) }
-    ensures stopped { (words : List (List ℕ)) → IsBegunIn words begun.entry → IfErr result
+        (λ g. with_files g (partial_files W.File.contents partial.entry))) }
+    ensures stopped { (words : List (List ℕ)) → IsPartialIn words partial.entry → IfErr result
         (λ halt. Leaves words halt.why (W.run world.old) (W.run world.new)) }
 {
-    match begun {
+    match partial {
         None => Ok(()),
-        Some(begun) => {
-            let Begun { name, file, unmade } = begun;
+        Some(partial) => {
+            let Partial { name, file, unmade } = partial;
             match finish(name, file, world) {
                 Ok(()) => Ok(()),
                 Err(why) => Err(Halt {
@@ -135,11 +135,11 @@ fn finish_begun<'a, W: World>(
     }
 }
 
-fn discard<'a, W: World>(begun: Option<Begun<'a, W::File>>, world: &mut W)
+fn discard<'a, W: World>(partial: Option<Partial<'a, W::File>>, world: &mut W)
     ensures { W.run world.new ≡ W.run world.old }
 {
-    if let Some(begun) = begun {
-        let Begun { name, file, unmade } = begun;
+    if let Some(partial) = partial {
+        let Partial { name, file, unmade } = partial;
         let _ = name;
         let _ = unmade;
         world.discard(file);
@@ -150,22 +150,22 @@ fn discard<'a, W: World>(begun: Option<Begun<'a, W::File>>, world: &mut W)
 /// Then gives the note.
 pub(crate) fn carry<'a, W: World>(
     prepared: &Prepared<'a>,
-    begun: Option<Begun<'a, W::File>>,
+    partial: Option<Partial<'a, W::File>>,
     world: &mut W,
 ) -> Result<u8, Halt<'a>>
-    requires { IsKnown W.File.contents begun }
+    requires { IsKnown W.File.contents partial }
     ensures { (words : List (List ℕ)) (start : Run) (loads : List Load)
         → W.run world.old ≡ with_loads start loads → AreNamed words prepared.now
-        → IsBegunIn words begun.entry → Carries words start
-        (given_of loads prepared.now (begun_files W.File.contents begun.entry))
+        → IsPartialIn words partial.entry → Carries words start
+        (given_of loads prepared.now (partial_files W.File.contents partial.entry))
         prepared.now.status (W.run world.new) result }
 {
     match give(prepared, world) {
         Err(halt) => {
-            discard(begun, world);
+            discard(partial, world);
             Err(halt)
         }
-        Ok(()) => match finish_begun(begun, world) {
+        Ok(()) => match finish_partial(partial, world) {
             Err(halt) => Err(halt),
             Ok(()) => match world.flush() {
                 Err(why) => {
@@ -202,12 +202,12 @@ pub(crate) fn carry_out<'a, W: World>(
                 line: line_of(why, held.name, held.unmade),
             }),
             Ok(file) => {
-                let begun = Begun {
+                let partial = Partial {
                     name: held.name,
                     file,
                     unmade: held.unmade,
                 };
-                carry(prepared, Some(begun), world)
+                carry(prepared, Some(partial), world)
             }
         },
     }

@@ -18,7 +18,7 @@ use crate::counted::Counted;
 use crate::fault::Fault;
 use crate::loads::load;
 use crate::names::word_at;
-use crate::prepared::{Begun, NewFile, Prepared, carry};
+use crate::prepared::{Partial, NewFile, Prepared, carry};
 use crate::stops::{Halt, ended, line_of};
 use frame::Outside;
 use report_texts::write_upload;
@@ -213,12 +213,12 @@ fn write_sorted<'a, R: Threads + Sync, W: World>(
     };
     match prepare_sorted(alloc, words, &ends) {
         Ok(prepared) => {
-            let begun = Begun {
+            let partial = Partial {
                 name: words.out,
                 file,
                 unmade: Fault::Unmade(words.out),
             };
-            carry(&prepared, Some(begun), world)
+            carry(&prepared, Some(partial), world)
         }
         Err(AllocError) => {
             world.discard(file);

@@ -13,11 +13,11 @@ pub(crate) struct Halt<'a> {
 }
 
 /// The line of what stopped a run. Of a file, this is its word; if it was begun, `begun` is the line.
-pub(crate) fn line_of<'a>(why: Outside, word: &'a str, begun: Fault<'a>) -> Fault<'a> {
+pub(crate) fn line_of<'a>(why: Outside, word: &'a str, partial: Fault<'a>) -> Fault<'a> {
     match why {
         Outside::Unread(why) => Fault::of_load(word, why),
         Outside::Unmade(MakeFault::NoMemory, _) | Outside::NoMemory => Fault::NoMemory,
-        Outside::Unmade(_, true) => begun,
+        Outside::Unmade(_, true) => partial,
         Outside::Unmade(MakeFault::Exists, false) => Fault::Exists(word),
         Outside::Unmade(MakeFault::Unmade, false) => Fault::Unmade(word),
         Outside::Unwritten(WriteFault::Closed) => Fault::Closed,

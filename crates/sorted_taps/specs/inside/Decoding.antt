@@ -1,24 +1,11 @@
 -- Batches that are decoded from the front of some bytes.
-use Rattle.std.specs.Prelude.{◌≡◌, ℕ, ◌+◌, ◌<◌, ◌≤◌, List, [], ◌++◌, length, map, take, drop}
-use Rattle.std.specs.Prelude.{None, IfSome}
-use Rattle.tap_views.specs.Encoding.{fields_of}
+use Rattle.std.specs.Prelude.{◌≡◌, ℕ, ◌+◌, ◌<◌, ◌≤◌, List, [], length, take, drop, None, IfSome}
 use Rattle.tap_views.specs.Faults.{IsFault}
-use Rattle.tap_views.specs.Layout.{Tap}
 use Rattle.tap_views.specs.declared.encoder.TapFields.{TapFields}
-use Rattle.tap_views.specs.Files.{taps_of_batches}
-use Rattle.sorted_taps.specs.Fronts.{AreBatches}
-use Rattle.sorted_taps.specs.Reading.{AreTapsBetween}
+use Rattle.sorted_taps.specs.Reading.{AreFrontTaps, AreTapsBetween}
 use Rattle.sorted_taps.specs.declared.decoded_taps.Decoded.{Decoded}
 use Rattle.sorted_taps.specs.declared.fault.SortedFault.{SortedFault}
 use Rattle.sorted_taps.specs.declared.fault.SortedFault.TheVariants.{Layout, OutOfOrder}
-
--- the bytes are batches of these taps, and then the rest
-pub record AreFrontTaps (bytes rest : List ℕ) (taps : List TapFields) : Type 0 where
-  pub front : List ℕ
-  pub batches : List (List Tap)
-  pub cut : bytes ≡ front ++ rest
-  pub are : AreBatches front batches
-  pub read : map fields_of (taps_of_batches batches) ≡ taps
 
 -- the bytes begin with batches of these taps; what follows has the fault; and without a batch or a
 -- fault there are no bytes

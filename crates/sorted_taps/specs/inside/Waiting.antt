@@ -1,11 +1,10 @@
 -- Taps that wait until they are a batch: what private functions alone cite.
 use Rattle.std.specs.Prelude.{◌≡◌, ℕ, ◌≤◌, List, ◌++◌, length, flat_map, Option}
-use Rattle.std.specs.List.{AllByRecursion}
 use Rattle.std.specs.Io.KnownBytes.{Appends}
 use Rattle.tap_views.specs.Encoding.{AreEarly, Encodes}
 use Rattle.tap_views.specs.Files.{IsFileOf}
 use Rattle.tap_views.specs.declared.encoder.TapFields.{TapFields}
-use Rattle.sorted_taps.specs.Written.{AreBatchesOf}
+use Rattle.sorted_taps.specs.Written.{IsPartlyWritten}
 
 -- the taps may wait: they are no more than a batch has, and their moments are before 2100
 pub record MayWait (waiting : List TapFields) : Type 0 where
@@ -18,10 +17,6 @@ IsBatchWritten old new taps = (batch : List ℕ) × Encodes batch taps × Append
 
 -- of these taps the first are after the old bytes, in whole batches of 512, and the others wait
 pub record HasPut (old new : Option (List ℕ)) (taps waiting : List TapFields) : Type 0 where
-  pub text : List ℕ
-  pub batches : List (List TapFields)
-  pub are : AreBatchesOf text batches
-  pub full : AllByRecursion (λ batch. length batch ≡ 512) batches
-  pub reads : IsFileOf text (flat_map (λ batch. batch) batches)
-  pub appended : Appends old new text
-  pub all_taps : taps ≡ flat_map (λ batch. batch) batches ++ waiting
+  pub part : IsPartlyWritten old new
+  pub reads : IsFileOf part.text (flat_map (λ batch. batch) part.batches)
+  pub all_taps : taps ≡ flat_map (λ batch. batch) part.batches ++ waiting

@@ -4,7 +4,7 @@ use Rattle.std.specs.Prelude.{option_map, string_bytes}
 use Rattle.frame.specs.Given.{Given, file_of, gave, with_files, with_note, with_text}
 use Rattle.frame.specs.Outsides.{IsStoppedIn}
 use Rattle.tool_tasks.specs.Encode.{Refuses}
-use Rattle.tool_tasks.specs.declared.prepared.Begun.{Begun}
+use Rattle.tool_tasks.specs.declared.prepared.Partial.{Partial}
 use Rattle.tool_tasks.specs.declared.prepared.NewFile.{NewFile}
 use Rattle.tool_tasks.specs.declared.prepared.Prepared.{Prepared}
 use Rattle.tool_tasks.specs.declared.stops.Halt.{Halt}
@@ -19,13 +19,13 @@ known_file name None = []
 known_file name (Some bytes) = file_of name bytes ∷ []
 
 -- the file that was begun, by what it holds
-abbrev pub begun_files : {F : Type 0} → (F → Option (List ℕ)) → Option (Begun F) → List Named
-begun_files contents None = []
-begun_files contents (Some begun) = known_file begun.name.now (contents begun.file)
+abbrev pub partial_files : {F : Type 0} → (F → Option (List ℕ)) → Option (Partial F) → List Named
+partial_files contents None = []
+partial_files contents (Some partial) = known_file partial.name.now (contents partial.file)
 
-abbrev pub IsKnown : {F : Type 0} → (F → Option (List ℕ)) → Option (Begun F) → Type 0
+abbrev pub IsKnown : {F : Type 0} → (F → Option (List ℕ)) → Option (Partial F) → Type 0
 IsKnown contents None = ⊤
-IsKnown contents (Some begun) = (bytes : List ℕ) × (contents begun.file ≡ Some bytes)
+IsKnown contents (Some partial) = (bytes : List ℕ) × (contents partial.file ≡ Some bytes)
 
 -- with the files that are not begun, and the text
 abbrev pub with_prepared : Given → Prepared → Given
@@ -61,9 +61,9 @@ abbrev pub IsNamedIn : List (List ℕ) → Option NewFile → Type 0
 IsNamedIn words None = ⊤
 IsNamedIn words (Some file) = Contains words file.name.now
 
-abbrev pub IsBegunIn : {F : Type 0} → List (List ℕ) → Option (Begun F) → Type 0
-IsBegunIn words None = ⊤
-IsBegunIn words (Some begun) = Contains words begun.name.now
+abbrev pub IsPartialIn : {F : Type 0} → List (List ℕ) → Option (Partial F) → Type 0
+IsPartialIn words None = ⊤
+IsPartialIn words (Some partial) = Contains words partial.name.now
 
 pub record AreNamed (words : List (List ℕ)) (p : Prepared) : Type 0 where
   pub first : IsNamedIn words p.first

@@ -13,14 +13,14 @@ use Rattle.world.specs.declared.faults.WriteFault.{WriteFault}
 abbrev pub IsUnopened : List ℕ → Calls → Outside → Type 0
 IsUnopened word calls (Unread why) = calls.run.unread ≡ file_named word ∷ []
 IsUnopened word calls (Unwritten why) = ⊥
-IsUnopened word calls (Unmade why is_begun) = ⊥
+IsUnopened word calls (Unmade why is_partial) = ⊥
 IsUnopened word calls NoMemory = ⊤
 
 -- one of the words was not opened, which the calls say
 abbrev pub IsUnopenedIn : List (List ℕ) → List Calls → Outside → Type 0
 IsUnopenedIn words calls (Unread why) = HasFailed words calls
 IsUnopenedIn words calls (Unwritten why) = ⊥
-IsUnopenedIn words calls (Unmade why is_begun) = ⊥
+IsUnopenedIn words calls (Unmade why is_partial) = ⊥
 IsUnopenedIn words calls NoMemory = ⊤
 
 -- a text was written, and the note is right with it; or a part of one

@@ -1,34 +1,46 @@
-use Rattle.std.proofs.Common.{◌≡◌, ◌⊎◌, ◌≤◌, [], length, sym, subst, arith, inl, inr}
+use Rattle.std.proofs.Common.{◌≡◌, ◌⊎◌, ◌∙◌, ◌≤◌, [], ap, length, length-append, map, sym, subst, arith}
+use Rattle.std.proofs.Common.{inl, inr}
 use Rattle.std.proofs.lemmas.List.{nil_from_length}
-use Rattle.sorted_taps.specs.inside.Decoding.{AreFrontTaps}
-use Rattle.sorted_taps.proofs.Decoded.{front_none, front_more, front_size, end_of}
+use Rattle.tap_views.specs.Encoding.{fields_of}
+use Rattle.sorted_taps.specs.Reading.{AreFrontTaps}
+use Rattle.sorted_taps.proofs.Batches.{front_append, front_batch, front_none, end_of}
 use Rattle.sorted_taps.proofs.decoded_taps.decode.Goals.{then-loop-taps-test+else-len-lt-ENOUGH_TAPS}
 use Rattle.sorted_taps.proofs.decoded_taps.decode.Goals.{else-loop-taps-test}
 use Rattle.sorted_taps.proofs.decoded_taps.decode.Goals as goal
 
--- src/decoding.rt:39:5
 pub loop-taps-init : goal.loop-taps-init
 loop-taps-init c =
     let bytes = c.args.bytes.now in
-    subst (λ taps. AreFrontTaps bytes bytes taps) (sym c.clear.ensures.items) (front_none bytes)
+    record {
+      front = subst (λ taps. AreFrontTaps bytes bytes taps) (sym c.clear.ensures.items)
+          (front_none bytes);
+      size = omega arith;
+    }
 
--- src/decoding.rt:39:5
 pub loop-taps-preserved : goal.loop-taps-preserved
 loop-taps-preserved c =
-    let (front, batch, is) = c.in-Ok.ensures.found in
-    subst (λ taps. AreFrontTaps c.args.bytes.now c.in-Ok.rest.now taps)
-    (sym c.in_ok-push_taps-in-Ok.ensures)
-    (front_more c.args.bytes.now c.loop-taps.left.now front c.in-Ok.rest.now
-    c.loop-taps.taps.items c.in-Ok.batch c.loop-taps.invariant batch is)
-
--- src/decoding.rt:34:1
-pub returns : goal.returns
-returns c =
+    let inv = c.loop-taps.invariant in
     let bytes = c.args.bytes.now in
     let left = c.loop-taps.left.now in
-    let taps = c.loop-taps.taps.items in
-    let size = front_size bytes left taps c.loop-taps.invariant in
-    let done : (left ≡ []) ⊎ (512 ≤ length taps) = elim c.loop-taps-test.branch [
+    let rest = c.in-Ok.rest.now in
+    let (front, batch, is) = c.in-Ok.ensures.found in
+    let long = ap length is ∙ length-append front rest in
+    let size = inv.size in
+    record {
+      front = subst (λ taps. AreFrontTaps bytes rest taps) (sym c.in_ok-push_taps-in-Ok.ensures)
+          (front_append bytes left rest c.loop-taps.taps.items (map fields_of c.in-Ok.batch)
+          inv.front (front_batch left front rest c.in-Ok.batch batch is));
+      size = omega (arith, long, size);
+    }
+
+pub returns : goal.returns
+returns c =
+    let inv = c.loop-taps.invariant in
+    let bytes = c.args.bytes.now in
+    let left = c.loop-taps.left.now in
+    let size = inv.size in
+    let done : (left ≡ []) ⊎ (512 ≤ length c.loop-taps.taps.items) =
+    elim c.loop-taps-test.branch [
       | then-loop-taps-test+else-len-lt-ENOUGH_TAPS w ↦ let h = w.if-len-lt-ENOUGH_TAPS.false in
           let e = w.len.ensures in inr (omega (arith, h, e))
       | else-loop-taps-test w ↦ inl
@@ -37,8 +49,8 @@ returns c =
     ] in
     record {
       rest = left;
-      front_taps = c.loop-taps.invariant;
+      front_taps = inv.front;
       size = omega (arith, size);
       fault = tt;
-      some = λ used none. end_of bytes left taps c.loop-taps.invariant done used;
+      some = λ used none. end_of bytes left c.loop-taps.taps.items inv.front done used;
     }

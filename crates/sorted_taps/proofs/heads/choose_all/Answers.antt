@@ -1,6 +1,6 @@
 use Rattle.std.proofs.Common.{◌-◌, ◌≤◌, length, arith, sym, subst}
 use Rattle.sorted_taps.specs.Heads.{HasLeaves}
-use Rattle.sorted_taps.proofs.Ranking.{AreChosenFrom, chosen_before, leaves_kept}
+use Rattle.sorted_taps.proofs.Ranking.{AreChosenFrom, chosen_set, leaves_kept}
 use Rattle.sorted_taps.proofs.heads.choose_all.Goals as goal
 
 pub choose-requires : goal.choose-requires
@@ -29,8 +29,18 @@ loop-position-preserved c =
     (record {
       leaves = leaves_kept readers tree (position - 1) anew.head (omega (arith, most, more))
           inv.leaves;
-      chosen = chosen_before (length readers) tree position (position - 1) anew.head
-          (omega (arith, more))
-          (omega (arith, more)) (omega (arith, most, size, more)) inv.chosen anew.chosen;
+      chosen = λ place some high low. chosen_set tree (position - 1) anew.head place
+          (omega (arith, more)) (omega (arith, most, size, more)) anew.chosen
+          (λ e. omega (arith, e, some, high))
+          (λ other. inv.chosen place some (omega (arith, other, high)) low);
       most = omega (arith, most);
     })
+
+pub returns : goal.returns
+returns c =
+    let inv = c.loop-position.invariant in
+    let least = c.loop-position-test.false in
+    record {
+      leaves = inv.leaves;
+      inner = λ place some low. inv.chosen place some (omega (arith, some, least)) low;
+    }

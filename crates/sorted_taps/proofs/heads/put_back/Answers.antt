@@ -1,12 +1,11 @@
-use Rattle.std.proofs.Common.{◌≡◌, ◌+◌, ◌/◌, ◌<◌, ◌∙◌, Some, arith, ap, get_or, length, refl}
-use Rattle.std.proofs.Common.{sym}
+use Rattle.std.proofs.Common.{◌≡◌, ◌+◌, ◌/◌, ◌<◌, ◌∙◌, Some, arith, ap, length, refl, sym}
 use Rattle.std.proofs.lemmas.List.{get_or_default, length-set}
 use Rattle.sorted_taps.specs.Heads.{tap_of}
 use Rattle.sorted_taps.specs.declared.heads.Head.{Head}
 use Rattle.sorted_taps.specs.Readers.{first_of, head_of}
-use Rattle.sorted_taps.proofs.Ranking.{leaves_kept, no_head, put_chosen, put_leaf}
-use Rattle.sorted_taps.proofs.Ranking.{same_head_ranked}
-use Rattle.sorted_taps.proofs.Climbing.{all_chosen, chosen_but, climbed_at_leaf, climbed_more}
+use Rattle.sorted_taps.proofs.Ranking.{chosen_set, leaves_kept, put_chosen, put_leaf}
+use Rattle.sorted_taps.proofs.Ranking.{same_head_ranked, all_chosen, climbed_at, climbed_at_leaf}
+use Rattle.sorted_taps.proofs.Ranking.{climbs}
 use Rattle.sorted_taps.proofs.heads.put_back.Goals as goal
 
 pub returns-in_default : goal.returns-in_default
@@ -46,45 +45,38 @@ loop-position-init c =
 pub loop-position-preserved : goal.loop-position-preserved
 loop-position-preserved c =
     let inv = c.loop-position.invariant in
-    let readers = c.args.readers.now in
+    let n = length c.args.readers.now in
     let tree = c.loop-position.tree in
     let at = c.loop-position.position in
     let head : Head = record { key = Some c.of.result; at = c.args.at } in
-    let top = get_or tree (at / 2) no_head in
     let more = c.loop-position-test.true in
     let size = inv.leaves.size in
     let within = inv.within in
     let long = length-set tree (at / 2) head in
-    let inside : at / 2 < length readers = omega (arith, size, within) in
-    let there : top ≡ get_or tree (at / 2) top =
-    get_or_default tree (at / 2) no_head top (omega (arith, within)) in
+    let inside : at / 2 < n = omega (arith, size, within) in
+    let room : at / 2 < length tree = omega (arith, within) in
     record {
-      leaves = leaves_kept readers tree (at / 2) head inside inv.leaves;
-      chosen = chosen_but (length readers) tree at head top more inside within inv.climbed there
-          inv.chosen (c.is_before.ensures.yes c.if-is_before.true);
-      climbed = climbed_more (length readers) tree at head top more inside within inv.climbed there
-          inv.chosen (c.is_before.ensures.strictly c.if-is_before.true);
+      leaves = leaves_kept c.args.readers.now tree (at / 2) head inside inv.leaves;
+      chosen = λ place some low apart. chosen_set tree (at / 2) head place (omega (arith, more))
+          room (climbs n tree at head more inside inv.climbed
+          (c.is_before.ensures.yes c.if-is_before.true)) apart (inv.chosen place some low);
+      climbed = climbed_at n tree (at / 2) head room
+          (c.is_before.ensures.strictly c.if-is_before.true)
+          (λ some low. inv.chosen (at / 2 / 2) some low (λ e. omega (arith, e, some)));
       within = omega (arith, long, within);
     }
 
 pub returns-else-is_before : goal.returns-else-is_before
 returns-else-is_before c =
     let inv = c.loop-position.invariant in
-    let readers = c.args.readers.now in
-    let tree = c.loop-position.tree in
-    let at = c.loop-position.position in
-    let head : Head = record { key = Some c.of.result; at = c.args.at } in
-    let top = get_or tree (at / 2) no_head in
-    let more = c.loop-position-test.true in
     let size = inv.leaves.size in
     let within = inv.within in
-    let inside : at / 2 < length readers = omega (arith, size, within) in
-    let there : top ≡ get_or tree (at / 2) top =
-    get_or_default tree (at / 2) no_head top (omega (arith, within)) in
     record {
       leaves = inv.leaves;
-      inner = all_chosen (length readers) tree at head top more inside within inv.climbed there
-          inv.chosen (c.is_before.ensures.no c.if-is_before.false);
+      inner = all_chosen (length c.args.readers.now) c.loop-position.tree c.loop-position.position
+          (record { key = Some c.of.result; at = c.args.at }) c.loop-position-test.true
+          (omega (arith, size, within)) inv.climbed inv.chosen
+          (c.is_before.ensures.no c.if-is_before.false);
     }
 
 pub returns : goal.returns
@@ -93,6 +85,5 @@ returns c =
     let least = c.loop-position-test.false in
     record {
       leaves = inv.leaves;
-      inner = λ position some low. inv.chosen position some low
-          (λ e. omega (arith, e, some, least)) (λ e. omega (arith, e, some, least));
+      inner = λ position some low. inv.chosen position some low (λ e. omega (arith, e, some, least));
     }

@@ -1,7 +1,6 @@
 use Rattle.std.proofs.Common.{◌<◌, length}
 use Rattle.sorted_taps.specs.Heads.{HasLeaves}
-use Rattle.sorted_taps.proofs.Ranking.{AreChosenBut}
-use Rattle.sorted_taps.proofs.Climbing.{HasClimbed}
+use Rattle.sorted_taps.proofs.Ranking.{AreChosenBut, HasClimbed}
 use Rattle.sorted_taps.proofs.heads.put_back.Given as goal
 
 abbrev pub invariant-loop-position : goal.invariant-loop-position

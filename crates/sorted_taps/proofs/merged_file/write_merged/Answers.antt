@@ -7,7 +7,7 @@ use Rattle.std.proofs.lemmas.Result.{err_from_is_err_and}
 use Rattle.sorted_taps.specs.Written.{IsPartlyWritten}
 use Rattle.sorted_taps.specs.declared.merged_file.MergeStop.TheVariants.{Write}
 use Rattle.sorted_taps.specs.inside.Waiting.{HasPut}
-use Rattle.sorted_taps.proofs.Putting.{if_any, may_wait_none, put_started, put_none}
+use Rattle.sorted_taps.proofs.Putting.{if_any, may_wait_none, put_none}
 use Rattle.sorted_taps.proofs.Spans.{taken_append}
 use Rattle.sorted_taps.proofs.Taking.{taken_merged}
 use Rattle.sorted_taps.specs.Merges.{AreTaken}
@@ -16,20 +16,18 @@ use Rattle.sorted_taps.proofs.merged_file.write_merged.Goals as goal
 
 pub returns-in_err-stamps-clause-started : goal.returns-in_err-stamps-clause-started
 returns-in_err-stamps-clause-started g c =
-    let old = g.W.Write.contents c.args.out.now in
-    if_any _ c.from_residual.result (λ stop is. put_started old old [] [] (put_none old))
+    if_any _ c.from_residual.result
+    (λ stop is. (put_none (g.W.Write.contents c.args.out.now)).part)
 
 pub returns-in_err-waiting-clause-started : goal.returns-in_err-waiting-clause-started
 returns-in_err-waiting-clause-started g c =
-    let old = g.W.Write.contents c.args.out.now in
     if_any _ c.from_residual-in_err-waiting.result
-    (λ stop is. put_started old old [] [] (put_none old))
+    (λ stop is. (put_none (g.W.Write.contents c.args.out.now)).part)
 
 pub returns-in_err-merge-clause-started : goal.returns-in_err-merge-clause-started
 returns-in_err-merge-clause-started g c =
-    let old = g.W.Write.contents c.args.out.now in
     if_any _ c.from_residual-in_err-merge.result
-    (λ stop is. put_started old old [] [] (put_none old))
+    (λ stop is. (put_none (g.W.Write.contents c.args.out.now)).part)
 
 pub loop-init : goal.loop-init
 loop-init g c =
@@ -51,21 +49,16 @@ loop-init g c =
 
 pub returns-in_err-run-clause-started : goal.returns-in_err-run-clause-started
 returns-in_err-run-clause-started g c =
-    let old = g.W.Write.contents c.args.out.now in
     if_any _ c.from_residual-in_err-run.result
-    (λ stop is. put_started old old [] [] (put_none old))
+    (λ stop is. (put_none (g.W.Write.contents c.args.out.now)).part)
 
 pub returns-in_err-take_run-clause-started : goal.returns-in_err-take_run-clause-started
 returns-in_err-take_run-clause-started g c =
-    if_any _ c.from_residual-in_err-take_run.result
-    (λ stop is. put_started (g.W.Write.contents c.args.out.now) (g.W.Write.contents c.loop.out)
-    c.loop.invariant.taps c.loop.waiting.items c.loop.invariant.put)
+    if_any _ c.from_residual-in_err-take_run.result (λ stop is. c.loop.invariant.put.part)
 
 pub returns-in_err-numbers-clause-started : goal.returns-in_err-numbers-clause-started
 returns-in_err-numbers-clause-started g c =
-    if_any _ c.from_residual-in_err-numbers.result
-    (λ stop is. put_started (g.W.Write.contents c.args.out.now) (g.W.Write.contents c.loop.out)
-    c.loop.invariant.taps c.loop.waiting.items c.loop.invariant.put)
+    if_any _ c.from_residual-in_err-numbers.result (λ stop is. c.loop.invariant.put.part)
 
 pub returns-in_err-put_all-clause-started : goal.returns-in_err-put_all-clause-started
 returns-in_err-put_all-clause-started g c =
@@ -87,7 +80,7 @@ returns-in_err-put_rest-clause-started g c =
     subst (λ r. IfErr r (λ stop. stop ≢ Write → IsPartlyWritten old new)) (sym p.1)
     (λ other. subst (λ o. IsPartlyWritten old o)
     (sym (ap g.W.Write.contents (c.in_err-put_rest.ensures.kept (p.2 other))))
-    (put_started old here c.loop.invariant.taps c.loop.waiting.items c.loop.invariant.put))
+    c.loop.invariant.put.part)
 
 pub returns-then-is_empty-clause-merged : goal.returns-then-is_empty-clause-merged
 returns-then-is_empty-clause-merged g c = λ all are.

@@ -1,8 +1,10 @@
-use Rattle.std.proofs.Common.{◌≡◌, [], ◌∷◌, ◌++◌, length, get_or, arith, sym, subst, ap}
-use Rattle.std.proofs.Common.{◌∙◌, length-append}
+use Rattle.std.proofs.Common.{◌≡◌, [], ◌∷◌, ◌++◌, length, get_or, arith, sym, subst, ap, ◌∙◌}
+use Rattle.std.proofs.Common.{length-append}
+use Rattle.std.proofs.lemmas.List.{get_or_append_left, get_or_push}
 use Rattle.sorted_taps.specs.Positions.{ArePlaced, IsPlacedAnew}
-use Rattle.sorted_taps.proofs.Files.{if_known, known_at}
-use Rattle.sorted_taps.proofs.Placing.{placed_more}
+use Rattle.sorted_taps.specs.declared.positions.Position.{Position}
+use Rattle.sorted_taps.proofs.Files.{known_more}
+use Rattle.sorted_taps.proofs.Known.{known_map}
 use Rattle.sorted_taps.proofs.positions.readers_from.Goals as goal
 
 pub loop-file-preserved : goal.loop-file-preserved
@@ -27,16 +29,22 @@ loop-file-preserved g c =
       room = omega (arith, long, room);
       number = omega (arith, more, number);
       positions = omega (arith, then, many);
-      placed = λ all are.
-          subst (λ ps. ArePlaced all ps c.push-in-loop-file.new.self.items) (sym set)
-          (subst (λ rs. ArePlaced all (positions ++ position ∷ []) rs) (sym items)
-          (placed_more all positions readers position reader (omega (arith, number, many))
-          (inv.placed all are)
-          (subst (λ n. IsPlacedAnew (get_or all n []) position reader) (sym number)
-          (if_known (λ a. IsPlacedAnew a position reader) (g.F.Placed.bytes file)
-          (get_or all index [])
-          (known_at g.F.Placed.bytes c.args.files.now all index file are c.loop-file-test.true
-          c.file-item.is) c.in_ok-placed.ensures))));
+      placed = λ all are. record {
+        each = λ k p d inside. known_more g.F.Placed.bytes c.args.files.now
+            (λ k a r. (p : Position) → IsPlacedAnew a (get_or c.push.new.self.items k p) r) readers
+            reader index file number c.loop-file-test.true c.file-item.is
+            (known_map (λ a. IsPlacedAnew a position reader)
+            (λ a. (p : Position) → IsPlacedAnew a (get_or c.push.new.self.items index p) reader)
+            (g.F.Placed.bytes file)
+            (λ a is p. subst (λ q. IsPlacedAnew a q reader)
+            (sym (ap (λ l. get_or l index p) set ∙ get_or_push positions position p index many)) is)
+            c.in_ok-placed.ensures)
+            (λ all are k d low p. subst (λ q. IsPlacedAnew (get_or all k []) q (get_or readers k d))
+            (sym (ap (λ l. get_or l k p) set
+            ∙ get_or_append_left positions (position ∷ []) p k (omega (arith, low, number, many))))
+            ((inv.placed all are).each k p d low))
+            c.push-in-loop-file.new.self.items items all are k d inside p;
+      };
     }
 
 pub loop-file-init : goal.loop-file-init

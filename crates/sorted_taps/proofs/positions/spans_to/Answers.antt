@@ -1,21 +1,24 @@
-use Rattle.std.proofs.Common.{◌≡◌, [], ◌∷◌, ◌++◌, length, get_or, arith, sym, subst, ap}
-use Rattle.std.proofs.Common.{◌∙◌, length-append, IfSome}
+use Rattle.std.proofs.Common.{◌≡◌, [], ◌∷◌, ◌++◌, ◌∙◌, ap, arith, get_or, IfSome, length}
+use Rattle.std.proofs.Common.{length-append, subst}
 use Rattle.std.proofs.lemmas.List.{get_or_default}
 use Rattle.std.specs.Prelude.{Option}
-use Rattle.sorted_taps.specs.Positions.{DoSpan, IsAt}
+use Rattle.sorted_taps.specs.Positions.{IsAt}
 use Rattle.sorted_taps.specs.declared.positions.FileSpan.{FileSpan}
-use Rattle.sorted_taps.proofs.Files.{if_known, known_at}
-use Rattle.sorted_taps.proofs.Placing.{span_more}
+use Rattle.sorted_taps.specs.declared.positions.Position.{Position}
+use Rattle.sorted_taps.specs.declared.reader.TapReader.{TapReader}
+use Rattle.sorted_taps.proofs.Files.{if_known, known_more}
+use Rattle.sorted_taps.proofs.Known.{known_map}
 use Rattle.sorted_taps.proofs.positions.spans_to.Goals as goal
 
 pub loop-at-init : goal.loop-at-init
-loop-at-init g c = record {
-  room = c.requires.window;
-  number = ap length c.new-spans.ensures.items;
-  spanned = λ all are. subst (λ ss. DoSpan all c.args.positions.now c.args.readers.now ss)
-      (sym c.new-spans.ensures.items)
-      (record { each = λ k p d s inside. absurd (omega (arith, inside)) });
-}
+loop-at-init g c =
+    let none = ap length c.new-spans.ensures.items in
+    record {
+      room = c.requires.window;
+      number = none;
+      spanned = λ all are.
+          record { each = λ k p d s inside. absurd (omega (arith, none, inside)) };
+    }
 
 pub loop-at-preserved : goal.loop-at-preserved
 loop-at-preserved g c =
@@ -41,16 +44,21 @@ loop-at-preserved g c =
     record {
       room = omega (arith, long, room);
       number = omega (arith, more, number);
-      spanned = λ all are.
-          subst (λ ss. DoSpan all positions readers ss) (sym items)
-          (span_more all positions readers spans span (inv.spanned all are)
-          (λ p. from
-          ∙ get_or_default positions at _ p (omega (arith, test, same))
-          ∙ ap (λ n. get_or positions n p) (sym number))
-          (λ d. subst (λ n. IsAt (get_or all n []) span.to (get_or readers n d)) (sym number)
-          (subst (λ r. IsAt (get_or all at []) span.to r)
-          (c.index-readers-at.is ∙ get_or_default readers at reader d (omega (arith, test, many)))
-          (if_known (λ a. IsAt a span.to reader) (g.F.Placed.bytes file) (get_or all at [])
-          (known_at g.F.Placed.bytes c.args.files.now all at file are test c.index-files-at.is)
-          to))));
+      spanned = λ all are. record {
+        each = λ k p d s inside. known_more g.F.Placed.bytes c.args.files.now
+            (λ k a (s : FileSpan). (p : Position) (d : TapReader)
+            → (s.from ≡ get_or positions k p) × IsAt a s.to (get_or readers k d)) spans span at
+            file number test c.index-files-at.is
+            (known_map (λ a. IsAt a span.to reader)
+            (λ a. (p : Position) (d : TapReader)
+            → (span.from ≡ get_or positions at p) × IsAt a span.to (get_or readers at d))
+            (g.F.Placed.bytes file)
+            (λ a is p d. (
+              from ∙ get_or_default positions at _ p (omega (arith, test, same)),
+              subst (λ r. IsAt a span.to r)
+                  (c.index-readers-at.is
+                  ∙ get_or_default readers at reader d (omega (arith, test, many))) is,
+            )) to) (λ all are k s low p d. (inv.spanned all are).each k p d s low)
+            c.push.new.self.items items all are k s inside p d;
+      };
     }

@@ -3,8 +3,7 @@ use Rattle.tap_views.specs.declared.encoder.TapFields.{TapFields}
 use Rattle.sorted_taps.specs.Readers.{IsAdvanced, IsPositionedIn}
 use Rattle.sorted_taps.specs.declared.reader.TapReader.{TapReader}
 use Rattle.sorted_taps.proofs.Known.{known_map, known_map2}
-use Rattle.sorted_taps.proofs.Standing.{holds_on}
-use Rattle.sorted_taps.proofs.Taking.{lies_of}
+use Rattle.sorted_taps.proofs.Standing.{holds_on, lies_of}
 use Rattle.sorted_taps.proofs.ranges.reader_from.Goals as goal
 
 pub loop-preserved : goal.loop-preserved

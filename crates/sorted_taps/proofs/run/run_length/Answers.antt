@@ -8,8 +8,8 @@ use Rattle.sorted_taps.proofs.run.run_length.Goals as goal
 pub loop-position-init : goal.loop-position-init
 loop-position-init c = record {
   followed = λ some. absurd (omega (arith, some));
-  not_after = λ k d within. absurd (omega (arith, within));
-  in_order = λ k d within. absurd (omega (arith, within));
+  not_after = λ k within. absurd (omega (arith, within));
+  in_order = λ k within. absurd (omega (arith, within));
 }
 
 pub loop-position-preserved : goal.loop-position-preserved

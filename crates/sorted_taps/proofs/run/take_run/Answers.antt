@@ -1,8 +1,16 @@
 use Rattle.std.proofs.Common.{arith}
 use Rattle.std.specs.Prelude.{option_map}
 use Rattle.tap_parts.specs.Keys.{tap_of_key}
-use Rattle.sorted_taps.proofs.Running.{takes_then}
+use Rattle.sorted_taps.proofs.Running.{takes_none, takes_then}
 use Rattle.sorted_taps.proofs.run.take_run.Goals as goal
+
+pub loop-round-init : goal.loop-round-init
+loop-round-init g c = record {
+  window = c.requires.window;
+  taken = takes_none (g.F.Placed.bytes c.args.file.now) (option_map tap_of_key c.args.other.now)
+      c.args.reader.now c.args.taps.now.items;
+  few = c.requires.room;
+}
 
 pub loop-round-preserved : goal.loop-round-preserved
 loop-round-preserved g c =

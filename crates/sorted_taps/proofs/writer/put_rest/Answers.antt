@@ -3,10 +3,9 @@ use Rattle.std.specs.Prelude.{Option}
 use Rattle.std.proofs.lemmas.Bool.{eqb-true}
 use Rattle.std.proofs.lemmas.Bool.Decides.{nat_tests}
 use Rattle.std.proofs.lemmas.List.{nil_from_length}
+use Rattle.std.proofs.lemmas.Result.{on_ok_weaker}
 use Rattle.tap_views.specs.declared.encoder.TapFields.{TapFields}
-use Rattle.sorted_taps.specs.Written.{IsWritten}
 use Rattle.sorted_taps.specs.inside.Waiting.{HasPut, IsBatchWritten}
-use Rattle.sorted_taps.proofs.Known.{on_ok}
 use Rattle.sorted_taps.proofs.Putting.{written_more, written_whole}
 use Rattle.sorted_taps.proofs.writer.put_rest.Goals as goal
 
@@ -23,8 +22,8 @@ returns-clause-written g c =
     let there = g.W.Write.contents c.write_batch.new.out in
     let test : (length waiting == 0) ≡ false = sym c.is_empty.ensures ∙ c.if-is_empty.false in
     let some : 0 < length waiting = grind (arith, nat_tests, test) in
-    on_ok (IsBatchWritten here there waiting)
-    ((begin : Option (List ℕ)) (taps : List TapFields) → HasPut begin here taps waiting
-    → IsWritten begin there taps) c.write_batch.result
-    (λ written begin taps put. written_more begin here there taps waiting put some c.requires.most
-    written) c.write_batch.ensures.written
+    on_ok_weaker c.write_batch.result
+    (λ (written : IsBatchWritten here there waiting) (begin : Option (List ℕ))
+    (taps : List TapFields) (put : HasPut begin here taps waiting).
+    written_more begin here there taps waiting put some c.requires.most written)
+    c.write_batch.ensures.written

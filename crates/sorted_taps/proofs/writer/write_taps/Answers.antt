@@ -3,14 +3,14 @@ use Rattle.std.proofs.lemmas.Result.{err_from_is_err_and}
 use Rattle.tap_views.specs.Encoding.{AreEarly}
 use Rattle.tap_views.specs.declared.encoder.TapFields.{TapFields}
 use Rattle.sorted_taps.specs.inside.Waiting.{HasPut}
-use Rattle.sorted_taps.proofs.Putting.{early_at, if_any, list_more, may_wait_none, put_started}
+use Rattle.sorted_taps.proofs.Putting.{early_at, if_any, list_more, may_wait_none}
 use Rattle.sorted_taps.proofs.Putting.{put_none}
 use Rattle.sorted_taps.proofs.writer.write_taps.Goals as goal
 
 pub returns-in_err-waiting-clause-started : goal.returns-in_err-waiting-clause-started
 returns-in_err-waiting-clause-started g c =
     let old = g.W.Write.contents c.args.out.now in
-    if_any _ c.from_residual.result (λ fault is. put_started old old [] [] (put_none old))
+    if_any _ c.from_residual.result (λ fault is. (put_none old).part)
 
 pub loop-list-init : goal.loop-list-init
 loop-list-init g c =

@@ -20,7 +20,7 @@ no_part part is = subst (λ p. IsPart p (decoding_of [])) (sym is) (record {
 pub returns-in_default : goal.returns-in_default
 returns-in_default g c = record {
   part = nothing;
-  begun = record {
+  partial = record {
     decoded = [];
     rest = map (λ w. w.now) c.args.words.now;
     named = refl;
@@ -38,7 +38,7 @@ returns-in-Err g c =
     (c.deref.ensures.value ∙ c.in-Ok.ensures) (c.in-Err.ensures.stopped words old nothing (gave_nothing old)) in
     record {
       part = stopped.part;
-      begun = record { decoded = []; rest = words; named = refl; is_part = stopped.is_part };
+      partial = record { decoded = []; rest = words; named = refl; is_part = stopped.is_part };
       leaves = stopped.leaves;
     }
 

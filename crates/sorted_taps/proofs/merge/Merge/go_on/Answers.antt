@@ -5,10 +5,8 @@ use Rattle.std.specs.Prelude.{option_map}
 use Rattle.tap_parts.specs.Keys.{tap_of_key}
 use Rattle.sorted_taps.specs.Heads.{IsNotAfter, IsRanked}
 use Rattle.sorted_taps.specs.Readers.{head_of}
-use Rattle.sorted_taps.specs.inside.Runs.{IsRunOf}
 use Rattle.sorted_taps.specs.declared.reader.TapReader.{TapReader}
-use Rattle.sorted_taps.proofs.Files.{known_at, if_known}
-use Rattle.sorted_taps.proofs.Running.{run_taken}
+use Rattle.sorted_taps.proofs.Files.{known_at}
 use Rattle.sorted_taps.proofs.merge.Merge.go_on.Goals as goal
 
 pub put_end-requires-clause-ranked : goal.put_end-requires-clause-ranked
@@ -51,9 +49,7 @@ returns-clause-taken g c =
     let at = c.args.at in
     let within = c.requires.within in
     let reader = c.index_mut-reader.result.now in
-    let new = c.take_run.new.reader in
     let other = option_map tap_of_key c.least_key-other.result in
-    let file = c.index-files-at.result in
     let gone = record reader { next = length reader.taps.items } in
     let tree = c.put_end.new.tree in
     let ended : IsRanked (set readers at gone) tree =
@@ -74,17 +70,19 @@ returns-clause-taken g c =
     let number = c.requires.files in
     let takes = c.in_ok-take_run.ensures.taken in
     record {
-      more = takes.run;
+      more = takes.more;
       items = takes.items;
-      taken = λ all are. run_taken all at other takes.run readers reader new within
-          (λ k d low apart.
-          subst (λ (r : TapReader). IsNotAfter other (head_of r))
-          (get_or-set_other readers at k gone d apart)
-          (c.least_key-other.ensures (set readers at gone) ranked k d (omega (arith, now, low))))
-          (λ d. sym (c.index_mut-reader.ensures.value
-          ∙ get_or_default readers at reader d within))
-          (if_known (λ a. IsRunOf a other reader takes.run new) (g.F.Placed.bytes file)
-          (get_or all at [])
-          (known_at g.F.Placed.bytes c.args.files.now all at file are
-          (omega (arith, within, number)) c.index-files-at.is) takes.passed);
+      taken = λ all are. takes.taken all readers at
+          (known_at g.F.Placed.bytes c.args.files.now all at c.index-files-at.result are
+          (omega (arith, within, number)) c.index-files-at.is)
+          (record {
+            within = within;
+            there = λ d. sym (c.index_mut-reader.ensures.value
+                ∙ get_or_default readers at reader d within);
+            others = λ k d low apart.
+                subst (λ (r : TapReader). IsNotAfter other (head_of r))
+                (get_or-set_other readers at k gone d apart)
+                (c.least_key-other.ensures (set readers at gone) ranked k d
+                (omega (arith, now, low)));
+          });
     }

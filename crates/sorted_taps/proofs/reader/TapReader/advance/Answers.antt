@@ -3,7 +3,7 @@ use Rattle.std.proofs.lemmas.List.{length-drop}
 use Rattle.sorted_taps.specs.Readers.{ahead, IsAdvanced, IsNextBefore}
 use Rattle.sorted_taps.specs.inside.Steps.{IsMovedOn}
 use Rattle.sorted_taps.proofs.Known.{known_map}
-use Rattle.sorted_taps.proofs.Moves.{advanced, head_of, out_of_order}
+use Rattle.sorted_taps.proofs.Standing.{advanced, head_of, out_of_order}
 use Rattle.sorted_taps.proofs.reader.TapReader.advance.Goals as goal
 
 pub returns-clause-kept : goal.returns-clause-kept

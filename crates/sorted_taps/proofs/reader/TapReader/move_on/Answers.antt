@@ -1,7 +1,8 @@
-use Rattle.std.proofs.Common.{◌+◌, refl, arith, IfSome}
+use Rattle.std.proofs.Common.{◌+◌, refl, arith}
 use Rattle.sorted_taps.specs.inside.Steps.{IsMovedOn, IsRefilled}
-use Rattle.sorted_taps.proofs.Known.{known_all, known_map, on_ok}
-use Rattle.sorted_taps.proofs.Moves.{next_moved, refill_moved}
+use Rattle.std.proofs.lemmas.Result.{on_ok_weaker}
+use Rattle.sorted_taps.proofs.Known.{known_all, known_map}
+use Rattle.sorted_taps.proofs.Standing.{next_moved, refill_moved}
 use Rattle.sorted_taps.proofs.reader.TapReader.move_on.Goals as goal
 
 pub returns-then-self-len-clause-kept : goal.returns-then-self-len-clause-kept
@@ -19,8 +20,7 @@ returns-clause-kept g c =
     let new = c.refill.new.self in
     let last = c.if-self-len.false in
     let e = c.len.ensures in
-    on_ok (IfSome (g.F.Placed.bytes c.args.file.now) (λ all. IsRefilled all mid new))
-    (IfSome (g.F.Placed.bytes c.args.file.now) (λ all. IsMovedOn all old new)) c.refill.result
+    on_ok_weaker c.refill.result
     (known_map (λ all. IsRefilled all mid new) (λ all. IsMovedOn all old new)
     (g.F.Placed.bytes c.args.file.now)
     (λ all is. refill_moved all old mid new refl refl (omega (arith, last, e)) is))

@@ -1,9 +1,9 @@
-use Rattle.std.proofs.Common.{◌≡◌, ◌⊎◌, ◌<◌, ◌+◌, [], length, refl, subst, arith, inl, inr}
+use Rattle.std.proofs.Common.{◌≡◌, ◌⊎◌, ◌<◌, ◌+◌, [], drop, length, refl, subst, arith, inl, inr}
 use Rattle.std.proofs.lemmas.List.{nil_from_length}
 use Rattle.sorted_taps.specs.Reading.{AreTapsBetween}
 use Rattle.sorted_taps.specs.inside.Decoding.{IsReadOn}
 use Rattle.sorted_taps.proofs.Known.{known_all, known_map2}
-use Rattle.sorted_taps.proofs.Between.{between_none, read_after, end_after}
+use Rattle.sorted_taps.proofs.Batches.{end_after, front_append, front_none}
 use Rattle.sorted_taps.proofs.reader.TapReader.refill.Goals.{then-used-eq0-via-then-used-eq0}
 use Rattle.sorted_taps.proofs.reader.TapReader.refill.Goals.{then-used-eq0-via-else-used-eq0+then-not-is_empty}
 use Rattle.sorted_taps.proofs.reader.TapReader.refill.Goals as goal
@@ -14,7 +14,7 @@ loop-init g c = record {
   first = refl;
   number = refl;
   between = known_all _ (g.F.Placed.bytes c.args.file.now)
-      (λ all. between_none all c.args.self.now.offset);
+      (λ all. front_none (drop c.args.self.now.offset all));
 }
 
 pub loop-preserved : goal.loop-preserved
@@ -36,7 +36,8 @@ loop-preserved g c =
           (λ all. IsReadOn all at taps used) (λ all. AreTapsBetween all from (at + used) [])
           (g.F.Placed.bytes c.args.file.now)
           (λ all none on. subst (λ t. AreTapsBetween all from (at + used) t) empty
-          (read_after all from at used taps none on))
+          (front_append (drop from all) (drop at all) (drop (at + used) all) [] taps none
+          on.between))
           c.loop.invariant.between c.in_ok-used.ensures.batches;
     }
 
@@ -56,7 +57,8 @@ returns-then-used-eq0-clause-kept g c =
     known_map2 (λ all. AreTapsBetween all from at []) (λ all. IsReadOn all at taps used) _
     (g.F.Placed.bytes c.args.file.now)
     (λ all none on. record {
-      between = read_after all from at used taps none on;
+      between = front_append (drop from all) (drop at all) (drop (at + used) all) [] taps none
+          on.between;
       first = c.loop.invariant.first;
       end = end_after all at used taps on why;
       number = c.loop.invariant.number;
