@@ -3,6 +3,7 @@ pub mod Billed
 pub mod Causes
 pub mod Drawn
 pub mod Ends
+pub mod Going
 pub mod LastMoments
 pub mod Ledgers
 pub mod Loads

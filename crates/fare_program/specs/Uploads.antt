@@ -1,7 +1,7 @@
 -- The text of a listing of whole files.
 use Rattle.std.specs.Prelude.{◌≡◌, ◌+◌, ℕ, Bool, true, List, [], ◌∷◌, ◌++◌, map, flat_map}
-use Rattle.std.specs.Prelude.{Option, None, Some, is_some, length, not}
-use Rattle.std.specs.List.{AllZip, list_all}
+use Rattle.std.specs.Prelude.{Option, None, Some, is_some, not}
+use Rattle.std.specs.List.{list_all}
 use Rattle.tap_views.specs.Layout.{Tap, num}
 use Rattle.tap_views.specs.Files.{ValidBatchesView, IsReadAs, taps_of_batches}
 use Rattle.tap_views.specs.declared.fault.LayoutFault.{LayoutFault}
@@ -29,13 +29,6 @@ tap_lines upload number before (tap ∷ taps) =
     tap_line upload number tap.tap (liveness_of before tap)
     ++ tap_lines upload (number + 1) (before ++ tap ∷ []) taps
 
--- the lines of batches, of which the first tap has this number in its upload
-abbrev pub batch_lines : Option Fares → ℕ → ℕ → List Listed → List (List Tap) → List ℕ
-batch_lines fares upload number before [] = []
-batch_lines fares upload number before (batch ∷ batches) =
-    tap_lines upload number before (map (listed fares) batch)
-    ++ batch_lines fares upload (number + length batch) (before ++ map (listed fares) batch) batches
-
 -- the line of a layout fault, if there is one
 abbrev pub fault_lines : ℕ → Option (ℕ × LayoutFault) → List ℕ
 fault_lines upload None = []
@@ -44,7 +37,7 @@ fault_lines upload (Some (offset, fault)) = refused_line upload offset fault
 -- the lines of an upload by its reading: its taps', and one for its layout fault
 abbrev pub listing_lines : Option Fares → ℕ → List Listed → ValidBatchesView → List ℕ
 listing_lines fares upload before reading =
-    batch_lines fares upload 0 before reading.batches ++ fault_lines upload reading.fault
+    tap_lines upload 0 before (listed_in fares reading) ++ fault_lines upload reading.fault
 
 -- the lines of uploads in their order, the first with this number
 abbrev pub lines_from : Option Fares → ℕ → List Listed → List ValidBatchesView → List ℕ
@@ -60,13 +53,12 @@ has_no_fault reading = not (is_some reading.fault)
 abbrev pub have_no_fault : List ValidBatchesView → Bool
 have_no_fault = list_all has_no_fault
 
--- a reading of the file
-abbrev pub IsParse : List ℕ → ValidBatchesView → Type 0
-IsParse file reading = IsReadAs file reading.batches reading.fault
-
 -- a reading of each file, in their order
 abbrev pub AreParses : List (List ℕ) → List ValidBatchesView → Type 0
-AreParses files readings = AllZip IsParse files readings
+AreParses [] [] = Unit {0}
+AreParses (file ∷ files) (reading ∷ readings) =
+    IsReadAs file reading.batches reading.fault × AreParses files readings
+AreParses _ _ = ⊥
 
 -- The text lists the files: the lines of each in their order, of all their batches up to the first
 -- layout fault, and then the counts. It is clean if no file has a layout fault.

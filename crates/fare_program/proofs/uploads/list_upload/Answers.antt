@@ -1,113 +1,104 @@
-use Rattle.std.proofs.Common.{◌+◌, ◌++◌, ◌∙◌, ap, append-nil, append_assoc, arith}
-use Rattle.std.proofs.Common.{length-append, map, refl, string_bytes, sym}
-use Rattle.std.proofs.lemmas.List.{map-append}
+use Rattle.std.proofs.Common.{◌++◌, ◌∙◌, ap, sym, refl, arith, length, map, None, Some}
+use Rattle.std.proofs.Common.{append_assoc, append-nil, length-append, string_bytes}
+use Rattle.std.proofs.lemmas.List.{length-map, map-append}
 use Rattle.std.specs.Option.{option_copied}
-use Rattle.tap_views.specs.Files.{taps_of_batches}
-use Rattle.tap_views.proofs.ParseLemmas.{few}
+use Rattle.tap_views.specs.Files.{IsReadAs, taps_of_batches}
+use Rattle.tap_views.proofs.ParseLemmas.{few, read_end, read_on, room_on, taps_more}
+use Rattle.fare_program.specs.Lines.{refused_line}
 use Rattle.fare_program.specs.Uploads.{listed, tap_lines}
+use Rattle.fare_program.proofs.Going.{lists_nothing, lists_on}
 use Rattle.fare_program.proofs.uploads.list_upload.Goals as goal
 
 pub list_batch-requires-clause-numbers : goal.list_batch-requires-clause-numbers
 list_batch-requires-clause-numbers c =
-    let now = rw c.in-Some.ensures.steps at c.loop-batch.invariant in
-    let read = c.valid_batches-valid.ensures in
-    let most = few c.args.file.now _ read.rest read.is_file in
-    omega (
-      arith,
-      now.number,
-      length-append c.in-Some.batch (taps_of_batches c.next.new.self.batches),
-      most,
-    )
+    let before = c.loop-batch.invariant in
+    let room = room_on c.args.file.now c.loop-batch.yielded c.in-Some.batch c.loop-batch.valid
+    c.next.new.self before.read c.in-Some.ensures.steps in
+    omega (arith, room.0, before.number)
 
 pub list_batch-requires-clause-taps : goal.list_batch-requires-clause-taps
 list_batch-requires-clause-taps c =
-    let now = rw c.in-Some.ensures.steps at c.loop-batch.invariant in
-    let read = c.valid_batches-valid.ensures in
-    let most = few c.args.file.now _ read.rest read.is_file in
-    omega (
-      arith,
-      now.taps,
-      length-append c.in-Some.batch (taps_of_batches c.next.new.self.batches),
-      most,
-      c.requires,
-    )
+    let before = c.loop-batch.invariant in
+    let room = room_on c.args.file.now c.loop-batch.yielded c.in-Some.batch c.loop-batch.valid
+    c.next.new.self before.read c.in-Some.ensures.steps in
+    omega (arith, room.0, before.taps, c.requires)
 
 pub loop-batch-init : goal.loop-batch-init
 loop-batch-init c = record {
   may = tt;
   ends = tt;
-  fault = refl;
+  read = c.valid_batches-valid.ensures;
   number = refl;
-  taps = refl;
-  lines = λ first holds. (first, holds, refl, refl);
+  taps = omega arith;
+  lines = lists_nothing c.args.listing.now (string_bytes c.args.text.now) c.args.upload 0;
 }
 
 pub loop-batch-preserved : goal.loop-batch-preserved
 loop-batch-preserved c =
-    let now = rw c.in-Some.ensures.steps at c.loop-batch.invariant in
-    let as_listed = listed (option_copied c.args.table) in
+    let before = c.loop-batch.invariant in
+    let done = c.loop-batch.yielded in
     let batch = c.in-Some.batch in
-    let rest = taps_of_batches c.next.new.self.batches in
-    let size = length-append batch rest in
+    let as_listed = listed (option_copied c.args.table) in
+    let more = taps_more done batch in
+    let size = length-append (taps_of_batches done) batch in
     record {
       may = tt;
       ends = tt;
-      fault = now.fault;
-      number = omega (arith, now.number, c.in_ok-number.ensures.next, size);
-      taps = omega (arith, now.taps, c.in_ok-number.ensures.taps, size);
-      lines = λ first holds.
-          let (before, here, all, text) = now.lines first holds in
-          let (lines, there) = c.in_ok-number.ensures.lines before here in (
-            before ++ map as_listed batch,
-            there,
-            append_assoc before (map as_listed batch) (map as_listed rest)
-                ∙ ap (λ ts. before ++ ts) (sym (map-append as_listed batch rest)) ∙ all,
-            rw (lines, c.in_ok-number.ensures.next)
-                (append_assoc (string_bytes c.loop-batch.text) (tap_lines c.args.upload
-                c.loop-batch.number before (map as_listed batch)) _ ∙ text),
-          );
+      read = read_on _ _ _ _ _ before.read c.in-Some.ensures.steps;
+      number = omega (arith, before.number, c.in_ok-number.ensures.next, ap length more, size);
+      taps = omega (arith, before.taps, c.in_ok-number.ensures.taps, ap length more, size);
+      lines = rw (more, map-append as_listed (taps_of_batches done) batch)
+          (lists_on _ _ _ _ _ _ _ _ _ _ _ before.lines
+          (omega (arith, before.number, length-map (taps_of_batches done) as_listed))
+          c.in_ok-number.ensures.lines);
     }
 
 pub returns-in_default-fault-clause-lines : goal.returns-in_default-fault-clause-lines
 returns-in_default-fault-clause-lines c =
-    let (none, same) = c.in_default.ensures.steps in
-    let end = rw none at c.loop-batch.invariant in
-    let whole = c.in_default-fault.ensures ∙ ap (λ v. v.fault) same ∙ end.fault in
+    let end = c.loop-batch.invariant in
     record {
-      reading = c.valid_batches-valid.result;
-      read = c.valid_batches-valid.ensures;
-      lines = λ first holds.
-          let (before, here, all, text) = end.lines first holds in (
-            rw (← whole) (sym (append-nil _) ∙ text ∙ ap (λ ls. string_bytes c.args.text.now ++ ls)
-                (sym (append-nil _))),
-            rw (← all) (rw append-nil here),
-          );
-      is_whole = rw (← whole) refl;
+      reading = record { batches = c.loop-batch.yielded; fault = None };
+      read = read_end _ _ _ _ _ end.read c.in_default.ensures.steps c.in_default-fault.ensures;
+      lines = λ before holds.
+          let (text, here) = end.lines before holds in
+          (text ∙ ap (λ lines. string_bytes c.args.text.now ++ lines) (sym (append-nil _)), here);
+      is_whole = refl;
     }
 
 pub returns-in_default-fault-clause-taps : goal.returns-in_default-fault-clause-taps
 returns-in_default-fault-clause-taps c =
-    let read = c.valid_batches-valid.ensures in
-    omega (arith, c.loop-batch.invariant.taps, few c.args.file.now _ read.rest read.is_file)
+    let end = c.loop-batch.invariant in
+    let read : IsReadAs c.args.file.now c.loop-batch.yielded None =
+    read_end _ _ _ _ _ end.read c.in_default.ensures.steps c.in_default-fault.ensures in
+    let most = few c.args.file.now c.loop-batch.yielded read.rest read.is_file in
+    omega (arith, end.taps, most)
 
 pub returns-clause-lines : goal.returns-clause-lines
 returns-clause-lines c =
-    let (none, same) = c.in_default.ensures.steps in
-    let end = rw none at c.loop-batch.invariant in
-    let whole = c.in-Some-fault.ensures ∙ ap (λ v. v.fault) same ∙ end.fault in
+    let end = c.loop-batch.invariant in
     record {
-      reading = c.valid_batches-valid.result;
-      read = c.valid_batches-valid.ensures;
-      lines = λ first holds.
-          let (before, here, all, text) = end.lines first holds in (
-            rw (← whole, c.in_ok-write_refused.ensures, sym (append-nil _) ∙ text)
-                (append_assoc (string_bytes c.args.text.now) _ _),
-            rw (← all) (rw append-nil here),
+      reading = record {
+        batches = c.loop-batch.yielded;
+        fault = Some (c.in-Some-fault.offset, c.in-Some-fault.fault);
+      };
+      read = read_end _ _ _ _ _ end.read c.in_default.ensures.steps c.in-Some-fault.ensures;
+      lines = λ before holds.
+          let (text, here) = end.lines before holds in
+          let all = map (listed (option_copied c.args.table)) (taps_of_batches c.loop-batch.yielded)
+          in (
+            c.in_ok-write_refused.ensures ∙ rw text (
+                append_assoc (string_bytes c.args.text.now) (tap_lines c.args.upload 0 before all)
+                (refused_line c.args.upload c.in-Some-fault.offset c.in-Some-fault.fault)),
+            here,
           );
-      is_whole = rw (← whole) refl;
+      is_whole = refl;
     }
 
 pub returns-clause-taps : goal.returns-clause-taps
 returns-clause-taps c =
-    let read = c.valid_batches-valid.ensures in
-    omega (arith, c.loop-batch.invariant.taps, few c.args.file.now _ read.rest read.is_file)
+    let end = c.loop-batch.invariant in
+    let read : IsReadAs c.args.file.now c.loop-batch.yielded
+    (Some (c.in-Some-fault.offset, c.in-Some-fault.fault)) =
+    read_end _ _ _ _ _ end.read c.in_default.ensures.steps c.in-Some-fault.ensures in
+    let most = few c.args.file.now c.loop-batch.yielded read.rest read.is_file in
+    omega (arith, end.taps, most)
