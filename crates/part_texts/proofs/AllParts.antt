@@ -1,38 +1,37 @@
--- Parts that are read one after the other: their fronts, and then their lines.
-use Rattle.std.proofs.Common.{◌≡◌, ◌∙◌, ◌+◌, ◌<◌, ◌≤◌, ℕ, suc, zero, List, [], ◌∷◌, ◌++◌}
-use Rattle.std.proofs.Common.{Bool, Option, None, Some, Result, Ok, Err, ap, append-nil, append_assoc}
-use Rattle.std.proofs.Common.{arith, drop, get_or, length, map, refl, set, subst, sym}
-use Rattle.std.proofs.Common.{take, length-append}
-use Rattle.std.specs.Prelude.{All, nat_le, slice_get}
+-- Parts that are read one after the other, and merged.
+use Rattle.std.proofs.Common.{◌≡◌, ◌∙◌, ◌+◌, ◌<◌, ◌≤◌, ℕ, suc, zero, Bool, true, false, List, [], ◌∷◌}
+use Rattle.std.proofs.Common.{◌++◌, Some, Result, Ok, Err, All, ap, append-nil, append_assoc, arith, drop}
+use Rattle.std.proofs.Common.{get_or, length, length-take, map, refl, set, subst, sym, take}
+use Rattle.std.specs.Prelude.{nat_le, slice_get}
 use Rattle.std.specs.List.{AllZip}
 use Rattle.std.proofs.lemmas.Bool.Decides.{nat_tests}
-use Rattle.std.proofs.lemmas.List.{drop-drop, drop-set-lt, drop_all, drop_more, take_all}
-use Rattle.std.proofs.lemmas.List.{take_more_set}
-use Rattle.std.proofs.lemmas.List.Elements.{All-drop, All-head, All-map, All-push, All-weaker}
-use Rattle.tap_views.specs.declared.token.Token.{Token}
-use Rattle.recorded_lines.specs.Texts.{CanBe, Follows, IsEndAt, IsFresh, calls_of, left}
+use Rattle.std.proofs.lemmas.List.{drop-set-lt, drop_all, drop_more, length-drop, length-set}
+use Rattle.std.proofs.lemmas.List.{take_all, take_more_set}
+use Rattle.std.proofs.lemmas.List.Elements.{All-map, All-push, All-weaker}
+use Rattle.recorded_lines.specs.Texts.{CanBe, Follows, IsEndAt, IsFresh, calls_of}
 use Rattle.recorded_lines.specs.declared.text.Lines.{Lines}
+use Rattle.histories.specs.Sums.{sums_of}
 use Rattle.report_texts.specs.declared.wrong.Wrong.TheVariants.{Form}
 use Rattle.world.specs.Run.{Calls, Run, with_written}
 use Rattle.world.specs.Streams.{IsWhole}
 use Rattle.world.specs.Writes.{IsCut}
 use Rattle.world.specs.declared.faults.WriteFault.{WriteFault}
 use Rattle.part_texts.specs.Fronts.{FrontsView, no_fronts}
-use Rattle.part_texts.specs.inside.Fronts.{started}
-use Rattle.part_texts.specs.Merged.{OpenView, WrongLine, and_then, at_part, front_of, fronts_of}
-use Rattle.part_texts.specs.Merged.{is_none_left, lines_left, merge_of, merged, section_of}
-use Rattle.part_texts.specs.Merged.{sections_of, whole_front}
+use Rattle.part_texts.specs.FrontSteps.{at_part}
+use Rattle.part_texts.specs.inside.Fronts.{fronts_view}
+use Rattle.part_texts.specs.Merged.{PartView, WrongLine, and_then, initial, is_none_left, left_of}
+use Rattle.part_texts.specs.Merged.{lines_left, merge_of, merged, read_all, read_of, whole_front}
 use Rattle.part_texts.specs.Reads.{HasStarted, IsFaultOf, Leaves, MergesAs, read_by}
-use Rattle.part_texts.specs.Sections.{SectionView}
-use Rattle.part_texts.specs.inside.Opened.{Copies, CopiesAll, FrontRead, IsPartFault, IsUnwritten}
+use Rattle.part_texts.specs.inside.Opened.{AreRead, IsInitial, IsPartFault, IsRead, all_copied, copied}
 use Rattle.part_texts.specs.inside.Opened.{lines_at, view_of, views_of}
 use Rattle.part_texts.specs.declared.fault.MergeFault.{MergeFault}
 use Rattle.part_texts.specs.declared.fault.MergeFault.TheVariants.{Line, Unread, Write, NoMemory}
-use Rattle.part_texts.specs.declared.merging.Open.{Open}
-use Rattle.part_texts.proofs.Parts.{TextAt, can_be_read, can_before, follow_on, follow_self}
-use Rattle.part_texts.proofs.Parts.{follow_length, follow_set, text_here, views_at, views_length}
-use Rattle.part_texts.proofs.Parts.{views_more}
-use Rattle.part_texts.proofs.Written.{written_more, written_none, written_on}
+use Rattle.part_texts.specs.declared.fronts.Fronts.{Fronts}
+use Rattle.part_texts.specs.declared.fronts.Open.{Open}
+use Rattle.part_texts.proofs.Parts.{all_initial, can_be_read, can_before, can_here, follow_length}
+use Rattle.part_texts.proofs.Parts.{follow_on, follow_self, follow_set, view_at, views_length}
+use Rattle.part_texts.proofs.Parts.{views_set}
+use Rattle.part_texts.proofs.Written.{cut_on, written_more, written_none, written_on}
 
 -- ---- faults
 at_set : (from : List Lines) (i : ℕ) (one : Lines) → i < length from
@@ -65,255 +64,198 @@ fault_goes said next whole calls (Unread text) is wrong = wrong
 fault_goes said next whole calls (Write why) is wrong = tt
 fault_goes said next whole calls NoMemory is wrong = tt
 
--- ---- fronts
+-- ---- parts, one after the other
 -- where the part stands among all parts
-at_started : (position count : ℕ) (texts : List (List ℕ)) (s : FrontsView)
-    → count ≡ (position + 1) + length texts → started position count s ≡ at_part position texts s
-at_started position count texts s is =
-    ap (λ (b : Bool). record (started position count s) { is_last = b }) (last texts is)
-  where
-    last : (texts : List (List ℕ)) → count ≡ (position + 1) + length texts
-        → nat_le count (position + 1) ≡ is_none_left texts
-    last [] is = grind (arith, nat_tests, is)
-    last (text ∷ texts) is = grind (arith, nat_tests, is)
+at_count : {A : Type 0} (position count : ℕ) (later : List A) → count ≡ (position + 1) + length later
+    → nat_le count (position + 1) ≡ is_none_left later
+at_count position count [] is = grind (arith, nat_tests, is)
+at_count position count (one ∷ later) is = grind (arith, nat_tests, is)
 
--- the fronts of the parts from this place on give what all of them give
-pub record AreOpened (first now : FrontsView) (parts : List Open) (start from : List Lines)
-    (i : ℕ) : Type 0 where
-  pub number : length parts ≡ i
+no_view : PartView
+no_view = initial []
+
+-- The parts from this place on give what all of them give, and what was read is written, if it is
+-- copied.
+pub record IsAtPart (is_copied : Bool) (now : FrontsView) (parts parts' : List Open)
+    (start from : List Lines) (i : ℕ) (before after : Run) : Type 0 where
+  pub same : length parts' ≡ length start
   pub follow : AllZip Follows start from
-  pub rest : drop i from ≡ drop i start
-  pub same : (texts : List (List ℕ)) → AllZip CanBe (map calls_of from) texts
-      → fronts_of first [] texts ≡ fronts_of now (views_of parts from texts) (drop i texts)
-
-pub none_opened : (first : FrontsView) (parts : List Open) (from : List Lines) → parts ≡ []
-    → AreOpened first first parts from from 0
-none_opened first parts from none = record {
-  number = ap length none;
-  follow = follow_self from;
-  rest = refl;
-  same = λ texts can. ap (λ ps. fronts_of first (views_of ps from texts) texts) (sym none);
-}
-
-module _ {first now mid : FrontsView} {parts : List Open} {start from : List Lines} {i : ℕ}
-    {next : Lines} (d : Lines) (at : AreOpened first now parts start from i) (fresh : All IsFresh start)
-    (some : i < length start) (read_on : Follows (get_or from i d) next)
-    (begins : mid ≡ started i (length start) now) where
-  abbrev one : Lines
-  one = get_or from i d
-
-  within : i < length from
-  within = let l = follow_length start from at.follow in omega (arith, l, some)
-
-  pub opened_on : AllZip Follows start (set from i next)
-  opened_on = follow_on start from (set from i next) at.follow
-      (follow_set from i next d within read_on)
-
-  is_fresh : IsFresh one
-  is_fresh = All-head IsFresh one (drop (i + 1) from)
-      (subst (All IsFresh) (sym at.rest ∙ drop_more from i d within)
-      (All-drop IsFresh i start fresh))
-
-  now_at : (texts : List (List ℕ)) → AllZip CanBe (map calls_of (set from i next)) texts
-      → AllZip CanBe (map calls_of from) texts
-  now_at texts can = can_before from (set from i next) texts
-      (follow_set from i next d within read_on) can
-
-  -- what all of them give, by the front of this one
-  by_front : (texts : List (List ℕ)) → AllZip CanBe (map calls_of (set from i next)) texts
-      → (t : TextAt texts next i (length from)) → fronts_of first [] texts
-      ≡ and_then (front_of i mid (left one t.text))
-      (λ read. fronts_of read.0 (views_of parts from texts ++ read.1 ∷ []) (drop (i + 1) texts))
-  by_front texts can t =
-      let n = at.number in
-      let l = follow_length start from at.follow in
-      let views = views_of parts from texts in
-      let number : length views ≡ i =
-      views_length parts from texts (omega (arith, n, within)) (now_at texts can) ∙ n in
-      let fresh : left one t.text ≡ t.text = rw (is_fresh.none, is_fresh.unread) in
-      at.same texts (now_at texts can)
-      ∙ rw (
-        t.here,
-        number,
-        fresh,
-        begins ∙ at_started i (length start) (drop (i + 1) texts) now
-            (sym l ∙ t.number),
-      )
-
-  pub one_opened : {new : FrontsView} {more : List Open} (part : Open) → more ≡ parts ++ part ∷ []
-      → ((whole : List ℕ) → CanBe (calls_of next) whole
-      → FrontRead (front_of i mid (left one whole)) new (lines_at next whole) i (calls_of next)
-      (Ok part))
-      → AreOpened first new more start (set from i next) (i + 1)
-  one_opened {new = new} part pushed read = record {
-    number = ap length pushed ∙ length-append parts (part ∷ []) ∙ ap (λ n. n + 1) at.number;
-    follow = opened_on;
-    rest = drop-set-lt (i + 1) from i next (omega arith) ∙ rests;
-    same = λ texts can.
-        let t = text_here from next i within texts can in
-        by_front texts can t
-        ∙ ap (λ r. and_then r (λ read. fronts_of read.0 (views_of parts from texts ++ read.1 ∷ [])
-        (drop (i + 1) texts))) (read t.text t.can)
-        ∙ ap (λ views. fronts_of new views (drop (i + 1) texts))
-        (sym (ap (λ ps. views_of ps (set from i next) texts) pushed
-        ∙ ap (λ n. views_of (parts ++ part ∷ []) (set from n next) texts) (sym at.number)
-        ∙ views_more parts part from next texts (drop (i + 1) texts) t.text
-        (let n = at.number in omega (arith, n, within))
-        (ap (λ n. drop n texts) at.number ∙ t.here)));
-  }
-    where
-      rests : drop (i + 1) from ≡ drop (i + 1) start
-      rests = sym (drop-drop 1 i from) ∙ ap (drop 1) at.rest ∙ drop-drop 1 i start
-
-  pub not_opened : (fault : MergeFault)
-      → ((whole : List ℕ) → CanBe (calls_of next) whole
-      → IsPartFault (front_of i mid (left one whole)) i (calls_of next) fault)
-      → (texts : List (List ℕ)) → AllZip CanBe (map calls_of (set from i next)) texts
-      → IsFaultOf (fronts_of first [] texts) (map calls_of (set from i next)) fault
-  not_opened fault read texts can =
-      let t = text_here from next i within texts can in
-      part_fault _ _ _ from i next fault within (by_front texts can t) (read t.text t.can)
-
-pub all_opened : {first now : FrontsView} {parts : List Open} {start from : List Lines} {i : ℕ}
-    → AreOpened first now parts start from i → length start ≤ i → (texts : List (List ℕ))
-    → AllZip CanBe (map calls_of from) texts
-    → fronts_of first [] texts ≡ Ok (now, views_of parts from texts)
-all_opened {now = now} {parts = parts} {start = start} {from = from} {i = i} at past texts can =
-    let l = follow_length start from at.follow in
-    at.same texts can
-    ∙ ap (fronts_of now (views_of parts from texts)) (none_at from texts i (omega (arith, l, past)) can)
-  where
-    none_at : (from : List Lines) (texts : List (List ℕ)) (i : ℕ) → length from ≤ i
-        → AllZip CanBe (map calls_of from) texts → drop i texts ≡ []
-    none_at [] [] zero all can = refl
-    none_at [] [] (suc i) all can = refl
-    none_at [] (text ∷ texts) i all can = absurd can
-    none_at (x ∷ from) [] i all can = absurd can
-    none_at (x ∷ from) (text ∷ texts) zero all can = absurd (omega (arith, all))
-    none_at (x ∷ from) (text ∷ texts) (suc i) all can =
-        none_at from texts i (omega (arith, all)) can.1
-
--- ---- the lines after them
--- the parts from this place on give what all of them give, and the lines before are written
-pub record AreCopied (parts : List Open) (start from : List Lines) (i : ℕ) (last : Option Token)
-    (before after : Run) : Type 0 where
-  pub follow : AllZip Follows start from
-  pub ended : All IsEndAt (take i from)
+  pub ended : is_copied ≡ true → All IsEndAt (take i from)
   pub text : List ℕ
   pub wrote : after ≡ with_written before text
-  pub same : (texts : List (List ℕ)) → AllZip CanBe (map calls_of from) texts
-      → sections_of 0 None (views_of parts start texts)
-      ≡ sections_of i last (views_of (drop i parts) (drop i from) (drop i texts))
+  pub gives : (texts : List (List ℕ)) → AllZip CanBe (map calls_of from) texts
+      → read_all is_copied no_fronts [] (views_of parts start texts)
+      ≡ read_all is_copied now (take i (views_of parts' from texts))
+      (drop i (views_of parts' from texts))
   pub lines : (texts : List (List ℕ)) → AllZip CanBe (map calls_of from) texts
-      → lines_left (views_of parts start texts)
-      ≡ text ++ lines_left (views_of (drop i parts) (drop i from) (drop i texts))
+      → all_copied is_copied (views_of parts start texts)
+      ≡ text ++ all_copied is_copied (drop i (views_of parts' from texts))
 
-pub none_copied : (parts : List Open) (from : List Lines) (r : Run)
-    → AreCopied parts from from 0 None r r
-none_copied parts from r = record {
+pub none_read : (is_copied : Bool) (s : FrontsView) (parts : List Open) (from : List Lines) (r : Run)
+    → length parts ≡ length from → s ≡ no_fronts
+    → IsAtPart is_copied s parts parts from from 0 r r
+none_read is_copied s parts from r same is = record {
+  same = same;
   follow = follow_self from;
-  ended = λ k d within. absurd (omega (arith, within));
+  ended = λ _ k d within. absurd (omega (arith, within));
   text = [];
   wrote = written_none r;
-  same = λ texts can. refl;
+  gives = λ texts can. ap (λ f. read_all is_copied f [] (views_of parts from texts)) (sym is);
   lines = λ texts can. refl;
 }
 
-module _ {parts : List Open} {start from : List Lines} {i : ℕ} {last : Option Token}
-    {before now : Run} {part : Open} {next : Lines} (d : Lines)
-    (at : AreCopied parts start from i last before now) (same : length parts ≡ length start)
-    (some : i < length start) (part_is : part ≡ get_or parts i part)
-    (read_on : Follows (get_or from i d) next) where
-  abbrev old : Lines
-  old = get_or from i d
+first_copied : (is_copied : Bool) (p : PartView) (later : List PartView)
+    → all_copied is_copied (p ∷ later) ≡ copied is_copied p.lines ++ all_copied is_copied later
+first_copied true p later = refl
+first_copied false p later = refl
 
-  few : length parts ≡ length from
-  few = same ∙ sym (follow_length start from at.follow)
+none_copied : (is_copied : Bool) → all_copied is_copied [] ≡ []
+none_copied true = refl
+none_copied false = refl
+
+module _ {is_copied : Bool} {now : FrontsView} {parts parts' : List Open} {start from : List Lines}
+    {i : ℕ} {before after : Run} {part : Open} (d : Lines)
+    (at : IsAtPart is_copied now parts parts' start from i before after) (some : i < length start)
+    (part_is : part ≡ get_or parts' i part) where
+  few : length parts' ≡ length from
+  few = at.same ∙ sym (follow_length start from at.follow)
 
   inside : i < length from
   inside = let l = follow_length start from at.follow in omega (arith, l, some)
 
-  on : AllZip Follows from (set from i next)
-  on = follow_set from i next d inside read_on
+  -- the part at the place, and those after it
+  abbrev views : List (List ℕ) → List PartView
+  views texts = views_of parts' from texts
 
-  pub copied_on : AllZip Follows start (set from i next)
-  copied_on = follow_on start from (set from i next) at.follow on
+  abbrev lines : List (List ℕ) → List (List ℕ)
+  lines texts = lines_at (get_or from i d) (get_or texts i [])
 
-  abbrev later : List (List ℕ) → List OpenView
-  later texts = views_of (drop (i + 1) parts) (drop (i + 1) from) (drop (i + 1) texts)
+  module _ {next : Lines} (on : Follows (get_or from i d) next) where
+    ons : AllZip Follows from (set from i next)
+    ons = follow_set from i next d inside on
 
-  split : (texts : List (List ℕ)) (text : List ℕ) → drop i texts ≡ text ∷ drop (i + 1) texts
-      → views_of (drop i parts) (drop i from) (drop i texts)
-      ≡ view_of part (lines_at old text) ∷ later texts
-  split texts text here =
-      views_at parts from texts i part d text (omega (arith, few, inside)) inside here
-      ∙ ap (λ p. view_of p (lines_at old text) ∷ later texts) (sym part_is)
+    pub follow_next : AllZip Follows start (set from i next)
+    follow_next = follow_on start from (set from i next) at.follow ons
 
-  passed : (texts : List (List ℕ))
-      → later texts
-      ≡ views_of (drop (i + 1) parts) (drop (i + 1) (set from i next)) (drop (i + 1) texts)
-  passed texts =
-      ap (λ f. views_of (drop (i + 1) parts) f (drop (i + 1) texts))
-      (sym (drop-set-lt (i + 1) from i next (omega arith)))
+    pub same_next : length parts' ≡ length (set from i next)
+    same_next = few ∙ sym (length-set from i next)
 
-  pub one_copied : {end : Option Token} {after : Run} → Copies i last part old next now after (Ok end)
-      → AreCopied parts start (set from i next) (i + 1) end before after
-  one_copied {end = end} {after = after} (more, wrote, ends, said) = record {
-    follow = copied_on;
-    ended = subst (All IsEndAt) (sym (take_more_set from i next inside))
-        (All-push IsEndAt (take i from) next at.ended ends);
+    back : (texts : List (List ℕ)) → AllZip CanBe (map calls_of (set from i next)) texts
+        → AllZip CanBe (map calls_of from) texts
+    back texts can = can_before from (set from i next) texts ons can
+
+    split : (texts : List (List ℕ)) → AllZip CanBe (map calls_of (set from i next)) texts
+        → drop i (views texts) ≡ view_of part (lines texts) ∷ drop (i + 1) (views texts)
+    split texts can =
+        let l = views_length parts' from texts few (back texts can) in
+        drop_more (views texts) i no_view (omega (arith, l, inside))
+        ∙ ap (λ p. p ∷ drop (i + 1) (views texts))
+        (view_at parts' from texts i part d no_view (omega (arith, few, inside)) few (back texts can)
+        ∙ ap (λ p. view_of p (lines texts)) (sym part_is))
+
+    by_lines : (texts : List (List ℕ)) → AllZip CanBe (map calls_of (set from i next)) texts
+        → all_copied is_copied (views_of parts start texts)
+        ≡ at.text ++ (copied is_copied (lines texts) ++ all_copied is_copied (drop (i + 1) (views texts)))
+    by_lines texts can =
+        at.lines texts (back texts can)
+        ∙ ap (λ l. at.text ++ l) (ap (all_copied is_copied) (split texts can)
+        ∙ first_copied is_copied (view_of part (lines texts)) (drop (i + 1) (views texts)))
+
+    module _ {mid : FrontsView} (begins : mid
+        ≡ at_part i (nat_le (length start) (i + 1)) part.stage (sums_of part.part) now) where
+      by_part : (texts : List (List ℕ)) → AllZip CanBe (map calls_of (set from i next)) texts
+          → read_all is_copied no_fronts [] (views_of parts start texts)
+          ≡ and_then (read_of is_copied i part.number mid (lines texts)) (λ read.
+          read_all is_copied read.1 (take i (views texts) ++ left_of read ∷ [])
+          (drop (i + 1) (views texts)))
+      by_part texts can =
+          let l = views_length parts' from texts few (back texts can) in
+          let f = follow_length start from at.follow in
+          let number : length (take i (views texts)) ≡ i =
+          (let t = length-take {A = PartView} in omega (arith, t, l, inside)) in
+          let later : length start ≡ (i + 1) + length (drop (i + 1) (views texts)) =
+          (let t = length-drop (i + 1) (views texts) in omega (arith, t, l, f, inside)) in
+          at.gives texts (back texts can)
+          ∙ rw (
+            split texts can,
+            number,
+            ← (at_count i (length start) (drop (i + 1) (views texts)) later),
+            ← begins,
+          )
+
+  pub one_read : {next : Lines} {mid then : FrontsView} {wrote : Run} {number : ℕ} (begins : mid
+      ≡ at_part i (nat_le (length start) (i + 1)) part.stage (sums_of part.part) now) (left : Open)
+      → IsRead is_copied (i, part.number) mid then (get_or from i d) next after wrote (Ok number)
+      → ((lines : List (List ℕ)) → left_of (number, then, lines) ≡ view_of left lines)
+      → IsAtPart is_copied then parts (set parts' i left) start (set from i next) (i + 1) before wrote
+  one_read {next = next} {wrote = wrote} begins left (on, more, is, end, said) shown = record {
+    same = length-set parts' i left ∙ at.same;
+    follow = follow_next on;
+    ended = λ copies. subst (All IsEndAt) (sym (take_more_set from i next inside))
+        (All-push IsEndAt (take i from) next (at.ended copies) (end copies));
     text = at.text ++ more;
-    wrote = written_on before now after at.text more at.wrote wrote;
-    same = λ texts can.
-        let t = text_here from next i inside texts can in
-        let (s, section, last_is, lines) = said t.text t.can in
-        at.same texts (can_before from (set from i next) texts on can)
-        ∙ rw (split texts t.text t.here, section, last_is, passed texts);
+    wrote = written_on before after wrote at.text more at.wrote is;
+    gives = λ texts can.
+        let l = views_length parts' from texts few (back on texts can) in
+        let (read, text) = said (get_or texts i []) (can_here from next texts i inside can) in
+        by_part on begins texts can
+        ∙ rw (
+          read,
+          shown (lines_at next (get_or texts i [])),
+          ← (take_more_set (views texts) i (view_of left (lines_at next (get_or texts i [])))
+              (omega (arith, l, inside))),
+          passed texts,
+          ← (views_set parts' from texts i left next),
+        );
     lines = λ texts can.
-        let t = text_here from next i inside texts can in
-        let (s, section, last_is, lines) = said t.text t.can in
-        at.lines texts (can_before from (set from i next) texts on can)
-        ∙ rw (split texts t.text t.here, lines, passed texts) (sym (append_assoc at.text more _));
+        let (read, text) = said (get_or texts i []) (can_here from next texts i inside can) in
+        by_lines on texts can
+        ∙ rw (text, passed texts, ← (views_set parts' from texts i left next))
+        (sym (append_assoc at.text more _));
   }
+    where
+      passed : (texts : List (List ℕ)) → drop (i + 1) (views texts)
+          ≡ drop (i + 1) (set (views texts) i (view_of left (lines_at next (get_or texts i []))))
+      passed texts = sym (drop-set-lt (i + 1) (views texts) i _ (omega arith))
 
-  pub not_copied : (after : Run) (fault : MergeFault) → Copies i last part old next now after (Err fault)
-      → CopiesAll parts start (set from i next) before after (Err fault)
-  not_copied after fault (more, leaves, said) = (
+  pub not_read : {next : Lines} {mid : FrontsView} (begins : mid
+      ≡ at_part i (nat_le (length start) (i + 1)) part.stage (sums_of part.part) now)
+      (then : FrontsView) (wrote : Run) (fault : MergeFault) (opens : List Open)
+      → IsRead is_copied (i, part.number) mid then (get_or from i d) next after wrote (Err fault)
+      → AreRead is_copied parts opens start (set from i next) before wrote (Err fault)
+  not_read {next = next} begins then wrote fault opens (on, more, leaves, said) = (
     at.text ++ more,
-    subst (λ r. Leaves fault r after)
+    subst (λ r. Leaves fault r wrote)
         (ap (λ r. with_written r more) at.wrote ∙ written_more before at.text more) leaves,
     λ texts can.
-        let t = text_here from next i inside texts can in
-        let back = can_before from (set from i next) texts on can in
-        let (wrong, rest, lines) = said t.text t.can in (
-          part_fault (section_of i last (view_of part (lines_at old t.text)))
-              (λ (s : SectionView). sections_of (i + 1) s.last (later texts))
-              (sections_of 0 None (views_of parts start texts)) from i next fault inside
-              (at.same texts back ∙ ap (sections_of i last) (split texts t.text t.here)) wrong,
-          rest ++ lines_left (later texts),
-          at.lines texts back
-              ∙ rw (split texts t.text t.here, lines) (simp append_assoc),
+        let (wrong, rest, text) = said (get_or texts i []) (can_here from next texts i inside can) in (
+          part_fault _ _ _ from i next fault inside (by_part on begins texts can) wrong,
+          rest ++ all_copied is_copied (drop (i + 1) (views texts)),
+          by_lines on texts can ∙ rw text (simp append_assoc),
         ),
   )
 
-pub all_copied : {parts : List Open} {start from : List Lines} {i : ℕ} {last : Option Token}
-    {before after : Run} → AreCopied parts start from i last before after
-    → length parts ≡ length start → length start ≤ i
-    → CopiesAll parts start from before after (Ok tt)
-all_copied {parts = parts} {start = start} {from = from} {i = i} {last = last} at same past = (
-  at.text,
-  at.wrote,
-  subst (All IsEndAt) (take_all i from (let l = follow_length start from at.follow in
-      omega (arith, l, past))) at.ended,
-  λ texts can. (
-    last,
-    at.same texts can ∙ ap (λ ps. sections_of i last (views_of ps (drop i from) (drop i texts)))
-        (drop_all i parts (omega (arith, same, past))),
-    at.lines texts can
-        ∙ ap (λ ps. at.text ++ lines_left (views_of ps (drop i from) (drop i texts)))
-        (drop_all i parts (omega (arith, same, past))) ∙ append-nil at.text,
-  ),
-)
+pub all_read : {is_copied : Bool} {parts parts' : List Open} {start from : List Lines} {i : ℕ}
+    {before after : Run} (fronts : Fronts)
+    → IsAtPart is_copied (fronts_view fronts) parts parts' start from i before after → length start ≤ i
+    → AreRead is_copied parts parts' start from before after (Ok fronts)
+all_read {is_copied = is_copied} {parts' = parts'} {start = start} {from = from} {i = i} fronts at past =
+    let f = follow_length start from at.follow in
+    let few : length parts' ≡ length from = at.same ∙ sym f in (
+      at.text,
+      at.wrote,
+      λ copies. subst (All IsEndAt) (take_all i from (omega (arith, f, past))) (at.ended copies),
+      λ texts can.
+          let l = views_length parts' from texts few can in
+          let none = drop_all i (views_of parts' from texts) (omega (arith, l, f, past)) in (
+            at.gives texts can
+                ∙ ap (read_all is_copied (fronts_view fronts) (take i (views_of parts' from texts))) none
+                ∙ ap (λ views. Ok (fronts_view fronts, views))
+                (take_all i (views_of parts' from texts) (omega (arith, l, f, past))),
+            at.lines texts can ∙ ap (λ l. at.text ++ l) (ap (all_copied is_copied) none
+                ∙ none_copied is_copied) ∙ append-nil at.text,
+          ),
+    )
 
 -- ---- the whole
 ok_one : {A E : Type 0} {a b : A} → ◌≡◌ {A = Result A E} (Ok a) (Ok b) → a ≡ b
@@ -321,9 +263,6 @@ ok_one e = cc
 
 pub nothing_started : (calls : List Calls) → HasStarted calls []
 nothing_started calls texts can whole is = (whole, refl)
-
-unwritten : (why : MergeFault) (r : Run) → IsUnwritten why → Leaves why (with_written r []) r
-unwritten why r none = subst (λ s. Leaves why s r) (written_none r) (none r)
 
 pub no_parts : (from : List Lines) (r : Run) → from ≡ []
     → MergesAs (map calls_of from) r r (Err (Line 0 1 Form))
@@ -338,86 +277,121 @@ no_parts from r none = (
     no_texts [] can = refl
     no_texts (text ∷ texts) can = absurd can
 
-merge_is : (from : List Lines) (first : FrontsView) (texts : List (List ℕ)) → 0 < length from
-    → first ≡ no_fronts → AllZip CanBe (map calls_of from) texts
-    → merge_of texts ≡ and_then (fronts_of first [] texts) merged
-merge_is [] first texts some is can = absurd (omega (arith, some))
-merge_is (x ∷ from) first [] some is can = absurd can
-merge_is (x ∷ from) first (text ∷ texts) some is can =
-    ap (λ s. and_then (fronts_of s [] (text ∷ texts)) merged) (sym is)
+pub no_memory : (from : List Lines) (r : Run) → MergesAs (map calls_of from) r r (Err NoMemory)
+no_memory from r = ([], nothing_started (map calls_of from), written_none r, λ texts can. tt)
 
-pub no_fronts_read : (from : List Lines) (first : FrontsView) (r : Run) (fault : MergeFault)
-    → 0 < length from → first ≡ no_fronts → IsUnwritten fault
-    → ((texts : List (List ℕ)) → AllZip CanBe (map calls_of from) texts
-    → IsFaultOf (fronts_of first [] texts) (map calls_of from) fault)
-    → MergesAs (map calls_of from) r r (Err fault)
-no_fronts_read from first r fault some is none said = (
-  [],
-  nothing_started (map calls_of from),
-  unwritten fault r none,
-  λ texts can. fault_goes (fronts_of first [] texts) merged (merge_of texts) (map calls_of from)
-      fault (merge_is from first texts some is can) (said texts can),
-)
-
-merged_text : (s : FrontsView) (views : List OpenView) (text : List ℕ)
+merged_text : (s : FrontsView) (views : List PartView) (text : List ℕ)
     → merged (s, views) ≡ Ok text → text ≡ whole_front s ++ lines_left views
-merged_text s views text ok = by (sections_of 0 None views) ok
+merged_text s views text ok = by (read_all true no_fronts [] views) ok
   where
-    by : (said : Result (Option Token) WrongLine)
-        → and_then said (λ last. Ok (whole_front s ++ lines_left views)) ≡ Ok text
+    by : (said : Result (FrontsView × List PartView) WrongLine)
+        → and_then said (λ end. Ok (whole_front s ++ lines_left views)) ≡ Ok text
         → text ≡ whole_front s ++ lines_left views
     by (Ok end) ok = sym (ok_one ok)
     by (Err wrong) ok = absurd (cc)
 
-module _ (from next : List Lines) (first s : FrontsView) (parts : List Open) (r now : Run)
-    (some : 0 < length from) (is : first ≡ no_fronts)
-    (said : (texts : List (List ℕ)) → AllZip CanBe (map calls_of from) texts
-    → fronts_of first [] texts ≡ Ok (s, views_of parts from texts)) where
-  whole_is : (texts : List (List ℕ)) → AllZip CanBe (map calls_of from) texts
-      → merge_of texts ≡ merged (s, views_of parts from texts)
-  whole_is texts can =
-      merge_is from first texts some is can ∙ ap (λ r. and_then r merged) (said texts can)
+none_before : (a b : List ℕ) → [] ≡ a ++ b → a ≡ []
+none_before [] b is = refl
+none_before (x ∷ a) b is = absurd (cc)
 
-  pub front_cut : (why : WriteFault) → IsCut r now (whole_front s) why
-      → MergesAs (map calls_of from) r now (Err (Write why))
-  front_cut why cut = (
-    cut.front,
-    λ texts can whole ok. (
-      cut.rest ++ lines_left (views_of parts from texts),
-      merged_text s (views_of parts from texts) whole (sym (whole_is texts can) ∙ ok)
-          ∙ ap (λ l. l ++ lines_left (views_of parts from texts)) cut.whole
-          ∙ append_assoc cut.front cut.rest (lines_left (views_of parts from texts)),
-    ),
-    cut.prefix,
-    λ texts can. tt,
-  )
+-- the fronts are read, and nothing is written
+module _ (start from : List Lines) (parts parts' : List Open) (r next : Run) (some : 0 < length start)
+    (fresh : All IsFresh start) (none : All IsInitial parts) (same : length parts ≡ length start)
+    (follow : AllZip Follows start from) where
+  merge_is : (texts : List (List ℕ)) → AllZip CanBe (map calls_of from) texts
+      → merge_of texts
+      ≡ and_then (read_all false no_fronts [] (views_of parts start texts)) merged
+  merge_is texts can =
+      let before = can_before start from texts follow can in
+      by start texts some before
+      ∙ ap (λ views. and_then (read_all false no_fronts [] views) merged)
+      (sym (all_initial parts start texts none same fresh before))
+    where
+      by : (start : List Lines) (texts : List (List ℕ)) → 0 < length start
+          → AllZip CanBe (map calls_of start) texts
+          → merge_of texts ≡ and_then (read_all false no_fronts [] (map initial texts)) merged
+      by [] texts some can = absurd (omega (arith, some))
+      by (one ∷ start) [] some can = absurd can
+      by (one ∷ start) (text ∷ texts) some can = refl
 
-  pub lines_merged : (after : Run) (result : Result Unit MergeFault) → AllZip Follows from next
-      → now ≡ with_written r (whole_front s) → CopiesAll parts from next now after result
-      → MergesAs (map calls_of next) r after result
-  lines_merged after (Ok done) follow wrote (text, more, ends, copied) =
-      let texts = read_by (map calls_of next) in
-      let can = can_be_read (map calls_of next) in
-      let (end, sections, lines) = copied texts can in (
-        All-map IsWhole calls_of next (All-weaker IsEndAt (λ (l : Lines). IsWhole (calls_of l))
-            (λ l end. end.whole) next ends),
-        whole_front s ++ text,
-        whole_is texts (can_before from next texts follow can)
-            ∙ rw (sections, lines),
-        written_on r now after (whole_front s) text wrote more,
+  pub no_fronts_read : (fault : MergeFault) → AreRead false parts parts' start from r next (Err fault)
+      → MergesAs (map calls_of from) r next (Err fault)
+  no_fronts_read fault (text, leaves, said) =
+      let (wrong, rest, is) = said (read_by (map calls_of from)) (can_be_read (map calls_of from)) in (
+        [],
+        nothing_started (map calls_of from),
+        subst (λ t. Leaves fault (with_written r t) next) (none_before text rest is) leaves,
+        λ texts can. fault_goes (read_all false no_fronts [] (views_of parts start texts)) merged
+            (merge_of texts) (map calls_of from) fault (merge_is texts can) (said texts can).0,
       )
-  lines_merged after (Err fault) follow wrote (text, leaves, copied) = (
-    whole_front s ++ text,
-    λ texts can whole ok.
-        let (wrong, rest, lines) = copied texts can in (
-          rest,
-          merged_text s (views_of parts from texts) whole (sym (whole_is texts (can_before from next texts follow can)) ∙ ok)
-              ∙ ap (λ l. whole_front s ++ l) lines ∙ sym (append_assoc (whole_front s) text rest),
-        ),
-    subst (λ x. Leaves fault x after) (ap (λ x. with_written x text) wrote
-        ∙ written_more r (whole_front s) text) leaves,
-    λ texts can. fault_goes (sections_of 0 None (views_of parts from texts))
-        (λ last. Ok (whole_front s ++ lines_left (views_of parts from texts))) (merge_of texts)
-        (map calls_of next) fault (whole_is texts (can_before from next texts follow can))
-        (copied texts can).0,
-  )
+
+  module _ (fronts : Fronts) (read : AreRead false parts parts' start from r next (Ok fronts)) where
+    nothing_written : next ≡ with_written r []
+    nothing_written =
+        let (text, is, ends, said) = read in
+        is ∙ ap (with_written r)
+        (sym (said (read_by (map calls_of from)) (can_be_read (map calls_of from))).1)
+
+    pub still_no_memory : MergesAs (map calls_of from) r next (Err NoMemory)
+    still_no_memory = ([], nothing_started (map calls_of from), nothing_written, λ texts can. tt)
+
+    abbrev front : List ℕ
+    front = whole_front (fronts_view fronts)
+
+    whole_is : (texts : List (List ℕ)) → AllZip CanBe (map calls_of from) texts
+        → merge_of texts ≡ merged (fronts_view fronts, views_of parts' from texts)
+    whole_is texts can =
+        let (text, is, ends, said) = read in
+        merge_is texts can ∙ ap (λ r. and_then r merged) (said texts can).0
+
+    pub front_cut : (now : Run) (why : WriteFault) → IsCut next now front why
+        → MergesAs (map calls_of from) r now (Err (Write why))
+    front_cut now why cut = (
+      cut.front,
+      λ texts can whole ok. (
+        cut.rest ++ lines_left (views_of parts' from texts),
+        merged_text (fronts_view fronts) (views_of parts' from texts) whole
+            (sym (whole_is texts can) ∙ ok)
+            ∙ ap (λ l. l ++ lines_left (views_of parts' from texts)) cut.whole
+            ∙ append_assoc cut.front cut.rest (lines_left (views_of parts' from texts)),
+      ),
+      cut_on r next now [] front why nothing_written cut,
+      λ texts can. tt,
+    )
+
+    module _ (end : List Lines) (opens : List Open) (now after : Run) (on : AllZip Follows from end)
+        (wrote : now ≡ with_written next front) where
+      written : now ≡ with_written r front
+      written = written_on r next now [] front nothing_written wrote
+
+      pub all_merged : (last : Fronts) → AreRead true parts' opens from end now after (Ok last)
+          → MergesAs (map calls_of end) r after (Ok tt)
+      all_merged last (text, more, ends, said) =
+          let texts = read_by (map calls_of end) in
+          let (sections, lines) = said texts (can_be_read (map calls_of end)) in (
+            All-map IsWhole calls_of end (All-weaker IsEndAt (λ (l : Lines). IsWhole (calls_of l))
+                (λ l end. end.whole) end (ends refl)),
+            front ++ text,
+            whole_is texts (can_before from end texts on (can_be_read (map calls_of end)))
+                ∙ rw (sections, lines),
+            written_on r now after front text written more,
+          )
+
+      pub not_merged : (fault : MergeFault) → AreRead true parts' opens from end now after (Err fault)
+          → MergesAs (map calls_of end) r after (Err fault)
+      not_merged fault (text, leaves, said) = (
+        front ++ text,
+        λ texts can whole ok.
+            let (wrong, rest, lines) = said texts can in (
+              rest,
+              merged_text (fronts_view fronts) (views_of parts' from texts) whole
+                  (sym (whole_is texts (can_before from end texts on can)) ∙ ok)
+                  ∙ ap (λ l. front ++ l) lines ∙ sym (append_assoc front text rest),
+            ),
+        subst (λ x. Leaves fault x after) (ap (λ x. with_written x text) written
+            ∙ written_more r front text) leaves,
+        λ texts can. fault_goes (read_all true no_fronts [] (views_of parts' from texts))
+            (λ last. Ok (front ++ lines_left (views_of parts' from texts))) (merge_of texts)
+            (map calls_of end) fault (whole_is texts (can_before from end texts on can))
+            (said texts can).0,
+      )

@@ -31,19 +31,19 @@ use Rattle.histories.proofs.IncreasingLemmas.{increasing-is}
 use Rattle.histories.proofs.SumsByToken.{by_token_joined}
 use Rattle.histories.proofs.SumsLemmas.{add_assoc, add_none, none_add, sums-append, sums-taps}
 use Rattle.report_texts.specs.Report.{report}
-use Rattle.part_texts.specs.Fronts.{is_above, may_end, no_sums}
+use Rattle.part_texts.specs.Fronts.{is_above, is_token_above, may_end, no_sums}
 use Rattle.part_texts.specs.HistoryParts.{AreRight, AreIncreasing, Fits, HistoryPart, added}
 use Rattle.part_texts.specs.HistoryParts.{histories_of, numbers_of, report_of, whole_history}
-use Rattle.part_texts.specs.Merged.{merge_of}
-use Rattle.sorted_taps.specs.Positions.{DoJoin, first_position}
-use Rattle.part_texts.specs.Sections.{is_token_above}
+use Rattle.part_texts.specs.Merged.{is_none_left, merge_of}
+use Rattle.sorted_taps.specs.Positions.{AreWhole, DoJoin, first_position}
 use Rattle.part_texts.specs.Shown.{part_text, sum_up}
-use Rattle.part_texts.specs.inside.Shown.{are_joined, is_none_after, IsNextPart, IsRight, SoFar}
+use Rattle.part_texts.specs.inside.Shown.{are_joined, IsNextPart, IsRight, SoFar}
 use Rattle.part_texts.specs.inside.Shown.{adds_to, are_next, are_posted_to, are_increasing}
 use Rattle.part_texts.specs.inside.Shown.{are_tokens_increasing, last_of, nothing_so_far, tokens_of}
 use Rattle.sorted_taps.specs.declared.positions.Position.{Position}
 use Rattle.sorted_taps.specs.declared.positions.FileSpan.{FileSpan}
 use Rattle.part_texts.proofs.KeySums.{all_added, tokens_add, validators_add}
+use Rattle.part_texts.proofs.ShownParts.{none_left}
 use Rattle.part_texts.proofs.ShownReports.{reports_merge}
 use Rattle.part_texts.proofs.Tables.{validators_added, within}
 
@@ -252,7 +252,7 @@ may_last (span ∷ spans) all = (
 
 pub may_end_all : (spans : List FileSpan) (later : List (List FileSpan))
     → DoJoin (to_ends spans) later
-    → MayAllEnd (is_none_after later) spans
+    → MayAllEnd (is_none_left later) spans
 may_end_all spans [] all = may_last spans all
 may_end_all spans (next ∷ later) join = may_all spans
 
@@ -362,14 +362,6 @@ below_both xs ys zs below = (
 abbrev pub spans_of : List HistoryPart → List (List FileSpan)
 spans_of parts = map (λ (p : HistoryPart). p.spans) parts
 
-none_after : (ps : List HistoryPart)
-    → is_none_after (spans_of ps) ≡ is_none_after (map report_of ps)
-none_after [] = refl
-none_after (p ∷ ps) = refl
-
-pub same_number : (a b : ℕ) → a ≡ b → nat_eq a b ≡ true
-same_number a b same = grind (arith, nat_tests, same)
-
 -- what the parts so far are, and that the others follow
 record GoesOn (files : ℕ) (taps : List ℕ) (history : List Entry) (last : Option Token)
     (parts : List HistoryPart) : Type 0 where
@@ -471,13 +463,53 @@ module _ {files : ℕ} {taps : List ℕ} {history : List Entry} {last : Option T
 pub ends_length : (spans : List FileSpan) → length (to_ends spans) ≡ length spans
 ends_length spans = length-map spans (λ (span : FileSpan). span.to)
 
-follow : (files : ℕ) (ends : List (Option Position)) (taps : List ℕ) (history : List Entry)
-    (last : Option Token) (parts : List HistoryPart) → length ends ≡ files → length taps ≡ files
-    → DoJoin ends (spans_of parts) → GoesOn files taps history last parts
+-- there is none before the first part, and then one of each file
+abbrev pub OfEach : {A : Type 0} → Bool → ℕ → List A → Type 0
+OfEach true files list = list ≡ []
+OfEach false files list = length list ≡ files
+
+abbrev pub Join : Bool → List (Option Position) → List (List FileSpan) → Type 0
+Join true ends parts = AreWhole parts
+Join false ends parts = DoJoin ends parts
+
+-- the spans of a part join those before it
+pub part_joins : (first : Bool) (files : ℕ) (ends : List (Option Position)) (spans : List FileSpan)
+    (later : List (List FileSpan)) → OfEach first files ends → length spans ≡ files
+    → Join first ends (spans ∷ later) → ((first || nat_eq (length spans) (length ends)) ≡ true)
+    × are_joined first (is_none_left later) ends spans (to_ends spans) × DoJoin (to_ends spans) later
+part_joins true files ends spans later none number (from, join) = (
+  refl,
+  rw none (joined_first (is_none_left later) [] spans from (may_end_all spans later join)),
+  join,
+)
+part_joins false files ends spans later same number (from, join) = (
+  grind (arith, nat_tests, same, number),
+  rw (from, ← (append-nil (from_ends spans)))
+      (joined_next (is_none_left later) [] spans (may_end_all spans later join)),
+  join,
+)
+
+-- its taps are added to those before it
+taps_added : (first : Bool) (files : ℕ) (taps ns : List ℕ) → OfEach first files taps
+    → length ns ≡ files → sum_up taps + sum_up ns < 2 ^ 64
+    → are_posted_to first taps 0 ns (added taps ns) (0 + sum_up ns) × (length (added taps ns) ≡ files)
+taps_added true files taps ns none number fit = (
+  rw none (posted_first [] ns 0 (omega (arith, fit))),
+  rw none number,
+)
+taps_added false files taps ns same number fit = (
+  rw append-nil at (posted_next taps [] ns 0 (same ∙ sym number) (omega (arith, fit)) fit),
+  added_length taps ns (same ∙ sym number) ∙ number,
+)
+
+follow : (first : Bool) (files : ℕ) (ends : List (Option Position)) (taps : List ℕ)
+    (history : List Entry) (last : Option Token) (parts : List HistoryPart) → OfEach first files ends
+    → OfEach first files taps → Join first ends (spans_of parts)
+    → GoesOn files taps history last parts
     → (all_ends : List (Option Position)) × (all_last : Option Token)
-    × are_next IsNextPart false (so_far ends taps history last) (map report_of parts)
+    × are_next IsNextPart first (so_far ends taps history last) (map report_of parts)
     (so_far all_ends (added taps (numbers_of parts)) (history ++ whole_history parts) all_last)
-follow files ends taps history last [] number uploads join goes = (
+follow first files ends taps history last [] number uploads join goes = (
   ends,
   last,
   ap (λ ts. so_far ends ts history last) (sym (none_more taps))
@@ -487,21 +519,17 @@ follow files ends taps history last [] number uploads join goes = (
     none_more : (ns : List ℕ) → added ns [] ≡ ns
     none_more [] = refl
     none_more (n ∷ ns) = refl
-follow files ends taps history last (p ∷ ps) number uploads join goes =
-    let same : length taps ≡ length p.taps =
-    uploads ∙ sym (goes.fit.0.uploads ∙ goes.number.0) in
-    let fit = sums_fit goes in
-    let small : 0 + sum_up p.taps < 2 ^ 64 = omega (arith, fit) in
-    let part = one_part goes false (is_none_after (map report_of ps)) ends
-    (same_number (length p.spans) (length ends) (goes.number.0 ∙ sym number))
-    (rw (← (none_after ps), join.0, ← (append-nil (from_ends p.spans)))
-    (joined_next (is_none_after (spans_of ps)) [] p.spans (may_end_all p.spans (spans_of ps) join.1)))
-    (rw append-nil at (posted_next taps [] p.taps 0 same small fit)) in
-    let (all_ends, all_last, more) = follow files (to_ends p.spans) (added taps p.taps)
+follow first files ends taps history last (p ∷ ps) number uploads join goes =
+    let (same, joined, later) =
+    part_joins first files ends p.spans (spans_of ps) number goes.number.0 join in
+    let (posted, size) = taps_added first files taps p.taps uploads
+    (goes.fit.0.uploads ∙ goes.number.0) (sums_fit goes) in
+    let none = none_left (λ (part : HistoryPart). part.spans) ps ∙ sym (none_left report_of ps) in
+    let part = one_part goes first (is_none_left (map report_of ps)) ends same
+    (subst (λ b. are_joined first b ends p.spans (to_ends p.spans)) none joined) posted in
+    let (all_ends, all_last, more) = follow false files (to_ends p.spans) (added taps p.taps)
     (history ++ p.history) (last_of last (sums_by_token p.history)) ps
-    (ends_length p.spans ∙ goes.number.0)
-    (added_length taps p.taps same ∙ goes.fit.0.uploads ∙ goes.number.0) join.1 (goes_further goes)
-    in (
+    (ends_length p.spans ∙ goes.number.0) size later (goes_further goes) in (
       all_ends,
       all_last,
       (
@@ -516,41 +544,6 @@ follow files ends taps history last (p ∷ ps) number uploads join goes =
 starts_as : nothing_so_far ≡ so_far [] [] [] None
 unfolding sums_of_replies sums_by_validator validators sums_by_token tokens increasing
 starts_as = refl
-
-begins : (files : ℕ) (p : HistoryPart) (ps : List HistoryPart) → AreRight files (p ∷ ps)
-    → (all_ends : List (Option Position)) × (all_last : Option Token)
-    × are_next IsNextPart true nothing_so_far (map report_of (p ∷ ps))
-    (so_far all_ends (numbers_of (p ∷ ps)) (whole_history (p ∷ ps)) all_last)
-begins files p ps right =
-    let goes : GoesOn files [] [] None (p ∷ ps) = record {
-      number = right.number;
-      posted = refl;
-      increase = right.increase;
-      above = All-nil (λ t. All (λ u. token_cmp t u ≡ Less) (map token_of (whole_history (p ∷ ps))));
-      below = tt;
-      fit = right.fit;
-      few = right.few;
-    } in
-    let fit = sums_fit goes in
-    let small : 0 + sum_up p.taps < 2 ^ 64 = omega (arith, fit) in
-    let part = one_part goes true (is_none_after (map report_of ps)) [] refl
-    (rw (← (none_after ps)) (joined_first (is_none_after (spans_of ps)) [] p.spans right.whole.0
-    (may_end_all p.spans (spans_of ps) right.whole.1))) (posted_first [] p.taps 0 small) in
-    let (all_ends, all_last, more) =
-    follow files (to_ends p.spans) (added [] p.taps) ([] ++ p.history)
-    (last_of None (sums_by_token p.history)) ps (ends_length p.spans ∙ right.number.0)
-    (right.fit.0.uploads ∙ right.number.0) right.whole.1 (goes_further goes) in (
-      all_ends,
-      all_last,
-      (
-        so_far (to_ends p.spans) (added [] p.taps) ([] ++ p.history)
-            (last_of None (sums_by_token p.history)),
-        subst (λ s. IsNextPart true (is_none_after (map report_of ps)) s (report_of p)
-            (so_far (to_ends p.spans) (added [] p.taps) ([] ++ p.history)
-            (last_of None (sums_by_token p.history)))) (sym starts_as) part,
-        more,
-      ),
-    )
 
 none_of_none : [] ≡ sums_by_token []
 unfolding sums_by_token tokens increasing
@@ -570,9 +563,19 @@ pub histories_merge : (files : ℕ) (p : HistoryPart) (ps : List HistoryPart)
     ≡ Ok (report (map Posted (numbers_of (p ∷ ps))) (sums (whole_history (p ∷ ps)))
     (sums_by_validator (whole_history (p ∷ ps))) (sums_by_token (whole_history (p ∷ ps))))
 histories_merge files p ps right =
-    let (all_ends, all_last, are) = begins files p ps right in
-    reports_merge (report_of p) (map report_of ps)
-    (so_far all_ends (numbers_of (p ∷ ps)) (whole_history (p ∷ ps)) all_last) are
+    let (all_ends, all_last, are) = follow true files [] [] [] None (p ∷ ps) refl refl right.whole
+    (record {
+      number = right.number;
+      posted = refl;
+      increase = right.increase;
+      above = All-nil (λ t. All (λ u. token_cmp t u ≡ Less) (map token_of (whole_history (p ∷ ps))));
+      below = tt;
+      fit = right.fit;
+      few = right.few;
+    }) in
+    let all = so_far all_ends (numbers_of (p ∷ ps)) (whole_history (p ∷ ps)) all_last in
+    reports_merge (report_of p) (map report_of ps) all
+    (subst (λ s. are_next IsNextPart true s (map report_of (p ∷ ps)) all) (sym starts_as) are)
     ∙ ap (λ (ts : List (Token × Sums)). Ok (report (map Posted (numbers_of (p ∷ ps)))
     (sums (whole_history (p ∷ ps))) (sums_by_validator (whole_history (p ∷ ps))) ts))
     (whole_tokens (p ∷ ps) right.increase)

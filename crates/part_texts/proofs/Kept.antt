@@ -1,5 +1,5 @@
 -- The sums of validators, as the program keeps them.
-use Rattle.std.proofs.Common.{◌≡◌, ◌∙◌, ℕ, Bool, true, false, cond, List, [], ◌∷◌, Option, Some}
+use Rattle.std.proofs.Common.{◌≡◌, ◌∙◌, ℕ, Bool, List, [], ◌∷◌, Option, Some}
 use Rattle.std.proofs.Common.{None, option_map, refl, sym, ap}
 use Rattle.std.specs.Prelude.{unwrap_or}
 use Rattle.std.specs.BTreeMap.{insert_entry, is_at}
@@ -9,27 +9,16 @@ use Rattle.std.specs.declared.cmp.Ordering.{Ordering}
 use Rattle.std.specs.declared.cmp.Ordering.TheVariants.{Less, Equal, Greater}
 use Rattle.histories.specs.Sums.{Sums, sums_of}
 use Rattle.histories.specs.declared.sums.totals.Totals.{Totals}
+use Rattle.std.proofs.lemmas.Map.Made.{lookup-map_values}
 use Rattle.part_texts.specs.Fronts.{no_sums, sums_within, with_validator}
 use Rattle.part_texts.specs.inside.Fronts.{shown_sums}
-
--- what is found, shown
-found_shown : (test : ℕ → Bool) (entries : List (ℕ × Totals))
-    → lookup test (shown_sums sums_of entries) ≡ option_map sums_of (lookup test entries)
-found_shown test [] = refl
-found_shown test (e ∷ entries) = by (found_shown test entries) (test e.0)
-  where
-    by : lookup test (shown_sums sums_of entries) ≡ option_map sums_of (lookup test entries)
-        → (b : Bool) → cond b (Some (sums_of e.1)) (lookup test (shown_sums sums_of entries))
-        ≡ option_map sums_of (cond b (Some e.1) (lookup test entries))
-    by rest true = refl
-    by rest false = rest
 
 pub kept_some : (test : ℕ → Bool) (entries : List (ℕ × Totals)) (found : Option Totals)
     (kept : Totals)
     → found ≡ lookup test entries → found ≡ Some kept
     → sums_of kept ≡ unwrap_or (lookup test (shown_sums sums_of entries)) no_sums
 kept_some test entries found kept is some =
-    sym (ap (λ o. unwrap_or o no_sums) (found_shown test entries)
+    sym (ap (λ o. unwrap_or o no_sums) (lookup-map_values sums_of test entries)
     ∙ ap (λ o. unwrap_or (option_map sums_of o) no_sums) (sym is ∙ some))
 
 pub kept_none : (test : ℕ → Bool) (entries : List (ℕ × Totals)) (found : Option Totals)
@@ -37,7 +26,7 @@ pub kept_none : (test : ℕ → Bool) (entries : List (ℕ × Totals)) (found : 
     → found ≡ lookup test entries → found ≡ None → kept ≡ no_sums
     → kept ≡ unwrap_or (lookup test (shown_sums sums_of entries)) no_sums
 kept_none test entries found kept is none same =
-    same ∙ sym (ap (λ o. unwrap_or o no_sums) (found_shown test entries)
+    same ∙ sym (ap (λ o. unwrap_or o no_sums) (lookup-map_values sums_of test entries)
     ∙ ap (λ o. unwrap_or (option_map sums_of o) no_sums) (sym is ∙ none))
 
 -- one more is shown as one more

@@ -1,5 +1,5 @@
 -- What is merged of ledgers of parts of a history is the ledger of the whole history.
-use Rattle.std.proofs.Common.{◌≡◌, ◌∙◌, ◌<◌, ◌^◌, ℕ, true, false, List, [], ◌∷◌, ◌++◌, length, map}
+use Rattle.std.proofs.Common.{◌≡◌, ◌∙◌, ◌<◌, ◌^◌, ◌||◌, ℕ, true, false, List, [], ◌∷◌, ◌++◌, length, map}
 use Rattle.std.proofs.Common.{Option, None, Ok, refl, sym, ap, subst, arith, append_assoc}
 use Rattle.std.proofs.Common.{append-nil, All, Bool}
 use Rattle.std.specs.List.{AllByRecursion, AllZip}
@@ -20,16 +20,15 @@ use Rattle.histories.proofs.OwnEntries.{own-append}
 use Rattle.histories.proofs.SumsByToken.{by_token_joined, none_of}
 use Rattle.fare_texts.specs.Ledger.{AreLinesOfEach, IsLedgerOver}
 use Rattle.fare_texts.specs.LedgerLines.{AreLedgerLines}
-use Rattle.sorted_taps.specs.Positions.{DoJoin}
 use Rattle.sorted_taps.specs.declared.positions.Position.{Position}
 use Rattle.part_texts.specs.HistoryParts.{AreIncreasing, HistoryPart, histories_of, whole_history}
 use Rattle.part_texts.specs.LedgerParts.{DoJoinUp, IsPartLedger}
-use Rattle.part_texts.specs.Merged.{merge_of}
+use Rattle.part_texts.specs.Merged.{is_none_left, merge_of}
 use Rattle.part_texts.specs.Shown.{SpanFits}
-use Rattle.part_texts.specs.inside.Shown.{are_next, is_none_after}
+use Rattle.part_texts.specs.inside.Shown.{are_joined, are_next}
 use Rattle.part_texts.specs.inside.ShownLedgers.{IsNextLedger, PartLedger, all_lines, ledger_text}
-use Rattle.part_texts.proofs.HistoryParts.{all_ascending, ends_length, from_ends, joined_first}
-use Rattle.part_texts.proofs.HistoryParts.{joined_next, may_end_all, same_number, spans_of, to_ends}
+use Rattle.part_texts.proofs.HistoryParts.{Join, OfEach, all_ascending, ends_length, part_joins}
+use Rattle.part_texts.proofs.HistoryParts.{spans_of, to_ends}
 use Rattle.part_texts.proofs.ShownLedgers.{ledgers_merge}
 
 -- ---- ledgers of histories, one behind the other
@@ -146,63 +145,41 @@ module _ (fares : Fares) where
 
   none_after_too : (parts : List HistoryPart) (texts : List (List ℕ))
       (are : AllZip (IsPartLedger fares) parts texts)
-      → is_none_after (spans_of parts) ≡ is_none_after (ledgers_of parts texts are)
+      → is_none_left (spans_of parts) ≡ is_none_left (ledgers_of parts texts are)
   none_after_too [] [] are = refl
   none_after_too [] (t ∷ ts) are = absurd are
   none_after_too (p ∷ ps) [] are = absurd are
   none_after_too (p ∷ ps) (t ∷ ts) are = refl
 
-  next_ledgers : (files : ℕ) (ends : List (Option Position)) (parts : List HistoryPart)
-      (texts : List (List ℕ)) (are : AllZip (IsPartLedger fares) parts texts) → length ends ≡ files
-      → files < 2 ^ 64 → AllByRecursion (λ (p : HistoryPart). length p.spans ≡ files) parts
+  next_ledgers : (first is_ledger : Bool) (files : ℕ) (ends : List (Option Position))
+      (parts : List HistoryPart) (texts : List (List ℕ)) (are : AllZip (IsPartLedger fares) parts texts)
+      → (first || is_ledger) ≡ true → OfEach first files ends → files < 2 ^ 64
+      → AllByRecursion (λ (p : HistoryPart). length p.spans ≡ files) parts
       → AllByRecursion (λ (p : HistoryPart). AllByRecursion SpanFits p.spans) parts
-      → DoJoin ends (spans_of parts) → (all : Bool × List (Option Position))
-      × are_next IsNextLedger false (true, ends) (ledgers_of parts texts are) all
-  next_ledgers files ends [] [] are number few lengths positions join = ((true, ends), refl)
-  next_ledgers files ends [] (t ∷ ts) are number few lengths positions join = absurd are
-  next_ledgers files ends (p ∷ ps) [] are number few lengths positions join = absurd are
-  next_ledgers files ends (p ∷ ps) (t ∷ ts) are number few lengths positions join =
-      let ends_valid = may_end_all p.spans (spans_of ps) join.1 in
+      → Join first ends (spans_of parts) → (all : Bool × List (Option Position))
+      × are_next IsNextLedger first (is_ledger, ends) (ledgers_of parts texts are) all
+  next_ledgers first is_ledger files ends [] [] are kind number few lengths positions join =
+      ((is_ledger, ends), refl)
+  next_ledgers first is_ledger files ends [] (t ∷ ts) are kind number few lengths positions join =
+      absurd are
+  next_ledgers first is_ledger files ends (p ∷ ps) [] are kind number few lengths positions join =
+      absurd are
+  next_ledgers first is_ledger files ends (p ∷ ps) (t ∷ ts) are kind number few lengths positions join =
       let size : length p.spans ≡ files = lengths.0 in
-      let (all, more) = next_ledgers files (to_ends p.spans) ps ts are.1 (ends_length p.spans ∙ size)
-      few lengths.1 positions.1 join.1 in (
+      let (same, joined, later) =
+      part_joins first files ends p.spans (spans_of ps) number size join in
+      let (all, more) = next_ledgers false true files (to_ends p.spans) ps ts are.1 refl
+      (ends_length p.spans ∙ size) few lengths.1 positions.1 later in (
         all,
         (
           (true, to_ends p.spans),
           record {
             few = omega (arith, size, few);
             fit = positions.0;
-            kind = refl;
-            files = same_number (length p.spans) (length ends) (size ∙ sym number);
-            joined = rw (← (none_after_too ps ts are.1), join.0, ← (append-nil (from_ends p.spans)))
-                (joined_next (is_none_after (spans_of ps)) [] p.spans ends_valid);
-            ledger = refl;
-          },
-          more,
-        ),
-      )
-
-  pub first_ledgers : (files : ℕ) (p : HistoryPart) (ps : List HistoryPart) (t : List ℕ)
-      (ts : List (List ℕ)) (are : AllZip (IsPartLedger fares) (p ∷ ps) (t ∷ ts))
-      → DoJoinUp files (p ∷ ps) → (all : Bool × List (Option Position))
-      × are_next IsNextLedger true (false, []) (ledgers_of (p ∷ ps) (t ∷ ts) are) all
-  first_ledgers files p ps t ts are join =
-      let whole = join.whole in
-      let few = join.few in
-      let ends_valid = may_end_all p.spans (spans_of ps) whole.1 in
-      let size : length p.spans ≡ files = join.number.0 in
-      let (all, more) = next_ledgers files (to_ends p.spans) ps ts are.1 (ends_length p.spans ∙ size)
-      join.few join.number.1 join.positions.1 whole.1 in (
-        all,
-        (
-          (true, to_ends p.spans),
-          record {
-            few = omega (arith, size, few);
-            fit = join.positions.0;
-            kind = refl;
-            files = refl;
-            joined = rw (← (none_after_too ps ts are.1))
-                (joined_first (is_none_after (spans_of ps)) [] p.spans whole.0 ends_valid);
+            kind = kind;
+            files = same;
+            joined = subst (λ b. are_joined first b ends p.spans (to_ends p.spans))
+                (none_after_too ps ts are.1) joined;
             ledger = refl;
           },
           more,
@@ -230,7 +207,8 @@ module _ (fares : Fares) where
   merged_is_whole files p ps (t ∷ ts) join are text is = record {
     lines = all_lines (ledgers_of (p ∷ ps) (t ∷ ts) are);
     of_each = whole_lines (p ∷ ps) (t ∷ ts) are join.increase;
-    whole = let (all, next) = first_ledgers files p ps t ts are join in
+    whole = let (all, next) = next_ledgers true false files [] (p ∷ ps) (t ∷ ts) are refl refl
+        join.few join.number join.positions join.whole in
         ledgers_merge (record { spans = p.spans; lines = are.0.over.lines })
         (ledgers_of ps ts are.1) all next text
         (ap merge_of (texts_are (p ∷ ps) (t ∷ ts) are) ∙ is);

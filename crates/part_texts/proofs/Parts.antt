@@ -1,17 +1,19 @@
 -- Parts that are read on, each at its place.
-use Rattle.std.proofs.Common.{subst, ◌≡◌, ◌∙◌, ◌+◌, ◌<◌, ◌≤◌, ℕ, suc, zero, List, [], ◌∷◌, ◌++◌, ap, arith}
-use Rattle.std.proofs.Common.{append-nil, drop, get_or, length, map, refl, set, sym}
+use Rattle.std.proofs.Common.{subst, ◌≡◌, ◌∙◌, ◌<◌, ℕ, suc, zero, All, List, [], ◌∷◌, ap, arith}
+use Rattle.std.proofs.Common.{append-nil, get_or, get_or-set_same, length, map, refl, set, sym}
 use Rattle.std.specs.List.{AllZip}
-use Rattle.std.proofs.lemmas.List.{drop_more, length-map, length-set}
+use Rattle.std.proofs.lemmas.List.{length-set}
+use Rattle.std.proofs.lemmas.List.Elements.{All-head, All-tail}
 use Rattle.std.proofs.lemmas.Slice.Zip.{AllZip-long}
-use Rattle.std.proofs.Common.{get_or-set_same}
-use Rattle.recorded_lines.specs.Texts.{CanBe, Follows, calls_of}
+use Rattle.line_folds.specs.Folds.{lines_of}
+use Rattle.recorded_lines.specs.Texts.{CanBe, Follows, IsFresh, calls_of, left}
 use Rattle.recorded_lines.specs.declared.text.Lines.{Lines}
 use Rattle.recorded_lines.proofs.Reading.{follows_on, follows_self}
 use Rattle.world.specs.Run.{Calls}
+use Rattle.part_texts.specs.Merged.{PartView, initial}
 use Rattle.part_texts.specs.Reads.{read_by}
-use Rattle.part_texts.specs.inside.Opened.{lines_at, view_of, views_of}
-use Rattle.part_texts.specs.declared.merging.Open.{Open}
+use Rattle.part_texts.specs.inside.Opened.{IsInitial, lines_at, view_of, views_of}
+use Rattle.part_texts.specs.declared.fronts.Open.{Open}
 
 -- ---- what the texts can be
 pub follow_self : (from : List Lines) → AllZip Follows from from
@@ -59,82 +61,74 @@ can_be_read (c ∷ calls) = (
   can_be_read calls,
 )
 
--- ---- the text of the part at a place
-pub record TextAt (texts : List (List ℕ)) (one : Lines) (i count : ℕ) : Type 0 where
-  pub text : List ℕ
-  pub here : drop i texts ≡ text ∷ drop (i + 1) texts
-  pub can : CanBe (calls_of one) text
-  pub number : count ≡ (i + 1) + length (drop (i + 1) texts)
+-- what the text at a place can be
+pub can_at : (from : List Lines) (texts : List (List ℕ)) (i : ℕ) (d : Lines) → i < length from
+    → AllZip CanBe (map calls_of from) texts → CanBe (calls_of (get_or from i d)) (get_or texts i [])
+can_at [] texts i d within can = absurd (omega (arith, within))
+can_at (one ∷ from) [] i d within can = absurd can
+can_at (one ∷ from) (text ∷ texts) zero d within can = can.0
+can_at (one ∷ from) (text ∷ texts) (suc i) d within can =
+    can_at from texts i d (omega (arith, within)) can.1
 
-pub text_at : (from : List Lines) (texts : List (List ℕ)) (i : ℕ) (d : Lines) → i < length from
-    → AllZip CanBe (map calls_of from) texts → TextAt texts (get_or from i d) i (length from)
-text_at [] texts i d within can = absurd (omega (arith, within))
-text_at (one ∷ from) [] i d within can = absurd can
-text_at (one ∷ from) (text ∷ texts) zero d within can = record {
-  text = text;
-  here = refl;
-  can = can.0;
-  number =
-      let l = AllZip-long CanBe (map calls_of from) texts can.1 in
-      let m = length-map from calls_of in omega (arith, l, m);
-}
-text_at (one ∷ from) (text ∷ texts) (suc i) d within can =
-    let rest = text_at from texts i d (omega (arith, within)) can.1 in
-    let same : suc (i + 1) ≡ suc i + 1 = omega arith in record {
-      text = rest.text;
-      here = rest.here ∙ ap (λ n. rest.text ∷ drop n (text ∷ texts)) same;
-      can = rest.can;
-      number =
-          let n = rest.number in
-          let l = ap (λ n. length (drop n (text ∷ texts))) same in omega (arith, n, l);
-    }
+-- what the text of the part that was read on can be
+pub can_here : (from : List Lines) (next : Lines) (texts : List (List ℕ)) (i : ℕ) → i < length from
+    → AllZip CanBe (map calls_of (set from i next)) texts
+    → CanBe (calls_of next) (get_or texts i [])
+can_here from next texts i within can =
+    subst (λ l. CanBe (calls_of l) (get_or texts i [])) (get_or-set_same from i next next within)
+    (can_at (set from i next) texts i next
+    (let l = length-set from i next in omega (arith, l, within)) can)
 
--- the text of the part that was read on
-pub text_here : (from : List Lines) (next : Lines) (i : ℕ) → i < length from
-    → (texts : List (List ℕ)) → AllZip CanBe (map calls_of (set from i next)) texts
-    → TextAt texts next i (length from)
-text_here from next i within texts can =
-    subst (TextAt texts next i) (length-set from i next)
-    (subst (λ l. TextAt texts l i (length (set from i next)))
-    (get_or-set_same from i next next within)
-    (text_at (set from i next) texts i next
-    (let l = length-set from i next in omega (arith, l, within)) can))
-
--- ---- parts whose fronts are read
+-- ---- parts, as far as they are read
 pub views_length : (parts : List Open) (from : List Lines) (texts : List (List ℕ))
-    → length parts ≤ length from → AllZip CanBe (map calls_of from) texts
-    → length (views_of parts from texts) ≡ length parts
-views_length [] from texts few can = refl
-views_length (part ∷ parts) [] texts few can = absurd (omega (arith, few))
-views_length (part ∷ parts) (one ∷ from) [] few can = absurd can
-views_length (part ∷ parts) (one ∷ from) (text ∷ texts) few can =
-    let l = views_length parts from texts (omega (arith, few)) can.1 in omega (arith, l)
+    → length parts ≡ length from → AllZip CanBe (map calls_of from) texts
+    → length (views_of parts from texts) ≡ length from
+views_length [] from texts same can = same
+views_length (part ∷ parts) [] texts same can = absurd (omega (arith, same))
+views_length (part ∷ parts) (one ∷ from) [] same can = absurd can
+views_length (part ∷ parts) (one ∷ from) (text ∷ texts) same can =
+    let l = views_length parts from texts (omega (arith, same)) can.1 in omega (arith, l)
 
--- one more
-pub views_more : (parts : List Open) (part : Open) (from : List Lines) (next : Lines)
-    (texts later : List (List ℕ)) (text : List ℕ) → length parts < length from
-    → drop (length parts) texts ≡ text ∷ later
-    → views_of (parts ++ part ∷ []) (set from (length parts) next) texts
-    ≡ views_of parts from texts ++ view_of part (lines_at next text) ∷ []
-views_more [] part [] next texts later text within is = absurd (omega (arith, within))
-views_more [] part (one ∷ from) next texts later text within is =
-    ap (views_of (part ∷ []) (next ∷ from)) is
-views_more (p ∷ parts) part [] next texts later text within is = absurd (omega (arith, within))
-views_more (p ∷ parts) part (one ∷ from) next [] later text within is = absurd (cc)
-views_more (p ∷ parts) part (one ∷ from) next (t ∷ texts) later text within is =
-    ap (λ views. view_of p (lines_at one t) ∷ views)
-    (views_more parts part from next texts later text (omega (arith, within)) is)
+-- the part at a place
+pub view_at : (parts : List Open) (from : List Lines) (texts : List (List ℕ)) (i : ℕ) (part : Open)
+    (one : Lines) (view : PartView) → i < length parts → length parts ≡ length from
+    → AllZip CanBe (map calls_of from) texts
+    → get_or (views_of parts from texts) i view
+    ≡ view_of (get_or parts i part) (lines_at (get_or from i one) (get_or texts i []))
+view_at [] from texts i part one view within same can = absurd (omega (arith, within))
+view_at (p ∷ parts) [] texts i part one view within same can = absurd (omega (arith, same))
+view_at (p ∷ parts) (f ∷ from) [] i part one view within same can = absurd can
+view_at (p ∷ parts) (f ∷ from) (t ∷ texts) zero part one view within same can = refl
+view_at (p ∷ parts) (f ∷ from) (t ∷ texts) (suc i) part one view within same can =
+    view_at parts from texts i part one view (omega (arith, within)) (omega (arith, same)) can.1
 
--- the first of those that are left
-pub views_at : (parts : List Open) (from : List Lines) (texts : List (List ℕ)) (i : ℕ)
-    (part : Open) (one : Lines) (text : List ℕ) → i < length parts → i < length from
-    → drop i texts ≡ text ∷ drop (i + 1) texts
-    → views_of (drop i parts) (drop i from) (drop i texts)
-    ≡ view_of (get_or parts i part) (lines_at (get_or from i one) text)
-    ∷ views_of (drop (i + 1) parts) (drop (i + 1) from) (drop (i + 1) texts)
-views_at parts from texts i part one text within inside is =
-    ap (λ ps. views_of ps (drop i from) (drop i texts)) (drop_more parts i part within)
-    ∙ ap (λ fs. views_of (get_or parts i part ∷ drop (i + 1) parts) fs (drop i texts))
-    (drop_more from i one inside)
-    ∙ ap (views_of (get_or parts i part ∷ drop (i + 1) parts)
-    (get_or from i one ∷ drop (i + 1) from)) is
+-- it is read on
+pub views_set : (parts : List Open) (from : List Lines) (texts : List (List ℕ)) (i : ℕ) (part : Open)
+    (one : Lines) → views_of (set parts i part) (set from i one) texts
+    ≡ set (views_of parts from texts) i (view_of part (lines_at one (get_or texts i [])))
+views_set [] from texts i part one = refl
+views_set (p ∷ parts) [] texts zero part one = refl
+views_set (p ∷ parts) [] texts (suc i) part one = refl
+views_set (p ∷ parts) (f ∷ from) [] zero part one = refl
+views_set (p ∷ parts) (f ∷ from) [] (suc i) part one = refl
+views_set (p ∷ parts) (f ∷ from) (t ∷ texts) zero part one = refl
+views_set (p ∷ parts) (f ∷ from) (t ∷ texts) (suc i) part one =
+    ap (λ views. view_of p (lines_at f t) ∷ views) (views_set parts from texts i part one)
+
+-- nothing is read of any
+pub all_initial : (parts : List Open) (from : List Lines) (texts : List (List ℕ)) → All IsInitial parts
+    → length parts ≡ length from → All IsFresh from → AllZip CanBe (map calls_of from) texts
+    → views_of parts from texts ≡ map initial texts
+all_initial [] [] [] none same fresh can = refl
+all_initial [] [] (text ∷ texts) none same fresh can = absurd can
+all_initial [] (one ∷ from) texts none same fresh can = absurd (omega (arith, same))
+all_initial (part ∷ parts) [] texts none same fresh can = absurd (omega (arith, same))
+all_initial (part ∷ parts) (one ∷ from) [] none same fresh can = absurd can
+all_initial (part ∷ parts) (one ∷ from) (text ∷ texts) none same fresh can =
+    let is = All-head IsFresh one from fresh in
+    let whole : left one text ≡ text = rw (is.none, is.unread) in
+    ap (λ (p : PartView). record p { lines = lines_at one text } ∷ views_of parts from texts)
+    (All-head IsInitial part parts none)
+    ∙ ap (λ (t : List ℕ). record (initial []) { lines = lines_of t } ∷ views_of parts from texts) whole
+    ∙ ap (λ views. initial text ∷ views) (all_initial parts from texts (All-tail IsInitial part parts none)
+    (omega (arith, same)) (All-tail IsFresh one from fresh) can.1)

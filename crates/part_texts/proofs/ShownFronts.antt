@@ -15,7 +15,7 @@ use Rattle.report_texts.specs.declared.wrong.Wrong.TheVariants.{Form}
 use Rattle.report_texts.proofs.Lines.{head_complete, totals_complete, upload_complete, validator_complete}
 use Rattle.report_texts.proofs.OneLine.{head_is_one, totals_line_is_one, upload_is_one, validator_line_is_one}
 use Rattle.part_texts.specs.Fronts.{FrontsView, is_above, may_end, no_sums, position_eq, plus, starts, sums_eq, sums_within, taps_before, with_validator}
-use Rattle.part_texts.specs.FrontSteps.{front_done, front_step}
+use Rattle.part_texts.specs.FrontSteps.{front_step, is_over}
 use Rattle.part_texts.specs.Heads.{span_line, span_lines}
 use Rattle.part_texts.specs.Shown.{SpanFits}
 use Rattle.part_texts.specs.inside.Shown.{are_joined}
@@ -27,7 +27,7 @@ use Rattle.part_texts.proofs.HeadLines.{span_complete, span_is_one}
 use Rattle.part_texts.proofs.Leads.{Leads, by_both, by_line, by_nothing}
 
 abbrev pub FrontLeads : FrontsView → List ℕ → FrontsView → Type 0
-FrontLeads = Leads front_done Form front_step
+FrontLeads = Leads (is_over false) Form front_step
 
 true_itself : (n : ℕ) → nat_eq n n ≡ true
 true_itself n = grind (arith, nat_tests)

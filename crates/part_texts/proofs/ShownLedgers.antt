@@ -1,17 +1,14 @@
 -- Ledgers of parts, as they are printed, are merged into the ledger of the whole.
-use Rattle.std.proofs.Common.{◌≡◌, ◌∙◌, ◌+◌, ℕ, Bool, true, false, List, [], ◌∷◌, ◌++◌, length, map}
+use Rattle.std.proofs.Common.{◌≡◌, ◌∙◌, ℕ, Bool, true, false, List, [], ◌∷◌, ◌++◌, length, map}
 use Rattle.std.proofs.Common.{Option, None, Result, Ok, Err, refl, sym, ap, arith, append_assoc}
 use Rattle.std.proofs.Common.{codes, cond}
-use Rattle.tap_views.specs.declared.token.Token.{Token}
 use Rattle.fare_texts.specs.LedgerLines.{head_text}
 use Rattle.fare_texts.specs.ReportLines.{number_line}
-use Rattle.line_folds.specs.Folds.{bounded, lines_of, run}
-use Rattle.report_texts.specs.declared.wrong.Wrong.TheVariants.{Form}
+use Rattle.line_folds.specs.Folds.{lines_of}
 use Rattle.report_texts.proofs.OneLine.{IsOneLine, tested}
 use Rattle.part_texts.specs.Fronts.{FrontsView, no_fronts, no_sums}
-use Rattle.part_texts.specs.FrontSteps.{front_done, front_step}
-use Rattle.part_texts.specs.Merged.{OpenView, and_then, front_end, front_of, lines_left, merge_of}
-use Rattle.part_texts.specs.Merged.{merged, report_front, sections_of}
+use Rattle.part_texts.specs.Merged.{PartView, and_then, ended, lines_left, merge_of, merged}
+use Rattle.part_texts.specs.Merged.{read_all, read_of, report_front}
 use Rattle.part_texts.specs.Heads.{span_lines}
 use Rattle.part_texts.specs.inside.Shown.{are_next}
 use Rattle.part_texts.specs.inside.ShownLedgers.{PartLedger, all_lines, IsNextLedger, ledger_text}
@@ -19,8 +16,9 @@ use Rattle.sorted_taps.specs.declared.positions.Position.{Position}
 use Rattle.part_texts.specs.declared.fronts.Stage.{Stage}
 use Rattle.part_texts.specs.declared.fronts.Stage.TheVariants.{Head, Entries}
 use Rattle.part_texts.proofs.Leads.{by_both, by_line}
+use Rattle.part_texts.proofs.Runs.{stopped}
 use Rattle.part_texts.proofs.ShownFronts.{FrontLeads, head_taken, spans_taken}
-use Rattle.part_texts.proofs.ShownParts.{IsFrontRead, are_opened, fronts_shown, left_shown, stopped}
+use Rattle.part_texts.proofs.ShownParts.{IsFrontRead, are_opened, fronts_shown, left_shown}
 
 -- ---- one front
 -- where the fold stands behind ledgers (if so) that end so
@@ -37,6 +35,7 @@ ledger_at first last stage before = record {
   totals = no_sums;
   validators = [];
   tokens = 0;
+  last = None;
 }
 
 head_is_one : IsOneLine 1000 head_text
@@ -51,10 +50,9 @@ head_is_one = record {
 }
 
 -- the part whose front is read
-abbrev pub ledger_opened : ℕ → PartLedger → OpenView
+abbrev pub ledger_opened : ℕ → PartLedger → PartView
 ledger_opened number p = record {
-  is_ledger = true;
-  left = 0;
+  stage = Entries true;
   part = no_sums;
   number = number;
   lines = lines_of p.lines;
@@ -71,7 +69,7 @@ front_shown position first last s p before after is (f, l, stage, same) =
     let n = length p.spans in
     let s0 = ledger_at first last Head before in
     let s1 : FrontsView = record s0 { ends = after.1 } in
-    let t : FrontsView = record s1 { stage = Entries; is_ledger = true } in
+    let t : FrontsView = record s1 { stage = Entries true; is_ledger = true } in
     let front = number_line (codes "part files ") n ++ span_lines 0 p.spans in
     let lead : FrontLeads s0 (front ++ head_text) t =
     by_both (by_both (head_taken s0 n is.few is.files)
@@ -81,21 +79,27 @@ front_shown position first last s p before after is (f, l, stage, same) =
     record {
       next = t;
       number = number;
-      now = (first, last, Entries, rw is.ledger);
-      read = ap (λ (x : FrontsView). front_of position
-          (record x { stage = Head; is_first = first; is_last = last }) (ledger_text p)) same
-          ∙ ap (λ text. front_end position (run front_done (bounded Form front_step) 1 s0 (lines_of text)))
+      now = (first, last, Entries true, rw is.ledger);
+      read = ap (λ (x : FrontsView). read_of false position 1 (record x {
+        stage = Head;
+        is_first = first;
+        is_last = last;
+        part = no_sums;
+        so_far = no_sums;
+      }) (lines_of (ledger_text p))) same
+          ∙ ap (λ text. read_of false position 1 s0 (lines_of text))
           (sym (append_assoc front head_text p.lines))
-          ∙ ap (front_end position) (read ∙ stopped number t (lines_of p.lines) refl);
+          ∙ ap (ended false position) (read ∙ stopped false number t (lines_of p.lines) refl);
+      is = refl;
     }
 
 -- the fronts are read, and the head line and all lines are written, if the lines may follow
 fronts_merge : (p : PartLedger) (ps : List PartLedger) (all : Bool × List (Option Position))
     → are_next IsNextLedger true (false, []) (p ∷ ps) all
-    → (opens : List OpenView)
+    → (opens : List PartView)
     × are_opened ledger_text (λ p. p.lines) ledger_opened IsNextLedger IsAfter (p ∷ ps) opens
     × (merge_of (map ledger_text (p ∷ ps))
-    ≡ and_then (sections_of 0 None opens) (λ last. Ok (head_text ++ all_lines (p ∷ ps))))
+    ≡ and_then (read_all true no_fronts [] opens) (λ end. Ok (head_text ++ all_lines (p ∷ ps))))
 fronts_merge p ps all are =
     let fronts = fronts_shown ledger_text (λ p. p.lines) ledger_opened IsNextLedger IsAfter front_shown
     no_fronts [] (p ∷ ps) (false, []) all are (true, false, Head, refl) in
@@ -103,11 +107,11 @@ fronts_merge p ps all are =
       fronts.more,
       fronts.opened,
       ap (λ r. and_then r merged) (fronts.read ∙ ap (λ (s : FrontsView). Ok (s, fronts.more)) same)
-          ∙ ap (λ (b : Bool). and_then (sections_of 0 None fronts.more) (λ (last : Option Token).
+          ∙ ap (λ (b : Bool). and_then (read_all true no_fronts [] fronts.more) (λ end.
           Ok (cond b head_text (report_front (ledger_at f l stage all)) ++ lines_left fronts.more)))
           (all_ledgers true (false, []) all p ps are)
-          ∙ ap (λ (t : List ℕ). and_then (sections_of 0 None fronts.more)
-          (λ (last : Option Token). Ok (head_text ++ t)))
+          ∙ ap (λ (t : List ℕ). and_then (read_all true no_fronts [] fronts.more)
+          (λ end. Ok (head_text ++ t)))
           (left_shown ledger_text (λ p. p.lines) ledger_opened IsNextLedger IsAfter (λ number p. refl)
           (p ∷ ps) fronts.more fronts.opened),
     )
@@ -129,4 +133,4 @@ pub ledgers_merge : (p : PartLedger) (ps : List PartLedger) (all : Bool × List 
     → text ≡ head_text ++ all_lines (p ∷ ps)
 ledgers_merge p ps all are text is =
     let (opens, opened_all, same) = fronts_merge p ps all are in
-    is_ok (sections_of 0 None opens) (head_text ++ all_lines (p ∷ ps)) text (sym same ∙ is)
+    is_ok (read_all true no_fronts [] opens) (head_text ++ all_lines (p ∷ ps)) text (sym same ∙ is)

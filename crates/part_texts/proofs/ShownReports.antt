@@ -8,18 +8,17 @@ use Rattle.histories.specs.Sums.{Sums}
 use Rattle.tap_views.specs.declared.upload_end.UploadEnd.TheVariants.{Posted}
 use Rattle.fare_texts.specs.Counts.{totals_line}
 use Rattle.fare_texts.specs.ReportLines.{number_line, token_line, validator_line}
-use Rattle.line_folds.specs.Folds.{bounded, lines_of, run}
+use Rattle.line_folds.specs.Folds.{lines_of}
 use Rattle.report_texts.specs.Report.{upload_lines, uploads_section, validators_section}
-use Rattle.report_texts.specs.declared.wrong.Wrong.TheVariants.{Form}
 use Rattle.part_texts.specs.Fronts.{FrontsView, no_fronts, no_sums}
 use Rattle.std.proofs.Math.Bool.{or-true}
-use Rattle.part_texts.proofs.ShownParts.{IsFrontRead, are_opened, fronts_shown, left_shown, stopped}
-use Rattle.part_texts.specs.FrontSteps.{front_done, front_step}
-use Rattle.part_texts.specs.Merged.{OpenView, front_end, front_of, merge_of, section_of}
-use Rattle.part_texts.specs.Merged.{sections_of}
+use Rattle.part_texts.proofs.Runs.{stopped}
+use Rattle.part_texts.proofs.ShownParts.{IsFrontRead, are_opened, fronts_shown, left_shown}
+use Rattle.part_texts.specs.FrontSteps.{at_part}
+use Rattle.part_texts.specs.Merged.{PartView, ended, is_none_left, left_of, merge_of, read_all, read_of}
 use Rattle.part_texts.specs.Heads.{span_lines}
 use Rattle.part_texts.specs.Shown.{PartReport, part_text}
-use Rattle.part_texts.specs.inside.Shown.{is_none_after, IsNextPart, SoFar, are_next, last_of}
+use Rattle.part_texts.specs.inside.Shown.{IsNextPart, SoFar, are_next, last_of}
 use Rattle.part_texts.specs.inside.Shown.{nothing_so_far, tokens_of, whole_text}
 use Rattle.part_texts.specs.declared.fronts.Stage.{Stage}
 use Rattle.part_texts.specs.declared.fronts.Stage.TheVariants.{Head, Tokens}
@@ -44,6 +43,7 @@ trailing first last stage part so_far s = record {
   totals = s.totals;
   validators = s.validators;
   tokens = s.tokens;
+  last = None;
 }
 
 -- ---- one front
@@ -68,14 +68,14 @@ text_parts p same =
     joined : (a b c d e t : List ℕ) → a ++ (b ++ (c ++ (d ++ (e ++ t)))) ≡ (a ++ (b ++ (c ++ (d ++ e)))) ++ t
     joined a b c d e t = simp append_assoc
 
-front_leads : (first last : Bool) (old so_far : Sums) (before after : SoFar) (p : PartReport)
+front_leads : (first last : Bool) (before after : SoFar) (p : PartReport)
     → IsNextPart first last before p after
-    → FrontLeads (trailing first last Head old so_far before) (front_lines p)
+    → FrontLeads (trailing first last Head no_sums no_sums before) (front_lines p)
     (trailing first last (Tokens (length p.tokens)) p.totals p.totals after)
-front_leads first last old so_far before after p is =
+front_leads first last before after p is =
     let r = is.right in
     let n = length p.spans in
-    let s = trailing first last Head old so_far before in
+    let s = trailing first last Head no_sums no_sums before in
     let s1 : FrontsView = record s { ends = after.ends } in
     let s2 : FrontsView = record s1 { taps = after.taps } in
     let s3 : FrontsView = record s2 { part = p.totals; so_far = no_sums; totals = after.totals } in
@@ -92,10 +92,9 @@ front_leads first last old so_far before after p is =
     (tokens_head_taken s4 (length p.tokens) (last_key None p.validators) r.tokens_number is.number)))))
 
 -- the part whose front is read
-abbrev opened_at : ℕ → PartReport → OpenView
+abbrev opened_at : ℕ → PartReport → PartView
 opened_at number p = record {
-  is_ledger = false;
-  left = length p.tokens;
+  stage = Tokens (length p.tokens);
   part = p.totals;
   number = number;
   lines = lines_of (flat_map token_line p.tokens);
@@ -115,45 +114,52 @@ front_shown : (position : ℕ) (first last : Bool) (s : FrontsView) (p : PartRep
     → IsFrontRead part_text token_lines opened_at IsNextPart IsAfter position first last s p after
 front_shown position first last s p before after is (f, l, stage, part, so_far, same) =
     let t = trailing first last (Tokens (length p.tokens)) p.totals p.totals after in
-    let (number, lead) = (front_leads first last part so_far before after p is).on 1 (token_lines p) in
+    let (number, lead) = (front_leads first last before after p is).on 1 (token_lines p) in
     record {
       next = t;
       number = number;
       now = (first, last, Tokens (length p.tokens), p.totals, p.totals, refl);
-      read = ap (λ (x : FrontsView). front_of position
-          (record x { stage = Head; is_first = first; is_last = last }) (part_text p)) same
-          ∙ ap (λ text. front_end position (run front_done (bounded Form front_step) 1
-          (trailing first last Head part so_far before) (lines_of text)))
-          (text_parts p is.right.uploads)
-          ∙ ap (front_end position) (lead ∙ stopped number t (lines_of (token_lines p)) refl);
+      read = ap (λ (x : FrontsView). read_of false position 1 (record x {
+        stage = Head;
+        is_first = first;
+        is_last = last;
+        part = no_sums;
+        so_far = no_sums;
+      }) (lines_of (part_text p))) same
+          ∙ ap (λ text. read_of false position 1 (trailing first last Head no_sums no_sums before)
+          (lines_of text)) (text_parts p is.right.uploads)
+          ∙ ap (ended false position) (lead ∙ stopped false number t (lines_of (token_lines p)) refl);
+      is = refl;
     }
 
 -- ---- all sections
 one_section : (position number : ℕ) (first last : Bool) (before after : SoFar) (p : PartReport)
-    → IsNextPart first last before p after
-    → section_of position before.last (opened_at number p)
-    ≡ Ok (tokens_at 0 (last_of before.last p.tokens) p.totals p.totals)
-one_section position number first last before after p is =
+    (s : FrontsView) → s.part ≡ p.totals → s.last ≡ before.last → IsNextPart first last before p after
+    → (next : ℕ) × (read_of true position number (tokens_at s (length p.tokens) s.last no_sums)
+    (lines_of (token_lines p)) ≡ Ok (next, tokens_at s 0 (last_of s.last p.tokens) s.part, []))
+one_section position number first last before after p s same at is =
     let r = is.right in
-    let (end, read) = (tokens_taken before.last p.totals no_sums p.totals p.tokens r.tokens
-    is.increase r.tokens_add).on number [] in
-    rw (
-      ← (append-nil (token_lines p)),
-      read,
-      tokens_end (last_of before.last p.tokens) p.totals,
-    )
+    let (next, read) = (tokens_taken s s.last no_sums s.part p.tokens r.tokens (rw at is.increase)
+    (rw same r.tokens_add)).on number [] in
+    (next, rw (← (append-nil (token_lines p)), read, tokens_end s (last_of s.last p.tokens)))
 
-sections_shown : (position : ℕ) (first : Bool) (before after : SoFar) (parts : List PartReport)
-    (opens : List OpenView) → are_next IsNextPart first before parts after
+sections_shown : (s : FrontsView) (done : List PartView) (first : Bool) (before after : SoFar)
+    (parts : List PartReport) (opens : List PartView) → s.last ≡ before.last
+    → are_next IsNextPart first before parts after
     → are_opened part_text token_lines opened_at IsNextPart IsAfter parts opens
-    → sections_of position before.last opens ≡ Ok after.last
-sections_shown position first before after [] [] are opened_all = ap (λ (s : SoFar). Ok s.last) are
-sections_shown position first before after [] (opening ∷ opens) are opened_all = absurd opened_all
-sections_shown position first before after (p ∷ ps) [] are opened_all = absurd opened_all
-sections_shown position first before after (p ∷ ps) (opening ∷ opens) (next, is, more)
+    → (end : FrontsView × List PartView) × (read_all true s done opens ≡ Ok end)
+sections_shown s done first before after [] [] same are opened_all = ((s, done), refl)
+sections_shown s done first before after [] (opening ∷ opens) same are opened_all = absurd opened_all
+sections_shown s done first before after (p ∷ ps) [] same are opened_all = absurd opened_all
+sections_shown s done first before after (p ∷ ps) (opening ∷ opens) same (next, is, more)
     (number, shown, others) =
-    rw (shown, one_section position number first (is_none_after ps) before next p is, ← is.last_is)
-    (sections_shown (position + 1) false next after ps opens more others)
+    let here = at_part (length done) (is_none_left opens) (Tokens (length p.tokens)) p.totals s in
+    let (after_it, one) =
+    one_section (length done) number first (is_none_left ps) before next p here refl same is in
+    let then = tokens_at here 0 (last_of s.last p.tokens) p.totals in
+    let (end, rest) = sections_shown then (done ++ left_of (after_it, then, []) ∷ []) false next after
+    ps opens (ap (λ last. last_of last p.tokens) same ∙ sym is.last_is) more others in
+    (end, rw (shown, one) rest)
 
 tokens_flat : (parts : List PartReport)
     → flat_map token_lines parts ≡ flat_map token_line (tokens_of parts)
@@ -181,12 +187,14 @@ reports_merge p ps all are =
     let fronts = fronts_shown part_text token_lines opened_at IsNextPart IsAfter front_shown no_fronts
     [] (p ∷ ps) nothing_so_far all are (true, false, Head, no_sums, no_sums, refl) in
     let (f, l, stage, part, so_far, same) = fronts.now in
+    let (end, sections) = sections_shown no_fronts [] true nothing_so_far all (p ∷ ps) fronts.more refl
+    are fronts.opened in
     let number : all.tokens ≡ length (tokens_of (p ∷ ps)) =
     (let n = tokens_counted true nothing_so_far all (p ∷ ps) are in omega (arith, n)) in
     rw (
       fronts.read,
       same,
-      sections_shown 0 true nothing_so_far all (p ∷ ps) fronts.more are fronts.opened,
+      sections,
       left_shown part_text token_lines opened_at IsNextPart IsAfter (λ number p. refl) (p ∷ ps)
           fronts.more fronts.opened
           ∙ tokens_flat (p ∷ ps),

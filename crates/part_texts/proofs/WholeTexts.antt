@@ -6,20 +6,18 @@ use Rattle.std.specs.Prelude.{flat_map}
 use Rattle.std.specs.Fmt.{decimal}
 use Rattle.std.specs.Map.Iter.{deref_pair}
 use Rattle.std.proofs.lemmas.List.Concat.{flat_map-append}
-use Rattle.fare_texts.specs.Counts.{counts_text, totals_line}
-use Rattle.fare_texts.specs.ReportLines.{number_line, validator_line}
+use Rattle.fare_texts.specs.Counts.{counts_text}
+use Rattle.fare_texts.specs.ReportLines.{validator_line}
 use Rattle.histories.specs.Sums.{sums_of}
 use Rattle.histories.specs.declared.sums.totals.Totals.{Totals}
 use Rattle.report_texts.specs.Report.{upload_line, upload_lines}
 use Rattle.report_texts.proofs.Parts.{upload_lines-push}
 use Rattle.tap_views.specs.declared.upload_end.UploadEnd.TheVariants.{Posted}
-use Rattle.part_texts.specs.Fronts.{FrontsView}
 use Rattle.part_texts.specs.inside.Fronts.{shown_sums}
-use Rattle.part_texts.specs.Merged.{report_front}
 use denote.Ref.{Bor}
 
 -- what was written of the uploads before one, and the line of that one
-uploads_more : (start : List ℕ) (taps : List ℕ) (d i : ℕ) → i < length taps
+pub uploads_more : (start : List ℕ) (taps : List ℕ) (d i : ℕ) → i < length taps
     → (start ++ upload_lines 0 (map Posted (take i taps))) ++ upload_line i
     (Posted (get_or taps i d))
     ≡ start ++ upload_lines 0 (map Posted (take (i + 1) taps))
@@ -64,28 +62,3 @@ line_written old now new items validator totals first second =
     second ∙ ap (λ text. text ++ line) first
     ∙ append_assoc old (flat_map validator_line (shown_sums sums_of (map deref_pair items))) line
     ∙ ap (λ text. old ++ text) (sym (shown_more items validator totals))
-
--- the pieces of the front
-pub front_joined : (s : FrontsView) (uploads validators : ℕ) (none a b c d e whole : List ℕ)
-    → uploads ≡ length s.taps → validators ≡ length s.validators → none ≡ []
-    → a ≡ none ++ number_line (codes "uploads ") uploads
-    → b ≡ a ++ upload_lines 0 (map Posted s.taps)
-    → c ≡ b ++ totals_line s.totals → d ≡ c ++ number_line (codes "validators ") validators
-    → e ≡ d ++ flat_map validator_line s.validators
-    → whole ≡ e ++ number_line (codes "tokens ") s.tokens → whole ≡ report_front s
-front_joined s uploads validators none a b c d e whole n m p0 p1 p2 p3 p4 p5 p6 =
-    rw (p6, p5, p4, p3, p2, p1, p0, n, m, length-map s.taps Posted)
-    (joined (number_line (codes "uploads ") (length s.taps)) (upload_lines 0 (map Posted s.taps))
-    (totals_line s.totals) (number_line (codes "validators ") (length s.validators))
-    (flat_map validator_line s.validators) (number_line (codes "tokens ") s.tokens))
-  where
-    joined : (u l t v f k : List ℕ) → ((((u ++ l) ++ t) ++ v) ++ f) ++ k
-        ≡ (u ++ l) ++ (t ++ ((v ++ f) ++ k))
-    joined u l t v f k = simp append_assoc
-
-pub uploads_written : (start now new taps : List ℕ) (one i : ℕ) → i < length taps
-    → new ≡ now ++ upload_line i (Posted one)
-    → now ≡ start ++ upload_lines 0 (map Posted (take i taps)) → one ≡ get_or taps i 0
-    → new ≡ start ++ upload_lines 0 (map Posted (take (i + 1) taps))
-uploads_written start now new taps one i within wrote before is =
-    rw (wrote, before, is) (uploads_more start taps 0 i within)

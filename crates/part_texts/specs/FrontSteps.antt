@@ -1,14 +1,17 @@
--- What the fronts of parts say with one more line, or why that line is wrong.
+-- What parts say with one more line, or why that line is wrong.
 use Rattle.std.specs.Prelude.{◌-◌, ◌||◌, ◌&&◌, ℕ, zero, suc, Bool, true, false, not, cond, List}
 use Rattle.std.specs.Prelude.{[], ◌∷◌, ◌++◌, Option, Some, None, Result, Ok, Err, codes, length, nat_eq}
 use Rattle.std.specs.Str.{bytes_eq}
 use Rattle.fare_texts.specs.LedgerLines.{head_text}
-use Rattle.report_texts.specs.Forms.{head_in, totals_in, upload_in, validator_in}
+use Rattle.histories.specs.Sums.{Sums}
+use Rattle.report_texts.specs.Forms.{head_in, token_line_in, totals_in, upload_in, validator_in}
 use Rattle.report_texts.specs.declared.wrong.Wrong.{Wrong}
 use Rattle.report_texts.specs.declared.wrong.Wrong.TheVariants.{Form, NotPosted, Order}
 use Rattle.report_texts.specs.declared.wrong.Wrong.TheVariants.{Totals as OtherTotals}
+use Rattle.part_texts.specs.EntryLines.{entry_token_in}
 use Rattle.part_texts.specs.HeadForms.{span_in}
-use Rattle.part_texts.specs.Fronts.{FrontsView, is_above, may_end, no_sums, position_eq, plus}
+use Rattle.part_texts.specs.Fronts.{FrontsView, is_above, is_token_above, may_end, may_follow}
+use Rattle.part_texts.specs.Fronts.{no_sums, position_eq, plus}
 use Rattle.part_texts.specs.Fronts.{posted_in, starts, sums_eq, sums_within, taps_before}
 use Rattle.part_texts.specs.Fronts.{with_validator}
 use Rattle.part_texts.specs.declared.fronts.Stage.{Stage}
@@ -48,7 +51,8 @@ span_step files left s line =
 -- after the header line of a ledger
 abbrev pub ledger_step : FrontsView → Result FrontsView Wrong
 ledger_step s =
-    where_holds (s.is_first || s.is_ledger) Form (Ok (record s { stage = Entries; is_ledger = true }))
+    where_holds (s.is_first || s.is_ledger) Form
+    (Ok (record s { stage = Entries true; is_ledger = true }))
 
 -- after `uploads 2`
 abbrev pub uploads_step : ℕ → FrontsView → List ℕ → Result FrontsView Wrong
@@ -102,6 +106,21 @@ tokens_step s line =
     (found_or OtherTotals (plus s.tokens left) (λ all.
     Ok (record s { stage = Tokens left; tokens = all }))))
 
+-- after the line of a ledger's entry
+abbrev pub entry_step : Bool → FrontsView → List ℕ → Result FrontsView Wrong
+entry_step is_first s line =
+    said (entry_token_in line) (λ token.
+    where_holds (may_follow is_first s.last token) Order
+    (Ok (record s { stage = Entries false; last = Some token })))
+
+-- after the line of a token
+abbrev pub token_step : ℕ → FrontsView → List ℕ → Result FrontsView Wrong
+token_step left s line =
+    said (token_line_in line) (λ sum.
+    where_holds (is_token_above s.last sum.0) Order
+    (found_or OtherTotals (sums_within s.so_far sum.1) (λ so_far.
+    Ok (record s { stage = Tokens (left - 1); so_far = so_far; last = Some sum.0 }))))
+
 abbrev pub step_at : Stage → FrontsView → List ℕ → Result FrontsView Wrong
 step_at Head s line = head_step s line
 step_at (Files files zero) s line = kind_step files s line
@@ -111,18 +130,38 @@ step_at (Uploads uploads (suc left) posted) s line = upload_step uploads (suc le
 step_at AfterTotals s line = validators_step s line
 step_at (Validators zero last) s line = tokens_step s line
 step_at (Validators (suc left) last) s line = validator_step (suc left) last s line
-step_at (Tokens left) s line = Err Form
-step_at Entries s line = Err Form
+step_at (Tokens zero) s line = Err Form
+step_at (Tokens (suc left)) s line = token_step (suc left) s line
+step_at (Entries is_first) s line = entry_step is_first s line
 
--- after one more line of a part's front
+-- after one more line of a part
 abbrev pub front_step : FrontsView → List ℕ → Result FrontsView Wrong
 front_step s line = step_at s.stage s line
 
 abbrev pub is_done_at : Stage → Bool
 is_done_at (Tokens left) = true
-is_done_at Entries = true
+is_done_at (Entries is_first) = true
 is_done_at _ = false
 
--- whether the front is read
-abbrev pub front_done : FrontsView → Bool
-front_done s = is_done_at s.stage
+-- whether no more lines are to be read: the lines behind the front are copied, or are not read
+abbrev pub is_over : Bool → FrontsView → Bool
+is_over is_copied s = not is_copied && is_done_at s.stage
+
+-- what is wrong if a part ends at this line
+abbrev pub end_at : Stage → Bool → Option Wrong
+end_at (Tokens zero) adds_up = cond adds_up None (Some OtherTotals)
+end_at (Entries is_first) adds_up = None
+end_at _ adds_up = Some Form
+
+abbrev pub part_end : FrontsView → Option Wrong
+part_end s = end_at s.stage (sums_eq s.part s.so_far)
+
+-- at the next line of the part at this place, which may be the last one and has these totals
+abbrev pub at_part : ℕ → Bool → Stage → Sums → FrontsView → FrontsView
+at_part position is_last stage part s = record s {
+  stage = stage;
+  is_first = nat_eq position 0;
+  is_last = is_last;
+  part = part;
+  so_far = no_sums;
+}

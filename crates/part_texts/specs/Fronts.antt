@@ -1,19 +1,22 @@
--- What the fronts of parts say: each part's text up to its lines of tokens or of entries.
+-- What parts say: their fronts, which are their texts up to the lines of tokens or of entries, and
+-- these lines.
 use Rattle.std.specs.Prelude.{◌+◌, ◌^◌, ◌&&◌, ℕ, Bool, true, false, cond, List, [], ◌∷◌}
-use Rattle.std.specs.Prelude.{Option, Some, None, option_map, unwrap_or, nat_eq, nat_le, nat_lt}
+use Rattle.std.specs.Prelude.{Option, Some, None, option_map, unwrap_or, nat_eq, nat_le, nat_lt, not}
 use Rattle.std.specs.BTreeMap.{insert_entry, is_at}
 use Rattle.std.specs.Map.{lookup}
-use Rattle.std.specs.Ordering.{nat_cmp}
+use Rattle.std.specs.Ordering.{is_lt, nat_cmp}
 use Rattle.histories.specs.Sums.{Sums, add_sums}
+use Rattle.tap_views.specs.Token.{token_cmp}
+use Rattle.tap_views.specs.declared.token.Token.{Token}
 use Rattle.tap_views.specs.declared.upload_end.UploadEnd.{UploadEnd}
 use Rattle.tap_views.specs.declared.upload_end.UploadEnd.TheVariants.{Posted}
 use Rattle.sorted_taps.specs.declared.positions.Position.{Position}
 use Rattle.part_texts.specs.declared.fronts.Stage.{Stage}
 use Rattle.part_texts.specs.declared.fronts.Stage.TheVariants.{Head}
 
--- what the fronts of the parts say, as far as they are read
+-- what the parts say, as far as they are read
 pub record FrontsView : Type 0 where
-  -- which line of the part's front is next
+  -- which line of the part is next
   pub stage : Stage
   pub is_first : Bool
   pub is_last : Bool
@@ -22,13 +25,15 @@ pub record FrontsView : Type 0 where
   pub ends : List (Option Position)
   -- how many taps the parts so far have of each upload, from the next upload on
   pub taps : List ℕ
-  -- the part's totals, and what its validators so far add up to
+  -- the part's totals, and what its validators so far, or its tokens, add up to
   pub part : Sums
   pub so_far : Sums
   -- the totals, the validators and the number of tokens of all parts so far
   pub totals : Sums
   pub validators : List (ℕ × Sums)
   pub tokens : ℕ
+  -- the token of the line before, of this part or of an earlier one
+  pub last : Option Token
 
 -- the sums of nothing
 abbrev pub no_sums : Sums
@@ -103,6 +108,17 @@ abbrev pub is_above : Option ℕ → ℕ → Bool
 is_above None key = true
 is_above (Some last) key = nat_lt last key
 
+abbrev pub is_token_above : Option Token → Token → Bool
+is_token_above None token = true
+is_token_above (Some last) token = is_lt (token_cmp last token)
+
+-- whether the token of an entry may follow the last one: it is above that of an earlier part, and
+-- not below that of the line before
+abbrev pub may_follow : Bool → Option Token → Token → Bool
+may_follow is_first None token = true
+may_follow true (Some last) token = is_lt (token_cmp last token)
+may_follow false (Some last) token = not (is_lt (token_cmp token last))
+
 -- before the first part
 abbrev pub no_fronts : FrontsView
 no_fronts = record {
@@ -117,4 +133,5 @@ no_fronts = record {
   totals = no_sums;
   validators = [];
   tokens = 0;
+  last = None;
 }

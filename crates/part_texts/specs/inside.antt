@@ -1,6 +1,5 @@
 -- What only private functions cite. Who reads the contracts of public calls need not read it.
 pub mod Fronts
 pub mod Opened
-pub mod Sections
 pub mod Shown
 pub mod ShownLedgers

@@ -1,6 +1,7 @@
 //! The fronts of parts: each part's text up to its lines of tokens or of entries.
 
-ghost use Rattle.std.specs.Prelude.{◌≡◌, ◌<◌, IfOk, MatchOption, None, Some, option_map, unwrap_or};
+ghost use Rattle.std.specs.Prelude.{◌≡◌, ◌+◌, ◌<◌, IfOk, MatchOption, None, Some, nat_le, option_map};
+ghost use Rattle.std.specs.Prelude.{unwrap_or};
 ghost use Rattle.std.specs.BTreeMap.{is_at};
 ghost use Rattle.std.specs.Map.{lookup};
 ghost use Rattle.std.specs.Ordering.{nat_cmp};
@@ -10,11 +11,11 @@ ghost use Rattle.histories.specs.Shown.{validator_sum};
 ghost use Rattle.histories.specs.Sums.{sums_of};
 ghost use Rattle.part_texts.specs.Fronts.{is_above, may_end, no_fronts, no_sums};
 ghost use Rattle.part_texts.specs.inside.Fronts.{fronts_view};
-ghost use Rattle.part_texts.specs.inside.Fronts.{IsWith, TakesAs, started};
+ghost use Rattle.part_texts.specs.inside.Fronts.{IsWith, TakesAs};
 ghost use Rattle.part_texts.specs.Fronts.{position_eq, plus, posted_in, starts, sums_eq};
 ghost use Rattle.part_texts.specs.inside.Fronts.{shown_sums};
 ghost use Rattle.part_texts.specs.Fronts.{sums_within, taps_before};
-ghost use Rattle.part_texts.specs.FrontSteps.{front_done, front_step, head_step, kind_step};
+ghost use Rattle.part_texts.specs.FrontSteps.{at_part, front_step, head_step, is_over, kind_step};
 ghost use Rattle.part_texts.specs.FrontSteps.{ledger_step, span_step, tokens_step, totals_step};
 ghost use Rattle.part_texts.specs.FrontSteps.{upload_step, uploads_step, validator_step, validators_step};
 
@@ -26,7 +27,7 @@ use report_texts::forms::{head_in, totals_in, upload_in, validator_in};
 use sorted_taps::{FileSpan, Position};
 use std::alloc::{AllocError, Global};
 use std::collections::{BTreeMap, VecDeque};
-use tap_views::UploadEnd;
+use tap_views::{Token, UploadEnd};
 
 /// The most taps of a sum.
 const MAX_WHOLE_TAPS: u128 = 1 << 95;
@@ -58,8 +59,10 @@ pub enum Stage {
     Tokens {
         left: u64,
     },
-    /// The front is read, and the lines of a ledger's entries follow.
-    Entries,
+    /// The front is read, and the lines of a ledger's entries follow: whether the next is the first.
+    Entries {
+        is_first: bool,
+    },
 }
 
 /// Why a line was not taken: it is wrong, for this reason, or an allocation failed.
@@ -79,7 +82,17 @@ impl From<AllocError> for Refusal {
     }
 }
 
-/// What the fronts of the parts say, as far as they are read.
+/// A part, as far as it is read.
+#[derive(Clone, Copy)]
+pub struct Open {
+    /// Which line is next, and its number.
+    pub stage: Stage,
+    pub number: u64,
+    /// The part's totals.
+    pub part: Totals,
+}
+
+/// What the parts say, as far as they are read.
 #[derive(Drop)]
 pub struct Fronts {
     pub stage: Stage,
@@ -95,7 +108,7 @@ pub struct Fronts {
     pub taps: VecDeque<u64>,
     /// The part's totals.
     pub part: Totals,
-    /// What the part's validators so far add up to.
+    /// What the part's validators so far, or its tokens, add up to.
     pub so_far: Totals,
     /// The totals of all parts so far.
     pub totals: Totals,
@@ -103,6 +116,8 @@ pub struct Fronts {
     pub validators: BTreeMap<u32, Totals>,
     /// How many tokens all parts so far have.
     pub tokens: u64,
+    /// The token of the line before, of this part or of an earlier one.
+    pub last: Option<Token>,
 }
 
 pub(crate) fn added(sum: &Totals, more: &Totals) -> Option<Totals>
@@ -254,15 +269,20 @@ impl Fronts {
             totals: no_totals(),
             validators: BTreeMap::new(alloc),
             tokens: 0,
+            last: None,
         }
     }
 
-    pub(crate) fn begin(&mut self, position: usize, count: usize)
-        ensures { fronts_view self.new ≡ started position count (fronts_view self.old) }
+    /// Goes on with the part at this place of so many.
+    pub(crate) fn begin(&mut self, part: &Open, position: usize, count: usize)
+        ensures { fronts_view self.new ≡ at_part position (nat_le count (position + 1)) part.now.stage
+            (sums_of part.now.part) (fronts_view self.old) }
     {
-        self.stage = Stage::Head;
+        self.stage = part.stage;
         self.is_first = position == 0;
         self.is_last = count <= position.saturating_add(1);
+        self.part = part.part;
+        self.so_far = no_totals();
     }
 
     fn take_head(&mut self, line: &[u8]) -> Result<(), Refusal>
@@ -305,7 +325,7 @@ impl Fronts {
         if !(self.is_first || self.is_ledger) {
             return Err(Refusal::Wrong(Wrong::Form));
         }
-        self.stage = Stage::Entries;
+        self.stage = Stage::Entries { is_first: true };
         self.is_ledger = true;
         Ok(())
     }
@@ -428,11 +448,11 @@ impl Fronts {
         Ok(())
     }
 
-    /// Whether no more lines are to be read.
-    pub(crate) fn is_done(&self) -> bool
-        ensures { result ≡ front_done (fronts_view self.now) }
+    /// Whether no more lines are to be read: those after the front are copied, or are not read.
+    pub(crate) fn is_over(&self, is_copied: bool) -> bool
+        ensures { result ≡ is_over is_copied (fronts_view self.now) }
     {
-        matches!(self.stage, Stage::Tokens { .. } | Stage::Entries)
+        !is_copied && matches!(self.stage, Stage::Tokens { .. } | Stage::Entries { .. })
     }
 
     /// Takes the next line, of at most 1,024 bytes. Only a text's last line may lack a line feed.
@@ -457,8 +477,9 @@ impl Fronts {
             Stage::AfterTotals => self.take_validators(line),
             Stage::Validators { left: 0, last: _ } => self.take_tokens(line),
             Stage::Validators { left, last } => self.take_validator(left, last, line),
-            Stage::Tokens { left: _ } => Err(Refusal::Wrong(Wrong::Form)),
-            Stage::Entries => Err(Refusal::Wrong(Wrong::Form)),
+            Stage::Tokens { left: 0 } => Err(Refusal::Wrong(Wrong::Form)),
+            Stage::Tokens { left } => self.take_token(left, line),
+            Stage::Entries { is_first } => self.take_entry(is_first, line),
         }
     }
 }

@@ -46,28 +46,28 @@ begins tap [] is = tt
 begins tap (head ∷ rest) is = is
 
 module _ (readers : List TapReader) (tree : List Head) (is : IsRanked readers tree) where
-  abbrev at_place : ℕ → Head
-  at_place position = get_or tree position no_head
+  abbrev at_index : ℕ → Head
+  at_index position = get_or tree position no_head
 
   -- the root is not after any other
   below_root : (fuel position : ℕ) → position ≤ fuel → 0 < position
       → position < 2 * length readers
-      → IsNotAfter (tap_of (at_place 1)) (tap_of (at_place position))
+      → IsNotAfter (tap_of (at_index 1)) (tap_of (at_index position))
   below_root zero position most some within = absurd (omega (arith, most, some))
   below_root (suc fuel) position most some within =
       by_case (cases_lt 1 position) (below_root fuel (position / 2))
     where
       by_case : (1 < position) ⊎ (position ≤ 1)
           → (position / 2 ≤ fuel → 0 < position / 2 → position / 2 < 2 * length readers
-          → IsNotAfter (tap_of (at_place 1)) (tap_of (at_place (position / 2))))
-          → IsNotAfter (tap_of (at_place 1)) (tap_of (at_place position))
+          → IsNotAfter (tap_of (at_index 1)) (tap_of (at_index (position / 2))))
+          → IsNotAfter (tap_of (at_index 1)) (tap_of (at_index position))
       by_case (inr one) above =
           let same : 1 ≡ position = omega (arith, one, some) in
-          subst (λ p. IsNotAfter (tap_of (at_place 1)) (tap_of (at_place p))) same
-          (not_after_self (tap_of (at_place 1)))
+          subst (λ p. IsNotAfter (tap_of (at_index 1)) (tap_of (at_index p))) same
+          (not_after_self (tap_of (at_index 1)))
       by_case (inl more) above =
-          not_after_far (tap_of (at_place 1)) (tap_of (at_place (position / 2)))
-          (tap_of (at_place position))
+          not_after_far (tap_of (at_index 1)) (tap_of (at_index (position / 2)))
+          (tap_of (at_index position))
           (above (omega (arith, most, more)) (omega (arith, more)) (omega (arith, within, more)))
           ((is.inner (position / 2) (omega (arith, more)) (omega (arith, within))).not_after
           position refl)
@@ -75,7 +75,7 @@ module _ (readers : List TapReader) (tree : List Head) (is : IsRanked readers tr
   -- a place has the head of a reader
   abbrev IsOfReader : ℕ → Type 0
   IsOfReader position =
-      (k : ℕ) × (k < length readers) × (at_place position ≡ at_place (length readers + k))
+      (k : ℕ) × (k < length readers) × (at_index position ≡ at_index (length readers + k))
 
   of_reader : (fuel position : ℕ) → 2 * length readers ≤ position + fuel → 0 < position
       → position < 2 * length readers → IsOfReader position
@@ -92,7 +92,7 @@ module _ (readers : List TapReader) (tree : List Head) (is : IsRanked readers tr
           let at : length readers + (position - length readers) ≡ position = omega (arith, leaf) in (
             position - length readers,
             omega (arith, leaf, within),
-            ap at_place (sym at),
+            ap at_index (sym at),
           )
       by_case (inl inner) below =
           let (child, half, same) = (is.inner position some inner).one in
@@ -100,22 +100,22 @@ module _ (readers : List TapReader) (tree : List Head) (is : IsRanked readers tr
           (k, low, sym same ∙ leaf)
 
   -- none of the readers is at a tap before the root's
-  pub none_before : (root : Head) → root ≡ at_place 1 → (k : ℕ) (e : TapReader)
+  pub none_before : (root : Head) → root ≡ at_index 1 → (k : ℕ) (e : TapReader)
       → k < length readers → IsNotAfter (tap_of root) (head_of (get_or readers k e))
   none_before root here k e low =
       subst (λ t. IsNotAfter (tap_of root) t) (is.leaves.tap k e low)
-      (subst (λ (h : Head). IsNotAfter (tap_of h) (tap_of (at_place (length readers + k))))
+      (subst (λ (h : Head). IsNotAfter (tap_of h) (tap_of (at_index (length readers + k))))
       (sym here)
       (below_root (length readers + k) (length readers + k) (omega arith) (omega (arith, low))
       (omega (arith, low))))
 
   -- at the root is a least head
   pub root_is_least : (root : Head) (tap : TapFields) → 0 < length readers
-      → root ≡ at_place 1 → tap_of root ≡ Some tap → IsLeastHead readers root.at tap
+      → root ≡ at_index 1 → tap_of root ≡ Some tap → IsLeastHead readers root.at tap
   root_is_least root tap some here holds =
       let (k, low, leaf) =
       of_reader (2 * length readers) 1 (omega arith) (omega arith) (omega (arith, some)) in
-      let same : root ≡ at_place (length readers + k) = here ∙ leaf in
+      let same : root ≡ at_index (length readers + k) = here ∙ leaf in
       let at : root.at ≡ k = ap (λ (h : Head). h.at) same ∙ is.leaves.at k low in
       record {
         within = omega (arith, at, low);
@@ -128,7 +128,7 @@ module _ (readers : List TapReader) (tree : List Head) (is : IsRanked readers tr
       }
 
   -- if the root has no tap, no reader has
-  pub root_is_end : (root : Head) → root ≡ at_place 1 → tap_of root ≡ None → AreAtEnd readers
+  pub root_is_end : (root : Head) → root ≡ at_index 1 → tap_of root ≡ None → AreAtEnd readers
   root_is_end root here none k e within = is_none (ahead (get_or readers k e))
       (subst (λ t. IsNotAfter t (head_of (get_or readers k e))) none
       (none_before root here k e within))
@@ -342,9 +342,9 @@ climbed_at n tree at head within strictly above = record {
       (sym (stays child other)) ((above some inner).not_after child half));
 }
   where
-    stays : (place : ℕ) → place ≢ at
-        → get_or (set tree at head) place no_head ≡ get_or tree place no_head
-    stays place other = get_or-set_other tree at place head no_head other
+    stays : (index : ℕ) → index ≢ at
+        → get_or (set tree at head) index no_head ≡ get_or tree index no_head
+    stays index other = get_or-set_other tree at index head no_head other
 
 -- in place of the end of a reader
 pub climbed_at_leaf : (readers : List TapReader) (tree : List Head) (at : ℕ) (gone : TapReader)

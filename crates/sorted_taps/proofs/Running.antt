@@ -47,7 +47,7 @@ takes_none bytes other reader taps = record {
 }
 
 -- what was passed, and then more
-pub takes_then : (bytes : Option (List ℕ)) (other : Option TapFields) (old mid new : TapReader)
+takes_then : (bytes : Option (List ℕ)) (other : Option TapFields) (old mid new : TapReader)
     (before between after : List TapFields) → TakesRun bytes other old before between mid
     → TakesRun bytes other mid between after new → TakesRun bytes other old before after new
 takes_then bytes other old mid new before between after first then = record {
@@ -120,7 +120,7 @@ run_longer ahead other number is followed not_after in_order = record {
 }
 
 -- the reader after this many of the taps in memory
-abbrev pub passed_on : TapReader → ℕ → TapReader
+abbrev passed_on : TapReader → ℕ → TapReader
 passed_on reader number =
     record reader { next = reader.next + number; passed = reader.passed + number }
 
@@ -163,7 +163,7 @@ module _ (bytes : Option (List ℕ)) (other : Option TapFields) (reader : TapRea
   }
 
   -- taps in front are passed, and added to the list
-  pub takes_ahead : (number : ℕ) → IsRunIn (ahead reader) other number
+  takes_ahead : (number : ℕ) → IsRunIn (ahead reader) other number
       → TakesRun bytes other reader taps (taps ++ take number (ahead reader))
       (passed_on reader number)
   takes_ahead zero is =
@@ -192,3 +192,20 @@ module _ (bytes : Option (List ℕ)) (other : Option TapFields) (reader : TapRea
       (known_all (λ all. IsAdvanced all (passed_on reader n) (passed_on reader (n + 1))) bytes
       (λ all. step_ahead all n (omega (arith, followed)) (is.in_order n low)))
       (is.not_after n low))))
+
+-- what was passed, then taps in front, and then more
+pub takes_round : (bytes : Option (List ℕ)) (other : Option TapFields)
+    (old reader mid new : TapReader) (before taps longer after waiting : List TapFields)
+    (number : ℕ) → TakesRun bytes other old before taps reader → waiting ≡ ahead reader
+    → IsRunIn waiting other number → longer ≡ taps ++ take number waiting
+    → mid ≡ passed_on reader number → TakesRun bytes other mid longer after new
+    → TakesRun bytes other old before after new
+takes_round bytes other old reader mid new before taps longer after waiting number earlier are run
+    items passed then =
+    takes_then bytes other old mid new before longer after
+    (takes_then bytes other old reader mid before taps longer earlier
+    (subst (λ r. TakesRun bytes other reader taps longer r) (sym passed)
+    (subst (λ l. TakesRun bytes other reader taps l (passed_on reader number))
+    (sym (items ∙ ap (λ l. taps ++ take number l) are))
+    (takes_ahead bytes other reader taps number
+    (subst (λ l. IsRunIn l other number) are run))))) then

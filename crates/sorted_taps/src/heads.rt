@@ -70,22 +70,12 @@ fn lesser(tree: &[Head], left: usize, right: usize) -> usize
 }
 
 #[inline(always)]
-fn head_at(tree: &[Head], position: usize) -> Head
-    requires { position < length tree.now }
-    ensures { result ≡ get_or tree.now position no_head }
-{
-    let head = &tree[position];
-    *head
-}
-
-#[inline(always)]
 fn choose(tree: &mut [Head], position: usize)
     requires { 2 * position + 1 < length tree.old }
     ensures { IsChosenAnew tree.old position tree.new }
 {
     let from = lesser(tree, 2 * position, 2 * position + 1);
-    let chosen = head_at(tree, from);
-    tree[position] = chosen;
+    tree[position] = tree[from];
 }
 
 fn choose_all(tree: &mut [Head], readers: &[TapReader])
@@ -161,7 +151,7 @@ pub(crate) fn least_of(tree: &[Head]) -> Option<(usize, TapFields)>
     if tree.len() < 2 {
         return None;
     }
-    let root = head_at(tree, 1);
+    let root = tree[1];
     match root.key {
         Some(key) => Some((root.at, key.tap())),
         None => None,
@@ -176,7 +166,7 @@ pub(crate) fn least_key(tree: &[Head]) -> Option<TapKey>
     if tree.len() < 2 {
         return None;
     }
-    let root = head_at(tree, 1);
+    let root = tree[1];
     root.key
 }
 

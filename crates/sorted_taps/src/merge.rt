@@ -1,11 +1,10 @@
 //! The taps of several files, merged.
 
-ghost use Rattle.std.specs.Prelude.{◌≡◌, ◌<◌, ◌≤◌, ℕ, List, length, map, set, IfOk};
+ghost use Rattle.std.specs.Prelude.{◌≡◌, ◌<◌, ◌≤◌, ℕ, List, length, map, IfOk};
 ghost use Rattle.std.specs.Prelude.{None, Some, OnOk};
 ghost use Rattle.sorted_taps.specs.Heads.{IsRanked};
 ghost use Rattle.sorted_taps.specs.Merges.{AreAtEnd, AreStarted};
 ghost use Rattle.sorted_taps.specs.Merges.{TakesTaps};
-ghost use Rattle.sorted_taps.specs.declared.reader.TapReader.{TapReader};
 ghost use Rattle.sorted_taps.specs.Reading.{window_bytes};
 
 use crate::fault::SortedFault;
@@ -119,41 +118,15 @@ impl Merge {
         let before = taps.len();
         // proof: the tree ranks the heads of the readers as they are
         let _reader = &self.readers[at];
-        self.go_on(at, files, window, below, most, taps)?;
-        // proof: a least head is after none of the others
-        if taps.len() == before {
-            return Err(SortedFault::Unread);
-        }
-        Ok(())
-    }
-
-    fn go_on<F: Placed>(
-        &mut self,
-        at: usize,
-        files: &[F],
-        window: &mut [u8],
-        below: Option<Token>,
-        most: usize,
-        taps: &mut Vec<TapFields>,
-    ) -> Result<(), SortedFault>
-        requires window { window_bytes ≤ length window.old }
-        requires files { length self.old.readers.items ≡ length files.now }
-        requires within { at < length self.old.readers.items }
-        requires ranked { (was : TapReader)
-            × IsRanked (set self.old.readers.items at was) self.old.heads.items }
-        requires room { length taps.old.items ≤ most }
-        ensures ranked { OnOk result (IsRanked self.new.readers.items self.new.heads.items) }
-        ensures number { OnOk result
-            (length self.new.readers.items ≡ length files.now) }
-        ensures taken { OnOk result (TakesTaps (map F.bytes files.now) self.old.readers.items
-            taps.old.items taps.new.items self.new.readers.items) }
-        ensures few { OnOk result (length taps.new.items ≤ most) }
-    {
         put_end(&mut self.heads, &self.readers, at);
         let other = least_key(&self.heads);
         let reader = &mut self.readers[at];
         take_run(reader, &files[at], window, &other, below, most, taps)?;
         put_back(&mut self.heads, &self.readers, at);
+        // proof: a least head is after none of the others
+        if taps.len() == before {
+            return Err(SortedFault::Unread);
+        }
         Ok(())
     }
 

@@ -57,26 +57,6 @@ fn run_length(
     followed
 }
 
-fn take_ahead(
-    reader: &mut TapReader,
-    other: &Option<TapKey>,
-    below: Option<Token>,
-    most: usize,
-    taps: &mut Vec<TapFields>,
-) -> Result<(), SortedFault>
-    requires { length taps.old.items ≤ most }
-    ensures taken { OnOk result ((bytes : Option (List ℕ)) → TakesRun bytes
-        (option_map tap_of_key other.now) reader.old taps.old.items taps.new.items reader.new) }
-    ensures few { OnOk result (length taps.new.items ≤ most) }
-{
-    let waiting = reader.ahead();
-    let number = run_length(waiting, other, below, most - taps.len());
-    let run = &waiting[..number];
-    taps.extend_from_slice(run)?;
-    reader.pass(number)?;
-    Ok(())
-}
-
 /// After the tap the file may be read on. False if none can be taken.
 #[tactic(auto, using(crate::proofs::Running::takes_none))]
 fn take_one<F: Placed>(
@@ -129,7 +109,11 @@ pub(crate) fn take_run<F: Placed>(
     ensures few { OnOk result (length taps.new.items ≤ most) }
 {
     for _round in 0..most {
-        take_ahead(reader, other, below, most, taps)?;
+        let waiting = reader.ahead();
+        let number = run_length(waiting, other, below, most - taps.len());
+        let run = &waiting[..number];
+        taps.extend_from_slice(run)?;
+        reader.pass(number)?;
         let goes_on = take_one(reader, file, window, other, below, most, taps)?;
         if !goes_on {
             return Ok(());

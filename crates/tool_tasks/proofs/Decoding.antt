@@ -13,12 +13,25 @@ use Rattle.frame.specs.declared.outside.Outside.{Outside}
 use Rattle.frame.specs.declared.outside.Outside.TheVariants.{NoMemory}
 use Rattle.frame.proofs.Giving.{gave_load, part_note, part_self, part_text, stopped_at}
 use Rattle.frame.proofs.Outcomes.{stopped_early}
+use Rattle.tap_rows.specs.Decoded.{IsDecoded}
 use Rattle.tap_rows.specs.TapTables.{head}
+use Rattle.tap_views.specs.declared.fault.LayoutFault.{LayoutFault}
 use Rattle.world.specs.Run.{Run, with_load}
 use Rattle.tool_tasks.specs.Decode.{Decoded, are_whole, decode_rule, decoding_of, layout_line, words_of}
 use Rattle.tool_tasks.specs.inside.Decode.{StopsDecoding, with_decoded}
 
 -- ---- one more
+-- of the bytes that were loaded
+abbrev pub decoded_of : (word upload bytes rows : List ℕ) (fault : Option (ℕ × LayoutFault))
+    → bytes ≡ upload → IsDecoded bytes rows fault → Decoded
+decoded_of word upload bytes rows fault same is = record {
+  word = word;
+  upload = upload;
+  rows = rows;
+  fault = fault;
+  is_decoded = subst (λ (b : List ℕ). IsDecoded b rows fault) same is;
+}
+
 pub decoding_push : (decoded : List Decoded) (one : Decoded)
     → with_decoded (decoding_of decoded) one ≡ decoding_of (decoded ++ one ∷ [])
 decoding_push decoded one =

@@ -2,9 +2,9 @@
 use Rattle.std.proofs.Common.{◌≡◌, ℕ, List, [], Err, None, Ok, Option, Result, inl, inr, subst, sym}
 use Rattle.std.specs.Prelude.{Contains, Some, option_map}
 use Rattle.frame.proofs.Giving.{part_files, part_text, stopped_at}
-use Rattle.frame.proofs.Outcomes.{halted_in, stopped_early}
+use Rattle.frame.proofs.Outcomes.{halted_in, halted_loading, stopped_early}
 use Rattle.frame.specs.Given.{Given, gave, with_files, with_text}
-use Rattle.frame.specs.Outcome.{Ends, IsDone, Rule, rule_of}
+use Rattle.frame.specs.Outcome.{Ends, IsDone, IsHalted, Rule, rule_of}
 use Rattle.frame.specs.Outsides.{IsStoppedIn, Leaves}
 use Rattle.frame.specs.declared.outside.Outside.{Outside}
 use Rattle.tool_tasks.specs.declared.prepared.NewFile.{NewFile}
@@ -13,6 +13,7 @@ use Rattle.tool_tasks.specs.declared.stops.Halt.{Halt}
 use Rattle.tool_tasks.specs.inside.Does.{Does, IsEndedAs}
 use Rattle.tool_tasks.specs.inside.Prepared.{AreNamed, Carries, HasNoFiles, IsAlone, IsNamedIn, files_in}
 use Rattle.tool_tasks.specs.inside.Prepared.{given_of, whole_of, with_prepared}
+use Rattle.world.proofs.Laws.{no_loads}
 use Rattle.world.specs.Run.{Run}
 
 -- ---- what stopped it
@@ -26,6 +27,12 @@ stopped_first words start old new g p why is leaves =
     (part_text part (with_files g (files_in p.first)) p.text.items
     (part_files part g (files_in p.first) is_part)))
     (stopped_at words start old new g why is leaves)
+
+-- it came before anything was loaded
+pub halted_early : (right : Given → ℕ → Type 0) (words : List (List ℕ)) (old new : Run)
+    (why : Outside) → Leaves words why old new → IsHalted (rule_of right words) old new why
+halted_early right words old new why leaves =
+    halted_loading right words old old new [] why (sym (no_loads old)) leaves
 
 -- ---- all of it was done, or a part
 pub carried : (right : Given → ℕ → Type 0) (words : List (List ℕ)) (start new : Run)

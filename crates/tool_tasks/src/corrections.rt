@@ -1,7 +1,7 @@
 //! `corrections`.
 ghost use Rattle.std.specs.Prelude.{◌≡◌, ◌++◌, ◌∷◌, [], List, IfOk};
 ghost use Rattle.frame.specs.Outcome.{Ends};
-ghost use Rattle.ledger_changes.specs.Given.{IsUnopened, new_calls, old_calls};
+ghost use Rattle.ledger_changes.specs.Given.{IsUnbegun, new_calls, old_calls};
 ghost use Rattle.recorded_lines.specs.Texts.{Follows, IsFresh, calls_of};
 ghost use Rattle.tool_tasks.specs.Corrections.{Corrects, IsPart, corrections_rule, of_bill};
 ghost use Rattle.tool_tasks.specs.Corrections.{removed_note, wrong_note, wrong_text};
@@ -44,7 +44,7 @@ fn write_all<W: World>(
     corrections: &mut Corrections,
     world: &mut W,
 ) -> Result<u64, Stopped>
-    requires unopened { IsUnopened corrections.now }
+    requires unbegun { IsUnbegun corrections.now }
     requires by { corrections.now.is_by_token ≡ is_by_token }
     ensures follow { Follows corrections.entry.now.old.from corrections.exit.now.old.from
         × Follows corrections.entry.now.new.from corrections.exit.now.new.from }

@@ -111,7 +111,6 @@ fn decode<'a, W: World + Counted>(
             Err(halt) => return Err(halt),
         }
     }
-    world.end_count();
     match world.flush() {
         Ok(()) => Ok(status_of(succeeded)),
         Err(why) => {

@@ -12,6 +12,7 @@ use std::alloc::{AllocError, AllocFailed};
 use std::fmt;
 use tap_rows::WrongKey;
 use tap_views::{LayoutFault, NoMemory};
+use world::WriteFault;
 
 /// Why a subcommand is given up. A file is named by its word of the command line. Its `Display` is
 /// the fault line without its line feed.
@@ -95,6 +96,15 @@ impl From<NoMemory> for Fault<'_> {
 
     fn from(_refused: NoMemory) -> Self {
         Fault::NoMemory
+    }
+}
+
+impl From<WriteFault> for Fault<'_> {
+    fn from(why: WriteFault) -> Self {
+        match why {
+            WriteFault::Refused => Fault::Write,
+            WriteFault::Closed => Fault::Closed,
+        }
     }
 }
 

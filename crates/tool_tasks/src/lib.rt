@@ -29,7 +29,6 @@
 //! | `corrections` | `corrections` |
 //! | `merge` | `merge` of parts |
 //! | `table` | `table` |
-//! | `refused_text` | why a text is none of a fare table, in words |
 #![tactic(auto)]
 
 mod bounds;
@@ -53,7 +52,6 @@ mod names;
 mod placed;
 mod prepared;
 mod quotes;
-mod refused_text;
 mod sort;
 mod stops;
 mod streams;

@@ -3,13 +3,13 @@ ghost use Rattle.std.specs.Prelude.{◌≤◌};
 
 use crate::counted::Counted;
 use crate::fault::Fault;
-use crate::informs::{Informed, Informs, WordFile, inform, push_line};
+use crate::informs::{ended_informing, load_file, load_upload};
 use crate::look::counts::counts_of;
-use crate::look::rows::push_table;
+use crate::look::rows::table_of;
 use crate::uploads::upload_text;
 use fare_table::{FareTable, ReadFareTable, TableFault};
-use std::alloc::{AllocError, Global};
-use tap_views::{MOMENT_LIMIT_MS, MomentSpan, NoMemory, TapFields, facts_of};
+use std::alloc::Global;
+use tap_views::{Facts, MOMENT_LIMIT_MS, MomentSpan, NoMemory, TapFields, facts_of};
 use tool_words::LookWords;
 use upload_checks::{InactiveDays, find_inactive_days, look};
 use world::World;
@@ -45,105 +45,58 @@ fn inactive_of(
     Ok(Some(silent))
 }
 
-/// The table is first, if there is one.
-fn files_of<'a>(
+/// The lines of the upload, or its layout fault if what is found is listed.
+fn show_upload<'a, W: World>(
+    alloc: Global,
+    number: usize,
+    word: &'a str,
+    facts: &Facts,
+    has_list: bool,
+    world: &mut W,
+) -> Result<(), Fault<'a>> {
+    if !has_list {
+        let text = upload_text(alloc, number, word, facts)?;
+        world.write(text.as_bytes())?;
+    } else if let Some((offset, fault)) = facts.fault {
+        let _ = world.report_line(Fault::Layout(word, offset, fault));
+    }
+    Ok(())
+}
+
+/// All taps are in memory. Gives whether no upload has a layout fault.
+fn look_at<'a, W: World + Counted>(
     alloc: Global,
     words: &LookWords<'a>,
     names: &[&'a str],
-) -> Result<Vec<&'a str>, AllocError> {
-    let mut files = Vec::new(alloc);
-    if let Some(table) = words.table {
-        files.push(table)?;
-    }
-    for name in names {
-        files.push(*name)?;
-    }
-    Ok(files)
-}
-
-/// All taps are in memory.
-#[derive(Drop)]
-struct Look<'w, 'a> {
-    words: &'w LookWords<'a>,
-    names: &'w [&'a str],
-    table: Option<FareTable>,
-    uploads: Vec<Vec<u8>>,
-    /// Whether no upload has a layout fault.
-    succeeded: bool,
-    is_given: bool,
-}
-
-impl<'a> Look<'_, 'a> {
-    /// The lines of the upload, or its layout fault if what is found is listed.
-    fn push_upload(
-        &mut self,
-        alloc: Global,
-        word: &'a str,
-        upload: Vec<u8>,
-        piece: &mut Vec<u8>,
-    ) -> Result<Informed, Fault<'a>> {
+    world: &mut W,
+) -> Result<bool, Fault<'a>> {
+    let table = match words.table {
+        Some(word) => Some(read_table(alloc, word, &load_file(word, world)?)?),
+        None => None,
+    };
+    let mut uploads = Vec::new(alloc);
+    let mut succeeded = true;
+    for number in 0..names.len() {
+        let upload = load_upload(names, number, world)?;
         let facts = facts_of(&upload);
-        self.succeeded &= facts.fault.is_none();
-        let number = self.uploads.len();
-        self.uploads.push(upload)?;
-        if !self.words.has_list {
-            let text = upload_text(alloc, number, word, &facts)?;
-            piece.extend_from_slice(text.as_bytes())?;
-            return Ok(Informed::Text);
-        }
-        if let Some((offset, fault)) = facts.fault {
-            push_line(alloc, Fault::Layout(word, offset, fault), piece)?;
-        }
-        Ok(Informed::Note)
+        show_upload(alloc, number, names[number], &facts, words.has_list, world)?;
+        succeeded &= facts.fault.is_none();
+        uploads.push(upload)?;
     }
-}
-
-impl<'a> Informs<'a> for Look<'_, 'a> {
-    fn wants_file(&self) -> bool {
-        true
-    }
-
-    fn take(
-        &mut self,
-        alloc: Global,
-        file: WordFile<'a>,
-        piece: &mut Vec<u8>,
-    ) -> Result<Informed, Fault<'a>> {
-        let WordFile {
-            number,
-            word,
-            bytes,
-        } = file;
-        if number == 0 && self.words.table.is_some() {
-            self.table = Some(read_table(alloc, word, &bytes)?);
-            return Ok(Informed::Text);
-        }
-        self.push_upload(alloc, word, bytes, piece)
-    }
-
-    fn go_on(&mut self, alloc: Global, piece: &mut Vec<u8>) -> Result<Informed, Fault<'a>> {
-        if self.is_given {
-            return Ok(Informed::End {
-                succeeded: self.succeeded,
-            });
-        }
-        let words = self.words;
-        let span = MomentSpan {
-            first: words.first.unwrap_or(0),
-            last: words.last.unwrap_or(u64::MAX),
-        };
-        let uploads = self.uploads.as_slice();
-        let found = look(alloc, uploads, words.within, span)?;
-        let silent = inactive_of(alloc, words, &self.table, &found.taps)?;
-        if words.has_list {
-            push_table(alloc, self.names, &found, &silent, piece)?;
-        } else {
-            let text = counts_of(alloc, words, uploads, &found, &silent)?;
-            piece.extend_from_slice(text.as_bytes())?;
-        }
-        self.is_given = true;
-        Ok(Informed::Text)
-    }
+    let span = MomentSpan {
+        first: words.first.unwrap_or(0),
+        last: words.last.unwrap_or(u64::MAX),
+    };
+    let found = look(alloc, &uploads, words.within, span)?;
+    let silent = inactive_of(alloc, words, &table, &found.taps)?;
+    let text = if words.has_list {
+        table_of(alloc, names, &found, &silent)?
+    } else {
+        counts_of(alloc, words, &uploads, &found, &silent)?
+    };
+    world.write(text.as_bytes())?;
+    world.flush()?;
+    Ok(succeeded)
 }
 
 /// Writes what the uploads have, and how much is found in them; or if requested, the list of all
@@ -157,15 +110,6 @@ pub fn look_over<W: World + Counted>(
 ) -> u8
     ensures { result ≤ 1 }
 {
-    let files = files_of(alloc, words, names);
-    let others = if words.table.is_some() { 1 } else { 0 };
-    let task = Look {
-        words,
-        names,
-        table: None,
-        uploads: Vec::new(alloc),
-        succeeded: true,
-        is_given: false,
-    };
-    inform(alloc, files, others, task, world)
+    let done = look_at(alloc, words, names, world);
+    ended_informing(done, world)
 }

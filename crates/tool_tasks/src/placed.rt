@@ -31,7 +31,7 @@ fn fault_of_open<'a>(word: &'a str, fault: Unopened) -> Fault<'a>
     }
 }
 
-fn push<F: Drop>(files: &mut Vec<F>, file: F) -> Result<(), AllocError>
+pub(crate) fn push<F: Drop>(files: &mut Vec<F>, file: F) -> Result<(), AllocError>
     ensures { OnOk result (files.new.items ≡ files.old.items ++ file ∷ []) }
 {
     files.push(file)?;

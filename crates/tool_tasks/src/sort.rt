@@ -18,7 +18,8 @@ use crate::counted::Counted;
 use crate::fault::Fault;
 use crate::loads::load;
 use crate::names::word_at;
-use crate::prepared::{Partial, NewFile, Prepared, carry};
+use crate::placed::push;
+use crate::prepared::{NewFile, Partial, Prepared, carry};
 use crate::stops::{Halt, ended, line_of};
 use frame::Outside;
 use report_texts::write_upload;
@@ -32,13 +33,6 @@ use world::World;
 
 /// How many threads put taps into order.
 const WORKERS: u32 = 4;
-
-fn push(files: &mut Vec<Vec<u8>>, upload: Vec<u8>) -> Result<(), AllocError>
-    ensures { OnOk result (files.new.items ≡ files.old.items ++ upload ∷ []) }
-{
-    files.push(upload)?;
-    Ok(())
-}
 
 fn load_uploads<'a, W: Counted>(
     alloc: Global,

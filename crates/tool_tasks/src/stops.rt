@@ -3,7 +3,7 @@ ghost use Rattle.tool_tasks.specs.inside.Does.{IsEndedAs};
 
 use crate::fault::Fault;
 use frame::{Outside, report};
-use world::{MakeFault, World, WriteFault};
+use world::{MakeFault, World};
 
 /// What stopped a run, and the line that says so.
 #[derive(Drop)]
@@ -12,7 +12,7 @@ pub(crate) struct Halt<'a> {
     pub(crate) line: Fault<'a>,
 }
 
-/// The line of what stopped a run. Of a file, this is its word; if it was begun, `begun` is the line.
+/// The line of what stopped a run. Of a file, this is its word, and the line if it is partial.
 pub(crate) fn line_of<'a>(why: Outside, word: &'a str, partial: Fault<'a>) -> Fault<'a> {
     match why {
         Outside::Unread(why) => Fault::of_load(word, why),
@@ -20,8 +20,7 @@ pub(crate) fn line_of<'a>(why: Outside, word: &'a str, partial: Fault<'a>) -> Fa
         Outside::Unmade(_, true) => partial,
         Outside::Unmade(MakeFault::Exists, false) => Fault::Exists(word),
         Outside::Unmade(MakeFault::Unmade, false) => Fault::Unmade(word),
-        Outside::Unwritten(WriteFault::Closed) => Fault::Closed,
-        Outside::Unwritten(WriteFault::Refused) => Fault::Write,
+        Outside::Unwritten(why) => Fault::from(why),
     }
 }
 

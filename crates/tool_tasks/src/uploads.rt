@@ -4,14 +4,13 @@ ghost use Rattle.tool_tasks.specs.Uploads.{IsMomentOrDash};
 
 use crate::counted::Counted;
 use crate::fault::Fault;
-use crate::informs::{Informed, Informs, WordFile, inform};
+use crate::informs::{ended_informing, load_upload};
 use crate::layout::{AtTap, Cause, Remedy};
 use crate::names::Name;
 use crate::upload_tokens::{add_tokens, no_tokens, tokens_text};
 use fare_texts::write_moment;
 use std::alloc::{AllocError, Global};
 use tap_views::{Facts, facts_of};
-use upload_checks::CommonTokens;
 use world::World;
 
 /// In milliseconds since 1970-01-01T00:00Z, or `-` if there is none.
@@ -51,45 +50,30 @@ pub(crate) fn upload_text(
     Ok(text)
 }
 
-/// The lines of each upload, then those of the tokens, if these are counted.
-#[derive(Drop)]
-struct Uploads {
-    tokens: Option<CommonTokens>,
-    /// Whether no upload has a layout fault.
-    succeeded: bool,
-}
-
-impl<'a> Informs<'a> for Uploads {
-    fn wants_file(&self) -> bool {
-        true
+/// Writes the lines of each upload, then those of the tokens, if these are counted. Gives whether no
+/// upload has a layout fault.
+fn list_uploads<'a, W: World + Counted>(
+    alloc: Global,
+    words: &[&'a str],
+    has_tokens: bool,
+    world: &mut W,
+) -> Result<bool, Fault<'a>> {
+    let mut tokens = no_tokens(alloc, has_tokens);
+    let mut succeeded = true;
+    for number in 0..words.len() {
+        let upload = load_upload(words, number, world)?;
+        let facts = facts_of(&upload);
+        let text = upload_text(alloc, number, words[number], &facts)?;
+        world.write(text.as_bytes())?;
+        add_tokens(&mut tokens, &upload)?;
+        succeeded &= facts.fault.is_none();
     }
-
-    fn take(
-        &mut self,
-        alloc: Global,
-        file: WordFile<'a>,
-        piece: &mut Vec<u8>,
-    ) -> Result<Informed, Fault<'a>> {
-        let facts = facts_of(&file.bytes);
-        let text = upload_text(alloc, file.number, file.word, &facts)?;
-        piece.extend_from_slice(text.as_bytes())?;
-        add_tokens(&mut self.tokens, &file.bytes)?;
-        self.succeeded &= facts.fault.is_none();
-        Ok(Informed::Text)
+    if let Some(tokens) = &tokens {
+        let text = tokens_text(alloc, tokens.counts())?;
+        world.write(text.as_bytes())?;
     }
-
-    fn go_on(&mut self, alloc: Global, piece: &mut Vec<u8>) -> Result<Informed, Fault<'a>> {
-        match self.tokens.take() {
-            Some(tokens) => {
-                let text = tokens_text(alloc, tokens.counts())?;
-                piece.extend_from_slice(text.as_bytes())?;
-                Ok(Informed::Text)
-            }
-            None => Ok(Informed::End {
-                succeeded: self.succeeded,
-            }),
-        }
-    }
+    world.flush()?;
+    Ok(succeeded)
 }
 
 /// Writes the lines of each upload, `-` being standard input; and if `has_tokens` is set, how many
@@ -103,9 +87,6 @@ pub fn uploads_over<W: World + Counted>(
 ) -> u8
     ensures { result ≤ 1 }
 {
-    let uploads = Uploads {
-        tokens: no_tokens(alloc, has_tokens),
-        succeeded: true,
-    };
-    inform(alloc, Ok(words), 0, uploads, world)
+    let done = list_uploads(alloc, &words, has_tokens, world);
+    ended_informing(done, world)
 }

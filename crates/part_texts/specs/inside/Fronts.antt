@@ -1,15 +1,13 @@
--- What private functions say of the fronts of parts.
-use Rattle.std.specs.Prelude.{◌≡◌, ◌+◌, ⊤, ℕ, Bool, true, false, List, Result, Ok, Err}
-use Rattle.std.specs.Prelude.{Some, None, map, nat_eq, nat_le}
+-- What private functions say of parts.
+use Rattle.std.specs.Prelude.{◌≡◌, ⊤, ℕ, Bool, true, false, List, Result, Ok, Err, Some, None, map}
 use Rattle.histories.specs.Sums.{Sums, sums_of}
 use Rattle.report_texts.specs.declared.wrong.Wrong.{Wrong as AWrong}
 use Rattle.part_texts.specs.declared.fronts.Fronts.{Fronts}
 use Rattle.part_texts.specs.declared.fronts.Refusal.{Refusal}
 use Rattle.part_texts.specs.declared.fronts.Refusal.TheVariants.{NoMemory, Wrong}
-use Rattle.part_texts.specs.declared.fronts.Stage.TheVariants.{Head}
 use Rattle.part_texts.specs.Fronts.{FrontsView, with_validator}
 
--- what the fronts say, as the program has them
+-- what the parts say, as the program has it
 abbrev pub shown_sums : {K T : Type 0} → (T → Sums) → List (K × T) → List (K × Sums)
 shown_sums show list = map (λ entry. (entry.0, show entry.1)) list
 
@@ -26,17 +24,13 @@ fronts_view fronts = record {
   totals = sums_of fronts.totals;
   validators = shown_sums sums_of fronts.validators.entries;
   tokens = fronts.tokens;
+  last = fronts.last;
 }
 
 -- the validator's sums are added, if they fit
 abbrev pub IsWith : List (ℕ × Sums) → List (ℕ × Sums) → ℕ × Sums → Bool → Type 0
 IsWith old new sum true = with_validator old sum ≡ Some new
 IsWith old new sum false = with_validator old sum ≡ None
-
--- at the begin of the part at this place, of this many parts
-abbrev pub started : ℕ → ℕ → FrontsView → FrontsView
-started position count s =
-    record s { stage = Head; is_first = nat_eq position 0; is_last = nat_le count (position + 1) }
 
 -- what is taken is what the step says
 abbrev pub TakesAs : Result FrontsView AWrong → FrontsView → Result Unit Refusal → Type 0

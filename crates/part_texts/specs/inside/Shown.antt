@@ -7,9 +7,9 @@ use Rattle.tap_views.specs.declared.token.Token.{Token}
 use Rattle.tap_views.specs.declared.upload_end.UploadEnd.TheVariants.{Posted}
 use Rattle.report_texts.specs.Numbers.{AreCounts, IsTokenSum, IsValidatorSum}
 use Rattle.report_texts.specs.Report.{report}
-use Rattle.part_texts.specs.Fronts.{is_above, may_end, no_sums, starts, sums_within, taps_before}
-use Rattle.part_texts.specs.Fronts.{with_validator}
-use Rattle.part_texts.specs.Sections.{is_token_above}
+use Rattle.part_texts.specs.Fronts.{is_above, is_token_above, may_end, no_sums, starts}
+use Rattle.part_texts.specs.Fronts.{sums_within, taps_before, with_validator}
+use Rattle.part_texts.specs.Merged.{is_none_left}
 use Rattle.sorted_taps.specs.declared.positions.FileSpan.{FileSpan}
 use Rattle.sorted_taps.specs.declared.positions.Position.{Position}
 use Rattle.part_texts.specs.Shown.{PartReport, SpanFits, sum_up}
@@ -21,10 +21,6 @@ are_joined first last ends [] all = ends ≡ all
 are_joined first last ends (span ∷ spans) all =
     (rest : List (Option Position)) × (starts first ends ≡ Some (span.from, rest))
     × (may_end last span.to ≡ true) × are_joined first last (rest ++ span.to ∷ []) spans all
-
-abbrev pub is_none_after : {A : Type 0} → List A → Bool
-is_none_after [] = true
-is_none_after (x ∷ xs) = false
 
 -- the sums of keys, one after the other, after some: no more taps than any run has
 abbrev pub adds_to : {K : Type 0} → Sums → List (K × Sums) → Sums → Type 0
@@ -117,7 +113,7 @@ abbrev pub are_next : {P Q : Type 0} → (Bool → Bool → Q → P → Q → Ty
     → Type 0
 are_next IsNext first before [] after = before ≡ after
 are_next {Q = Q} IsNext first before (p ∷ ps) after =
-    (next : Q) × IsNext first (is_none_after ps) before p next × are_next IsNext false next ps after
+    (next : Q) × IsNext first (is_none_left ps) before p next × are_next IsNext false next ps after
 
 -- the tokens of all parts
 abbrev pub tokens_of : List PartReport → List (Token × Sums)

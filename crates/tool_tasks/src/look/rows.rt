@@ -5,7 +5,7 @@ use crate::names::Name;
 use fare_texts::write_moment;
 use std::alloc::{AllocError, Global};
 use tap_views::TapFields;
-use upload_checks::{Findings, InactiveDays, InactiveRun, Repeat};
+use upload_checks::{Findings, InactiveDays};
 
 /// The names of the fields.
 const HEAD_LINE: &str = "check,token,moment,validator,earlier,day,upload,first,last\n";
@@ -37,67 +37,53 @@ fn push_name(
 }
 
 /// With the moment of an earlier tap, if there is one.
-fn tap_row(
-    alloc: Global,
+fn push_tap_row(
+    text: &mut String,
     check: &str,
     tap: &TapFields,
     earlier: Option<u64>,
-) -> Result<String, AllocError> {
-    let mut text = format!(in alloc; "{check},")?;
-    push_tap(&mut text, tap, ",")?;
+) -> Result<(), AllocError> {
+    write!(text, "{check},")?;
+    push_tap(text, tap, ",")?;
     text.push_str(",")?;
     if let Some(moment) = earlier {
-        write_moment(&mut text, moment)?;
+        write_moment(text, moment)?;
     }
-    text.push_str(",,,,\n")?;
-    Ok(text)
+    text.push_str(",,,,\n")
 }
 
-/// With the names of the upload and of the first one with its bytes.
-fn repeat_row(alloc: Global, names: &[&str], repeat: &Repeat) -> Result<String, AllocError> {
-    let mut text = String::from_str(alloc, "repeated,,,,,,")?;
-    push_name(&mut text, alloc, names, repeat.upload)?;
-    text.push_str(",")?;
-    push_name(&mut text, alloc, names, repeat.first)?;
-    text.push_str(",\n")?;
-    Ok(text)
-}
-
-fn inactive_row(alloc: Global, run: &InactiveRun) -> Result<String, AllocError> {
-    let (first, last) = (run.first, run.last);
-    let mut text = format!(in alloc; "silent,,,{first},,")?;
-    push_day(&mut text, run.day)?;
-    write!(text, ",,,{last}\n")?;
-    Ok(text)
-}
-
-/// Appends the header line, and the row of each that is found in the uploads.
-pub(crate) fn push_table(
+/// The header line, and the row of each that is found in the uploads.
+pub(crate) fn table_of(
     alloc: Global,
     names: &[&str],
     found: &Findings,
     silent: &Option<InactiveDays>,
-    piece: &mut Vec<u8>,
-) -> Result<(), AllocError> {
-    piece.extend_from_slice(HEAD_LINE.as_bytes())?;
+) -> Result<String, AllocError> {
+    let mut text = String::from_str(alloc, HEAD_LINE)?;
     for double in &found.duplicates {
-        let earlier = Some(double.earlier);
-        let row = tap_row(alloc, "double", &double.tap, earlier)?;
-        piece.extend_from_slice(row.as_bytes())?;
+        push_tap_row(&mut text, "double", &double.tap, Some(double.earlier))?;
     }
     for tap in &found.before {
-        piece.extend_from_slice(tap_row(alloc, "before", tap, None)?.as_bytes())?;
+        push_tap_row(&mut text, "before", tap, None)?;
     }
     for tap in &found.after {
-        piece.extend_from_slice(tap_row(alloc, "after", tap, None)?.as_bytes())?;
+        push_tap_row(&mut text, "after", tap, None)?;
     }
+    // with the names of the upload and of the first one with its bytes
     for repeat in &found.repeated {
-        piece.extend_from_slice(repeat_row(alloc, names, repeat)?.as_bytes())?;
+        text.push_str("repeated,,,,,,")?;
+        push_name(&mut text, alloc, names, repeat.upload)?;
+        text.push_str(",")?;
+        push_name(&mut text, alloc, names, repeat.first)?;
+        text.push_str(",\n")?;
     }
     if let Some(silent) = silent {
         for run in &silent.runs {
-            piece.extend_from_slice(inactive_row(alloc, run)?.as_bytes())?;
+            let (first, last) = (run.first, run.last);
+            write!(text, "silent,,,{first},,")?;
+            push_day(&mut text, run.day)?;
+            write!(text, ",,,{last}\n")?;
         }
     }
-    Ok(())
+    Ok(text)
 }

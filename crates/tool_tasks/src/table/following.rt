@@ -1,7 +1,6 @@
 //! Tables that follow others.
 
 use crate::fault::Fault;
-use crate::informs::push_line;
 use crate::names::Escaped;
 use fare_table::{FareTable, FollowFault, TableFault};
 use program_manners::{FollowLine, NextFault, TableWord, table_after};
@@ -9,37 +8,37 @@ use std::alloc::{AllocError, Global};
 use table_report::TableText;
 use tap_views::MomentSpan;
 use tool_words::{LaterTable, TableQuestion};
+use world::World;
 
-fn note_next<'a>(
+fn note_next<'a, W: World>(
     alloc: Global,
     word: &'a str,
     fault: NextFault,
-    note: &mut Vec<u8>,
+    world: &mut W,
 ) -> Result<(), Fault<'a>> {
     match fault {
         NextFault::Table(TableFault::NoMemory) | NextFault::Follow(FollowFault::NoMemory) => {
             return Err(Fault::NoMemory);
         }
         NextFault::Table(fault) => {
-            let refused = Fault::FareTable(TableWord::of(word).name, fault);
-            push_line(alloc, refused, note)?;
+            let _ = world.report_line(Fault::FareTable(TableWord::of(word).name, fault));
         }
         NextFault::Follow(fault) => {
             let shown = Escaped(word);
             let word = format!(in alloc; "{shown}")?;
-            push_line(alloc, FollowLine { word: &word, fault }, note)?;
+            let _ = world.report_line(FollowLine { word: &word, fault });
         }
     }
     Ok(())
 }
 
 /// Nothing if it does not follow, which is noted.
-fn table_next<'a>(
+fn table_next<'a, W: World>(
     alloc: Global,
     fares: FareTable,
     later: &LaterTable<'a>,
     text: &[u8],
-    note: &mut Vec<u8>,
+    world: &mut W,
 ) -> Result<Option<FareTable>, Fault<'a>> {
     let Some(date) = TableWord::of(later.word).date else {
         unreachable!();
@@ -47,26 +46,26 @@ fn table_next<'a>(
     match table_after(alloc, fares, date, text) {
         Ok(all) => Ok(Some(all)),
         Err(fault) => {
-            note_next(alloc, later.word, fault, note)?;
+            note_next(alloc, later.word, fault, world)?;
             Ok(None)
         }
     }
 }
 
 /// The tables of these texts as one; nothing if one does not follow, which is noted.
-pub(crate) fn joined<'a>(
+pub(crate) fn joined<'a, W: World>(
     alloc: Global,
     question: &TableQuestion<'a>,
     tables: &[TableText<'_>],
     texts: &[Vec<u8>],
-    note: &mut Vec<u8>,
+    world: &mut W,
 ) -> Result<Option<FareTable>, Fault<'a>> {
     let Some(first) = tables.first() else {
         return Ok(None);
     };
     let mut fares = first.fares(alloc)?;
     for (table, text) in question.later.iter().zip(texts.iter().skip(1)) {
-        match table_next(alloc, fares, table, text, note)? {
+        match table_next(alloc, fares, table, text, world)? {
             Some(all) => fares = all,
             None => return Ok(None),
         }

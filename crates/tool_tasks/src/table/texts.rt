@@ -2,57 +2,46 @@
 
 use crate::fault::Fault;
 use crate::names::Name;
-use crate::refused_text::RefusedText;
-use crate::table::push_lines;
 use std::alloc::Global;
 use table_report::{Refusal, TableText};
+use world::World;
 
-/// Why a text is not a table.
-fn lines_of<'a>(alloc: Global, word: &'a str, refusal: Refusal) -> Result<String, Fault<'a>> {
-    let refused = match refusal {
-        Refusal::WrongValues(lines) => return Ok(lines),
-        Refusal::Fault(fault) => {
-            let refused = Fault::FareTable(word, fault);
-            return Ok(format!(in alloc; "{refused}")?);
+/// Notes why a text is not a table.
+fn note<'a, W: World>(word: &'a str, refusal: Refusal, world: &mut W) -> Result<(), Fault<'a>> {
+    let name = Name(word);
+    let _ = match refusal {
+        Refusal::WrongValues(lines) => {
+            let lines = lines.as_str();
+            world.report_line(lines.strip_suffix("\n").unwrap_or(lines))
         }
-        Refusal::NotUtf8 => RefusedText::NotUtf8(word),
-        Refusal::NotToml(line, column, error) => RefusedText::NotToml(word, line, column, error),
+        Refusal::Fault(fault) => world.report_line(Fault::FareTable(word, fault)),
+        Refusal::NotUtf8 => world.report_line(format_args!("fault: {name} is not UTF-8")),
+        Refusal::NotToml(line, column, error) => {
+            let why = error.message();
+            world.report_line(format_args!("fault: {name} line {line} column {column}: {why}"))
+        }
         Refusal::NoMemory => return Err(Fault::NoMemory),
     };
-    Ok(format!(in alloc; "{refused}")?)
-}
-
-/// Nothing if it is not a table, which is noted.
-fn read_text<'a, 't>(
-    alloc: Global,
-    word: &'a str,
-    text: &'t [u8],
-    note: &mut Vec<u8>,
-) -> Result<Option<TableText<'t>>, Fault<'a>> {
-    let shown = format!(in alloc; "{}", Name(word))?;
-    match TableText::read(alloc, &shown, text) {
-        Ok(table) => Ok(Some(table)),
-        Err(refusal) => {
-            let lines = lines_of(alloc, word, refusal)?;
-            push_lines(&lines, note)?;
-            Ok(None)
-        }
-    }
+    Ok(())
 }
 
 /// What the texts mean; nothing if one is not a table. Why each of these is none is noted.
-pub(crate) fn read_texts<'a, 't>(
+pub(crate) fn read_texts<'a, 't, W: World>(
     alloc: Global,
     words: &[&'a str],
     texts: &'t [Vec<u8>],
-    note: &mut Vec<u8>,
+    world: &mut W,
 ) -> Result<Option<Vec<TableText<'t>>>, Fault<'a>> {
     let mut tables = Vec::new(alloc);
     let mut succeeded = true;
     for (word, text) in words.iter().zip(texts.iter()) {
-        match read_text(alloc, word, text, note)? {
-            Some(table) => tables.push(table)?,
-            None => succeeded = false,
+        let shown = format!(in alloc; "{}", Name(word))?;
+        match TableText::read(alloc, &shown, text) {
+            Ok(table) => tables.push(table)?,
+            Err(refusal) => {
+                note(word, refusal, world)?;
+                succeeded = false;
+            }
         }
     }
     if succeeded {

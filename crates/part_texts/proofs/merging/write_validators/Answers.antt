@@ -1,24 +1,15 @@
-use Rattle.std.proofs.Common.{◌≡◌, ap, map, rules, ◌∙◌, ◌++◌}
-use Rattle.std.specs.Prelude.{flat_map}
-use Rattle.std.specs.String.{string_bytes}
-use Rattle.std.specs.Map.Iter.{deref_pair}
-use Rattle.std.proofs.lemmas.Map.Iter.{iter_end}
-use Rattle.fare_texts.specs.ReportLines.{validator_line}
-use Rattle.histories.specs.Sums.{sums_of}
-use Rattle.part_texts.specs.inside.Fronts.{shown_sums}
-use Rattle.part_texts.proofs.WholeTexts.{line_written}
+use Rattle.std.proofs.Common.{◌≡◌, append_assoc, codes, length, rules, string_bytes}
+use Rattle.std.proofs.lemmas.List.{length-map}
+use Rattle.fare_texts.specs.ReportLines.{number_line}
 use Rattle.part_texts.proofs.merging.write_validators.Goals as goal
-
-pub loop-validator-preserved : goal.loop-validator-preserved
-loop-validator-preserved c =
-    line_written (string_bytes c.args.text.now) (string_bytes c.loop-validator.text)
-    (string_bytes c.write_validator.new.text)
-    c.loop-validator.yielded c.in-Some.validator c.in-Some.totals c.loop-validator.invariant
-    c.in_ok-write_validator.ensures
 
 pub returns : goal.returns
 returns c =
-    let all : map deref_pair c.loop-validator.yielded ≡ c.args.validators.now.entries =
-    search (rules, iter_end) in
-    c.loop-validator.invariant ∙ ap (λ entries. string_bytes c.args.text.now ++ flat_map
-    validator_line (shown_sums sums_of entries)) all
+    let number : c.len.result ≡ length c.args.validators.now.entries = search rules in
+    rw (
+      c.in_ok-write_validator_lines.ensures,
+      c.in_ok-write_section_head.ensures,
+      length-map c.args.validators.now.entries _,
+      ← number,
+    )
+    (append_assoc (string_bytes c.args.text.now) (number_line (codes "validators ") c.len.result) _)

@@ -29,10 +29,10 @@ loop-position-preserved c =
     (record {
       leaves = leaves_kept readers tree (position - 1) anew.head (omega (arith, most, more))
           inv.leaves;
-      chosen = λ place some high low. chosen_set tree (position - 1) anew.head place
+      chosen = λ index some high low. chosen_set tree (position - 1) anew.head index
           (omega (arith, more)) (omega (arith, most, size, more)) anew.chosen
           (λ e. omega (arith, e, some, high))
-          (λ other. inv.chosen place some (omega (arith, other, high)) low);
+          (λ other. inv.chosen index some (omega (arith, other, high)) low);
       most = omega (arith, most);
     })
 
@@ -42,5 +42,5 @@ returns c =
     let least = c.loop-position-test.false in
     record {
       leaves = inv.leaves;
-      inner = λ place some low. inv.chosen place some (omega (arith, some, least)) low;
+      inner = λ index some low. inv.chosen index some (omega (arith, some, least)) low;
     }

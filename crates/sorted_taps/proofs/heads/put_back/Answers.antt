@@ -57,9 +57,9 @@ loop-position-preserved c =
     let room : at / 2 < length tree = omega (arith, within) in
     record {
       leaves = leaves_kept c.args.readers.now tree (at / 2) head inside inv.leaves;
-      chosen = λ place some low apart. chosen_set tree (at / 2) head place (omega (arith, more))
+      chosen = λ index some low apart. chosen_set tree (at / 2) head index (omega (arith, more))
           room (climbs n tree at head more inside inv.climbed
-          (c.is_before.ensures.yes c.if-is_before.true)) apart (inv.chosen place some low);
+          (c.is_before.ensures.yes c.if-is_before.true)) apart (inv.chosen index some low);
       climbed = climbed_at n tree (at / 2) head room
           (c.is_before.ensures.strictly c.if-is_before.true)
           (λ some low. inv.chosen (at / 2 / 2) some low (λ e. omega (arith, e, some)));

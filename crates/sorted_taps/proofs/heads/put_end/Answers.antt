@@ -62,9 +62,9 @@ loop-position-preserved c =
           let same = length-set readers at gone in
           leaves_kept (set readers at gone) tree (position / 2) anew.head
           (omega (arith, within, size, same)) (inv.leaves gone end);
-      chosen = λ place some low apart. chosen_set tree (position / 2) anew.head place
+      chosen = λ index some low apart. chosen_set tree (position / 2) anew.head index
           (omega (arith, more)) (omega (arith, within)) anew.chosen apart
-          (inv.chosen place some low);
+          (inv.chosen index some low);
       size = omega (arith, long, size);
       within = omega (arith, long, within);
     })
@@ -76,6 +76,6 @@ returns c = λ gone end.
     let least = c.loop-position-test.false in
     record {
       leaves = inv.leaves gone end;
-      inner = λ place some low. inv.chosen place some (omega (arith, low, same))
+      inner = λ index some low. inv.chosen index some (omega (arith, low, same))
           (λ e. omega (arith, e, some, least));
     }

@@ -13,10 +13,12 @@ returns-in-Err g c =
     let (calls, all, unopened) = c.in-Err.ensures.stopped in (
       calls ∷ [],
       all,
-      [],
-      inl refl,
-      unopened_leaves words (calls ∷ []) [] c.in-Err.halt.why _
-          (unopened_in words request.old calls c.in-Err.halt.why (0, omega arith, refl) unopened),
+      (
+        [],
+        inl refl,
+        unopened_leaves words (calls ∷ []) [] c.in-Err.halt.why _
+            (unopened_in words request.old calls c.in-Err.halt.why (0, omega arith, refl) unopened),
+      ),
     )
 
 pub returns-in-Err-open : goal.returns-in-Err-open
@@ -30,10 +32,13 @@ returns-in-Err-open g c =
       c.close.ensures ∙ ap (λ (l : List Calls). l ++ one ∷ []) (all
           ∙ ap (λ (l : List Calls). l ++ calls ∷ []) c.in-Ok.ensures.unchanged)
           ∙ append_assoc before (calls ∷ []) (one ∷ []),
-      [],
-      inl refl,
-      unopened_leaves words (calls ∷ []) (one ∷ []) c.in-Err-open.halt.why _
-          (unopened_in words request.new calls c.in-Err-open.halt.why (1, omega arith, refl) unopened),
+      (
+        [],
+        inl refl,
+        unopened_leaves words (calls ∷ []) (one ∷ []) c.in-Err-open.halt.why _
+            (unopened_in words request.new calls c.in-Err-open.halt.why (1, omega arith, refl)
+            unopened),
+      ),
     )
 
 pub returns : goal.returns

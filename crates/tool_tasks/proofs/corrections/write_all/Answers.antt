@@ -8,7 +8,7 @@ use Rattle.tool_tasks.proofs.Corrected.{after_started, started_part, given_head}
 use Rattle.tool_tasks.proofs.corrections.write_all.Goals as goal
 
 pub begin-requires : goal.begin-requires
-begin-requires g c = c.requires.unopened
+begin-requires g c = c.requires.unbegun
 
 pub returns-in-Err-clause-follow : goal.returns-in-Err-clause-follow
 returns-in-Err-clause-follow g c = c.begin.ensures.follow

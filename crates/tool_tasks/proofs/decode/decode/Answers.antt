@@ -1,8 +1,10 @@
-use Rattle.std.proofs.Common.{◌≡◌, ◌∙◌, ◌++◌, ◌∷◌, [], Bool, Bor, List, ap, append-nil, drop, if◌then◌else◌, map, refl, subst, sym, take_all, ℕ}
+use Rattle.std.proofs.Common.{◌≡◌, ◌∙◌, ◌++◌, ◌∷◌, [], Bool, Bor, List, ap, append-nil, if◌then◌else◌, map}
+use Rattle.std.proofs.Common.{refl, subst, sym, take_all, ℕ}
 use Rattle.std.specs.Prelude.{◌&&◌, is_none}
 use Rattle.frame.proofs.Giving.{gave_nothing}
 use Rattle.frame.specs.Given.{Given, IsPart, gave, nothing, with_text}
 use Rattle.frame.specs.Outsides.{IsStoppedIn}
+use Rattle.tap_rows.specs.TapTables.{head}
 use Rattle.tool_tasks.proofs.Decoding.{decoding_push, halted_at, halted_one, whole_push, words_push}
 use Rattle.tool_tasks.proofs.Loading.{word_contained}
 use Rattle.tool_tasks.specs.Decode.{Decoded, decoding_of, words_of}
@@ -33,9 +35,11 @@ pub returns-in-Err : goal.returns-in-Err
 returns-in-Err g c =
     let words = map (λ w. w.now) c.args.words.now in
     let old = g.W.Inputs.run c.args.world.now in
+    let piece = c.deref.ensures.value ∙ c.in-Ok.ensures
+    ∙ ap (λ (t : List ℕ). t ++ (head ++ 10 ∷ [])) c.new-head.ensures.items in
     let stopped = subst (λ (t : List ℕ). IsStoppedIn words old (g.W.Inputs.run c.write.new.world)
-    (with_text nothing t) c.in-Err.why)
-    (c.deref.ensures.value ∙ c.in-Ok.ensures) (c.in-Err.ensures.stopped words old nothing (gave_nothing old)) in
+    (with_text nothing t) c.in-Err.why) piece
+    (c.in-Err.ensures.stopped words old nothing (gave_nothing old)) in
     record {
       part = stopped.part;
       partial = record { decoded = []; rest = words; named = refl; is_part = stopped.is_part };
@@ -44,12 +48,14 @@ returns-in-Err g c =
 
 pub loop-number-init : goal.loop-number-init
 loop-number-init g c =
-    let old = g.W.Inputs.run c.args.world.now in (
+    let old = g.W.Inputs.run c.args.world.now in
+    let piece = c.deref.ensures.value ∙ c.in-Ok.ensures
+    ∙ ap (λ (t : List ℕ). t ++ (head ++ 10 ∷ [])) c.new-head.ensures.items in (
       [],
       refl,
       refl,
-      c.in_default-2.ensures.written old nothing (gave_nothing old)
-          ∙ ap (λ (t : List ℕ). gave old (with_text nothing t)) (c.deref.ensures.value ∙ c.in-Ok.ensures),
+      c.in_default-write.ensures.written old nothing (gave_nothing old)
+          ∙ ap (λ (t : List ℕ). gave old (with_text nothing t)) piece,
     )
 
 pub loop-number-preserved : goal.loop-number-preserved
@@ -61,7 +67,7 @@ loop-number-preserved g c =
       decoded ++ one ∷ [],
       words_push words number _ decoded one c.loop-number-test.true are word,
       whole_push decoded one ∙ ap (λ (b : Bool). b && is_none one.fault) whole
-          ∙ ap (λ (b : Bool). c.loop-number.succeeded && b) is_whole ∙ sym c.both.ensures,
+          ∙ ap (λ (b : Bool). c.loop-number.succeeded && b) is_whole ∙ sym c.both-succeeded.ensures,
       adds old (decoding_of decoded) (c.show_count.ensures ∙ is)
           ∙ ap (gave old) (decoding_push decoded one),
     )
@@ -93,16 +99,15 @@ returns-in-Ok-flush g c =
         is = refl;
         status_is = c.status_of.ensures ∙ ap (λ (b : Bool). if b then 0 else 1) (sym whole);
       };
-      all = c.in-Ok-flush.ensures.flushed ∙ ap with_flushed (c.end_count.ensures ∙ is);
+      all = c.in-Ok-flush.ensures.flushed ∙ ap with_flushed is;
     }
 
-pub returns-in-Err-flush : goal.returns-in-Err-flush
-returns-in-Err-flush g c =
+pub returns : goal.returns
+returns g c =
     let words = c.args.words.now in
     let old = g.W.Inputs.run c.args.world.now in
     let (decoded, are, whole, is) = c.loop-number.invariant in
     halted_at (map (λ w. w.now) words) old (gave old (decoding_of decoded)) _ decoded [] _
     (all_words words decoded _ are (take_all _ words c.loop-number-test.false)
     ∙ sym (append-nil (words_of decoded))) refl
-    (c.in-Err-flush.ensures.cut ∙ ap (λ (r : Run). with_cut r c.in-Err-flush.why)
-    (c.end_count.ensures ∙ is))
+    (c.in-Err-flush.ensures.cut ∙ ap (λ (r : Run). with_cut r c.in-Err-flush.why) is)

@@ -2,8 +2,7 @@ use Rattle.std.proofs.Common.{◌∷◌, [], List, arith, refl, subst, sym, ℕ}
 use Rattle.frame.proofs.Outcomes.{halted_loading}
 use Rattle.frame.specs.Given.{load_of}
 use Rattle.frame.specs.declared.outside.Outside.TheVariants.{NoMemory}
-use Rattle.world.proofs.Laws.{no_loads}
-use Rattle.tool_tasks.proofs.Preparing.{carried, no_files_named}
+use Rattle.tool_tasks.proofs.Preparing.{carried, halted_early, no_files_named}
 use Rattle.tool_tasks.specs.Encode.{EncodesTable, IsTableAnswer}
 use Rattle.tool_tasks.specs.inside.Prepared.{whole_of}
 use Rattle.tool_tasks.proofs.encode.encode.Goals as goal
@@ -11,8 +10,7 @@ use Rattle.tool_tasks.proofs.encode.encode.Goals as goal
 pub returns-in-Err : goal.returns-in-Err
 returns-in-Err g c =
     let old = g.W.Inputs.run c.args.world.now in let word = c.args.word.now in
-    halted_loading (EncodesTable word) (word ∷ []) old old _ [] c.in-Err.halt.why
-    (sym (no_loads old)) (c.in-Err.ensures.stopped (word ∷ []) (0, omega arith, refl))
+    halted_early (EncodesTable word) (word ∷ []) old _ c.in-Err.halt.why (c.in-Err.ensures.stopped (word ∷ []) (0, omega arith, refl))
 
 pub returns-in-Err-prepare : goal.returns-in-Err-prepare
 returns-in-Err-prepare g c =

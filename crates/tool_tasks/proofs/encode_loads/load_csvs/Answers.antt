@@ -1,4 +1,4 @@
-use Rattle.std.proofs.Common.{◌∙◌, ◌++◌, ◌∷◌, [], ap, map, subst}
+use Rattle.std.proofs.Common.{◌∙◌, ◌++◌, ◌∷◌, [], Bor, List, ap, get_or, map, subst, ℕ}
 use Rattle.frame.specs.Given.{load_of}
 use Rattle.frame.specs.Outsides.{Leaves}
 use Rattle.world.proofs.Laws.{more_loads}
@@ -19,11 +19,13 @@ returns-in-Err-clause-stopped g c = λ names all. (
 
 pub returns-in-Err-push-clause-stopped : goal.returns-in-Err-push-clause-stopped
 returns-in-Err-push-clause-stopped g c = λ names all.
-    let run = g.W.Inputs.run in
+    let no_word : Bor (List ℕ) = record { ref_ptr = (0, 0); now = [] } in
+    let word = (get_or c.args.words.now c.loop-number.number no_word).now in
+    let text = c.in-Ok.text.items in
     let before = map load_csv (map csv_of c.loop-number.csvs.items) in
-    let one = load_of _ c.in-Ok.text.items ∷ [] in (
+    let one = load_of word text ∷ [] in (
       before ++ one,
       c.in-Ok.ensures.loaded
-          ∙ ap (λ (r : Run). with_load r (file_named c.index-words-number.result.now) c.in-Ok.text.items) c.loop-number.invariant.1
-          ∙ more_loads (run c.args.world.now) before one,
+          ∙ ap (λ (r : Run). with_load r (file_named word) text) c.loop-number.invariant.1
+          ∙ more_loads (g.W.Inputs.run c.args.world.now) before one,
     )

@@ -1,8 +1,6 @@
 use Rattle.std.proofs.Common.{[], arith, inr, map, refl, sym, true}
-use Rattle.frame.proofs.Outcomes.{halted_loading}
-use Rattle.world.proofs.Laws.{no_loads}
 use Rattle.tool_tasks.proofs.EncodingRows.{is_in}
-use Rattle.tool_tasks.proofs.Preparing.{does_end}
+use Rattle.tool_tasks.proofs.Preparing.{does_end, halted_early}
 use Rattle.tool_tasks.specs.EncodeRows.{EncodesRows, names_of, rows_rule, word_in}
 use Rattle.tool_tasks.proofs.encode_rows.encode_rows_over.Goals as goal
 
@@ -18,8 +16,7 @@ returns-in-Err g c =
       ends = inr (record {
         why = c.in-Err.halt.why;
         before = _;
-        halted = halted_loading (EncodesRows words csvs true) names old old _ [] c.in-Err.halt.why
-            (sym (no_loads old)) (c.in-Err.ensures.stopped names
+        halted = halted_early (EncodesRows words csvs true) names old _ c.in-Err.halt.why (c.in-Err.ensures.stopped names
             (is_in names (word_in words.devices) (0, omega arith, refl)));
         reported = c.report.ensures;
         failed = refl;

@@ -17,8 +17,8 @@ returns-then-not-is_zone_name c =
     let outside = sym c.is_zone_name.ensures ∙ c.if-not-is_zone_name.true in
     IfOk-weaker c.refusal.result _ _ (λ prepared refused. refused_table c.args.words.now
     c.args.is_there (texts_in c.args.texts.now) (no_zone_line c.args.name.now) prepared
-    (inr (inr (c.args.name.now, c.requires.named, c.requires.no_rule, inl (outside, refl)))) refused)
-    c.refusal.ensures
+    (inr (inr (c.args.name.now, c.requires.named, (c.requires.no_rule, inl (outside, refl)))))
+    refused) c.refusal.ensures
 
 pub returns-in-Ok : goal.returns-in-Ok
 returns-in-Ok c =
@@ -49,6 +49,5 @@ returns-in-Err-Tzif c =
     (inr (inr (
       c.args.name.now,
       c.requires.named,
-      c.requires.no_rule,
-      inr (inside, (fault, failure), refl),
+      (c.requires.no_rule, inr (inside, (fault, failure), refl)),
     ))) refused) c.refusal-in-Err-Tzif.ensures

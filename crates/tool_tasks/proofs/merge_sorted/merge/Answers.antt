@@ -1,5 +1,4 @@
 use Rattle.std.proofs.Common.{◌≡◌, ◌∙◌, [], Bor, IfSome, List, Option, Some, ap, arith, inl, map, refl, string_bytes, subst, sym, ℕ}
-use Rattle.frame.proofs.Outcomes.{halted_loading}
 use Rattle.frame.specs.Given.{Given}
 use Rattle.frame.specs.Outsides.{Leaves}
 use Rattle.frame.specs.declared.outside.Outside.TheVariants.{NoMemory}
@@ -7,7 +6,7 @@ use Rattle.tap_views.specs.declared.upload_end.UploadEnd.{UploadEnd}
 use Rattle.tool_tasks.proofs.KnownBytes.{some_known}
 use Rattle.tool_tasks.proofs.Making.{ends_given, ends_named}
 use Rattle.tool_tasks.proofs.MergedUploads.{whole_file}
-use Rattle.tool_tasks.proofs.Preparing.{carried}
+use Rattle.tool_tasks.proofs.Preparing.{carried, halted_early}
 use Rattle.tool_tasks.specs.MergeSorted.{IsMergeOf, IsRightFileFault, MergesOrRefuses, merge_sorted_rule}
 use Rattle.tool_tasks.specs.Sort.{names_of}
 use Rattle.tool_tasks.specs.inside.Does.{Does}
@@ -21,7 +20,7 @@ use Rattle.tool_tasks.proofs.merge_sorted.merge.Goals as goal
 pub returns-in-Err : goal.returns-in-Err
 returns-in-Err g c =
     let request = sorting_of c.args.words.now in let old = g.W.Inputs.run c.args.world.now in
-    halted_loading (MergesOrRefuses request _) (names_of request) old old _ [] _ (sym (no_loads old))
+    halted_early (MergesOrRefuses request _) (names_of request) old _ _
     (request.out, (0, omega arith, refl), c.in-Err.ensures.unmade)
 
 pub carry-requires : goal.carry-requires
@@ -68,25 +67,22 @@ returns-in-Ok-prepare g c =
     (c.carry.ensures (names_of request) old [] (c.in-Ok.ensures.unchanged ∙ sym (no_loads old))
     (ends_named request ends [] 0 prepared of) (0, omega arith, refl))
 
-pub returns-in-Err-prepare : goal.returns-in-Err-prepare
-returns-in-Err-prepare g c =
+pub returns-in-Ok-merged : goal.returns-in-Ok-merged
+returns-in-Ok-merged g c =
     let request = sorting_of c.args.words.now in let old = g.W.Inputs.run c.args.world.now in
-    halted_loading (MergesOrRefuses request _) (names_of request) old old _ [] NoMemory
-    (sym (no_loads old)) (c.discard.ensures ∙ c.in-Ok.ensures.unchanged)
+    halted_early (MergesOrRefuses request _) (names_of request) old _ NoMemory (c.discard.ensures ∙ c.in-Ok.ensures.unchanged)
 
 pub returns-in-None : goal.returns-in-None
 returns-in-None g c =
     let request = sorting_of c.args.words.now in let old = g.W.Inputs.run c.args.world.now in
-    halted_loading (MergesOrRefuses request _) (names_of request) old old _ [] c.failed.result.why
-    (sym (no_loads old)) (subst (λ (r : Run). Leaves (names_of request) c.failed.result.why r
+    halted_early (MergesOrRefuses request _) (names_of request) old _ c.failed.result.why (subst (λ (r : Run). Leaves (names_of request) c.failed.result.why r
     (g.W.Inputs.run c.failed.new.world))
     c.in-Ok.ensures.unchanged (c.failed.ensures (names_of request) (0, omega arith, refl)))
 
 pub returns-in-Some-NoMemory : goal.returns-in-Some-NoMemory
 returns-in-Some-NoMemory g c =
     let request = sorting_of c.args.words.now in let old = g.W.Inputs.run c.args.world.now in
-    halted_loading (MergesOrRefuses request _) (names_of request) old old _ [] NoMemory
-    (sym (no_loads old)) (c.discard-in-Some-NoMemory.ensures ∙ c.in-Ok.ensures.unchanged)
+    halted_early (MergesOrRefuses request _) (names_of request) old _ NoMemory (c.discard-in-Some-NoMemory.ensures ∙ c.in-Ok.ensures.unchanged)
 
 pub returns : goal.returns
 returns g c =

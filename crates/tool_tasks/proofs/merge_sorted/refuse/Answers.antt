@@ -1,8 +1,7 @@
 use Rattle.std.proofs.Common.{[], inr, refl, sym}
-use Rattle.frame.proofs.Outcomes.{halted_loading}
 use Rattle.frame.specs.declared.outside.Outside.TheVariants.{NoMemory}
 use Rattle.world.proofs.Laws.{no_loads}
-use Rattle.tool_tasks.proofs.Preparing.{carried_none, no_files_named}
+use Rattle.tool_tasks.proofs.Preparing.{carried_none, halted_early, no_files_named}
 use Rattle.tool_tasks.specs.MergeSorted.{MergesOrRefuses}
 use Rattle.tool_tasks.specs.Sort.{names_of}
 use Rattle.tool_tasks.proofs.merge_sorted.refuse.Goals as goal
@@ -19,5 +18,4 @@ returns-in-Ok g c = λ request known right.
 pub returns-in-Err : goal.returns-in-Err
 returns-in-Err g c = λ request known right.
     let old = g.W.Inputs.run c.args.world.now in
-    halted_loading (MergesOrRefuses request known) (names_of request) old old old [] NoMemory
-    (sym (no_loads old)) refl
+    halted_early (MergesOrRefuses request known) (names_of request) old old NoMemory refl

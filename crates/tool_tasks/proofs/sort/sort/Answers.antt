@@ -2,7 +2,7 @@ use Rattle.std.proofs.Common.{◌∙◌, [], ap, arith, map, refl, subst, sym}
 use Rattle.frame.proofs.Outcomes.{halted_loading}
 use Rattle.frame.specs.Outsides.{Leaves}
 use Rattle.frame.specs.declared.outside.Outside.TheVariants.{Unmade}
-use Rattle.world.proofs.Laws.{no_loads}
+use Rattle.tool_tasks.proofs.Preparing.{halted_early}
 use Rattle.tool_tasks.specs.Sort.{Sorts, names_of}
 use Rattle.tool_tasks.specs.inside.Sort.{LoadsAll}
 use Rattle.tool_words.specs.Tasks.{sorting_of}
@@ -13,7 +13,7 @@ use Rattle.tool_tasks.proofs.sort.sort.Goals as goal
 pub returns-in-Err : goal.returns-in-Err
 returns-in-Err g c =
     let request = sorting_of c.args.words.now in let old = g.W.Inputs.run c.args.world.now in
-    halted_loading (Sorts request) (names_of request) old old _ [] _ (sym (no_loads old))
+    halted_early (Sorts request) (names_of request) old _ _
     (request.out, (0, omega arith, refl), c.in-Err.ensures.unmade)
 
 pub returns-in-Ok-loaded : goal.returns-in-Ok-loaded

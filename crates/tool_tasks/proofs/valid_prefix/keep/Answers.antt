@@ -2,9 +2,8 @@ use Rattle.std.proofs.Common.{◌∷◌, [], List, arith, refl, subst, sym, ℕ}
 use Rattle.frame.proofs.Outcomes.{halted_loading}
 use Rattle.frame.specs.Given.{load_of}
 use Rattle.frame.specs.declared.outside.Outside.TheVariants.{NoMemory}
-use Rattle.world.proofs.Laws.{no_loads}
 use Rattle.tool_words.specs.Tasks.{valid_prefix_of}
-use Rattle.tool_tasks.proofs.Preparing.{alone_named, carried}
+use Rattle.tool_tasks.proofs.Preparing.{alone_named, carried, halted_early}
 use Rattle.tool_tasks.specs.ValidPrefix.{HasValidPrefix}
 use Rattle.tool_tasks.specs.inside.Prepared.{whole_of}
 use Rattle.tool_tasks.proofs.valid_prefix.keep.Goals as goal
@@ -14,8 +13,7 @@ returns-in-Err g c =
     let old = g.W.Inputs.run c.args.world.now in
     let request = valid_prefix_of c.args.words.now in
     let words = request.upload ∷ request.out ∷ [] in
-    halted_loading (HasValidPrefix request) words old old _ [] c.in-Err.halt.why
-    (sym (no_loads old)) (c.in-Err.ensures.stopped words (0, omega arith, refl))
+    halted_early (HasValidPrefix request) words old _ c.in-Err.halt.why (c.in-Err.ensures.stopped words (0, omega arith, refl))
 
 pub returns-in-Err-prepare : goal.returns-in-Err-prepare
 returns-in-Err-prepare g c =

@@ -1,4 +1,4 @@
-use Rattle.std.proofs.Common.{List, refl, subst, sym, ℕ}
+use Rattle.std.proofs.Common.{refl, subst, sym}
 use Rattle.tap_views.specs.Facts.{IsValidPrefix}
 use Rattle.tool_tasks.proofs.valid_prefix.prepare.Goals as goal
 
@@ -13,5 +13,5 @@ returns-clause-right c = record {
   facts = c.facts_of-facts.result;
   are_facts = c.facts_of-facts.ensures;
   status_is = c.status_of.ensures;
-  note = refl;
+  note = c.new.ensures.bytes;
 }

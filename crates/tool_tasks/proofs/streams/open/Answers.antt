@@ -1,0 +1,30 @@
+use Rattle.std.proofs.Common.{◌∙◌, ◌∷◌, [], List, Option, ap, option_map, subst, ℕ}
+use Rattle.world.specs.Loads.{IsRefused}
+use Rattle.world.specs.Run.{Run, nothing_yet}
+use Rattle.world.specs.declared.faults.LoadFault.{LoadFault}
+use Rattle.tool_tasks.proofs.streams.open.Goals as goal
+
+pub returns-in-Ok-clause-fresh : goal.returns-in-Ok-clause-fresh
+returns-in-Ok-clause-fresh g c = c.in-Ok.ensures.fresh
+
+pub returns-in-Ok-clause-named : goal.returns-in-Ok-clause-named
+returns-in-Ok-clause-named g c = c.in-Ok.ensures.named ∙ c.file_of.ensures
+
+pub returns-in-Ok-clause-unchanged : goal.returns-in-Ok-clause-unchanged
+returns-in-Ok-clause-unchanged g c = c.in-Ok.ensures.unchanged
+
+pub returns-in-Err-Unread-clause-stopped : goal.returns-in-Err-Unread-clause-stopped
+returns-in-Err-Unread-clause-stopped g c =
+    let (calls, all, refused) = c.in-Err-Unread.ensures.refused in (
+      calls,
+      all,
+      ap (λ (r : Run). r.unread) (subst (λ (w : LoadFault).
+          IsRefused nothing_yet calls.run (option_map (λ n. n.now) c.file_of.result) w)
+          c.in-Err-Unread.field-0-is refused)
+          ∙ ap (λ (name : Option (List ℕ)). name ∷ []) c.file_of.ensures,
+    )
+
+pub returns-in-Err : goal.returns-in-Err
+returns-in-Err g c =
+    let (calls, all, refused) = c.in-Err.ensures.refused in
+    record { fresh = tt; named = tt; unchanged = tt; stopped = (calls, all, tt) }
