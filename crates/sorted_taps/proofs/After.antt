@@ -1,6 +1,6 @@
 -- Batches are read in one way: what is left of a file after some that were read.
-use Rattle.std.proofs.Common.{◌≡◌, ◌∙◌, ℕ, List, [], ◌∷◌, ◌++◌, arith, ap, drop}
-use Rattle.std.proofs.Common.{length, map, refl, subst, sym, length-append}
+use Rattle.std.proofs.Common.{◌≡◌, ◌∙◌, ℕ, List, [], ◌∷◌, ◌++◌, arith, ap, drop, length, map, refl}
+use Rattle.std.proofs.Common.{subst, sym, length-append}
 use Rattle.tap_views.specs.Encoding.{fields_of}
 use Rattle.tap_views.specs.Files.{IsFile, taps_of_batches}
 use Rattle.tap_views.specs.Layout.{Tap}

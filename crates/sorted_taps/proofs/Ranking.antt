@@ -11,7 +11,7 @@ use Rattle.tap_views.proofs.TapOrders.{tap_cmp_total}
 use Rattle.tap_views.specs.declared.encoder.TapFields.{TapFields}
 use Rattle.sorted_taps.specs.Heads.{HasLeaves, IsChosenAt, IsChosenOf, IsNotAfter, IsRanked}
 use Rattle.sorted_taps.specs.Heads.{no_head, tap_of}
-use Rattle.sorted_taps.specs.inside.Choosing.{IsChosen}
+use Rattle.sorted_taps.specs.inside.Steps.{IsChosen}
 use Rattle.sorted_taps.specs.Merged.{BeginsNotBefore}
 use Rattle.sorted_taps.specs.Merges.{AreAtEnd, IsLeastHead}
 use Rattle.sorted_taps.specs.Readers.{ahead, first_of, head_of}

@@ -12,7 +12,7 @@ use Rattle.sorted_taps.specs.Heads.{IsNotAfter}
 use Rattle.sorted_taps.specs.Merged.{BeginsNotBefore, IsNotBefore}
 use Rattle.sorted_taps.specs.Merges.{AreTaken}
 use Rattle.sorted_taps.specs.Readers.{IsAdvanced, ahead, head_of}
-use Rattle.sorted_taps.specs.inside.Runs.{IsAmong, IsRunIn, TakesRun, no_tap}
+use Rattle.sorted_taps.specs.inside.Steps.{IsAmong, IsRunIn, TakesRun, no_tap}
 use Rattle.sorted_taps.specs.declared.reader.TapReader.{TapReader}
 use Rattle.sorted_taps.proofs.Batches.{front_none}
 use Rattle.sorted_taps.proofs.Files.{if_known}

@@ -6,9 +6,8 @@ use Rattle.tap_views.specs.Encoding.{fields_of}
 use Rattle.tap_views.specs.Layout.{Tap}
 use Rattle.tap_views.specs.declared.encoder.TapFields.{TapFields}
 use Rattle.tap_views.specs.declared.fault.LayoutFault.{LayoutFault}
-use Rattle.tap_views.specs.Files.{IsReadAs, taps_of_batches}
+use Rattle.tap_views.specs.Files.{IsReadAs, taps_of_batches, IsFileOf}
 use Rattle.tap_parts.specs.Canonical.{tap_cmp}
-use Rattle.tap_views.specs.Files.{IsFileOf}
 use Rattle.sorted_taps.specs.Reading.{AreTapsBetween}
 use Rattle.sorted_taps.specs.declared.fault.SortedFault.{SortedFault}
 use Rattle.sorted_taps.specs.declared.fault.SortedFault.TheVariants.{Layout, OutOfOrder}

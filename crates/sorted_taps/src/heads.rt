@@ -1,14 +1,14 @@
 //! The heads of readers, as a tree whose root is a least one.
 
-ghost use Rattle.std.specs.Prelude.{◌≡◌, ◌+◌, ◌*◌, ◌<◌, ℕ, List, get_or, length, set, IfOk};
-ghost use Rattle.std.specs.Prelude.{[], MatchOption, Some, option_map, true, false};
+ghost use Rattle.std.specs.Prelude.{◌≡◌, ◌+◌, ◌*◌, ◌<◌, ℕ, List, get_or, length, set, IfOk, []};
+ghost use Rattle.std.specs.Prelude.{MatchOption, Some, option_map, true, false};
 ghost use Rattle.tap_parts.specs.Keys.{tap_of_key};
 ghost use Rattle.sorted_taps.specs.Heads.{HasLeaves, IsNotAfter, IsRanked, no_head, tap_of};
 ghost use Rattle.sorted_taps.specs.Merges.{AreAtEnd, IsLeastHead};
 ghost use Rattle.sorted_taps.specs.Readers.{ahead, head_of};
 ghost use Rattle.sorted_taps.specs.declared.heads.Head.{Head};
 ghost use Rattle.sorted_taps.specs.declared.reader.TapReader.{TapReader};
-ghost use Rattle.sorted_taps.specs.inside.Choosing.{IsChosen, IsChosenAnew};
+ghost use Rattle.sorted_taps.specs.inside.Steps.{IsChosen, IsChosenAnew};
 
 use crate::reader::TapReader;
 use std::alloc::{AllocError, Global};

@@ -1,10 +1,8 @@
 //! The taps of several files, merged.
 
-ghost use Rattle.std.specs.Prelude.{◌≡◌, ◌<◌, ◌≤◌, ℕ, List, length, map, IfOk};
-ghost use Rattle.std.specs.Prelude.{None, Some, OnOk};
+ghost use Rattle.std.specs.Prelude.{◌≡◌, ◌<◌, ◌≤◌, ℕ, List, length, map, IfOk, None, Some, OnOk};
 ghost use Rattle.sorted_taps.specs.Heads.{IsRanked};
-ghost use Rattle.sorted_taps.specs.Merges.{AreAtEnd, AreStarted};
-ghost use Rattle.sorted_taps.specs.Merges.{TakesTaps};
+ghost use Rattle.sorted_taps.specs.Merges.{AreAtEnd, AreStarted, TakesTaps};
 ghost use Rattle.sorted_taps.specs.Reading.{window_bytes};
 
 use crate::fault::SortedFault;

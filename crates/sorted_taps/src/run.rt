@@ -1,10 +1,9 @@
 //! Taps of one reader, taken one after another.
 
-ghost use Rattle.std.specs.Prelude.{◌≡◌, ◌<◌, ◌≤◌, ℕ, List, None, OnOk, Option};
-ghost use Rattle.std.specs.Prelude.{length, option_map, true};
+ghost use Rattle.std.specs.Prelude.{◌≡◌, ◌<◌, ◌≤◌, ℕ, None, OnOk, Option, length, option_map, true};
 ghost use Rattle.tap_parts.specs.Keys.{tap_of_key};
 ghost use Rattle.sorted_taps.specs.Reading.{window_bytes};
-ghost use Rattle.sorted_taps.specs.inside.Runs.{IsRunIn, TakesRun};
+ghost use Rattle.sorted_taps.specs.inside.Steps.{IsRunIn, TakesRun};
 
 use crate::fault::SortedFault;
 use crate::heads::is_after;

@@ -1,8 +1,7 @@
 //! Taps that were taken between two positions of merged files.
 
 ghost use Rattle.std.specs.Prelude.{◌≡◌, ◌<◌, ◌≤◌, ◌++◌, ℕ, List, length, map, IfOk, IfSome};
-ghost use Rattle.std.specs.Prelude.{IsTrue};
-ghost use Rattle.std.specs.Prelude.{Some};
+ghost use Rattle.std.specs.Prelude.{IsTrue, Some};
 ghost use Rattle.tap_views.specs.declared.encoder.TapFields.{TapFields};
 ghost use Rattle.sorted_taps.specs.Merges.{AreAtEnd, AreStarted};
 ghost use Rattle.sorted_taps.specs.Reading.{window_bytes};

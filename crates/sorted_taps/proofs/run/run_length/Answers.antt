@@ -1,5 +1,4 @@
-use Rattle.std.proofs.Common.{◌∙◌, arith}
-use Rattle.std.proofs.Common.{sym}
+use Rattle.std.proofs.Common.{◌∙◌, arith, sym}
 use Rattle.std.specs.Prelude.{option_map}
 use Rattle.tap_parts.specs.Keys.{tap_of_key}
 use Rattle.sorted_taps.proofs.Running.{run_longer}

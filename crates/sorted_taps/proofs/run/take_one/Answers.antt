@@ -2,7 +2,7 @@ use Rattle.std.specs.Prelude.{option_map}
 use Rattle.std.proofs.Common.{List, subst, sym}
 use Rattle.tap_parts.specs.Keys.{tap_of_key}
 use Rattle.tap_views.specs.declared.encoder.TapFields.{TapFields}
-use Rattle.sorted_taps.specs.inside.Runs.{TakesRun}
+use Rattle.sorted_taps.specs.inside.Steps.{TakesRun}
 use Rattle.sorted_taps.proofs.Running.{takes_one}
 use Rattle.sorted_taps.proofs.run.take_one.Goals as goal
 

@@ -2,7 +2,7 @@ use Rattle.std.proofs.Common.{◌≤◌, length}
 use Rattle.std.specs.Prelude.{option_map}
 use Rattle.tap_parts.specs.Keys.{tap_of_key}
 use Rattle.sorted_taps.specs.Reading.{window_bytes}
-use Rattle.sorted_taps.specs.inside.Runs.{TakesRun}
+use Rattle.sorted_taps.specs.inside.Steps.{TakesRun}
 use Rattle.sorted_taps.proofs.run.take_run.Given as goal
 
 abbrev pub invariant-loop-round : goal.invariant-loop-round

@@ -4,9 +4,9 @@ use Rattle.std.proofs.lemmas.Bool.Decides.{nat_tests}
 use Rattle.tap_views.specs.declared.encoder.TapFields.{TapFields}
 use Rattle.sorted_taps.specs.inside.Waiting.{HasPut, IsBatchWritten}
 use Rattle.sorted_taps.proofs.Putting.{put_batch, put_same, put_tap}
-use Rattle.sorted_taps.proofs.writer.put.Goals as goal
 use Rattle.sorted_taps.proofs.writer.put.Goals.{then-len-eq-BATCH_TAPS+in_ok-write_batch}
 use Rattle.sorted_taps.proofs.writer.put.Goals.{else-len-eq-BATCH_TAPS}
+use Rattle.sorted_taps.proofs.writer.put.Goals as goal
 
 pub returns-clause-put : goal.returns-clause-put
 returns-clause-put g c =

@@ -3,8 +3,7 @@ use Rattle.std.proofs.lemmas.Result.{err_from_is_err_and}
 use Rattle.tap_views.specs.Encoding.{AreEarly}
 use Rattle.tap_views.specs.declared.encoder.TapFields.{TapFields}
 use Rattle.sorted_taps.specs.inside.Waiting.{HasPut}
-use Rattle.sorted_taps.proofs.Putting.{early_at, if_any, list_more, may_wait_none}
-use Rattle.sorted_taps.proofs.Putting.{put_none}
+use Rattle.sorted_taps.proofs.Putting.{early_at, if_any, list_more, may_wait_none, put_none}
 use Rattle.sorted_taps.proofs.writer.write_taps.Goals as goal
 
 pub returns-in_err-waiting-clause-started : goal.returns-in_err-waiting-clause-started

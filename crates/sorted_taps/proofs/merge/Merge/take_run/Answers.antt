@@ -1,7 +1,7 @@
-use Rattle.std.proofs.Common.{◌≡◌, ◌∙◌, ℕ, [], ap, length, get_or, set, arith, sym, subst, drop}
+use Rattle.std.proofs.Common.{◌≡◌, ◌∙◌, ℕ, [], ap, length, set, arith, sym, subst, drop}
 use Rattle.std.proofs.Math.Seq.{drop-length}
-use Rattle.std.proofs.lemmas.List.{get_or_default, get_or-set_other, length-set, set-get_or, set-set}
-use Rattle.std.proofs.lemmas.List.{take_at}
+use Rattle.std.proofs.lemmas.List.{get_or_default, get_or-set_other, length-set, set-get_or}
+use Rattle.std.proofs.lemmas.List.{set-set, take_at}
 use Rattle.std.proofs.lemmas.Option.{MatchOption-at_some}
 use Rattle.std.specs.Prelude.{option_map}
 use Rattle.tap_parts.specs.Keys.{tap_of_key}
