@@ -1,6 +1,6 @@
 -- The fault that is reported is the right one, and what it left.
-use Rattle.std.proofs.Common.{◌≡◌, ◌∷◌, ℕ, List, [], true, Bor, arith, Bool, Option, Some}
-use Rattle.std.proofs.Common.{nat_eq, inl, inr, length, map, refl, sym, subst}
+use Rattle.std.proofs.Common.{◌≡◌, ◌∷◌, ℕ, List, [], true, Bor, arith, Option, Some}
+use Rattle.std.proofs.Common.{nat_eq, length, map, refl}
 use Rattle.std.specs.Prelude.{◌<◌}
 use Rattle.std.proofs.lemmas.Bool.Decides.{nat_tests}
 use Rattle.std.proofs.lemmas.List.{length-map}

@@ -1,27 +1,27 @@
 -- The last known moments stand for the taps so far, and for one more.
-use Rattle.std.proofs.Common.{◌≡◌, ◌+◌, ◌∙◌, ◌&&◌, ℕ, Bool, true, false, cond, if◌then◌else◌, List}
-use Rattle.std.proofs.Common.{[], ◌∷◌, ◌++◌, length, filter, add-zero, zero-add, append-nil, Option}
-use Rattle.std.proofs.Common.{None, Some, nat_lt, refl, sym, ap, ap₂, arith, append_assoc}
+use Rattle.std.proofs.Common.{◌≡◌, ◌∙◌, ◌&&◌, ℕ, Bool, true, false, cond, if◌then◌else◌, List}
+use Rattle.std.proofs.Common.{[], ◌∷◌, ◌++◌, filter, append-nil, Option, None, Some, nat_lt, refl}
+use Rattle.std.proofs.Common.{sym, ap, ap₂, arith, append_assoc}
+use Rattle.std.specs.Prelude.{fold}
 use Rattle.std.specs.Str.{bytes_eq}
 use Rattle.std.specs.Map.{lookup}
 use Rattle.std.specs.Ordering.{is_eq, nat_cmp}
 use Rattle.std.specs.Cmp.Lexicographic.{slice_cmp}
 use Rattle.std.proofs.lemmas.Bool.Decides.{nat_tests}
-use Rattle.std.proofs.lemmas.List.{length-append}
 use Rattle.std.proofs.lemmas.List.Elements.{filter-append}
 use Rattle.std.proofs.lemmas.List.Folds.{list_all-append}
-use Rattle.std.proofs.lemmas.List.Sums.{sum_by-append}
+use Rattle.std.proofs.lemmas.List.Sums.{fold-append}
 use Rattle.std.proofs.lemmas.Slice.Eq.{bytes_eq-Decides}
 use Rattle.std.proofs.lemmas.Map.Text.{is_eq-slice_cmp}
 use Rattle.std.proofs.Math.Bool.{and-true}
 use Rattle.tap_views.specs.Layout.{Tap, num}
 use Rattle.fare_program.specs.declared.listing.Word.{Word}
-use Rattle.fare_program.specs.declared.listing.Word.TheVariants.{Live, Stale, Unknown}
+use Rattle.fare_program.specs.declared.listing.Word.TheVariants.{Live, Stale}
 use Rattle.fare_program.specs.declared.listing.ListCounts.{ListCounts}
-use Rattle.fare_program.specs.Listing.{Listed, are_before, count_of, counts_of, is_same_liveness}
-use Rattle.fare_program.specs.Listing.{known_of, listed_moment, liveness_of, livenesses_after}
-use Rattle.fare_program.specs.Listing.{RepresentsListing, is_after_last, last_of}
-use Rattle.fare_program.specs.inside.Listing.{liveness_counted, last_after, liveness_by}
+use Rattle.fare_program.specs.Listing.{Listed, RepresentsListing, are_before, counted, is_after_last}
+use Rattle.fare_program.specs.Listing.{known_of, last_of, listed_moment, liveness_of}
+use Rattle.fare_program.specs.Listing.{livenesses_after, no_counts}
+use Rattle.fare_program.specs.inside.Listing.{last_after, liveness_by}
 
 -- the map's own look-up
 pub last_of-get : (last : List (List ℕ × ℕ)) (token : List ℕ)
@@ -95,55 +95,17 @@ last-push last tap other moment all true true e is eq =
 
     own_token : (live : Bool) → is_after_last (last_of last tap.token) (num tap.moment) ≡ live
         → is_after_last
-        (if is_same_liveness Live (if live then Live else Stale) && true then Some
-        (num tap.moment) else last_of last other) moment
+        (last_after (if live then Live else Stale) tap.token (num tap.moment) last other) moment
         ≡ (all && (nat_lt (num tap.moment) moment && true))
-    own_token true so = rw so at step
+    own_token true so = rw is (rw so at step)
     own_token false so = rw (← here) (rw so at step)
-
--- the counts of one more tap
-count-push : (liveness : Word) (taps : List Listed) (tap : Listed)
-    → count_of liveness (taps ++ tap ∷ [])
-    ≡ count_of liveness taps + (if is_same_liveness liveness (liveness_of taps tap) then 1 else 0)
-count-push liveness taps tap =
-    rw (livenesses-push [] taps tap)
-    (sum_by-append (λ x. cond (is_same_liveness liveness x) 1 0) (livenesses_after [] taps)
-    (liveness_of taps tap ∷ []) ∙ rw zero-add refl)
-
-counts-push : (taps : List Listed) (tap : Listed) (liveness : Word)
-    → liveness ≡ liveness_of taps tap
-    → liveness_counted liveness (counts_of taps) ≡ counts_of (taps ++ tap ∷ [])
-counts-push taps tap liveness is = go liveness is
-  where
-    len : length (taps ++ tap ∷ []) ≡ length taps + 1
-    len = length-append taps (tap ∷ [])
-
-    counts_are : (n a b c : ℕ) → length (taps ++ tap ∷ []) ≡ n
-        → count_of Live (taps ++ tap ∷ []) ≡ a
-        → count_of Stale (taps ++ tap ∷ []) ≡ b → count_of Unknown (taps ++ tap ∷ []) ≡ c
-        → record { taps = n; live = a; stale = b; unknown = c } ≡ counts_of (taps ++ tap ∷ [])
-    counts_are n a b c en ea eb ec = rw (en, ea, eb, ec) refl
-
-    one : (w : Word) (liveness : Word) → liveness ≡ liveness_of taps tap
-        → count_of w (taps ++ tap ∷ [])
-        ≡ count_of w taps + (if is_same_liveness w liveness then 1 else 0)
-    one w liveness is = rw is (count-push w taps tap)
-
-    go : (liveness : Word) → liveness ≡ liveness_of taps tap
-        → liveness_counted liveness (counts_of taps) ≡ counts_of (taps ++ tap ∷ [])
-    go Live is = counts_are _ _ _ _ len (one Live Live is) (one Stale Live is ∙ add-zero _)
-        (one Unknown Live is ∙ add-zero _)
-    go Stale is = counts_are _ _ _ _ len (one Live Stale is ∙ add-zero _) (one Stale Stale is)
-        (one Unknown Stale is ∙ add-zero _)
-    go Unknown is = counts_are _ _ _ _ len (one Live Unknown is ∙ add-zero _)
-        (one Stale Unknown is ∙ add-zero _) (one Unknown Unknown is)
 
 pub holds-push : (last last' : List (List ℕ × ℕ)) (counts counts' : ListCounts)
     (taps : List Listed) (tap : Listed) (liveness : Word)
     → liveness ≡ liveness_by last tap
     → ((other : List ℕ) → last_of last' other
     ≡ last_after liveness tap.tap.token (listed_moment tap) last other)
-    → counts' ≡ liveness_counted liveness counts
+    → counts' ≡ counted counts liveness
     → RepresentsListing (record { last = last; counts = counts }) taps
     → RepresentsListing (record { last = last'; counts = counts' }) (taps ++ tap ∷ [])
 holds-push last last' counts counts' taps tap liveness is after counted_is holds = record {
@@ -153,8 +115,9 @@ holds-push last last' counts counts' taps tap liveness is after counted_is holds
       (holds.last other moment) refl (bytes_eq-Decides tap.tap.token other).0
       ∙ sym (list_all-append (λ t. nat_lt (listed_moment t) moment) (known_of other taps) _)
       ∙ ap (are_before moment) (sym (filter-append (is_known_of other) taps (tap ∷ []))));
-  counts = counted_is ∙ ap (liveness_counted liveness) holds.counts
-      ∙ counts-push taps tap liveness (is ∙ by_list);
+  counts = counted_is ∙ ap₂ counted holds.counts (is ∙ by_list)
+      ∙ sym (ap (fold counted no_counts) (livenesses-push [] taps tap)
+      ∙ fold-append counted no_counts (livenesses_after [] taps) (liveness_of taps tap ∷ []));
 }
   where
     by_list : liveness_by last tap ≡ liveness_of taps tap

@@ -1,5 +1,5 @@
 -- One more file that was loaded.
-use Rattle.std.proofs.Common.{◌≡◌, ◌∙◌, ◌<◌, ℕ, List, [], ◌∷◌, ◌++◌, length, map, refl, ap, arith}
+use Rattle.std.proofs.Common.{◌≡◌, ◌<◌, ℕ, List, [], ◌∷◌, ◌++◌, length, map, refl, ap, arith}
 use Rattle.std.proofs.Common.{Option, Some, Bor, length-append}
 use Rattle.fare_program.specs.FilesLoaded.{LoadsFiles, loads_under, names_to_load}
 use Rattle.program_manners.specs.Loads.{Loaded, LoadsOne}

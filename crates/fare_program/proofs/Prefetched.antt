@@ -1,7 +1,7 @@
 -- Files that were read ahead, and what a source that takes them over has loaded.
 use Rattle.std.proofs.Common.{◌≡◌, ◌∙◌, ◌+◌, ◌<◌, ◌++◌, ◌∷◌, [], ℕ, zero, suc, List, Bool, Bor}
 use Rattle.std.proofs.Common.{Option, None, Some, All, length, map, flat_map, arith, ap, ap₂, get_or}
-use Rattle.std.proofs.Common.{false, inl, inr, refl, subst, sym}
+use Rattle.std.proofs.Common.{inl, inr, refl, subst, sym}
 use Rattle.std.proofs.lemmas.List.{length-map}
 use Rattle.std.proofs.lemmas.List.Elements.{All-head, All-tail}
 use Rattle.std.specs.Prelude.{option_map}

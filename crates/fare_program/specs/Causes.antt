@@ -1,5 +1,5 @@
 -- Why the program gives up is the case.
-use Rattle.std.specs.Prelude.{◌≡◌, ◌≢◌, ◌<◌, ℕ, List, [], ◌∷◌, Option, None, Some, true}
+use Rattle.std.specs.Prelude.{◌≡◌, ◌≢◌, ◌<◌, ℕ, List, [], ◌∷◌, Option, Some, true}
 use Rattle.std.specs.Prelude.{MatchOption, codes, length, map, slice_get}
 use Rattle.tariffs.specs.Fares.{Fares}
 use Rattle.fare_service.specs.Faults.{IsForMemory}

@@ -13,6 +13,8 @@ use Rattle.fare_program.specs.declared.fault.Fault.{Fault}
 use Rattle.fare_program.specs.declared.fault.Fault.TheVariants.{Late, NoMemory, Write}
 use Rattle.program_manners.specs.LineWritten.{LineWritten}
 use Rattle.program_manners.specs.Loads.{Loaded}
+use Rattle.program_manners.specs.declared.complaints.Complaints.{Complaints}
+use Rattle.program_manners.specs.declared.output.Output.{Output}
 use Rattle.program_manners.specs.declared.output.WriteEnd.{WriteEnd}
 use Rattle.sorted_bills.specs.Ledgers.{KnownAreBytes}
 use Rattle.world.specs.Origins.{Origin}
@@ -37,6 +39,26 @@ pub record Did : Type 0 where
   pub said : Option (List ℕ)
   pub said' : Option (List ℕ)
   pub failed : Bool
+
+-- what was done over a disk, a source, an output and complaints, as they were and as they are
+abbrev pub did_over : {D S W E : Type 0} → (D → List ℕ → Option (List ℕ)) → (D → List ℕ → Origin)
+    → (S → Option (List Loaded)) → (S → Option (Option (List ℕ) × LoadFault))
+    → (W → Option (List ℕ)) → (E → Option (List ℕ)) → D → S → S → Output W → Output W
+    → Complaints E → Complaints E → Did
+did_over under origin loaded refused written said disk source source' out out' err err' = record {
+  under = under disk;
+  origin = origin disk;
+  loaded = loaded source;
+  loaded' = loaded source';
+  refused = refused source';
+  out = written out.writer;
+  out' = written out'.writer;
+  end = out'.end;
+  flushed = out'.is_flushed;
+  said = said err.writer;
+  said' = said err'.writer;
+  failed = err'.failed;
+}
 
 -- the ledger of all tokens of sorted files is requested: its lines go out while these are read
 abbrev pub IsSortedLedger : Request → Type 0

@@ -1,6 +1,6 @@
 -- What a list of taps says of each of them: live, stale or unknown.
-use Rattle.std.specs.Prelude.{◌≡◌, ◌+◌, ℕ, Bool, true, false, ◌&&◌, if◌then◌else◌, List, []}
-use Rattle.std.specs.Prelude.{◌∷◌, ◌++◌, Option, Some, None, length, filter, count_by, nat_lt}
+use Rattle.std.specs.Prelude.{◌≡◌, ◌+◌, ℕ, Bool, true, ◌&&◌, if◌then◌else◌, List, []}
+use Rattle.std.specs.Prelude.{◌∷◌, ◌++◌, Option, Some, None, filter, fold, nat_lt}
 use Rattle.std.specs.List.{list_all}
 use Rattle.std.specs.Map.{lookup}
 use Rattle.std.specs.Str.{bytes_eq}
@@ -45,25 +45,18 @@ livenesses_after before [] = []
 livenesses_after before (tap ∷ taps) =
     liveness_of before tap ∷ livenesses_after (before ++ tap ∷ []) taps
 
--- whether the two livenesses are the same
-abbrev pub is_same_liveness : Word → Word → Bool
-is_same_liveness Live Live = true
-is_same_liveness Stale Stale = true
-is_same_liveness Unknown Unknown = true
-is_same_liveness _ _ = false
+-- the counts with one tap more, of which the listing says this
+abbrev pub counted : ListCounts → Word → ListCounts
+counted counts Live = record counts { taps = counts.taps + 1; live = counts.live + 1 }
+counted counts Stale = record counts { taps = counts.taps + 1; stale = counts.stale + 1 }
+counted counts Unknown = record counts { taps = counts.taps + 1; unknown = counts.unknown + 1 }
 
--- how many of the taps have the liveness
-abbrev pub count_of : Word → List Listed → ℕ
-count_of liveness taps = count_by (is_same_liveness liveness) (livenesses_after [] taps)
+abbrev pub no_counts : ListCounts
+no_counts = record { taps = 0; live = 0; stale = 0; unknown = 0 }
 
 -- how many taps there are, and how many of each liveness
 abbrev pub counts_of : List Listed → ListCounts
-counts_of taps = record {
-  taps = length taps;
-  live = count_of Live taps;
-  stale = count_of Stale taps;
-  unknown = count_of Unknown taps;
-}
+counts_of taps = fold counted no_counts (livenesses_after [] taps)
 
 -- what a listing keeps: the last known moment of each token, and the counts
 pub record KeptListing : Type 0 where

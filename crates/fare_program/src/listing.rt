@@ -3,9 +3,9 @@ ghost use Rattle.std.specs.Prelude.{◌≡◌, ◌+◌, ◌^◌, ◌<◌, ℕ, L
 ghost use Rattle.std.specs.Prelude.{◌&&◌, if◌then◌else◌};
 ghost use Rattle.std.specs.Str.{bytes_eq};
 ghost use Rattle.tap_views.specs.Layout.{num};
-ghost use Rattle.fare_program.specs.Listing.{AddsUp, Listed, RepresentsListing, counts_of, listed_of};
-ghost use Rattle.fare_program.specs.Listing.{is_after_last, last_of, liveness_of};
-ghost use Rattle.fare_program.specs.inside.Listing.{last_after, liveness_by, liveness_counted};
+ghost use Rattle.fare_program.specs.Listing.{AddsUp, Listed, RepresentsListing, counted, counts_of};
+ghost use Rattle.fare_program.specs.Listing.{is_after_last, last_of, listed_of, liveness_of};
+ghost use Rattle.fare_program.specs.inside.Listing.{last_after, liveness_by};
 
 use std::alloc::Global;
 use std::collections::BTreeMap;
@@ -45,7 +45,7 @@ impl ListCounts {
     fn count(&mut self, liveness: Word)
         requires sums { AddsUp self.old }
         requires room { self.old.taps < 2 ^ 127 }
-        ensures { self.new ≡ liveness_counted liveness self.old }
+        ensures { self.new ≡ counted self.old liveness }
     {
         self.taps += 1;
         match liveness {
@@ -101,8 +101,10 @@ fn liveness_next(
     }
     let mut token = [0u8; 16];
     token.copy_from_slice(tap.token());
-    let is_live = advance(last, token, tap.moment_ms())?;
-    Ok(if is_live { Word::Live } else { Word::Stale })
+    if advance(last, token, tap.moment_ms())? {
+        return Ok(Word::Live);
+    }
+    Ok(Word::Stale)
 }
 
 /// A listing of taps: it says whether each is live, stale or unknown, from those before it.

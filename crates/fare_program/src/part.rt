@@ -20,7 +20,9 @@ use placed_files::Placed;
 use sorted_bills::{BillFault, PartBill, part_bill, part_spans, write_part_ledger};
 use std::alloc::Global;
 use std::io::Write;
+use std::marker::Sync;
 use std::random::RandomSource;
+use std::thread::Threads;
 
 /// Memory that is refused after the first lines is reported as late.
 fn write_made<'a, W: Write>(alloc: Global, made: PartBill, out: &mut W) -> Result<bool, Fault<'a>>
@@ -65,7 +67,8 @@ fn write_report<'a, R: RandomSource, F: Placed, W: Write>(
     }
 }
 
-fn write_ledger<'a, F: Placed, W: Write>(
+fn write_ledger<'a, R: Threads + Sync, F: Placed, W: Write>(
+    rt: &R,
     alloc: Global,
     options: &Options<'a>,
     table: &FareTable,
@@ -86,7 +89,7 @@ fn write_ledger<'a, F: Placed, W: Write>(
     if let Err(fault) = write_part_head(alloc, &spans, out) {
         return Err(Fault::of_print(fault));
     }
-    match write_part_ledger(alloc, table, files, from, below, &spans, out) {
+    match write_part_ledger(rt, alloc, table, files, from, below, &spans, out) {
         Ok(()) => Ok(true),
         Err(BillFault::Write) => Err(Fault::Write),
         Err(fault) => Err(Fault::Late(LateFault::of_bill(fault))),
@@ -95,7 +98,7 @@ fn write_ledger<'a, F: Placed, W: Write>(
 
 /// Charges the taps of the word's range of tokens, and writes what is requested. One thread does it,
 /// and reads no more of the files than it needs.
-pub(crate) fn charge_part<'a, R: RandomSource, F: Placed, W: Write>(
+pub(crate) fn charge_part<'a, R: Threads + RandomSource + Sync, F: Placed, W: Write>(
     rt: &R,
     alloc: Global,
     options: &Options<'a>,
@@ -104,7 +107,7 @@ pub(crate) fn charge_part<'a, R: RandomSource, F: Placed, W: Write>(
     files: &[F],
     out: &mut W,
 ) -> Result<bool, Fault<'a>>
-    requires { range_fault word.now ≡ None }
+    requires word { range_fault word.now ≡ None }
     ensures ends { GivesPart (request_of options.now).ledger (map F.bytes files.now) table.now
         (W.contents out.old) (W.contents out.new) result }
     ensures right { IfErr result (IsRightOfSorted (request_of options.now).files
@@ -114,7 +117,7 @@ pub(crate) fn charge_part<'a, R: RandomSource, F: Placed, W: Write>(
         unreachable!();
     };
     if options.ledger {
-        return write_ledger(alloc, options, table, range, files, out);
+        return write_ledger(rt, alloc, options, table, range, files, out);
     }
     write_report(rt, alloc, options, table, range, files, out)
 }

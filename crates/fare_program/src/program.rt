@@ -3,7 +3,7 @@ ghost use Rattle.std.specs.Prelude.{◌≡◌, ◌++◌, ◌∷◌, [], List, Op
 ghost use Rattle.std.specs.Prelude.{codes, map, string_bytes};
 ghost use Rattle.std.specs.Option.{option_and_then, option_copied};
 ghost use Rattle.fare_program.specs.Causes.{IsFileFault, IsRightFault, names_reported};
-ghost use Rattle.fare_program.specs.Ends.{AreOfBytes, Ends};
+ghost use Rattle.fare_program.specs.Ends.{AreOfBytes, Ends, did_over};
 ghost use Rattle.fare_program.specs.inside.Ends.{Gives, GivesIf};
 ghost use Rattle.fare_program.specs.Fault.{fault_text};
 ghost use Rattle.fare_program.specs.FilesLoaded.{LoadsFiles, names_to_load};
@@ -311,20 +311,9 @@ pub fn main_over<
     out: &mut Output<W>,
     err: &mut Complaints<E>,
 ) -> u8
-    ensures { Ends (map string_bytes words.now) (record {
-      under = D.bytes_under disk.now;
-      origin = D.origin disk.now;
-      loaded = S.loaded source.old;
-      loaded' = S.loaded source.new;
-      refused = S.refused source.new;
-      out = W.contents out.old.writer;
-      out' = W.contents out.new.writer;
-      end = out.new.end;
-      flushed = out.new.is_flushed;
-      said = E.contents err.old.writer;
-      said' = E.contents err.new.writer;
-      failed = err.new.failed;
-    }) result }
+    ensures { Ends (map string_bytes words.now) (did_over D.bytes_under D.origin S.loaded S.refused
+        W.contents E.contents disk.now source.old source.new out.old out.new err.old err.new)
+        result }
 {
     let options = match Options::read(alloc, words) {
         Ok(options) => options,

@@ -1,5 +1,5 @@
 //! Why sorted files are not charged, as a fault line says it.
-ghost use Rattle.std.specs.Prelude.{◌≡◌, Some};
+ghost use Rattle.std.specs.Prelude.{Some};
 ghost use Rattle.fare_program.specs.SortedFaults.{late_text, sorted_text, unopened_text};
 
 use placed_files::Unopened;

@@ -1,5 +1,5 @@
 //! The range of tokens that `--tokens` names, and what is wrong with it.
-ghost use Rattle.std.specs.Prelude.{◌≡◌, ◌==◌, false, true, None, Some, IfErr, IfOk, List, OnOk, ℕ};
+ghost use Rattle.std.specs.Prelude.{◌≡◌, false, true, None, Some, IfErr, IfOk, OnOk};
 ghost use Rattle.std.specs.Prelude.{option_map};
 ghost use Rattle.fare_program.specs.TokenRanges.{bytes_of_side, is_side, order_fault, range_fault};
 ghost use Rattle.fare_program.specs.TokenRanges.{sides_of};

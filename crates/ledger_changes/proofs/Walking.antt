@@ -1,14 +1,14 @@
 -- Two ledgers that are read side by side: what was given, and what is left.
 use Rattle.std.proofs.Common.{◌≡◌, ◌+◌, ℕ, Bool, true, false, List, [], ◌∷◌, ◌++◌, length, Option}
 use Rattle.std.proofs.Common.{Some, None, Ok, Err}
-use Rattle.std.proofs.Common.{refl, sym, ap, ◌∙◌, arith, append-nil, append_assoc, filter}
+use Rattle.std.proofs.Common.{refl, subst, sym, ap, ◌∙◌, arith, append-nil, append_assoc, filter}
 use Rattle.std.proofs.Common.{drop, if◌then◌else◌, length-append, option_map, inl, inr, ◌⊎◌}
 use Rattle.std.specs.declared.cmp.Ordering.{Ordering}
 use Rattle.std.specs.declared.cmp.Ordering.TheVariants.{Less, Equal, Greater}
 use Rattle.std.proofs.lemmas.List.Elements.{filter-append}
 use Rattle.ledger_fields.specs.Rows.{Row}
 use Rattle.ledger_changes.specs.Changes.{Pair, beside, changes_between, is_changed}
-use Rattle.ledger_changes.specs.Given.{HasStarted, HasGiven, IsFaultOf, IsGivenAfter, after_text}
+use Rattle.ledger_changes.specs.Given.{HasStarted, HasGiven, IsFaultOf, IsGivenAfter, after_text, calls_by}
 use Rattle.ledger_changes.specs.Given.{Said, Walked, new_calls, old_calls, text_left}
 use Rattle.ledger_changes.specs.inside.Walks.{WalksOn}
 use Rattle.ledger_changes.specs.inside.Pairs.{next_sides, pairs_of, sides_by}
@@ -318,41 +318,22 @@ rows_ended ledger whole ended is = by ledger.row refl
         (sym at) ∙ is))
 
 -- ---- which line is the first wrong one
-other_bill : {A : Type 0} → Old ≡ New → A
-other_bill e = absurd (cc)
-
--- the line of the old ledger, of which this is left
-pub stops_old : (fault : CorrectionsFault) (bill : Bill) (old new : Calls)
-    (said : List ℕ → Said) → bill ≡ Old
-    → ((whole : List ℕ) → CanBe old whole → IsWrongAs bill old (said whole) fault)
-    → ((whole : List ℕ) → CanBe old whole → (wrong : ℕ × WrongLine) → said whole ≡ Err wrong
-    → rows_of whole ≡ Err wrong)
+-- the line of the ledger of this side, of which this is left
+pub stops : (fault : CorrectionsFault) (side : Bill) {bill : Bill} (old new : Calls)
+    (said : List ℕ → Said) → bill ≡ side
+    → ((whole : List ℕ) → CanBe (calls_by side old new) whole
+    → IsWrongAs bill (calls_by side old new) (said whole) fault)
+    → ((whole : List ℕ) → CanBe (calls_by side old new) whole → (wrong : ℕ × WrongLine)
+    → said whole ≡ Err wrong → rows_of whole ≡ Err wrong)
     → IsFaultOf fault old new
-stops_old (Line Old number why) bill old new said is wrong first =
-    λ whole can. first whole can (number, why) (wrong whole can).1
-stops_old (Line New number why) bill old new said is wrong first =
-    other_bill (sym is ∙ sym (wrong old.reading.bytes (can_be_read old)).0)
-stops_old (Unread Old) bill old new said is wrong first =
-    (wrong old.reading.bytes (can_be_read old)).1
-stops_old (Unread New) bill old new said is wrong first =
-    other_bill (sym is ∙ sym (wrong old.reading.bytes (can_be_read old)).0)
-stops_old NoMemory bill old new said is wrong first = tt
-
-pub stops_new : (fault : CorrectionsFault) (bill : Bill) (old new : Calls)
-    (said : List ℕ → Said) → bill ≡ New
-    → ((whole : List ℕ) → CanBe new whole → IsWrongAs bill new (said whole) fault)
-    → ((whole : List ℕ) → CanBe new whole → (wrong : ℕ × WrongLine) → said whole ≡ Err wrong
-    → rows_of whole ≡ Err wrong)
-    → IsFaultOf fault old new
-stops_new (Line New number why) bill old new said is wrong first =
-    λ whole can. first whole can (number, why) (wrong whole can).1
-stops_new (Line Old number why) bill old new said is wrong first =
-    other_bill ((wrong new.reading.bytes (can_be_read new)).0 ∙ is)
-stops_new (Unread New) bill old new said is wrong first =
-    (wrong new.reading.bytes (can_be_read new)).1
-stops_new (Unread Old) bill old new said is wrong first =
-    other_bill ((wrong new.reading.bytes (can_be_read new)).0 ∙ is)
-stops_new NoMemory bill old new said is wrong first = tt
+stops (Line at number why) side old new said is wrong first =
+    let here = (wrong _ (can_be_read (calls_by side old new))).0 ∙ is in
+    subst (λ (b : Bill). IsFaultOf (Line b number why) old new) (sym here)
+    (λ whole can. first whole can (number, why) (wrong whole can).1)
+stops (Unread at) side old new said is wrong first =
+    let read = wrong _ (can_be_read (calls_by side old new)) in
+    subst (λ (b : Bill). IsFaultOf (Unread b) old new) (sym (read.0 ∙ is)) read.1
+stops NoMemory side old new said is wrong first = tt
 
 -- ---- corrections that are given in pieces
 pub started : (c : Corrections) (by_token : Bool) (text : List ℕ) (old new : Calls)

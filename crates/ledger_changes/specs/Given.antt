@@ -13,6 +13,7 @@ use Rattle.ledger_changes.specs.Texts.{removed_in}
 use Rattle.ledger_changes.specs.Tokens.{TokenSum, changes_of_both, corrections_of, last_sums}
 use Rattle.ledger_changes.specs.Tokens.{lines_of_changes, sums_line, text_of}
 use Rattle.ledger_changes.specs.declared.changes.Corrections.{Corrections}
+use Rattle.ledger_changes.specs.declared.fault.Bill.{Bill}
 use Rattle.ledger_changes.specs.declared.fault.Bill.TheVariants.{New, Old}
 use Rattle.ledger_changes.specs.declared.fault.CorrectionsFault.{CorrectionsFault}
 use Rattle.ledger_changes.specs.declared.fault.CorrectionsFault.TheVariants.{Line, Unread, NoMemory}
@@ -90,15 +91,17 @@ IsGivenAfter c by_token None text = HasGiven c by_token text
 IsGivenAfter c by_token (Some removed) text =
     IsAllGiven by_token (old_calls c) (new_calls c) text removed
 
+-- those of the bill
+abbrev pub calls_by : Bill → Calls → Calls → Calls
+calls_by Old old new = old
+calls_by New old new = new
+
 -- THE rule of a fault, of what reads gave of both, whatever follows: a line that is refused is the
 -- first wrong one of its ledger, for this reason, and a read that failed is in the trace.
 abbrev pub IsFaultOf : CorrectionsFault → Calls → Calls → Type 0
-IsFaultOf (Line Old number why) old new =
-    (whole : List ℕ) → CanBe old whole → rows_of whole ≡ Err (number, why)
-IsFaultOf (Line New number why) old new =
-    (whole : List ℕ) → CanBe new whole → rows_of whole ≡ Err (number, why)
-IsFaultOf (Unread Old) old new = IsUnread old
-IsFaultOf (Unread New) old new = IsUnread new
+IsFaultOf (Line bill number why) old new =
+    (whole : List ℕ) → CanBe (calls_by bill old new) whole → rows_of whole ≡ Err (number, why)
+IsFaultOf (Unread bill) old new = IsUnread (calls_by bill old new)
 IsFaultOf NoMemory old new = ⊤
 
 -- With more after it, the text would be the whole one of these ledgers; or a line of one is wrong.

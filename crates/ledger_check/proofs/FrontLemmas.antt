@@ -14,7 +14,7 @@ use Rattle.tap_views.specs.Token.{Fits, bytes_of}
 use Rattle.tap_views.specs.declared.token.Token.{Token}
 use Rattle.tap_views.proofs.TokenLemmas.{bytes_of-injective}
 use Rattle.tap_views.proofs.TokenBytes.{token_bytes, token_length}
-use Rattle.line_forms.specs.ColumnLaws.{column_law}
+use Rattle.line_forms.specs.FormLaws.{column_law}
 use Rattle.line_forms.specs.Columns.{BeginsAfterColumn, is_column}
 use Rattle.line_forms.specs.Forms.{go_on, then_read, with_second}
 use Rattle.ledger_check.specs.FullChecks.{IsLineOfTap, any_column, front_columns, next_column}

@@ -38,7 +38,7 @@ impl<'a> FormOf<'a> for AnyColumn {
     type Value = &'a [u8];
 
     ghost use Rattle.std.specs.Prelude.{List, true, ℕ};
-    ghost use Rattle.line_forms.specs.ColumnLaws.{column_law};
+    ghost use Rattle.line_forms.specs.FormLaws.{column_law};
     ghost use Rattle.line_forms.specs.Columns.{BeginsAfterColumn, IsColumn};
     ghost use Rattle.ledger_check.specs.FullChecks.{any_column};
 

@@ -1,16 +1,13 @@
 -- The texts of moments, as `2024-03-08T17:00:00.000Z`.
-use Rattle.std.specs.Prelude.{◌==◌, ◌+◌, ◌-◌, ◌*◌, ◌%◌, ◌&&◌, ◌||◌, ℕ, Bool, true, false, List, Option, Some, None, cond, not, length}
+use Rattle.std.specs.Prelude.{◌==◌, ◌+◌, ◌-◌, ◌*◌, ◌%◌, ◌&&◌, ◌||◌, ℕ, Bool, false, List, Option, Some, None, cond, not, length}
 use Rattle.std.specs.Prelude.{nat_le, nat_lt, slice_index}
 use Rattle.std.specs.Char.{is_ascii_digit}
-
-abbrev pub number_if : Bool → ℕ → Option ℕ
-number_if true number = Some number
-number_if false number = None
+use Rattle.line_forms.specs.Forms.{value_if}
 
 -- the number of two decimal digits
 abbrev pub number_of_two : ℕ → ℕ → Option ℕ
 number_of_two tens ones =
-    number_if (is_ascii_digit tens && is_ascii_digit ones) ((tens - 48) * 10 + (ones - 48))
+    value_if (is_ascii_digit tens && is_ascii_digit ones) ((tens - 48) * 10 + (ones - 48))
 
 -- the test of a number; none fails it
 abbrev pub is_such : Option ℕ → (ℕ → Bool) → Bool

@@ -1,14 +1,13 @@
 //! The fields of a ledger's line that are not plain numbers.
 
-ghost use Rattle.std.specs.Prelude.{◌≡◌, ◌≤◌, length};
+ghost use Rattle.std.specs.Prelude.{◌≡◌};
 ghost use Rattle.std.specs.List.{list_all};
-ghost use Rattle.line_forms.specs.Columns.{column_in};
 ghost use Rattle.ledger_fields.specs.Fields.{fits, is_reason_byte, is_token_byte, is_word_byte};
 
 use crate::moment::is_moment;
+use line_forms::column::column_before;
 use line_forms::form::FormOf;
 use line_forms::number::number_32_of;
-use memchr::memchr2;
 
 /// The first year after those of the moments of taps.
 const TAP_YEAR_LIMIT: u64 = 2_100;
@@ -59,33 +58,15 @@ fn is_reason_byte(byte: u8) -> bool
     is_word_byte(byte) || byte == 58
 }
 
+/// Each of the 32 bytes is tested, with no branch: so they are tested at once.
 fn are_token_bytes(text: &[u8]) -> bool
     ensures { result ≡ list_all is_token_byte text.now }
 {
-    text.iter().all(|byte| is_token_byte(*byte))
-}
-
-fn are_word_bytes(text: &[u8]) -> bool
-    ensures { result ≡ list_all is_word_byte text.now }
-{
-    text.iter().all(|byte| is_word_byte(*byte))
-}
-
-fn are_reason_bytes(text: &[u8]) -> bool
-    ensures { result ≡ list_all is_reason_byte text.now }
-{
-    text.iter().all(|byte| is_reason_byte(*byte))
-}
-
-/// How many bytes the column at the front of the text has.
-fn column_before(text: &[u8]) -> usize
-    ensures value { result ≡ column_in text.now }
-    ensures within { result ≤ length text.now }
-{
-    match memchr2(b',', b'\n', text) {
-        Some(at) => at,
-        None => text.len(),
+    let mut are_so = true;
+    for byte in text {
+        are_so = are_so & is_token_byte(*byte);
     }
+    are_so
 }
 
 impl Field {
@@ -97,8 +78,10 @@ impl Field {
             Field::Moment => is_moment(text, TAP_YEAR_LIMIT),
             Field::PastMoment => text.is_empty() || is_moment(text, TAP_YEAR_LIMIT),
             Field::LaterMoment => text.is_empty() || is_moment(text, YEAR_LIMIT),
-            Field::Word => text.len() <= MAX_WORD_BYTES && are_word_bytes(text),
-            Field::Reason => text.len() <= MAX_REASON_BYTES && are_reason_bytes(text),
+            Field::Word => text.len() <= MAX_WORD_BYTES
+                && text.iter().all(|byte| is_word_byte(*byte)),
+            Field::Reason => text.len() <= MAX_REASON_BYTES
+                && text.iter().all(|byte| is_reason_byte(*byte)),
             Field::Ride => text.is_empty() || number_32_of(text).is_some(),
         }
     }
@@ -108,7 +91,7 @@ impl<'a> FormOf<'a> for Field {
     type Value = &'a [u8];
 
     ghost use Rattle.std.specs.Prelude.{List, ℕ};
-    ghost use Rattle.line_forms.specs.ColumnLaws.{column_law};
+    ghost use Rattle.line_forms.specs.FormLaws.{column_law};
     ghost use Rattle.line_forms.specs.Columns.{BeginsAfterColumn, IsColumn, column_where};
     ghost use Rattle.ledger_fields.specs.Fields.{fits};
 

@@ -1,5 +1,5 @@
 -- The laws of forms.
-use Rattle.std.proofs.Common.{◌≡◌, ◌==◌, ℕ, suc, ◌+◌, ◌<◌, ◌≤◌, ◌^◌, Bool, true, false, cond, not, ◌&&◌, nat_lt, List, Option, Some, None, MatchOption}
+use Rattle.std.proofs.Common.{◌≡◌, ◌==◌, ℕ, ◌+◌, ◌<◌, ◌≤◌, ◌^◌, Bool, true, false, cond, not, ◌&&◌, nat_lt, List, Option, Some, None, MatchOption}
 use Rattle.std.proofs.Common.{[], ◌∷◌, ◌++◌, length, take, drop, refl, sym, ap, subst, ◌∙◌, arith, append_assoc, Decides, option_map, Bor}
 use Rattle.std.specs.Char.{is_ascii_digit}
 use Rattle.std.specs.Fmt.{decimal}
@@ -8,11 +8,18 @@ use Rattle.std.specs.Str.Parse.{digits_value}
 use Rattle.std.proofs.lemmas.Bool.{false≢true, and_from, and_parts}
 use Rattle.std.proofs.lemmas.Bool.Decides.{Decides-eqb, nat_tests}
 use Rattle.std.proofs.lemmas.Fmt.{decimal_is_IsNumeral_wide}
-use Rattle.std.proofs.lemmas.List.{take-append-drop}
+use Rattle.std.proofs.Math.Bool.{not-not}
+use Rattle.std.proofs.Math.Seq.{drop-append_seam, take-append_seam}
+use Rattle.std.specs.List.{before_first, position_or_len}
+use Rattle.std.proofs.lemmas.List.{get_or-take, take-append-drop}
+use Rattle.std.proofs.lemmas.List.Folds.{length-prefix_len}
+use Rattle.std.proofs.lemmas.List.Recursion.{same_from_clauses}
+use Rattle.std.proofs.lemmas.List.Sums.{list_all-from_AllPass, prefix_len_passes}
 use Rattle.std.proofs.lemmas.Slice.Eq.{bytes_eq-Decides}
 use Rattle.std.proofs.lemmas.Str.Parse.{IsNumeralModel, numerals_by_value, tells_all_ascii_digits}
-use Rattle.line_forms.specs.Forms.{IsAfter, IsFirst, IsForm, IsThen, Reader, after, after_if, after_read, ended, go_on, is_end, read_if, said_by, then_read, value_if, with_second}
-use Rattle.line_forms.specs.Numbers.{BeginsWithNoDigit, IsNumber, digits_in, number_at, number_if, number_in, with_rest}
+use Rattle.line_forms.specs.Columns.{BeginsAfterColumn, IsColumn, column_where, ends_column, is_column}
+use Rattle.line_forms.specs.Forms.{BeginsWith, IsAfter, IsFirst, IsForm, IsThen, Reader, after, after_if, after_read, ended, go_on, is_end, none_stops, read_before, read_if, said_by, then_read, value_if, with_rest, with_second}
+use Rattle.line_forms.specs.Numbers.{BeginsWithNoDigit, IsNumber, ends_digits, number_at, number_in}
 use Rattle.line_forms.specs.inside.Narrow.{below}
 
 -- ---- options
@@ -28,6 +35,10 @@ is_none (Some a) f = absurd (f a refl)
 
 pub some_one : {A : Type 0} {a b : A} → Some a ≡ Some b → a ≡ b
 some_one e = cc
+
+value_if_some : {A : Type 0} (b : Bool) (a value : A) → value_if b a ≡ Some value → (b ≡ true) × (a ≡ value)
+value_if_some true a value e = (refl, some_one e)
+value_if_some false a value e = absurd (cc)
 
 -- ---- words
 after_step : (b c : ℕ) (bs cs rest : List ℕ) (same : Bool) → Decides same (b ≡ c)
@@ -51,34 +62,24 @@ after_complete (b ∷ bs) rest =
     let yes : (b == b) ≡ true = (Decides-eqb b b).1 refl in
     ap (λ t. after_if t (after bs (bs ++ rest))) yes ∙ after_complete bs rest
 
-pub after_is : (word text : List ℕ) (rest : List ℕ) → text ≡ word ++ rest → after word text ≡ Some rest
-after_is word text rest e = ap (after word) e ∙ after_complete word rest
-
-pub after_is_none : (word text : List ℕ) → ((rest : List ℕ) → ¬ (text ≡ word ++ rest))
-    → after word text ≡ None
-after_is_none word text none = is_none (after word text) (λ rest e. none rest (after_sound word text rest e))
-
 -- what the program strips is what the definition strips
 pub after_by : (word text : List ℕ) (r : Option (Bor (List ℕ))) → MatchOption r
     ((rest : List ℕ) → ¬ (text ≡ word ++ rest)) (λ rest. text ≡ word ++ rest.now)
     → MatchOption r (after word text ≡ None) (λ rest. after word text ≡ Some rest.now)
-after_by word text None none = after_is_none word text none
-after_by word text (Some rest) is = after_is word text rest.now is
+after_by word text None none =
+    is_none (after word text) (λ rest e. none rest (after_sound word text rest e))
+after_by word text (Some rest) is = ap (after word) is ∙ after_complete word rest.now
 
 -- ---- numbers
 pub own : IsNumeralModel (λ ds. all_ascii_digits ds ≡ true) (digits_value 10)
 own = numerals_by_value _ tells_all_ascii_digits
-
-number_if_some : (b : Bool) (v n : ℕ) → number_if b v ≡ Some n → (b ≡ true) × (v ≡ n)
-number_if_some true v n e = (refl, cc)
-number_if_some false v n e = absurd (cc)
 
 pub number_sound : (bound : ℕ) (digits : List ℕ) (n : ℕ) → number_in bound digits ≡ Some n
     → IsNumber bound n digits
 unfolding number_in
 number_sound bound digits n e =
     let v = digits_value 10 digits in
-    let (both, value) = number_if_some (nat_lt v bound && bytes_eq (decimal v) digits) v n e in
+    let (both, value) = value_if_some (nat_lt v bound && bytes_eq (decimal v) digits) v n e in
     let (low, same) = and_parts (nat_lt v bound) (bytes_eq (decimal v) digits) both in
     let shown : decimal v ≡ digits = (bytes_eq-Decides (decimal v) digits).0 same in
     (let h : v < bound = grind (arith, nat_tests) in subst (λ k. k < bound) value h, sym shown ∙ ap decimal value)
@@ -90,7 +91,7 @@ number_complete bound n small low =
     let one : nat_lt (digits_value 10 (decimal n)) bound ≡ true = rw v (grind (arith, nat_tests)) in
     let two : bytes_eq (decimal (digits_value 10 (decimal n))) (decimal n) ≡ true =
     (bytes_eq-Decides _ _).1 (ap decimal v) in
-    ap (λ b. number_if b (digits_value 10 (decimal n))) (and_from _ _ one two) ∙ ap Some v
+    ap (λ b. value_if b (digits_value 10 (decimal n))) (and_from _ _ one two) ∙ ap Some v
 
 pub number_is : (bound n : ℕ) (digits : List ℕ) → n < 10 ^ 64 → IsNumber bound n digits
     → number_in bound digits ≡ Some n
@@ -108,9 +109,9 @@ number_by bound digits (Some n) wide is =
     sym (number_is bound n digits small is)
 
 narrow : (bound v : ℕ) (a b same : Bool) → nat_lt v bound ≡ b → (b ≡ true → a ≡ true)
-    → below bound (number_if (a && same) v) ≡ number_if (b && same) v
-narrow bound v true true true is wide = ap (λ x. number_if x v) is
-narrow bound v true false true is wide = ap (λ x. number_if x v) is
+    → below bound (value_if (a && same) v) ≡ value_if (b && same) v
+narrow bound v true true true is wide = ap (λ x. value_if x v) is
+narrow bound v true false true is wide = ap (λ x. value_if x v) is
 narrow bound v true true false is wide = refl
 narrow bound v true false false is wide = refl
 narrow bound v false true same is wide = absurd (false≢true (wide refl))
@@ -124,64 +125,15 @@ number_narrow digits =
     narrow (2 ^ 32) v (nat_lt v (2 ^ 64)) (nat_lt v (2 ^ 32)) (bytes_eq (decimal v) digits) refl
     (λ low. let small : v < 2 ^ 64 = grind (arith, nat_tests) in grind (arith, nat_tests))
 
--- ---- digits at the front
+-- ---- digits
 pub decimal_digits : (n : ℕ) → n < 10 ^ 64 → all_ascii_digits (decimal n) ≡ true
 decimal_digits n small = own.from (decimal n) (decimal_is_IsNumeral_wide n small).0.1
 
--- digits, up to a byte that is none, are determined by the text
-digits_unique : (a b x y : List ℕ) → all_ascii_digits a ≡ true → all_ascii_digits b ≡ true
-    → BeginsWithNoDigit x → BeginsWithNoDigit y → a ++ x ≡ b ++ y → (a ≡ b) × (x ≡ y)
-digits_unique [] [] x y is also none none_too e = (refl, e)
-digits_unique [] (d ∷ b) x y is also none none_too e =
-    let no : is_ascii_digit d ≡ false = subst BeginsWithNoDigit e none in
-    absurd (false≢true (sym no ∙ (and_parts (is_ascii_digit d) (all_ascii_digits b) also).0))
-digits_unique (c ∷ a) [] x y is also none none_too e =
-    let no : is_ascii_digit c ≡ false = subst BeginsWithNoDigit (sym e) none_too in
-    absurd (false≢true (sym no ∙ (and_parts (is_ascii_digit c) (all_ascii_digits a) is).0))
-digits_unique (c ∷ a) (d ∷ b) x y is also none none_too e =
-    let first : c ≡ d = cc in
-    let more : a ++ x ≡ b ++ y = cc in
-    let (same, rest) = digits_unique a b x y
-    (and_parts (is_ascii_digit c) (all_ascii_digits a) is).1
-    (and_parts (is_ascii_digit d) (all_ascii_digits b) also).1 none none_too more in
-    (let t : c ∷ a ≡ d ∷ b = cc in t, rest)
+digits_pass : (digits : List ℕ) → all_ascii_digits digits ≡ none_stops ends_digits digits
+digits_pass = same_from_clauses all_ascii_digits (none_stops ends_digits) (λ c b. is_ascii_digit c && b) refl
+    (λ c digits. refl) (λ c digits. ap (λ b. b && none_stops ends_digits digits) (not-not (is_ascii_digit c)))
 
-abbrev AreDigitsUpTo : List ℕ → ℕ → Type 0
-AreDigitsUpTo text n =
-    (all_ascii_digits (take n text) ≡ true) × BeginsWithNoDigit (drop n text) × (n ≤ length text)
-
-counts_on : (c : ℕ) (text : List ℕ) (b : Bool) → is_ascii_digit c ≡ b
-    → digits_in (c ∷ text) ≡ cond (not (not b)) (1 + digits_in text) 0
-counts_on c text b is = ap (λ t. cond (not (not t)) (1 + digits_in text) 0) is
-
-front_step : (c : ℕ) (text : List ℕ) (b : Bool) → is_ascii_digit c ≡ b
-    → AreDigitsUpTo text (digits_in text) → AreDigitsUpTo (c ∷ text) (digits_in (c ∷ text))
-front_step c text true is rest =
-    let e : suc (digits_in text) ≡ digits_in (c ∷ text) =
-    (let one : suc (digits_in text) ≡ 1 + digits_in text = omega arith in
-    one) ∙ sym (counts_on c text true is) in
-    subst (AreDigitsUpTo (c ∷ text)) e (
-      and_from (is_ascii_digit c) (all_ascii_digits (take (digits_in text) text)) is rest.0,
-      rest.1,
-      omega (arith, rest.2),
-    )
-front_step c text false is rest =
-    subst (AreDigitsUpTo (c ∷ text)) (sym (counts_on c text false is)) (refl, is, omega arith)
-
-pub front_digits : (text : List ℕ) → AreDigitsUpTo text (digits_in text)
-front_digits [] = (refl, tt, omega arith)
-front_digits (c ∷ text) = front_step c text (is_ascii_digit c) refl (front_digits text)
-
--- the digits of a number at the front are those before the first byte that is none
-front_number : (n : ℕ) (rest : List ℕ) → n < 10 ^ 64 → BeginsWithNoDigit rest
-    → (take (digits_in (decimal n ++ rest)) (decimal n ++ rest) ≡ decimal n)
-    × (drop (digits_in (decimal n ++ rest)) (decimal n ++ rest) ≡ rest)
-front_number n rest small ends =
-    let text = decimal n ++ rest in
-    let front = front_digits text in
-    digits_unique (take (digits_in text) text) (decimal n) (drop (digits_in text) text) rest front.0
-    (decimal_digits n small) front.1 ends (take-append-drop (digits_in text) text)
-
+-- ---- what comes before the first byte that stops it
 pub with_rest_some : {A : Type 0} (r : Option A) (trailing : List ℕ) (a : A) (rest : List ℕ)
     → with_rest r trailing ≡ Some (a, rest) → (r ≡ Some a) × (trailing ≡ rest)
 with_rest_some None trailing a rest e = absurd (cc)
@@ -189,24 +141,65 @@ with_rest_some {A} (Some b) trailing a rest e =
     let both : Some (b, trailing) ≡ Some (a, rest) = e in
     (ap (option_map (λ (p : A × List ℕ). p.0)) both, some_one (ap (option_map (λ (p : A × List ℕ). p.1)) both))
 
+-- it is cut at its end
+cut : (stops : ℕ → Bool) (front rest : List ℕ) → none_stops stops front ≡ true → BeginsWith stops rest
+    → position_or_len stops (front ++ rest) ≡ length front
+cut stops [] [] passes ends = refl
+cut stops [] (c ∷ rest) passes ends = rw ends refl
+cut stops (c ∷ front) rest passes ends =
+    let (one, more) = and_parts (not (stops c)) (none_stops stops front) passes in
+    let further = cut stops front rest more ends in
+    ap (λ b. cond b (1 + position_or_len stops (front ++ rest)) 0) one ∙ omega (arith, further)
+
+-- THE law of what is read up to a byte: what is before it says its value
+before_law : {A : Type 0} {says : A → List ℕ → Type 0} (stops : ℕ → Bool) (value : List ℕ → Option A)
+    → ((text : List ℕ) (a : A) → none_stops stops text ≡ true → value text ≡ Some a → says a text)
+    → ((text : List ℕ) (a : A) → says a text → (none_stops stops text ≡ true) × (value text ≡ Some a))
+    → IsForm says (BeginsWith stops) (read_before stops value)
+before_law stops value sound complete = record {
+  sound = λ whole a rest e.
+      let (one, two) = with_rest_some (value (before_first stops whole)) _ a rest e in (
+        before_first stops whole,
+        sound (before_first stops whole) a (passes whole) one,
+        sym (take-append-drop (position_or_len stops whole) whole)
+            ∙ ap (λ (x : List ℕ). before_first stops whole ++ x) two,
+      );
+  complete = λ a text rest is ends.
+      let (passes, said) = complete text a is in
+      let end = cut stops text rest passes ends in
+      ap (λ n. with_rest (value (take n (text ++ rest))) (drop n (text ++ rest))) end
+      ∙ rw (take-append_seam text rest, drop-append_seam text rest, said) refl;
+}
+  where
+    passes : (text : List ℕ) → none_stops stops (before_first stops text) ≡ true
+    passes text = list_all-from_AllPass _ (before_first stops text) (λ k d low.
+        let size = length-prefix_len (λ byte. not (stops byte)) text in
+        let within : k < position_or_len stops text = omega (arith, low, size) in
+        ap (λ byte. not (stops byte)) (get_or-take (position_or_len stops text) text k d within)
+        ∙ prefix_len_passes _ text k d within)
+
 -- ---- the forms
 pub number_law : (bound : ℕ) → bound ≤ 10 ^ 64 → IsForm (IsNumber bound) BeginsWithNoDigit (number_at bound)
-number_law bound wide = record {
-  sound = λ whole n rest e.
-      let size = digits_in whole in
-      let (one, two) = with_rest_some (number_in bound (take size whole)) (drop size whole) n rest e in (
-        take size whole,
-        number_sound bound (take size whole) n one,
-        sym (take-append-drop size whole) ∙ ap (λ (x : List ℕ). take size whole ++ x) two,
-      );
-  complete = λ n text rest is ends.
-      let small : n < 10 ^ 64 = omega (arith, wide, is.0) in
-      let front = front_number n rest small ends in
-      let whole = decimal n ++ rest in
-      ap (λ (t : List ℕ). number_at bound (t ++ rest)) is.1
-      ∙ ap (λ r. with_rest r (drop (digits_in whole) whole)) (number_is bound n (take (digits_in whole) whole) small (is.0, front.0))
-      ∙ ap (λ (x : List ℕ). Some (n, x)) front.1;
-}
+number_law bound wide = before_law ends_digits (number_in bound)
+    (λ text n passes is. number_sound bound text n is)
+    (λ text n is.
+    let small : n < 10 ^ 64 = omega (arith, wide, is.0) in (
+      sym (digits_pass text) ∙ ap all_ascii_digits is.1 ∙ decimal_digits n small,
+      number_is bound n text small is,
+    ))
+
+pub column_law : (test : List ℕ → Bool) → IsForm (IsColumn test) BeginsAfterColumn (column_where test)
+column_law test = before_law ends_column (λ column. value_if (test column) column)
+    (λ text column plain is.
+    let (passes, same) = value_if_some (test text) text column is in record {
+      shown = same;
+      plain = subst (λ (t : List ℕ). is_column t ≡ true) same plain;
+      passes = subst (λ (t : List ℕ). test t ≡ true) same passes;
+    })
+    (λ text column is. (
+      ap is_column is.shown ∙ is.plain,
+      ap (λ (t : List ℕ). value_if (test t) t) is.shown ∙ ap (λ b. value_if b column) is.passes,
+    ))
 
 read_if_some : {A : Type 0} (reads : Reader A) (r : Option (List ℕ)) (a : A) (rest : List ℕ)
     → read_if reads r ≡ Some (a, rest) → (text : List ℕ) × (r ≡ Some text) × (reads text ≡ Some (a, rest))
@@ -293,13 +286,6 @@ pub line_complete : {A : Type 0} {says : A → List ℕ → Type 0} {ends : List
     → IsForm says ends reads → ends (10 ∷ []) → (v : A) (text : List ℕ) → says v text
     → said_by reads (text ++ 10 ∷ []) ≡ Some v
 line_complete form feed v text is = ap ended (form.complete v text (10 ∷ []) is feed)
-
--- and so no line says two values
-pub line_unique : {A : Type 0} {says : A → List ℕ → Type 0} {ends : List ℕ → Type 0} {reads : Reader A}
-    → IsForm says ends reads → ends (10 ∷ []) → (v w : A) (text : List ℕ) → says v text → says w text
-    → v ≡ w
-line_unique form feed v w text is is_too =
-    some_one (sym (line_complete form feed v text is) ∙ line_complete form feed w text is_too)
 
 -- ---- the bounds
 pub wide_32 : 2 ^ 32 ≤ 10 ^ 64

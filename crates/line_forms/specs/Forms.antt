@@ -1,9 +1,28 @@
 -- Readers of a value at the front of a text, and the forms that they read.
-use Rattle.std.specs.Prelude.{◌≡◌, ◌==◌, ℕ, Bool, true, false, List, [], ◌∷◌, ◌++◌, Option, Some, None}
+use Rattle.std.specs.Prelude.{◌≡◌, ◌==◌, ℕ, Bool, true, false, List, [], ◌∷◌, ◌++◌, Option, Some, None, drop, not}
+use Rattle.std.specs.List.{before_first, list_all, position_or_len}
 
 -- reads the value at the front of a text, and gives it with what follows
 abbrev pub Reader : Type 0 → Type 0
 Reader A = List ℕ → Option (A × List ℕ)
+
+abbrev pub with_rest : {A : Type 0} → Option A → List ℕ → Option (A × List ℕ)
+with_rest None rest = None
+with_rest (Some value) rest = Some (value, rest)
+
+-- the value of what comes before the first byte that stops it
+abbrev pub read_before : {A : Type 0} → (ℕ → Bool) → (List ℕ → Option A) → Reader A
+read_before stops value text =
+    with_rest (value (before_first stops text)) (drop (position_or_len stops text) text)
+
+-- no byte stops it
+abbrev pub none_stops : (ℕ → Bool) → List ℕ → Bool
+none_stops stops text = list_all (λ byte. not (stops byte)) text
+
+-- the text is empty, or its first byte stops what is before it
+abbrev pub BeginsWith : (ℕ → Bool) → List ℕ → Type 0
+BeginsWith stops [] = Unit {0}
+BeginsWith stops (byte ∷ more) = stops byte ≡ true
 
 abbrev pub after_if : Bool → Option (List ℕ) → Option (List ℕ)
 after_if true rest = rest

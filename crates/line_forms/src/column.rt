@@ -1,14 +1,21 @@
 //! Columns of a line: what is before a comma, or before the line feed.
 
-ghost use Rattle.std.specs.Prelude.{◌≡◌, ◌≤◌, length, MatchOption};
+ghost use Rattle.std.specs.Prelude.{◌≡◌, ◌≤◌, length};
 ghost use Rattle.line_forms.specs.Columns.{column_in};
 
-/// How many bytes the column at the front of the text has.
+use memchr::memchr2;
+
+/// How many bytes the column at the front of the text has. Many columns are empty.
 pub fn column_before(text: &[u8]) -> usize
     ensures value { result ≡ column_in text.now }
     ensures within { result ≤ length text.now }
 {
-    match text.iter().position(|byte| *byte == b',' || *byte == b'\n') {
+    if let [first, ..] = text {
+        if *first == b',' || *first == b'\n' {
+            return 0;
+        }
+    }
+    match memchr2(b',', b'\n', text) {
         Some(at) => at,
         None => text.len(),
     }

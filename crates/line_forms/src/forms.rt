@@ -1,6 +1,6 @@
 //! Forms that are made of others, and whole lines.
 
-ghost use Rattle.std.specs.Prelude.{◌≡◌, ◌++◌, ℕ, List, [], MatchOption};
+ghost use Rattle.std.specs.Prelude.{◌≡◌, ◌∷◌, ◌++◌, ℕ, List, [], MatchOption};
 ghost use Rattle.line_forms.specs.Forms.{IsAfter, IsFirst, IsThen, after, after_read};
 ghost use Rattle.line_forms.specs.Forms.{is_end, said_by, then_read};
 ghost use Rattle.line_forms.specs.FormLaws.{after_law, then_law};
@@ -14,12 +14,25 @@ fn stripped<'a>(text: &'a [u8], word: &[u8]) -> Option<&'a [u8]>
     text.strip_prefix(word)
 }
 
-/// What follows the word with which the text begins.
+fn after_byte<'a>(text: &'a [u8], byte: u8) -> Option<&'a [u8]>
+    ensures { MatchOption result (after (byte ∷ []) text.now ≡ None)
+        (λ rest. after (byte ∷ []) text.now ≡ Some rest.now) }
+{
+    match text {
+        [first, rest @ ..] if byte == *first => Some(rest),
+        _ => None,
+    }
+}
+
+/// What follows the word with which the text begins. A word of one byte is compared at once.
 pub fn after_word<'a>(text: &'a [u8], word: &[u8]) -> Option<&'a [u8]>
     ensures { MatchOption result (after word.now text.now ≡ None)
         (λ rest. after word.now text.now ≡ Some rest.now) }
 {
-    stripped(text, word)
+    match word {
+        [byte] => after_byte(text, *byte),
+        _ => stripped(text, word),
+    }
 }
 
 /// A form after a word. It says what the form says.

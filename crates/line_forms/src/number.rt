@@ -46,23 +46,15 @@ fn parsed_wide(digits: &[u8]) -> Option<u64>
     }
 }
 
-/// Most numbers have few digits, and are not written again to be compared.
-fn parsed(digits: &[u8]) -> Option<u64>
-    ensures { MatchOption result
-        ((number : ℕ) → number < 2 ^ 64 → ¬ (digits.now ≡ decimal number))
-        (λ number. IsNumber (2 ^ 64) number digits.now) }
+/// The number of at most 64 bits that the digits write, if it is written so. Most numbers have few
+/// digits, and are not written again to be compared.
+pub fn number_of(digits: &[u8]) -> Option<u64>
+    ensures { result ≡ number_in (2 ^ 64) digits.now }
 {
     if digits.is_empty() || digits.len() > FEW_DIGITS || (digits[0] == b'0' && digits.len() > 1) {
         return parsed_wide(digits);
     }
     value_of(digits)
-}
-
-/// The number of at most 64 bits that the digits write, if it is written so.
-pub fn number_of(digits: &[u8]) -> Option<u64>
-    ensures { result ≡ number_in (2 ^ 64) digits.now }
-{
-    parsed(digits)
 }
 
 fn below_32(number: Option<u64>) -> Option<u32>
@@ -88,10 +80,8 @@ pub fn digits_before(text: &[u8]) -> usize
     ensures value { result ≡ digits_in text.now }
     ensures within { result ≤ length text.now }
 {
-    match text.iter().position(|byte| !byte.is_ascii_digit()) {
-        Some(at) => at,
-        None => text.len(),
-    }
+    let end = text.iter().position(|byte| !byte.is_ascii_digit());
+    end.unwrap_or(text.len())
 }
 
 /// A number of at most 64 bits.

@@ -37,16 +37,14 @@ use Rattle.omny_audit.specs.inside.Traced.{wanted_by}
 use Rattle.omny_audit.proofs.TraceLemmas.{reads_more}
 
 -- what the ledger is audited by stays the same
-pub given_traced : (audit : Audit) (trace : Option TracedPieces) (text : Vec ℕ Global)
-    (valid : List TapFields) → wanted_by trace ≡ wanted_by audit.trace
-    → given_in (record audit { trace = trace; text = text }) valid ≡ given_in audit valid
-given_traced audit trace text valid same =
-    ap (λ (w : Option Wanted). record (given_in audit valid) { wanted = w }) same
-
-pub given_fed : (audit : Audit) (check : Check) (valid : List TapFields)
-    → is_all check ≡ is_all audit.check
-    → given_in (record audit { check = check }) valid ≡ given_in audit valid
-given_fed audit check valid all = ap (λ (b : Bool). record (given_in audit valid) { all = b }) all
+pub given_kept : (audit : Audit) (check : Check) (trace : Option TracedPieces)
+    (text : Vec ℕ Global) (valid : List TapFields) → is_all check ≡ is_all audit.check
+    → wanted_by trace ≡ wanted_by audit.trace
+    → given_in (record audit { check = check; trace = trace; text = text }) valid
+    ≡ given_in audit valid
+given_kept audit check trace text valid all same =
+    ap (λ (b : Bool). record (given_in audit valid) { all = b; wanted = wanted_by trace }) all
+    ∙ ap (λ (w : Option Wanted). record (given_in audit valid) { wanted = w }) same
 
 -- a check of all lines is never decided, nor is one that finds a legal ledger
 pub undecided : (check : Check) (legal : Bool) → (is_decided check ≡ true → legal ≡ false)
@@ -104,7 +102,7 @@ decided_ends audit valid file written more has is =
       checked = subst (λ (t : List ℕ). HasChecked audit.table.now audit.subtracts valid
           audit.check t written) (sym rest.1)
           (checked_more audit.table.now audit.subtracts valid audit.check has.text written
-          rest.0 has.taken.checked is);
+          rest.0 has.checked is);
       all = λ no. absurd (true≢false (sym is ∙ no));
     }
 
@@ -114,23 +112,26 @@ pub drained : (head : List ℕ) (empty : Bool) → empty ≡ (length head == 0) 
 drained head empty is none = nil_from_length head (eqb-true (length head) 0 (sym is ∙ none))
 
 -- ---- what may be left
--- nothing was reported, or what may be, however the file goes on
-abbrev pub Begins : Given → List ℕ → List ℕ → Type 0
-Begins given file written =
-    (written ≡ []) ⊎ ((more : List ℕ) → IsAuditText given (file ++ more) written)
+-- nothing was reported, or what may be of what reads gave of the ledger, however it goes on
+abbrev pub MayBeLeft : Given → Calls → List ℕ → Type 0
+MayBeLeft given ledger text =
+    (text ≡ []) ⊎ HoldsOfRead ledger (λ file. IsAuditText given file text)
 
--- the remarks on the first lines
-remarked : (audit : Audit) (valid : List TapFields) (file written : List ℕ)
-    → HasAudited audit valid file written → Begins (given_in audit valid) file written
-remarked audit valid file written has = by_check audit.check refl has.taken.checked
+-- the remarks on the first lines, before a piece
+remarked : (audit : Audit) (valid : List TapFields) (ledger : Calls) (file piece written : List ℕ)
+    → ledger.reading.bytes ≡ file ++ piece → HasAudited audit valid file written
+    → MayBeLeft (given_in audit valid) ledger written
+remarked audit valid ledger file piece written read has = by_check audit.check refl has.checked
   where
     by_check : (check : Check) → audit.check ≡ check
         → HasChecked audit.table.now audit.subtracts valid check has.text written
-        → Begins (given_in audit valid) file written
+        → MayBeLeft (given_in audit valid) ledger written
     by_check (First checker balance None) same checked = inl checked.1
     by_check (First checker balance (Some verdict)) same checked = inl checked.2
-    by_check (All full_check full) same checked = inr (λ more.
-        let left = reads_more audit.trace file has.text has.as_text more in inr (
+    by_check (All full_check full) same checked = inr (λ more end.
+        let left = reads_more audit.trace file has.text has.as_text (piece ++ more) in
+        subst (λ (f : List ℕ). IsAuditText (given_in audit valid) f written)
+        (sym (append_assoc file piece more) ∙ ap (λ (f : List ℕ). f ++ more) (sym read)) (inr (
           ap is_all same,
           checked.taken,
           record {
@@ -139,28 +140,14 @@ remarked audit valid file written has = by_check audit.check refl has.taken.chec
             split = ap lines_of left.1 ∙ checked.fed.split left.0;
           },
           checked.reported,
-        ))
-
--- the same of what reads gave of the ledger
-abbrev pub MayBeLeft : Given → Calls → List ℕ → Type 0
-MayBeLeft given ledger text =
-    (text ≡ []) ⊎ HoldsOfRead ledger (λ file. IsAuditText given file text)
-
-left_of : (given : Given) (ledger : Calls) (file piece text : List ℕ)
-    → ledger.reading.bytes ≡ file ++ piece → Begins given file text → MayBeLeft given ledger text
-left_of given ledger file piece text same (inl none) = inl none
-left_of given ledger file piece text same (inr each) = inr (λ more end.
-    subst (λ (f : List ℕ). IsAuditText given f text)
-    (sym (append_assoc file piece more) ∙ ap (λ (f : List ℕ). f ++ more) (sym same))
-    (each (piece ++ more)))
+        )))
 
 left_now : (given : Given) (audit : Audit) (valid : List TapFields) (ledger : Calls)
     (text : List ℕ) (ended : Option Bool) → HoldsNow given audit valid ledger text ended
     → MayBeLeft given ledger text
 left_now given audit valid ledger text None (same, has) =
-    left_of given ledger ledger.reading.bytes [] text (sym (append-nil ledger.reading.bytes))
-    (subst (λ (g : Given). Begins g ledger.reading.bytes text) same
-    (remarked audit valid ledger.reading.bytes text has))
+    subst (λ (g : Given). MayBeLeft g ledger text) same (remarked audit valid ledger
+    ledger.reading.bytes [] text (sym (append-nil ledger.reading.bytes)) has)
 left_now given audit valid ledger text (Some success) found =
     inr (λ more end. let one = found.0 more end in inl (one.0, success, one.1))
 
@@ -218,9 +205,8 @@ pub interrupted : (given : Given) (audit : Audit) (valid : List TapFields) (file
     → EndsAs given ledger old new (Err fault)
 interrupted given audit valid file piece ledger old new fault read was is =
     failed given ledger old new was.written was.written [] fault
-    (left_of given ledger file piece was.written read
-    (subst (λ (g : Given). Begins g file was.written) was.same
-    (remarked audit valid file was.written was.has)))
+    (subst (λ (g : Given). MayBeLeft g ledger was.written) was.same
+    (remarked audit valid ledger file piece was.written read was.has))
     (sym (append-nil was.written)) (ap (λ r. r.written) was.wrote) (ap (λ r. r.said) was.wrote) is
 
 -- the audit of a piece

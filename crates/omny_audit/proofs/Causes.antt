@@ -1,38 +1,30 @@
 -- The causes of faults.
 use Rattle.std.proofs.Common.{◌≡◌, ◌++◌, ◌∷◌, [], ℕ, Bool, List, Option, Some, Result, Ok}
-use Rattle.std.proofs.Common.{◌∙◌, Err, ap, append-nil, inl, inr, refl, subst, sym}
-use Rattle.std.specs.Prelude.{Contains, ◌⊎◌}
+use Rattle.std.proofs.Common.{Err, ap, append-nil, inl, inr, refl, subst, sym}
+use Rattle.std.specs.Prelude.{Contains}
 use Rattle.std.proofs.lemmas.List.Elements.{Contains-append_left, Contains-append_right}
 use Rattle.std.proofs.lemmas.List.Elements.{Contains-push}
 use Rattle.std.proofs.lemmas.Option.{get_or_from_slice_get, slice_get_within}
-use Rattle.fare_table.specs.declared.fault.TableFault.TheVariants as table
 use Rattle.class_names.specs.ClassFaults.{IsFaultOf, IsWrongAt}
 use Rattle.class_names.specs.declared.names.ClassFault.TheVariants as class
 use Rattle.class_names.specs.declared.names.WrongNames.{WrongNames}
-use Rattle.frame.specs.Failing.{HasStarted, IsCause}
-use Rattle.program_manners.proofs.Refusals.{has_refused}
-use Rattle.program_manners.proofs.TablesRefused.{among, named_among}
+use Rattle.frame.specs.Failing.{HasStarted}
 use Rattle.program_manners.specs.Refusals.{IsOneOf, IsShown}
 use Rattle.program_manners.specs.TableLoads.{LoadsTables}
-use Rattle.program_manners.specs.TableWords.{TableNames, file_named, table_files}
-use Rattle.program_manners.specs.TablesFaults.{IsTablesFault}
+use Rattle.program_manners.specs.TableWords.{TableNames, table_files}
 use Rattle.program_manners.specs.declared.recorded_loads.RecordedLoads.{RecordedLoads}
-use Rattle.program_manners.specs.declared.table_loads.TablesFault.{TablesFault}
-use Rattle.program_manners.specs.declared.table_loads.TablesFault.TheVariants as unloaded
 use Rattle.tariffs.specs.Fares.{Fares}
-use Rattle.world.specs.declared.faults.LoadFault.{LoadFault}
 use Rattle.world.specs.declared.faults.WriteFault.{WriteFault}
 use Rattle.world.specs.Run.{Calls, Load, Run, with_cut, with_written}
 use Rattle.omny_audit.specs.inside.Ends.{EndsAudit}
-use Rattle.omny_audit.specs.Ends.{Did, FailsAudit, IsWrongFile, LoadsUnplainClass, NamesUnplainClass}
-use Rattle.omny_audit.specs.Ends.{did_by, remembered}
-use Rattle.omny_audit.specs.Fault.{cause_of}
+use Rattle.omny_audit.specs.Ends.{Did, HasStartedText, IsRightFault, LoadsUnplainClass, NamesUnplainClass}
+use Rattle.omny_audit.specs.Ends.{did_by}
 use Rattle.omny_audit.specs.Options.{AuditRequest, files_of, ledger_name, named_file}
 use Rattle.omny_audit.specs.Program.{HasFound, HasLoaded, HoldsOfRead, IsTextOf, given_of}
 use Rattle.omny_audit.specs.Reports.{AuditsDecide, IsAudit, IsAuditText}
 use Rattle.omny_audit.specs.declared.fault.Fault.{Fault}
 use Rattle.omny_audit.specs.declared.fault.Fault.TheVariants.{ClassName, File, GivenLedger, Ledger}
-use Rattle.omny_audit.specs.declared.fault.Fault.TheVariants.{NamedClass, NoMemory, Tables, Unwritten}
+use Rattle.omny_audit.specs.declared.fault.Fault.TheVariants.{NamedClass, NoMemory, Unwritten}
 use Rattle.omny_audit.specs.inside.Audits.{EndsAs}
 use Rattle.omny_audit.specs.inside.Fault.{IsClassFault, IsLoadFault, IsNamedClass, IsStreamFault}
 use Rattle.omny_audit.specs.inside.Fault.{IsUnopened}
@@ -48,14 +40,6 @@ one_of name (other ∷ names) one = elim one [
 ]
 
 module _ (request : AuditRequest) where
-  among_tables : (name : List ℕ) → Contains (table_files request.table) name
-      → Contains (files_of request) name
-  among_tables name is = Contains-append_left (table_files request.table) _ name is
-
-  first_table : Contains (files_of request) request.table.first
-  first_table = among_tables request.table.first
-      (one_of request.table.first (table_files request.table) (inl refl))
-
   pub among_uploads : (name : List ℕ) → Contains request.uploads name
       → Contains (files_of request) name
   among_uploads name is = Contains-append_right (table_files request.table) _ name
@@ -68,67 +52,35 @@ module _ (request : AuditRequest) where
       (Contains-append_left (request.uploads ++ named_file request.report) _ name
       (Contains-append_right request.uploads (named_file request.report) name is))
 
-  pub among_ledgers : Contains (files_of request) (ledger_name request)
+  among_ledgers : Contains (files_of request) (ledger_name request)
   among_ledgers = Contains-append_right (table_files request.table) _ (ledger_name request)
       (Contains-push (request.uploads ++ named_file request.report) (ledger_name request))
 
-  -- the fault has a cause, of a run that did this
-  abbrev pub HasCause : Did → Fault → Type 0
-  HasCause did fault = IsCause (files_of request) (IsWrongFile request did.loaded did.loaded')
-      (remembered request did) (cause_of request fault)
-
   pub load_cause : (start loads : RecordedLoads) (ledger : Calls) (old new : Run) (name : List ℕ)
       (fault : Fault) → Contains (files_of request) name → IsLoadFault name loads fault
-      → HasCause (did_by start loads ledger old new) fault
+      → IsRightFault request (did_by start loads ledger old new) fault
   load_cause start loads ledger old new name (File file) one (same, is) = rw same (one, inl is)
-  load_cause start loads ledger old new name (GivenLedger given) one (same, is) =
-      rw same (one, inr (inr is))
+  load_cause start loads ledger old new name (GivenLedger given) one (same, is) = rw same (one, is)
   load_cause start loads ledger old new name NoMemory one is = tt
   load_cause start loads ledger old new name _ one is = absurd is
 
   module _ (did : Did) where
     pub stream_cause : did.ledger.reading.name ≡ request.ledger → (fault : Fault)
-        → IsStreamFault did.ledger did.new.cut fault → HasCause did fault
-    stream_cause named (Ledger why) is = (
-      among_ledgers,
-      inr (refl, subst (λ (n : Option (List ℕ)). IsShown did.ledger.run (n, why)) named is),
-    )
+        → IsStreamFault did.ledger did.new.cut fault → IsRightFault request did fault
+    stream_cause named (Ledger why) is =
+        subst (λ (n : Option (List ℕ)). IsShown did.ledger.run (n, why)) named is
     stream_cause named (Unwritten why) is = is
     stream_cause named NoMemory is = tt
     stream_cause named _ is = absurd is
 
     pub unopened_cause : (fault : Fault) → IsUnopened request.ledger did.ledger.run fault
-        → HasCause did fault
+        → IsRightFault request did fault
     unopened_cause (File file) is = rw is.0 (among_ledgers, inr (refl, is.1))
     unopened_cause _ is = absurd is
 
-    pub tables_cause : (fault : TablesFault)
-        → IsTablesFault request.table (Some did.loaded) (Some did.loaded') (Some did.refused) fault
-        → HasCause did (Tables fault)
-    tables_cause (unloaded.File file) is = (
-      among_tables file.name.now (one_of file.name.now (table_files request.table) is.0),
-      inl (has_refused (Some did.refused) (Some file.name.now) file.fault is.1),
-    )
-    tables_cause (unloaded.Table table.NoMemory) is = tt
-    tables_cause (unloaded.Table fault) is =
-        (first_table, inl (unloaded.Table fault, refl, is))
-    tables_cause (unloaded.NamedTable line) is = (
-      among_tables line.name.now (one_of line.name.now (table_files request.table)
-          (named_among request.table (Some did.loaded) (Some did.loaded') line.name.now line.fault
-          is)),
-      inl (unloaded.NamedTable line, refl, is),
-    )
-    tables_cause (unloaded.Follow line) is = (
-      among_tables (file_named line.word.now)
-          (one_of (file_named line.word.now) (table_files request.table)
-          (inr (rw is.up_to.holds (among is.up_to.before is.up_to.trailing line.word.now)))),
-      inl (unloaded.Follow line, refl, is),
-    )
-    tables_cause unloaded.NoMemory is = tt
-
     pub class_cause : (between : List Load) (texts : List (List ℕ)) (fares : Fares)
         (fault : Fault) → LoadsTables request.table (Some did.loaded) (Some between) texts fares
-        → IsClassFault request.table texts fault → HasCause did fault
+        → IsClassFault request.table texts fault → IsRightFault request did fault
     class_cause between texts fares fault loads = by_fault fault
       where
         loaded : NamesUnplainClass texts → LoadsUnplainClass request.table did.loaded
@@ -140,9 +92,10 @@ module _ (request : AuditRequest) where
           names = names;
         }
 
-        by_fault : (fault : Fault) → IsClassFault request.table texts fault → HasCause did fault
-        by_fault ClassName is = (first_table, inr (inl (loaded is)))
-        by_fault (NamedClass line) is = (among_tables line.0.now is.0, inr (inl (loaded is.1)))
+        by_fault : (fault : Fault) → IsClassFault request.table texts fault
+            → IsRightFault request did fault
+        by_fault ClassName is = loaded is
+        by_fault (NamedClass line) is = (is.0, loaded is.1)
         by_fault NoMemory is = tt
         by_fault _ is = absurd is
 
@@ -175,6 +128,11 @@ pub started_none : (Right : List ℕ → Type 0) (out : List ℕ) → HasStarted
 started_none Right out =
     record { front = []; grown = sym (append-nil out); rest = []; right = inl refl }
 
+-- the run failed before anything was written
+pub stopped_before : {Right : Type 0} (Text : List ℕ → Type 0) (run : Run) → Right
+    → Right × HasStarted Text run.written run.written × (run.said ≡ run.said)
+stopped_before Text run right = (right, started_none Text run.written, refl)
+
 -- what an audit of these files ends as
 pub ends_audit : (request : AuditRequest) (did : Did) (result : Result Bool Fault) → AuditsDecide
     → (files : HasLoaded request did.loaded did.loaded' did.ledger)
@@ -197,13 +155,11 @@ ends_audit request did (Ok success) decide files is = (
   is.1,
 )
 ends_audit request did (Err fault) decide files is = (
-  record {
-    is_cause = stream_cause request did files.reads_ledger fault is.0;
-    started = started_weaker (λ text. HoldsOfRead did.ledger
-        (λ file. IsAuditText (given_of request files) file text))
-        (IsTextOf request did.loaded did.loaded' did.ledger) did.old.written did.new.written
-        (λ text right. record { files = files; right = right }) is.1;
-  },
+  stream_cause request did files.reads_ledger fault is.0,
+  started_weaker (λ text. HoldsOfRead did.ledger
+      (λ file. IsAuditText (given_of request files) file text))
+      (IsTextOf request did.loaded did.loaded' did.ledger) did.old.written did.new.written
+      (λ text right. record { files = files; right = right }) is.1,
   is.2,
 )
 
@@ -211,23 +167,20 @@ ends_audit request did (Err fault) decide files is = (
 pub unflushed : (request : AuditRequest) (did : Did) (text : List ℕ) (success : Bool)
     (before : Run) (why : WriteFault) → HasFound request did.loaded did.loaded' did.ledger text success
     → before ≡ with_written did.old text
-    → FailsAudit request (record did { new = with_cut before why }) (Unwritten why)
+    → HasStartedText request (record did { new = with_cut before why })
 unflushed request did text success before why found wrote = record {
-  is_cause = refl;
-  started = record {
-    front = text;
-    grown = ap (λ (r : Run). r.written) wrote;
-    rest = [];
-    right = inr (record {
-      files = found.files;
-      right = λ more end.
-          let one = found.found more end in inl (
-            one.read,
-            success,
-            subst (λ (t : List ℕ). IsAudit (given_of request found.files)
-                (did.ledger.reading.bytes ++ more) one.read t success) (sym (append-nil text))
-                one.audit,
-          );
-    });
-  };
+  front = text;
+  grown = ap (λ (r : Run). r.written) wrote;
+  rest = [];
+  right = inr (record {
+    files = found.files;
+    right = λ more end.
+        let one = found.found more end in inl (
+          one.read,
+          success,
+          subst (λ (t : List ℕ). IsAudit (given_of request found.files)
+              (did.ledger.reading.bytes ++ more) one.read t success) (sym (append-nil text))
+              one.audit,
+        );
+  });
 }

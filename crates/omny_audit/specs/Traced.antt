@@ -16,21 +16,9 @@ use Rattle.omny_audit.specs.declared.traced.PositionFault.{PositionFault}
 use Rattle.omny_audit.specs.declared.traced.PositionFault.TheVariants.{NoLine, OtherTap, Repeated}
 use Rattle.omny_audit.specs.declared.traced.WrongClass.{WrongClass}
 
--- the tap of a line, and its columns
-pub record TapWithColumns : Type 0 where
-  pub tap : TapFields
-  pub class : List ℕ
-  pub upload : ℕ
-  pub position : ℕ
-
--- a tap with the columns of its line
-abbrev pub traced_by : TracedLine → TapFields → TapWithColumns
-traced_by cut tap = record {
-  tap = tap;
-  class = cut.class;
-  upload = cut.upload;
-  position = cut.position;
-}
+-- a tap, and its line, which has the columns
+abbrev pub TapWithColumns : Type 0
+TapWithColumns = TapFields × TracedLine
 
 -- a line that has not the form of a traced one names no tap, and a line that has it names the one
 -- of its fields, if these name one
@@ -38,7 +26,7 @@ abbrev pub NamesTapWithColumns : Option TracedLine → Option TapWithColumns →
 NamesTapWithColumns None traced = traced ≡ None
 NamesTapWithColumns (Some cut) traced =
     (tap : Option TapFields) × IsTapOfLine (cut.fields ++ 10 ∷ []) tap
-    × (traced ≡ option_map (traced_by cut) tap)
+    × (traced ≡ option_map (λ (t : TapFields). (t, cut)) tap)
 
 -- a line that was read, and what it names
 pub record ReadLine : Type 0 where
@@ -59,8 +47,8 @@ lines_read (read ∷ earlier) = lines_read earlier ++ read.line ∷ []
 abbrev pub class_fault : (ℕ → List ℕ → List ℕ) → ℕ → Option TapWithColumns → Option WrongClass
 class_fault classes line None = None
 class_fault classes line (Some traced) =
-    if bytes_eq (classes traced.tap.moment traced.tap.token) traced.class then None
-    else Some (record { line = line; moment = traced.tap.moment; token = traced.tap.token })
+    if bytes_eq (classes traced.0.moment traced.0.token) traced.1.class then None
+    else Some (record { line = line; moment = traced.0.moment; token = traced.0.token })
 
 -- the first line that has another class than the one of its token at its moment
 abbrev pub wrong_class : (ℕ → List ℕ → List ℕ) → List ReadLine → Option WrongClass
@@ -78,7 +66,8 @@ class_text classes (Some fault) =
 -- whether the line has this upload and place
 abbrev pub has_position : ℕ → ℕ → Option TapWithColumns → Bool
 has_position upload position None = false
-has_position upload position (Some traced) = is_position upload position traced.upload traced.position
+has_position upload position (Some traced) =
+    is_position upload position traced.1.upload traced.1.position
 
 -- whether one of the lines has this upload and place
 abbrev pub have_position : List ReadLine → ℕ → ℕ → Bool
@@ -98,9 +87,9 @@ abbrev pub position_fault : List (List TapFields) → List ReadLine → ℕ → 
     → Option PositionFault
 position_fault uploads earlier line None = None
 position_fault uploads earlier line (Some traced) =
-    fault_by line traced.upload traced.position
-    (position_finding (tap_at uploads traced.upload traced.position)
-    (have_position earlier traced.upload traced.position) traced.tap)
+    fault_by line traced.1.upload traced.1.position
+    (position_finding (tap_at uploads traced.1.upload traced.1.position)
+    (have_position earlier traced.1.upload traced.1.position) traced.0)
 
 -- the first line that has such a fault
 abbrev pub wrong_position : List (List TapFields) → List ReadLine → Option PositionFault
@@ -143,7 +132,8 @@ fault_text (OtherTap line upload position) =
 fault_text (Repeated line upload position) =
     codes "line " ++ (decimal line ++ (codes " has " ++ (upload_position_text upload position
     ++ codes " again")))
-fault_text (NoLine upload position) = codes "no line has " ++ upload_position_text upload position
+fault_text (NoLine upload position) =
+    codes "no line has upload " ++ (decimal upload ++ (codes " place " ++ decimal position))
 
 abbrev pub positions_text : Option PositionFault → List ℕ
 positions_text None = codes "all places of the uploads\n"

@@ -4,7 +4,7 @@ ghost use Rattle.std.specs.Prelude.{◌≡◌, ◌++◌, ℕ, List, [], IfOk, No
 ghost use Rattle.tap_views.specs.declared.encoder.TapFields.{TapFields};
 ghost use Rattle.omny_audit.specs.Reports.{IsAudit};
 ghost use Rattle.omny_audit.specs.Traced.{ReadLine};
-ghost use Rattle.omny_audit.specs.inside.Audits.{EndsAs, GoesOn, HasAudited, HasEnded, HasTaken};
+ghost use Rattle.omny_audit.specs.inside.Audits.{EndsAs, GoesOn, HasAudited, HasEnded};
 ghost use Rattle.omny_audit.specs.inside.Audits.{HoldsNow, given_in};
 ghost use Rattle.omny_audit.specs.inside.Checks.{is_decided};
 ghost use Rattle.world.specs.Run.{Calls};
@@ -39,17 +39,17 @@ pub(crate) struct Audit<'a> {
 }
 
 impl Audit<'_> {
-    /// Checks what was read of the last piece, and appends what is reported of it.
-    fn take(&mut self, alloc: Global, reported: &mut String) -> Result<(), NoMemory>
-        requires { (valid : List TapFields) × (text written : List ℕ)
-            × HasTaken self.old valid text written }
-        ensures trace { self.new.trace ≡ self.old.trace }
-        ensures taken { OnOk result ((valid : List TapFields) (text written : List ℕ)
-            → HasTaken self.old valid text written → (more : List ℕ)
+    /// Checks the piece, and appends what is reported of it.
+    fn read(&mut self, alloc: Global, piece: &[u8], reported: &mut String) -> Result<(), NoMemory>
+        requires { (valid : List TapFields) × (file written : List ℕ)
+            × HasAudited self.old valid file written }
+        ensures { OnOk result ((valid : List TapFields) (file written : List ℕ)
+            → HasAudited self.old valid file written → (more : List ℕ)
             × (string_bytes reported.new ≡ string_bytes reported.old ++ more)
             × (given_in self.new valid ≡ given_in self.old valid)
-            × HasTaken self.new valid (text ++ self.old.text.items) (written ++ more)) }
+            × HasAudited self.new valid (file ++ piece.now) (written ++ more)) }
     {
+        read_piece(&mut self.trace, piece, &mut self.text)?;
         let text = self.text.as_slice();
         self.check.feed(
             alloc,
@@ -62,20 +62,7 @@ impl Audit<'_> {
         Ok(())
     }
 
-    fn read(&mut self, alloc: Global, piece: &[u8], reported: &mut String) -> Result<(), NoMemory>
-        requires { (valid : List TapFields) × (file written : List ℕ)
-            × HasAudited self.old valid file written }
-        ensures { OnOk result ((valid : List TapFields) (file written : List ℕ)
-            → HasAudited self.old valid file written → (more : List ℕ)
-            × (string_bytes reported.new ≡ string_bytes reported.old ++ more)
-            × (given_in self.new valid ≡ given_in self.old valid)
-            × HasAudited self.new valid (file ++ piece.now) (written ++ more)) }
-    {
-        read_piece(&mut self.trace, piece, &mut self.text)?;
-        self.take(alloc, reported)?;
-        Ok(())
-    }
-
+    /// Checks the line that the end cuts.
     fn read_end(&mut self, alloc: Global, reported: &mut String) -> Result<(), NoMemory>
         requires { (valid : List TapFields) × (file written : List ℕ)
             × HasAudited self.old valid file written }
@@ -86,7 +73,15 @@ impl Audit<'_> {
             × HasEnded self.new valid file (written ++ more)) }
     {
         read_end(&mut self.trace, &mut self.text)?;
-        self.take(alloc, reported)?;
+        let text = self.text.as_slice();
+        self.check.feed(
+            alloc,
+            self.table,
+            self.clock,
+            text,
+            self.subtracts,
+            reported,
+        )?;
         Ok(())
     }
 
@@ -104,9 +99,9 @@ impl Audit<'_> {
         let found = self
             .check
             .finish(alloc, self.subtracts, self.live, &mut reported)?;
-        let mut text = reported.into_bytes();
         let is_looked_at = is_either(all, found.is_legal);
-        let is_right = write_columns(alloc, &mut text, is_looked_at, &self.trace)?;
+        let is_right = write_columns(&mut reported, is_looked_at, &self.trace)?;
+        let mut text = reported.into_bytes();
         let is_whole = are_both(found.is_legal, is_right);
         let verdict = verdict_on(alloc, is_whole, &self.report, &found.sums, self.ends)?;
         write_last_lines(alloc, &mut text, &verdict, self.ends)?;

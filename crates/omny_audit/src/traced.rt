@@ -13,8 +13,7 @@ ghost use Rattle.ledger_check.specs.Taps.{IsTapOfLine};
 ghost use Rattle.omny_audit.specs.Traced.{AreColumnsReported, IsFaultAfter, IsPositionFault};
 ghost use Rattle.omny_audit.specs.Traced.{NamesTapWithColumns, ReadLine, class_fault, class_text};
 ghost use Rattle.omny_audit.specs.Traced.{fault_by, fault_text, lines_read, positions_text};
-ghost use Rattle.omny_audit.specs.Traced.{upload_position_text, position_text};
-ghost use Rattle.omny_audit.specs.Traced.{traced_by};
+ghost use Rattle.omny_audit.specs.Traced.{position_text, upload_position_text};
 ghost use Rattle.omny_audit.specs.declared.traced.PositionFault.{PositionFault as AFault};
 ghost use Rattle.omny_audit.specs.inside.Traced.{HasLines, HasLooked, HasPositions, HasReadAll};
 ghost use Rattle.omny_audit.specs.inside.Traced.{HasReadAs, HasTraced, HaveNamed, IsKeptOf, placed_of};
@@ -68,7 +67,7 @@ pub(crate) enum PositionFault {
 /// An upload, from 0, and an index there, from 1.
 #[derive(Clone, Copy)]
 struct UploadPosition {
-    upload: u64,
+    upload: u32,
     position: u64,
 }
 
@@ -99,29 +98,16 @@ impl fmt::Display for PositionFault {
                 position,
             } => {
                 let at = UploadPosition {
-                    upload: *upload as u64,
+                    upload: *upload,
                     position: *position,
                 };
                 write!(f, "line {line} has {at} again")
             }
             PositionFault::NoLine { upload, position } => {
-                let at = UploadPosition {
-                    upload: *upload,
-                    position: *position,
-                };
-                write!(f, "no line has {at}")
+                write!(f, "no line has upload {upload} place {position}")
             }
         }
     }
-}
-
-/// The tap of a line, and its columns.
-#[derive(Clone, Copy)]
-struct PlacedLine<'a> {
-    tap: TapFields,
-    class: &'a [u8],
-    upload: u32,
-    position: u64,
 }
 
 fn are_same(a: &[u8], b: &[u8]) -> bool
@@ -162,17 +148,12 @@ fn put_fields(
     Ok(tap)
 }
 
-fn placed<'a>(cut: CutLine<'a>, tap: Option<TapFields>) -> Option<PlacedLine<'a>>
-    ensures { option_map placed_of result ≡ option_map (traced_by (cut_of cut.entry)) tap }
+fn with_columns<'a>(cut: CutLine<'a>, tap: Option<TapFields>) -> Option<(TapFields, CutLine<'a>)>
+    ensures { option_map placed_of result ≡ option_map (λ (t : ATap). (t, cut_of cut.entry)) tap }
 {
     match tap {
         None => None,
-        Some(tap) => Some(PlacedLine {
-            tap,
-            class: cut.class,
-            upload: cut.upload,
-            position: cut.position,
-        }),
+        Some(tap) => Some((tap, cut)),
     }
 }
 
@@ -183,7 +164,7 @@ fn untrace<'a>(
     line: &'a [u8],
     fields: &mut Vec<u8>,
     again: &mut String,
-) -> Result<Option<PlacedLine<'a>>, AllocError>
+) -> Result<Option<(TapFields, CutLine<'a>)>, AllocError>
     ensures text { OnOk result (text.new.items ≡ text.old.items ++ untraced_line line.now) }
     ensures names { IfOk result
         (λ named. NamesTapWithColumns (cut_line line.now) (option_map placed_of named)) }
@@ -195,21 +176,25 @@ fn untrace<'a>(
         }
         Some(cut) => {
             let tap = put_fields(text, cut.fields, fields, again)?;
-            Ok(placed(cut, tap))
+            Ok(with_columns(cut, tap))
         }
     }
 }
 
-fn class_fault(names: &ClassNames, line: u64, named: &Option<PlacedLine<'_>>) -> Option<WrongClass>
+fn class_fault(
+    names: &ClassNames,
+    line: u64,
+    named: &Option<(TapFields, CutLine<'_>)>,
+) -> Option<WrongClass>
     ensures { result ≡ class_fault (class_by names.now) line (option_map placed_of named.now) }
 {
     let Some(named) = named else {
         return None;
     };
-    let tap = named.tap;
+    let tap = named.0;
     if are_same(
         names.class_of(tap.moment, &tap.token).as_bytes(),
-        named.class,
+        named.1.class,
     ) {
         return None;
     }
@@ -247,7 +232,7 @@ fn fault_by(
 fn name_position(
     positions: &mut Option<Positions>,
     number: u64,
-    named: &Option<PlacedLine<'_>>,
+    named: &Option<(TapFields, CutLine<'_>)>,
 ) -> Option<PositionFault>
     ensures uploads { uploads_in positions.new ≡ uploads_in positions.old }
 
@@ -262,8 +247,8 @@ fn name_position(
     let Some(positions) = positions else {
         return None;
     };
-    let finding = positions.name(named.upload, named.position, &named.tap);
-    fault_by(number, named.upload, named.position, finding)
+    let finding = positions.name(named.1.upload, named.1.position, &named.0);
+    fault_by(number, named.1.upload, named.1.position, finding)
 }
 
 /// If no earlier line has a wrong place.
@@ -271,7 +256,7 @@ fn look_at_position(
     positions: &mut Option<Positions>,
     wrong: &mut Option<PositionFault>,
     number: u64,
-    named: &Option<PlacedLine<'_>>,
+    named: &Option<(TapFields, CutLine<'_>)>,
 )
     ensures uploads { uploads_in positions.new ≡ uploads_in positions.old }
     ensures positions { (read : List ReadLine) (line : List ℕ)
@@ -316,7 +301,7 @@ pub(crate) struct LinesRead {
 
 impl LinesRead {
     /// Looks at the columns of the next line. 2^64 lines are an allocation failure.
-    fn look(&mut self, named: &Option<PlacedLine<'_>>) -> Result<(), AllocError>
+    fn look(&mut self, named: &Option<(TapFields, CutLine<'_>)>) -> Result<(), AllocError>
         ensures wanted { wanted_of self.new ≡ wanted_of self.old }
         ensures looked { OnOk result ((read : List ReadLine) (line : List ℕ)
             → HasLooked self.old read → HasLooked self.new
@@ -450,21 +435,31 @@ impl TracedPieces {
     }
 
     /// Returns whether all classes are right.
-    fn write_classes(&self, alloc: Global, text: &mut Vec<u8>) -> Result<bool, AllocError>
-        ensures text { OnOk result (text.new.items ≡ text.old.items
+    #[tactic(auto, unfolding(crate::specs::Traced::class_text))]
+    fn write_classes(&self, text: &mut String) -> Result<bool, AllocError>
+        ensures text { OnOk result (string_bytes text.new ≡ string_bytes text.old
             ++ class_text (class_by self.now.so_far.names) self.now.so_far.wrong_class) }
         ensures right { IfOk result (λ right. right ≡ not (is_some self.now.so_far.wrong_class)) }
     {
-        let reported = class_line(alloc, &self.so_far.names, &self.so_far.wrong_class)?;
-        text.extend_from_slice(reported.as_bytes())?;
-        Ok(self.so_far.wrong_class.is_none())
+        match &self.so_far.wrong_class {
+            None => {
+                text.push_str("all classes of the table\n")?;
+                Ok(true)
+            }
+            Some(wrong) => {
+                let line = wrong.line;
+                let class = self.so_far.names.class_of(wrong.moment, &wrong.token);
+                write!(text, "line {line} has another class than {class}\n")?;
+                Ok(false)
+            }
+        }
     }
 
     /// If there are uploads. Returns whether all places are right.
-    fn write_positions(&self, alloc: Global, text: &mut Vec<u8>) -> Result<bool, AllocError>
+    fn write_positions(&self, text: &mut String) -> Result<bool, AllocError>
         ensures { IfOk result (λ right. (fault : Option AFault)
-            × (text.new.items
-            ≡ text.old.items ++ position_text (uploads_in self.now.so_far.positions) fault)
+            × (string_bytes text.new ≡ string_bytes text.old
+            ++ position_text (uploads_in self.now.so_far.positions) fault)
             × (right ≡ not (is_some fault))
             × ((read : List ReadLine)
             → HasPositions self.now.so_far.positions self.now.so_far.wrong_position read
@@ -474,37 +469,18 @@ impl TracedPieces {
             return Ok(true);
         };
         let fault = first_fault(positions, &self.so_far.wrong_position);
-        let reported = position_line(alloc, &fault)?;
-        text.extend_from_slice(reported.as_bytes())?;
+        write_position(text, &fault)?;
         Ok(fault.is_none())
     }
 }
 
-#[tactic(auto, unfolding(crate::specs::Traced::class_text))]
-fn class_line(
-    alloc: Global,
-    names: &ClassNames,
-    wrong: &Option<WrongClass>,
-) -> Result<String, AllocError>
-    ensures { IfOk result (λ reported. string_bytes reported
-        ≡ class_text (class_by names.now) wrong.now) }
-{
-    match wrong {
-        None => format!(in alloc; "all classes of the table\n"),
-        Some(wrong) => {
-            let line = wrong.line;
-            let class = names.class_of(wrong.moment, &wrong.token);
-            format!(in alloc; "line {line} has another class than {class}\n")
-        }
-    }
-}
-
-fn position_line(alloc: Global, fault: &Option<PositionFault>) -> Result<String, AllocError>
-    ensures { IfOk result (λ reported. string_bytes reported ≡ positions_text fault.now) }
+fn write_position(text: &mut String, fault: &Option<PositionFault>) -> Result<(), AllocError>
+    ensures { OnOk result
+        (string_bytes text.new ≡ string_bytes text.old ++ positions_text fault.now) }
 {
     match fault {
-        None => format!(in alloc; "all places of the uploads\n"),
-        Some(fault) => format!(in alloc; "{fault}\n"),
+        None => text.push_str("all places of the uploads\n"),
+        Some(fault) => write!(text, "{fault}\n"),
     }
 }
 
@@ -554,13 +530,12 @@ pub(crate) fn read_end(
 /// Returns whether the columns are right, if they are looked at: those of a ledger that is not
 /// traced are.
 pub(crate) fn write_columns(
-    alloc: Global,
-    text: &mut Vec<u8>,
+    text: &mut String,
     is_looked_at: bool,
     trace: &Option<TracedPieces>,
 ) -> Result<bool, AllocError>
     ensures { IfOk result (λ right. (reported : List ℕ)
-        × (text.new.items ≡ text.old.items ++ reported)
+        × (string_bytes text.new ≡ string_bytes text.old ++ reported)
         × ((file : List ℕ) → (is_looked_at ≡ true → HasReadAll trace.now file)
         → (read : List ReadLine)
         × AreColumnsReported (wanted_by trace.now) is_looked_at file read reported right)) }
@@ -571,7 +546,7 @@ pub(crate) fn write_columns(
     if !is_looked_at {
         return Ok(false);
     }
-    let are_classes = trace.write_classes(alloc, text)?;
-    let are_positions = trace.write_positions(alloc, text)?;
+    let are_classes = trace.write_classes(text)?;
+    let are_positions = trace.write_positions(text)?;
     Ok(are_both(are_classes, are_positions))
 }

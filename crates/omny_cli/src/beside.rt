@@ -1,6 +1,6 @@
 //! A run with a line beside it that says what it does.
 ghost use Rattle.std.specs.Prelude.{map, string_bytes};
-ghost use Rattle.omny_cli.specs.Over.{EndsOver};
+ghost use Rattle.fare_program.specs.Ends.{Ends, did_over};
 
 use fare_program::{Complaints, Disk, Output, Source, main_over};
 use run_progress::Ticker;
@@ -29,17 +29,17 @@ pub fn run_beside_line<
     out: &mut Output<W>,
     err: &mut Complaints<E>,
 ) -> u8
-    ensures { EndsOver D.bytes_under D.origin S.loaded S.refused W.contents E.contents
-        (map string_bytes words.now) disk.now source.old source.new out.old out.new err.old err.new
+    ensures { Ends (map string_bytes words.now) (did_over D.bytes_under D.origin S.loaded S.refused
+        W.contents E.contents disk.now source.old source.new out.old out.new err.old err.new)
         result }
 {
     let (_, status) = thread::join_mut(
         rt,
         &mut || ticker.tick(rt),
         &mut || -> u8
-            ensures { EndsOver D.bytes_under D.origin S.loaded S.refused W.contents E.contents
-                (map string_bytes words.entry.now) disk.entry.now source.entry.now source.exit.now
-                out.entry.now out.exit.now err.entry.now err.exit.now result }
+            ensures { Ends (map string_bytes words.entry.now) (did_over D.bytes_under D.origin
+                S.loaded S.refused W.contents E.contents disk.entry.now source.entry.now
+                source.exit.now out.entry.now out.exit.now err.entry.now err.exit.now) result }
         {
             let status = main_over(rt, rt.alloc(), words, disk, source, out, err);
             ticker.end(rt);

@@ -7,6 +7,7 @@ pub mod AllParts
 pub mod Kept
 pub mod Leads
 pub mod HeadLines
+pub mod KnownTokens
 pub mod ShownFronts
 pub mod ShownSections
 pub mod KeySums

@@ -20,6 +20,7 @@ ghost use Rattle.part_texts.specs.FrontSteps.{ledger_step, span_step, tokens_ste
 ghost use Rattle.part_texts.specs.FrontSteps.{upload_step, uploads_step, validator_step, validators_step};
 
 use crate::head::span_in;
+use crate::seen::Seen;
 use fare_texts::head_line;
 use histories::{Totals, ValidatorSum};
 use report_texts::Wrong;
@@ -118,6 +119,8 @@ pub struct Fronts {
     pub tokens: u64,
     /// The token of the line before, of this part or of an earlier one.
     pub last: Option<Token>,
+    /// The token of the last entry that was decoded.
+    pub(crate) seen: Option<Seen>,
 }
 
 pub(crate) fn added(sum: &Totals, more: &Totals) -> Option<Totals>
@@ -270,6 +273,7 @@ impl Fronts {
             validators: BTreeMap::new(alloc),
             tokens: 0,
             last: None,
+            seen: None,
         }
     }
 

@@ -7,6 +7,7 @@ mod head;
 pub mod laws;
 mod merging;
 mod sections;
+mod seen;
 
 pub use fault::MergeFault;
 pub use head::{span_in, write_part_head};

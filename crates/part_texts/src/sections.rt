@@ -8,6 +8,7 @@ ghost use Rattle.part_texts.specs.inside.Fronts.{TakesAs, fronts_view};
 ghost use Rattle.report_texts.specs.Forms.{token_read};
 
 use crate::fronts::{Fronts, Refusal, Stage, added, are_same};
+use crate::seen::{Seen, seen_of};
 use ledger_fields::row_fields;
 use line_forms::form::FormOf;
 use report_texts::Wrong;
@@ -21,13 +22,19 @@ fn front_token(line: &[u8]) -> Option<Token>
     Some(token)
 }
 
-fn entry_token_in(line: &[u8]) -> Option<Token>
+/// Most lines have the digits of the line before, which are not decoded again.
+fn entry_token_in(seen: &mut Option<Seen>, line: &[u8]) -> Option<Token>
     ensures { result ≡ entry_token_in line.now }
 {
-    match row_fields(line) {
-        Some(_) => front_token(line),
-        None => None,
+    let fields = row_fields(line)?;
+    if let Some(known) = &*seen {
+        if fields.token == known.digits.as_slice() {
+            return Some(known.token);
+        }
     }
+    let token = front_token(line)?;
+    *seen = seen_of(token);
+    Some(token)
 }
 
 fn may_follow(is_first: bool, last: Option<Token>, token: Token) -> bool
@@ -50,7 +57,7 @@ impl Fronts {
         ensures { TakesAs (entry_step is_first (fronts_view self.old) line.now)
             (fronts_view self.new) result }
     {
-        let token = entry_token_in(line).ok_or(Refusal::Wrong(Wrong::Form))?;
+        let token = entry_token_in(&mut self.seen, line).ok_or(Refusal::Wrong(Wrong::Form))?;
         if !may_follow(is_first, self.last, token) {
             return Err(Refusal::Wrong(Wrong::Order));
         }

@@ -1,16 +1,21 @@
 -- Why a table cannot follow others from a date on.
-use Rattle.std.proofs.Common.{◌≡◌, ◌∙◌, ◌≤◌, ◌*◌, ℕ, arith, refl, subst, sym}
-use Rattle.std.specs.Prelude.{pos, ℤ}
+use Rattle.std.proofs.Common.{◌≡◌, ◌∙◌, ◌*◌, ℕ, List, [], Ok, ap, arith, false, refl, sym, true≢false}
+use Rattle.std.specs.Prelude.{Result, pos, ℤ}
 use Rattle.std.proofs.lemmas.Int.{ints}
 use Rattle.jiff_core.specs.Calendar.{days_from_civil}
 use Rattle.tariffs.specs.Fares.{Fares}
-use Rattle.tariffs.specs.Following.{IsFollowFault, last_from}
+use Rattle.tariffs.specs.Following.{IsFollowFault}
+use Rattle.tariffs.specs.TableMeaning.{TableMeaning}
+use Rattle.fare_table.specs.TableMeaning.{meaning_in}
+use Rattle.fare_table.specs.declared.fault.TableFault.{TableFault}
 use Rattle.tariffs.specs.declared.follow_fault.FollowFault.{FollowFault}
 use Rattle.tariffs.specs.declared.follow_fault.FollowFault.TheVariants.{Caps, Date, Followed}
 use Rattle.tariffs.specs.declared.follow_fault.FollowFault.TheVariants.{Modes, NoMemory, Zone}
-use Rattle.program_manners.specs.TableLoads.{IsWrongFrom}
+use Rattle.program_manners.specs.TableLoads.{FollowsFrom}
 use Rattle.program_manners.specs.TableWords.{IsMidnight}
+use Rattle.program_manners.specs.declared.following.NextFault.TheVariants.{Follow}
 use Rattle.program_manners.specs.declared.table_words.WrittenDate.{WrittenDate}
+use Rattle.program_manners.specs.inside.TableLoads.{is_memory}
 
 -- a date of the same numbers is the same day
 pub day_same : (y y' : ℤ) (m m' d d' : ℕ) → y ≡ y' → m ≡ m' → d ≡ d'
@@ -21,13 +26,26 @@ day_same y y' m m' d d' a b c = rw (a, b, c) refl
 one_midnight : (a b : ℕ) → pos (a * 1_000_000) ≡ pos (b * 1_000_000) → a ≡ b
 one_midnight a b is = omega (arith, ints, is)
 
-pub why_not : (fares : Fares) (date : WrittenDate) (next : Fares) (from : ℕ)
-    → IsMidnight fares.zone date from → (fault : FollowFault) → IsFollowFault fares from next fault
-    → IsWrongFrom fares date next fault
-why_not fares date next from at Date is = λ other also.
-    subst (λ (n : ℕ). n ≤ last_from 0 fares.later) (one_midnight from other (at ∙ sym also)) is
-why_not fares date next from at Zone is = (from, at, is)
-why_not fares date next from at Modes is = (from, at, is)
-why_not fares date next from at Caps is = (from, at, is)
-why_not fares date next from at Followed is = (from, at, is)
-why_not fares date next from at NoMemory is = (from, at, is)
+ok_same : (r : Result TableMeaning TableFault) (a b : TableMeaning) → r ≡ Ok a → r ≡ Ok b → a ≡ b
+ok_same r a b one other = cc
+
+module _ (fares : Fares) (date : WrittenDate) (text : List ℕ) (next : Fares) (from : ℕ)
+    (at : IsMidnight fares.zone date from) (means : meaning_in text ≡ Ok next.meaning)
+    (alone : next.later ≡ []) where
+  -- a text whose table cannot follow does not
+  pub cannot : (fault : FollowFault) → IsFollowFault fares from next fault
+      → is_memory (Follow fault) ≡ false → (all : Fares) → ¬ FollowsFrom fares date text all
+  cannot fault is some all f =
+      by fault is some (ok_same (meaning_in text) next.meaning f.next.meaning means f.means.0)
+    where
+      by : (fault : FollowFault) → IsFollowFault fares from next fault
+          → is_memory (Follow fault) ≡ false → next.meaning ≡ f.next.meaning → ⊥
+      by Date is some same =
+          let early = f.can.date in
+          let one = one_midnight from f.from (at ∙ sym f.begins) in
+          omega (arith, early, one, is)
+      by Zone is some same = is.1 (ap (λ (m : TableMeaning). m.zone) same ∙ f.can.zone)
+      by Modes is some same = is.2 (ap (λ (m : TableMeaning). m.modes) same ∙ f.can.modes)
+      by Caps is some same = is.3 (ap (λ (m : TableMeaning). m.cap_names) same ∙ f.can.caps)
+      by Followed is some same = is.4 alone
+      by NoMemory is some same = true≢false some

@@ -1,4 +1,3 @@
-pub mod AnyWord
 pub mod DatedWords
 pub mod Flags
 pub mod FollowFaults

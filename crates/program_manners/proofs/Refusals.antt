@@ -1,15 +1,11 @@
 -- What was refused, and names of files among others.
 use Rattle.std.proofs.Common.{◌≡◌, ◌<◌, ℕ, List, [], ◌∷◌, Bor, Option, None, Some, ap, arith, codes}
-use Rattle.std.proofs.Common.{get_or, inl, inr, length, map, subst, suc, zero, ⊎_elim}
-use Rattle.std.specs.Prelude.{Err, IsUtf8, Result, unwrap_or, ◌≢◌, ◌⊎◌}
-use Rattle.std.specs.Result.{IsErrOf}
+use Rattle.std.proofs.Common.{get_or, inl, inr, length, map, subst, suc, zero}
+use Rattle.std.specs.Prelude.{unwrap_or}
 use Rattle.clap.specs.Words.{HasKind, Kinds, kind_of}
 use Rattle.clap.specs.declared.error.Error.{Error}
 use Rattle.clap.specs.declared.error.kind.ErrorKind.TheVariants.{OutOfMemory}
-use Rattle.fare_table.specs.TableMeaning.{meaning_in}
-use Rattle.fare_table.specs.declared.fault.TableFault.{TableFault}
-use Rattle.fare_table.specs.declared.fault.TableFault.TheVariants.{NoMemory, Text}
-use Rattle.program_manners.specs.Refusals.{IsFirstTableFault, IsOneOf, Refuses, HasRefused}
+use Rattle.program_manners.specs.Refusals.{IsOneOf, Refuses, HasRefused}
 use Rattle.world.specs.declared.faults.LoadFault.{LoadFault}
 
 -- a name at a place is one of the names
@@ -27,22 +23,6 @@ pub has_refused : (refused : Option (Option (List ℕ) × LoadFault)) (name : Op
 has_refused None name fault is = tt
 has_refused (Some one) name fault is =
     (ap (λ (n : Option (List ℕ)). unwrap_or n (codes "standard input")) is.0, is.1)
-
--- an error is one
-one_error : {A : Type 0} (r : Result A TableFault) (fault other : TableFault) → r ≡ Err fault
-    → IsErrOf r other → fault ≡ other
-one_error r fault other same is = cc
-
--- what the reader of a table says of its fault
-pub first_table_fault : {A : Type 0} (r : Result A TableFault) (text : List ℕ) (fault : TableFault)
-    → r ≡ Err fault
-    → (fault ≢ NoMemory → IsUtf8 text → meaning_in text ≡ Err fault)
-    → (¬ IsUtf8 text → IsErrOf r Text ⊎ IsErrOf r NoMemory) → IsFirstTableFault text fault
-first_table_fault r text fault same first not_text = record {
-  of_text = first;
-  no_text = λ room none. ⊎_elim (one_error r fault Text same)
-      (λ is. absurd (room (one_error r fault NoMemory same is))) (not_text none);
-}
 
 -- an error of words of which no kind may come is want of memory
 pub only_memory : (kinds : Kinds) (e : Error) → kinds ≡ [] → HasKind kinds e

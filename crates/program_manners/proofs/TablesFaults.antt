@@ -1,15 +1,16 @@
 -- The fault of fare tables that are loaded one after another is the right one.
-use Rattle.std.proofs.Common.{◌≡◌, ℕ, Bool, true, false, List, [], ◌∷◌, ◌++◌, Option, Some}
-use Rattle.std.proofs.Common.{inr, subst, sym}
-use Rattle.std.specs.Prelude.{◌≢◌}
-use Rattle.std.proofs.lemmas.Bool.{true≢false}
+use Rattle.std.proofs.Common.{◌≡◌, ◌∙◌, ℕ, List, ◌∷◌, ◌++◌, Ok, Option, Some, ap, false, inl, inr}
+use Rattle.std.proofs.Common.{refl, subst, sym, true≢false}
+use Rattle.std.specs.Prelude.{Err, IsUtf8, Result, ◌≢◌}
 use Rattle.tariffs.specs.Fares.{Fares}
+use Rattle.fare_table.specs.Meaning.{Means}
+use Rattle.fare_table.specs.TableMeaning.{meaning_in}
 use Rattle.fare_table.specs.declared.fault.TableFault.{TableFault}
+use Rattle.fare_table.specs.declared.fault.TableFault.TheVariants as table
 use Rattle.program_manners.specs.Loads.{Loaded, LoadsOne}
-use Rattle.program_manners.specs.NextFaults.{IsRightNext}
-use Rattle.program_manners.specs.Refusals.{IsFirstTableFault, IsOneOf, Refuses}
-use Rattle.program_manners.specs.TableLoads.{LoadsTables}
-use Rattle.program_manners.specs.TableRefusals.{RefusesNamed, RefusesOnly, RefusesToFollow}
+use Rattle.program_manners.specs.Refusals.{IsOneOf, Refuses}
+use Rattle.program_manners.specs.TableLoads.{FollowsFrom, LoadsTables}
+use Rattle.program_manners.specs.TableRefusals.{RefusesTable}
 use Rattle.program_manners.specs.TableWords.{TableNames, file_named, table_files, written_date}
 use Rattle.program_manners.specs.TablesFaults.{IsTablesFault}
 use Rattle.program_manners.specs.declared.following.NextFault.{NextFault}
@@ -18,17 +19,25 @@ use Rattle.program_manners.specs.declared.loading.FileFault.{FileFault}
 use Rattle.world.specs.declared.faults.LoadFault.{LoadFault}
 use Rattle.program_manners.specs.declared.table_loads.TablesFault.{TablesFault}
 use Rattle.program_manners.specs.declared.table_loads.TablesFault.TheVariants.{File, Follow}
-use Rattle.program_manners.specs.declared.table_loads.TablesFault.TheVariants.{NamedTable, NoMemory}
-use Rattle.program_manners.specs.declared.table_loads.TablesFault.TheVariants.{Table}
+use Rattle.program_manners.specs.declared.table_loads.TablesFault.TheVariants.{NamedTable, NoMemory, Table}
 use Rattle.program_manners.specs.declared.table_words.WrittenDate.{WrittenDate}
-use Rattle.program_manners.specs.inside.TableLoads.{IsRightLater, IsRightNamed}
-use Rattle.program_manners.proofs.TablesRefused.{among, first_refused, later_refused}
-use Rattle.program_manners.proofs.TablesRefused.{not_following, only_refused}
+use Rattle.program_manners.specs.inside.TableLoads.{IsFirstReported, IsReportedBy, is_memory}
 
--- the file of a later word is one of those of all tables
-pub later_file : (tables : TableNames) (before trailing : List (List ℕ)) (word : List ℕ)
-    → tables.later ≡ before ++ word ∷ trailing → IsOneOf (file_named word) (table_files tables)
-later_file tables before trailing word holds = inr (rw holds (among before trailing word))
+two_ways : {A : Type 0} (r : Result A TableFault) (a : A) (fault : TableFault) → r ≡ Ok a
+    → r ≡ Err fault → ⊥
+two_ways r a fault one other = cc
+
+-- a fault that is not of memory
+pub not_memory : (fault : TableFault) → is_memory (next.Table fault) ≡ false
+    → fault ≢ table.NoMemory
+not_memory fault some same =
+    true≢false (sym (ap (λ (f : TableFault). is_memory (next.Table f)) same) ∙ some)
+
+-- a text that has a fault means no table
+pub no_table : (text : List ℕ) (fault : TableFault) → (IsUtf8 text → meaning_in text ≡ Err fault)
+    → (fares : Fares) → IsUtf8 text → ¬ Means text fares
+no_table text fault wrong fares utf8 means =
+    two_ways (meaning_in text) fares.meaning fault means.0 (wrong utf8)
 
 module _ (tables : TableNames) (loaded loaded' loaded'' : Option (List Loaded))
     (refused : Option (Option (List ℕ) × LoadFault)) where
@@ -41,44 +50,65 @@ module _ (tables : TableNames) (loaded loaded' loaded'' : Option (List Loaded))
     subst (λ (n : List ℕ). Refuses refused (Some n) file.fault) (sym named) is,
   )
 
-  -- the first table's text is no table
-  pub first_is_right : (text : List ℕ) (alone : Bool) (why : TableFault) (fault : TablesFault)
-      → LoadsOne loaded loaded'' (Some tables.first) text → IsFirstTableFault text why
-      → (alone ≡ true → tables.later ≡ []) → (alone ≡ false → tables.later ≢ [])
-      → IsRightNamed tables.first alone why fault
+  -- the text of the first table is no table
+  pub first_is_right : (text : List ℕ) (why : TableFault) (fault : TablesFault)
+      → LoadsOne loaded loaded'' (Some tables.first) text
+      → (why ≢ table.NoMemory → IsUtf8 text → meaning_in text ≡ Err why)
+      → IsFirstReported tables.first why fault
       → IsTablesFault tables loaded loaded'' refused fault
-  first_is_right text alone why (Table fault) is_loaded first one several is =
-      subst (RefusesOnly tables loaded loaded'') (sym is.1)
-      (only_refused tables loaded loaded'' text is_loaded why first (one is.0))
-  first_is_right text alone why (NamedTable line) is_loaded first one several is =
-      subst (RefusesNamed tables loaded loaded'' line.name.now) (sym is.2)
-      (subst (λ (n : List ℕ). RefusesNamed tables loaded loaded'' n why) (sym is.1)
-      (first_refused tables loaded loaded'' text is_loaded why first (several is.0)))
-  first_is_right text alone why NoMemory is_loaded first one several is = tt
-  first_is_right text alone why _ is_loaded first one several is = absurd is
+  first_is_right text why fault is_loaded wrong is = by fault is
+    where
+      refuses : is_memory (next.Table why) ≡ false → RefusesTable tables loaded loaded'' tables.first
+      refuses some = inl (refl, record {
+        text = text;
+        is_loaded = is_loaded;
+        wrong = no_table text why (wrong (not_memory why some));
+      })
 
-  module _ (before trailing : List (List ℕ)) (word text : List ℕ)
-      (holds : tables.later ≡ before ++ word ∷ trailing) (texts : List (List ℕ)) (fares : Fares)
-      (loads : LoadsTables (record { first = tables.first; later = before }) loaded loaded' texts
-      fares)
-      (is_loaded : LoadsOne loaded' loaded'' (Some (file_named word)) text) where
-    -- the text of a table behind others is no table, or the table cannot follow
-    pub next_is_right : (date : WrittenDate) → written_date word ≡ Some date
-        → (why : NextFault) → IsRightNext fares date text why
-        → (fault : TablesFault) → IsRightLater word (file_named word) why fault
-        → IsTablesFault tables loaded loaded'' refused fault
-    next_is_right date dated (next.Table why) first (NamedTable line) is =
-        subst (RefusesNamed tables loaded loaded'' line.name.now) (sym is.2)
-        (subst (λ (n : List ℕ). RefusesNamed tables loaded loaded'' n why) (sym is.1)
-        (later_refused tables loaded loaded' loaded'' before trailing word text holds texts fares
-        loads is_loaded why first))
-    next_is_right date dated (next.Table why) first NoMemory is = tt
-    next_is_right date dated (next.Table why) first (Table fault) is =
-        absurd (true≢false (sym is.0))
-    next_is_right date dated (next.Table why) first _ is = absurd is
-    next_is_right date dated (next.Follow why) wrong (Follow line) is =
-        subst (RefusesToFollow tables loaded loaded'' line.word.now) (sym is.1)
-        (subst (λ (w : List ℕ). RefusesToFollow tables loaded loaded'' w why) (sym is.0)
-        (not_following tables loaded loaded' loaded'' before trailing word text holds texts fares
-        loads is_loaded date dated why wrong))
-    next_is_right date dated (next.Follow why) wrong _ is = absurd is
+      by : (fault : TablesFault) → IsFirstReported tables.first why fault
+          → IsTablesFault tables loaded loaded'' refused fault
+      by (Table fault) is = refuses is
+      by (NamedTable line) is =
+          subst (RefusesTable tables loaded loaded'') (sym is.1) (refuses is.0)
+      by NoMemory is = tt
+      by _ is = absurd is
+
+  -- the text of a later table is no table that follows those before it
+  pub next_is_right : (before trailing : List (List ℕ)) (word text : List ℕ)
+      → tables.later ≡ before ++ word ∷ trailing → (texts : List (List ℕ)) (fares : Fares)
+      → LoadsTables (record { first = tables.first; later = before }) loaded loaded' texts fares
+      → LoadsOne loaded' loaded'' (Some (file_named word)) text → (date : WrittenDate)
+      → written_date word ≡ Some date → (why : NextFault)
+      → (is_memory why ≡ false → (all : Fares) → ¬ FollowsFrom fares date text all)
+      → (fault : TablesFault) → IsReportedBy word (file_named word) why fault
+      → IsTablesFault tables loaded loaded'' refused fault
+  next_is_right before trailing word text holds texts fares loads is_loaded date dated why wrong
+      fault is = by fault is
+    where
+      later : (name : List ℕ) → name ≡ file_named word → is_memory why ≡ false
+          → RefusesTable tables loaded loaded'' name
+      later name named some = inr (record {
+        fares = fares;
+        word = word;
+        text = text;
+        up_to = record {
+          before = before;
+          trailing = trailing;
+          holds = holds;
+          texts = texts;
+          between = loaded';
+          loads = loads;
+          is_loaded = is_loaded;
+        };
+        named = named;
+        date = date;
+        dated = dated;
+        wrong = wrong some;
+      })
+
+      by : (fault : TablesFault) → IsReportedBy word (file_named word) why fault
+          → IsTablesFault tables loaded loaded'' refused fault
+      by (NamedTable line) is = later line.name.now is.1 is.0
+      by (Follow line) is = later (file_named line.word.now) (rw is.1 refl) is.0
+      by NoMemory is = tt
+      by _ is = absurd is

@@ -3,7 +3,6 @@ pub mod LineWritten
 pub mod Lines
 pub mod ListWords
 pub mod Loads
-pub mod NextFaults
 pub mod Refusals
 pub mod TableLoads
 pub mod TableRefusals

@@ -1,10 +1,6 @@
--- What is known of what a source of bytes did not load, and of a text that is no fare table.
-use Rattle.std.specs.Prelude.{◌≡◌, ◌≢◌, ◌<◌, ◌⊎◌, ⊤, ℕ, List, [], ◌∷◌, Option, Some, None, Err, IsUtf8}
-use Rattle.std.specs.Prelude.{Contains, codes, length, option_map, unwrap_or}
-use Rattle.fare_table.specs.TableMeaning.{meaning_in}
-use Rattle.fare_table.specs.declared.fault.TableFault.{TableFault}
-use Rattle.fare_table.specs.declared.fault.TableFault.TheVariants.{NoMemory, Text}
-use Rattle.program_manners.specs.Loads.{Loaded, LoadsOne}
+-- What is known of what a source of bytes did not load.
+use Rattle.std.specs.Prelude.{◌≡◌, ◌<◌, ◌⊎◌, ⊤, ℕ, List, [], ◌∷◌, Option, Some, None, Contains}
+use Rattle.std.specs.Prelude.{codes, length, option_map, unwrap_or}
 use Rattle.program_manners.specs.declared.refusal.Refusal.{Refusal}
 use Rattle.world.specs.Run.{Run}
 use Rattle.world.specs.declared.faults.LoadFault.{LoadFault}
@@ -38,16 +34,3 @@ IsShown run (name, load.NoMemory) = ⊤
 abbrev pub IsOneOf : List ℕ → List (List ℕ) → Type 0
 IsOneOf name [] = ⊥
 IsOneOf name (other ∷ names) = (name ≡ other) ⊎ IsOneOf name names
-
--- The fault is the first one of a table's text: the meaning of the text gives it, or the text is
--- not UTF-8. An allocation failure may come before.
-pub record IsFirstTableFault (text : List ℕ) (fault : TableFault) : Type 0 where
-  pub of_text : fault ≢ NoMemory → IsUtf8 text → meaning_in text ≡ Err fault
-  pub no_text : fault ≢ NoMemory → ¬ (IsUtf8 text) → fault ≡ Text
-
--- The file of this name was loaded, and its text is refused by this fault.
-pub record RefusesTable (name : List ℕ) (loaded loaded' : Option (List Loaded)) (fault : TableFault)
-    : Type 0 where
-  pub bytes : List ℕ
-  pub is_loaded : LoadsOne loaded loaded' (Some name) bytes
-  pub first : IsFirstTableFault bytes fault

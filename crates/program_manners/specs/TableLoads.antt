@@ -1,10 +1,8 @@
 -- Fare tables that are loaded one after another.
-use Rattle.std.specs.Prelude.{◌≡◌, ◌≤◌, ◌++◌, ℕ, List, [], ◌∷◌, IsUtf8, Option, Some}
+use Rattle.std.specs.Prelude.{◌≡◌, ◌++◌, ℕ, List, [], ◌∷◌, IsUtf8, Option, Some}
 use Rattle.tariffs.specs.Fares.{Fares}
-use Rattle.tariffs.specs.Following.{CanFollow, IsFollowFault, last_from, with_next}
+use Rattle.tariffs.specs.Following.{CanFollow, with_next}
 use Rattle.fare_table.specs.Meaning.{Means}
-use Rattle.tariffs.specs.declared.follow_fault.FollowFault.{FollowFault}
-use Rattle.tariffs.specs.declared.follow_fault.FollowFault.TheVariants.{Date}
 use Rattle.program_manners.specs.Loads.{Loaded, LoadsOne}
 use Rattle.program_manners.specs.TableWords.{IsMidnight, TableNames, file_named, written_date}
 use Rattle.program_manners.specs.declared.table_words.WrittenDate.{WrittenDate}
@@ -19,21 +17,6 @@ pub record FollowsFrom (fares : Fares) (date : WrittenDate) (text : List ℕ) (a
   pub means : Means text next
   pub can : CanFollow fares from next
   pub all_are : all ≡ with_next fares from next.meaning
-
--- The text means a table that cannot follow the fares from the date on, for this reason. It is too
--- early if it does not begin after the last table before it does.
-abbrev pub IsWrongFrom : Fares → WrittenDate → Fares → FollowFault → Type 0
-IsWrongFrom fares date next Date =
-    (from : ℕ) → IsMidnight fares.zone date from → from ≤ last_from 0 fares.later
-IsWrongFrom fares date next fault =
-    (from : ℕ) × IsMidnight fares.zone date from × IsFollowFault fares from next fault
-
--- the same of a text
-pub record CannotFollow (fares : Fares) (date : WrittenDate) (text : List ℕ) (fault : FollowFault)
-    : Type 0 where
-  pub next : Fares
-  pub means : Means text next
-  pub wrong : IsWrongFrom fares date next fault
 
 -- The text means a table that follows the fares from the date of the word on.
 pub record Follows (fares : Fares) (word text : List ℕ) (all : Fares) : Type 0 where

@@ -1,10 +1,10 @@
 //! Fare tables that follow others from a date on.
-ghost use Rattle.std.specs.Prelude.{◌≡◌, ◌≢◌, ◌≤◌, IfErr, IfOk, Some, true};
-ghost use Rattle.fare_table.specs.declared.fault.TableFault.{TableFault as ATableFault};
+ghost use Rattle.std.specs.Prelude.{◌≡◌, ◌≤◌, IfErr, IfOk, Some, false, true};
+ghost use Rattle.tariffs.specs.Fares.{Fares};
 ghost use Rattle.program_manners.specs.Lines.{follow_text, named_class_text, named_table_text};
-ghost use Rattle.program_manners.specs.NextFaults.{IsRightNext};
 ghost use Rattle.program_manners.specs.TableLoads.{FollowsFrom};
 ghost use Rattle.program_manners.specs.TableWords.{has_year, is_day};
+ghost use Rattle.program_manners.specs.inside.TableLoads.{is_memory};
 
 use crate::table_words::{WrittenDate, day_of};
 use fare_table::{FareTable, FollowFault, ReadFareTable, TableFault};
@@ -17,16 +17,6 @@ pub enum NextFault {
     /// The text is not a fare table.
     Table(TableFault),
     Follow(FollowFault),
-}
-
-impl From<TableFault> for NextFault {
-    ghost use Rattle.program_manners.specs.declared.following.NextFault.TheVariants.{Table};
-
-    ghost from_gives = { λ refused fault. fault ≡ Table refused };
-
-    fn from(fault: TableFault) -> NextFault {
-        NextFault::Table(fault)
-    }
 }
 
 /// The line of why the next of several tables is not taken, by its file's name, without line feed.
@@ -112,9 +102,13 @@ pub fn table_after(
     requires year { has_year date ≡ true }
     requires day { is_day date ≡ true }
     ensures follows { IfOk result (FollowsFrom fares date text.now) }
-    ensures fault { IfErr result (IsRightNext fares date text.now) }
+    ensures fault { IfErr result (λ fault. is_memory fault ≡ false
+        → (all : Fares) → ¬ FollowsFrom fares date text.now all) }
 {
-    let next = FareTable::read(alloc, text)?;
+    let next = match FareTable::read(alloc, text) {
+        Ok(next) => next,
+        Err(fault) => return Err(NextFault::Table(fault)),
+    };
     let Some(day) = day_of(date) else {
         unreachable!();
     };

@@ -7,13 +7,13 @@ ghost use Rattle.program_manners.specs.TableLoads.{Follows, LoadsTables};
 ghost use Rattle.program_manners.specs.TableViews.{names_of};
 ghost use Rattle.program_manners.specs.TableWords.{TableNames, date_fault, file_named, wrong_word};
 ghost use Rattle.program_manners.specs.TablesFaults.{IsTablesFault};
-ghost use Rattle.program_manners.specs.inside.TableLoads.{IsRightLater, IsRightNamed};
+ghost use Rattle.program_manners.specs.inside.TableLoads.{IsFirstReported, IsReportedBy};
 
 use crate::file_source::FileSource;
 use crate::following::{FollowLine, NamedTableLine, NextFault, table_after};
 use crate::loading::FileFault;
 use crate::table_words::{TableWord, TableWords};
-use fare_table::{FareTable, ReadFareTable, TableFault};
+use fare_table::{FareTable, FollowFault, ReadFareTable, TableFault};
 use std::alloc::{AllocError, Global};
 
 /// Why fare tables were not loaded.
@@ -73,25 +73,30 @@ fn load_named<'a, S: FileSource>(source: &mut S, name: &'a str) -> Result<Vec<u8
     }
 }
 
-/// By the file's name if there are several tables.
-fn of_table<'a>(name: &'a str, is_alone: bool, fault: TableFault) -> TablesFault<'a>
-    ensures { IsRightNamed name.entry.now is_alone fault result }
+fn of_next<'a>(word: &'a str, name: &'a str, fault: NextFault) -> TablesFault<'a>
+    ensures { IsReportedBy word.entry.now name.entry.now fault result }
 {
-    if is_alone {
-        return TablesFault::Table(fault);
-    }
     match fault {
-        TableFault::NoMemory => TablesFault::NoMemory,
-        fault => TablesFault::NamedTable(NamedTableLine { name, fault }),
+        NextFault::Table(TableFault::NoMemory) => TablesFault::NoMemory,
+        NextFault::Table(fault) => TablesFault::NamedTable(NamedTableLine { name, fault }),
+        NextFault::Follow(FollowFault::NoMemory) => TablesFault::NoMemory,
+        NextFault::Follow(fault) => TablesFault::Follow(FollowLine { word, fault }),
     }
 }
 
-fn of_next<'a>(word: &'a str, name: &'a str, fault: NextFault) -> TablesFault<'a>
-    ensures { IsRightLater word.entry.now name.entry.now fault result }
+/// By the file's name if there are several tables.
+fn of_first<'a>(name: &'a str, is_alone: bool, fault: TableFault) -> TablesFault<'a>
+    ensures { IsFirstReported name.entry.now fault result }
 {
     match fault {
-        NextFault::Table(fault) => of_table(name, false, fault),
-        NextFault::Follow(fault) => TablesFault::Follow(FollowLine { word, fault }),
+        TableFault::NoMemory => TablesFault::NoMemory,
+        fault => {
+            if is_alone {
+                TablesFault::Table(fault)
+            } else {
+                TablesFault::NamedTable(NamedTableLine { name, fault })
+            }
+        }
     }
 }
 
@@ -150,14 +155,13 @@ fn load_first<'a, S: FileSource>(
 {
     let name = words.first;
     let text = load_named(source, name)?;
-    let is_alone = words.later.as_slice().is_empty();
     match FareTable::read(alloc, &text) {
         Ok(fares) => {
             let mut texts = Vec::new(alloc);
             push(&mut texts, text)?;
             Ok(Tables { fares, texts })
         }
-        Err(fault) => Err(of_table(name, is_alone, fault)),
+        Err(fault) => Err(of_first(name, words.later.is_empty(), fault)),
     }
 }
 

@@ -1,10 +1,13 @@
 -- Streams that are read on.
 use Rattle.std.proofs.Common.{◌≡◌, ◌<◌, ℕ, Bool, true, false, List, [], ◌∷◌, ◌++◌, length, drop}
-use Rattle.std.proofs.Common.{Option, Some, None, refl, sym, ap, subst, ◌∙◌, append_assoc}
+use Rattle.std.proofs.Common.{Option, Some, None, Ok, Err, refl, sym, ap, subst, ◌∙◌, append_assoc}
+use Rattle.std.proofs.Common.{◌⊎◌, inl, inr}
 use Rattle.std.proofs.Common.{if◌then◌else◌}
 use Rattle.std.specs.Prelude.{is_some, nat_lt}
 use Rattle.std.proofs.Math.Seq.{drop-append_seam}
-use Rattle.std.proofs.lemmas.List.{nil_from_length}
+use Rattle.std.proofs.Common.{arith}
+use Rattle.std.proofs.lemmas.Bool.Decides.{nat_tests}
+use Rattle.std.proofs.lemmas.List.{length-append, nil_from_length}
 use Rattle.world.specs.Loads.{IsRefused}
 use Rattle.world.specs.Run.{Load, Run, nothing_yet, with_load}
 use Rattle.world.specs.Streams.{HasRead, IsWhole}
@@ -13,11 +16,15 @@ use Rattle.world.specs.declared.faults.LoadFault.TheVariants as load
 use Rattle.world.specs.declared.stream.Opened.{Opened}
 use Rattle.world.specs.declared.stream.Stream.{Stream}
 use Rattle.line_folds.specs.Folds.{lines_of}
-use Rattle.recorded_lines.specs.Texts.{CanBe, IsNextLine, Follows, IsEndAt, calls_of, left, pending}
-use Rattle.line_folds.specs.declared.reader.NextLine.TheVariants.{Long, End}
+use Rattle.line_folds.specs.declared.reader.NextLine.TheVariants.{Whole, Long, End}
+use Rattle.line_folds.specs.declared.reader.ReadFault.{ReadFault}
+use Rattle.line_folds.specs.declared.reader.ReadFault.TheVariants.{Unread}
+use Rattle.recorded_lines.specs.Texts.{CanBe, Follows, HasReadLine, IsEndAt, calls_of, left}
+use Rattle.recorded_lines.specs.Texts.{pending}
+use Rattle.recorded_lines.specs.Unread.{IsUnread}
 use Rattle.recorded_lines.specs.declared.text.Lines.{Lines}
-use Rattle.recorded_lines.specs.inside.Taken.{HasTaken, IsPlain}
-use Rattle.recorded_lines.proofs.Plain.{next_last, next_long, next_whole, plain_more}
+use Rattle.recorded_lines.specs.inside.Taken.{HasReadOn, HasTaken, IsLine, ends_line}
+use Rattle.recorded_lines.proofs.Plain.{long_line, more_line, one_line}
 
 -- a stream that was read to its end has nothing left to be read
 at_end : (s : Stream) (name : Option (List ℕ)) (bytes : List ℕ) → HasRead s name bytes
@@ -103,26 +110,23 @@ sound_now s name bytes has = record {
 }
 
 -- ---- the next line, of which this was taken so far
-pub record IsAtLine (first now : Lines) (line : List ℕ) : Type 0 where
+pub record IsAtLine (first now : Lines) (line : List ℕ) (is_whole : Bool) : Type 0 where
   pub follows : Follows first now
-  pub plain : IsPlain line
+  pub is_line : IsLine line
+  pub ends : ends_line line ≡ is_whole
   pub text : (whole : List ℕ) → CanBe (calls_of now) whole
       → left first whole ≡ line ++ left now whole
 
-pub at_line : (first now : Lines) (line : List ℕ) → now ≡ first → line ≡ []
-    → IsAtLine first now line
-at_line first now line same none = record {
-  follows = record {
-    name = ap (λ (s : Lines). (calls_of s).reading.name) same;
-    back = λ whole can. subst (λ (s : Lines). CanBe (calls_of s) whole) same can;
-  };
-  plain = subst IsPlain (sym none) tt;
-  text = λ whole can. ap (λ (s : Lines). left s whole) (sym same)
-      ∙ ap (λ (l : List ℕ). l ++ left now whole) (sym none);
-}
-
 pub follows_self : (s : Lines) → Follows s s
 follows_self s = record { name = refl; back = λ whole can. can }
+
+pub at_line : (first : Lines) (line : List ℕ) → line ≡ [] → IsAtLine first first line false
+at_line first line none = record {
+  follows = follows_self first;
+  is_line = subst IsLine (sym none) tt;
+  ends = ap ends_line none;
+  text = λ whole can. ap (λ (l : List ℕ). l ++ left first whole) (sym none);
+}
 
 pub follows_on : (first now next : Lines) → Follows first now → Follows now next
     → Follows first next
@@ -131,90 +135,96 @@ follows_on first now next before after = record {
   back = λ whole can. before.back whole (after.back whole can);
 }
 
-same_text : (now next : Lines) (whole : List ℕ) → next.stream ≡ now.stream
-    → CanBe (calls_of next) whole → CanBe (calls_of now) whole
-same_text now next whole same can = subst (λ (s : Stream). CanBe s.trace whole) same can
-
 -- what is taken is at hand: nothing is read
 pub follows_same : (first now next : Lines) → Follows first now → next.stream ≡ now.stream
     → Follows first next
-follows_same first now next before same = record {
-  name = ap (λ (s : Stream). s.trace.reading.name) same ∙ before.name;
-  back = λ whole can. before.back whole (same_text now next whole same can);
-}
+follows_same first now next before same = follows_on first now next before (record {
+  name = ap (λ (s : Stream). s.trace.reading.name) same;
+  back = λ whole can. subst (λ (s : Stream). CanBe s.trace whole) same can;
+})
 
-same_rest : (now next : Lines) (whole : List ℕ) → next.stream ≡ now.stream
-    → left next whole ≡ pending next ++ drop (length (calls_of now).reading.bytes) whole
-same_rest now next whole same =
-    ap (λ (s : Stream). pending next ++ drop (length s.trace.reading.bytes) whole) same
-
-pub line_more : (first now next : Lines) (line line' : List ℕ) → IsAtLine first now line
-    → next.stream ≡ now.stream → HasTaken (pending now) (pending next) line line' false
-    → IsAtLine first next line'
-line_more first now next line line' at same (plain, none, is) = record {
-  follows = follows_same first now next at.follows same;
-  plain = subst IsPlain (sym is) (plain_more line (pending now) at.plain plain);
-  text = λ whole can. at.text whole (same_text now next whole same can)
-      ∙ rw (is, same_rest now next whole same, none) (sym (append_assoc line (pending now)
-      (drop (length (calls_of now).reading.bytes) whole)));
-}
-
-pub line_on : (first now next : Lines) (line : List ℕ) → IsAtLine first now line
-    → Follows now next
-    → ((whole : List ℕ) → CanBe (calls_of next) whole → left now whole ≡ left next whole)
-    → IsAtLine first next line
-line_on first now next line at after same = record {
-  follows = follows_on first now next at.follows after;
-  plain = at.plain;
-  text = λ whole can. at.text whole (after.back whole can)
-      ∙ ap (λ (l : List ℕ). line ++ l) (same whole can);
-}
-
-pub line_whole : (first now next : Lines) (line line' : List ℕ) → IsAtLine first now line
-    → next.stream ≡ now.stream → HasTaken (pending now) (pending next) line line' true
-    → (whole : List ℕ) → CanBe (calls_of next) whole
-    → lines_of (left first whole) ≡ line' ∷ lines_of (left next whole)
-line_whole first now next line line' at same taken whole can =
-    next_whole (left first whole) line (pending now) (pending next)
-    (drop (length (calls_of now).reading.bytes) whole) line'
-    (at.text whole (same_text now next whole same can)) at.plain taken
-    ∙ ap (λ (l : List ℕ). line' ∷ lines_of l) (sym (same_rest now next whole same))
-
-pub line_long : (first now next : Lines) (line line' : List ℕ) (is_whole : Bool)
-    → IsAtLine first now line → next.stream ≡ now.stream
+pub line_more : (first now next : Lines) (line line' : List ℕ) (is_whole : Bool)
+    → IsAtLine first now line false → next.stream ≡ now.stream
     → HasTaken (pending now) (pending next) line line' is_whole
-    → nat_lt 1024 (length line') ≡ true → (whole : List ℕ) → CanBe (calls_of next) whole
-    → IsNextLine (left first whole) line' (left next whole) Long
-line_long first now next line line' true at same taken long whole can = (
-  line',
-  lines_of (left next whole),
-  line_whole first now next line line' at same taken whole can,
-  long,
-)
-line_long first now next line line' false at same taken long whole can =
-    let after = line_more first now next line line' at same taken in
-    next_long (left first whole) line' (left next whole) (after.text whole can) after.plain long
+    → IsAtLine first next line' is_whole
+line_more first now next line line' is_whole at same taken =
+    let (is, ends) = more_line line taken.front at.is_line at.ends taken.is_line in
+    record {
+      follows = follows_same first now next at.follows same;
+      is_line = rw taken.taken is;
+      ends = rw taken.taken (ends ∙ taken.ends);
+      text = λ whole can.
+          let rest = drop (length (calls_of now).reading.bytes) whole in
+          at.text whole (subst (λ (s : Stream). CanBe s.trace whole) same can)
+          ∙ rw (taken.split, taken.taken) (simp append_assoc)
+          ∙ ap (λ (s : Stream). line' ++ (pending next
+          ++ drop (length s.trace.reading.bytes) whole)) (sym same);
+    }
 
-none_left : (now : Lines) (whole : List ℕ) → IsEndAt now → CanBe (calls_of now) whole
-    → left now whole ≡ []
-none_left now whole end can =
-    ap (λ (l : List ℕ). l ++ drop (length (calls_of now).reading.bytes) whole) end.none
-    ∙ ap (drop (length (calls_of now).reading.bytes)) can.begins
-    ∙ drop-append_seam (calls_of now).reading.bytes can.more ∙ can.ends end.whole
+-- ---- the line that is read
+pub not_read : (first now : Lines) (line : List ℕ) (why : ReadFault) → Follows first now
+    → (why ≡ Unread → IsUnread (calls_of now)) → HasReadLine first now line (Err why)
+not_read first now line why follows unread =
+    record { follows = follows; next = λ whole. tt; ended = tt; unread = unread }
 
-pub line_end : (first now : Lines) (line : List ℕ) → IsAtLine first now line → IsEndAt now
-    → length line ≡ 0 → (whole : List ℕ) → CanBe (calls_of now) whole
-    → IsNextLine (left first whole) line (left now whole) End
-line_end first now line at end none whole can =
-    let rest = none_left now whole end can in (
+module _ {first now : Lines} {line : List ℕ} {is_whole : Bool} (at : IsAtLine first now line is_whole) where
+  pub line_on : {next : Lines} {some : Bool} → HasReadOn now next (Ok some)
+      → IsAtLine first next line is_whole
+  line_on {next = next} on = record {
+    follows = follows_on first now next at.follows on.follows;
+    is_line = at.is_line;
+    ends = at.ends;
+    text = λ whole can. at.text whole (on.follows.back whole can)
+        ∙ ap (λ (l : List ℕ). line ++ l) (on.left whole can);
+  }
+
+  pub read_long : nat_lt 1024 (length line) ≡ true → HasReadLine first now line (Ok Long)
+  read_long long = record {
+    follows = at.follows;
+    next = λ whole can.
+        let low : 1024 < length line = grind (arith, nat_tests) in
+        let (more, lines, shown) = long_line line (left now whole) at.is_line (omega (arith, low)) in
+        let size = length-append line more in
+        let high : 1024 < length (line ++ more) = omega (arith, low, size) in
+        (line ++ more, lines, ap lines_of (at.text whole can) ∙ shown, grind (arith, nat_tests));
+    ended = λ is. absurd (cc);
+    unread = tt;
+  }
+
+  none_left : IsEndAt now → (whole : List ℕ) → CanBe (calls_of now) whole → left now whole ≡ []
+  none_left end whole can =
+      ap (λ (l : List ℕ). l ++ drop (length (calls_of now).reading.bytes) whole) end.none
+      ∙ ap (drop (length (calls_of now).reading.bytes)) can.begins
+      ∙ drop-append_seam (calls_of now).reading.bytes can.more ∙ can.ends end.whole
+
+  -- its line feed was taken, or nothing is left behind it
+  pub read_one : nat_lt 1024 (length line) ≡ false
+      → (is_whole ≡ true) ⊎ ((0 < length line) × IsEndAt now)
+      → HasReadLine first now line (Ok Whole)
+  read_one short end = record {
+    follows = at.follows;
+    next = λ whole can. (
+      ap lines_of (at.text whole can) ∙ one_line line (left now whole) at.is_line (by whole can end),
+      short,
+    );
+    ended = λ is. absurd (cc);
+    unread = tt;
+  }
+    where
+      by : (whole : List ℕ) → CanBe (calls_of now) whole
+          → (is_whole ≡ true) ⊎ ((0 < length line) × IsEndAt now)
+          → (ends_line line ≡ true) ⊎ ((0 < length line) × (left now whole ≡ []))
+      by whole can (inl fed) = inl (at.ends ∙ fed)
+      by whole can (inr (some, end)) = inr (some, none_left end whole can)
+
+  pub read_none_left : IsEndAt now → length line ≡ 0 → HasReadLine first now line (Ok End)
+  read_none_left end none = record {
+    follows = at.follows;
+    next = λ whole can. (
       at.text whole can ∙ ap (λ (l : List ℕ). l ++ left now whole) (nil_from_length line none)
-          ∙ rest,
-      rest,
-    )
-
-pub line_last : (first now : Lines) (line : List ℕ) → IsAtLine first now line → IsEndAt now
-    → 0 < length line → (whole : List ℕ) → CanBe (calls_of now) whole
-    → lines_of (left first whole) ≡ line ∷ lines_of (left now whole)
-line_last first now line at end some whole can =
-    next_last (left first whole) line (left now whole) (at.text whole can)
-    (none_left now whole end can) at.plain some
+          ∙ none_left end whole can,
+      none_left end whole can,
+    );
+    ended = λ is. end;
+    unread = tt;
+  }

@@ -1,10 +1,13 @@
 -- A text that is read line by line: what it can be, by what reads gave of it, and what is left.
-use Rattle.std.specs.Prelude.{◌≡◌, ℕ, List, [], ◌∷◌, ◌++◌, drop, false, length, nat_lt, true}
+use Rattle.std.specs.Prelude.{◌≡◌, ℕ, List, [], ◌∷◌, ◌++◌, IfErr, IfOk, Result, drop, false, length, nat_lt, true}
 use Rattle.line_folds.specs.Folds.{lines_of}
 use Rattle.line_folds.specs.declared.reader.NextLine.{NextLine}
 use Rattle.line_folds.specs.declared.reader.NextLine.TheVariants.{Whole, Long, End}
+use Rattle.line_folds.specs.declared.reader.ReadFault.{ReadFault}
+use Rattle.line_folds.specs.declared.reader.ReadFault.TheVariants.{Unread}
 use Rattle.world.specs.Run.{Calls}
 use Rattle.world.specs.Streams.{IsWhole}
+use Rattle.recorded_lines.specs.Unread.{IsUnread}
 use Rattle.recorded_lines.specs.declared.text.Lines.{Lines}
 
 -- The whole text may be this: what reads gave, whatever follows. Nothing does if they came to the end.
@@ -43,6 +46,14 @@ IsNextLine text line rest Whole =
 IsNextLine text line rest Long =
     (long : List ℕ) × (lines : List (List ℕ)) × (lines_of text ≡ long ∷ lines) × (nat_lt 1024 (length long) ≡ true)
 IsNextLine text line rest End = (text ≡ []) × (rest ≡ [])
+
+-- the next line was read by this, or the fault says why it was not
+pub record HasReadLine (old new : Lines) (line : List ℕ) (result : Result NextLine ReadFault) : Type 0 where
+  pub follows : Follows old new
+  pub next : (whole : List ℕ) → IfOk result (λ next. CanBe (calls_of new) whole
+      → IsNextLine (left old whole) line (left new whole) next)
+  pub ended : IfOk result (λ next. next ≡ End → IsEndAt new)
+  pub unread : IfErr result (λ why. why ≡ Unread → IsUnread (calls_of new))
 
 -- nothing was read
 pub record IsFresh (lines : Lines) : Type 0 where

@@ -1,12 +1,9 @@
 //! Reads a file or standard input line by line, and refuses a line of more than 1,024 bytes.
 
-ghost use Rattle.std.specs.Prelude.{◌≡◌, ◌++◌, ◌≤◌, [], ℕ, false, IfErr, IfOk, List, None, OnErr, Some};
-ghost use Rattle.std.specs.Prelude.{drop, option_map, vec_len};
+ghost use Rattle.std.specs.Prelude.{◌≡◌, [], IfOk};
 ghost use Rattle.world.specs.Streams.{HasRead};
-ghost use Rattle.recorded_lines.specs.Texts.{CanBe, Follows, IsEndAt, IsNextLine, calls_of, left};
-ghost use Rattle.recorded_lines.specs.Texts.{pending};
-ghost use Rattle.recorded_lines.specs.Unread.{IsUnread};
-ghost use Rattle.recorded_lines.specs.inside.Taken.{HasTaken};
+ghost use Rattle.recorded_lines.specs.Texts.{HasReadLine, calls_of, pending};
+ghost use Rattle.recorded_lines.specs.inside.Taken.{HasReadOn, HasTaken};
 
 use crate::text::Lines;
 use line_folds::{NextLine, ReadFault};
@@ -72,11 +69,7 @@ impl Lines {
     /// Reads once, and says whether that gave bytes: else the text has ended.
     fn read_more(&mut self) -> Result<bool, ReadFault>
         requires { pending self.old ≡ [] }
-        ensures follows { Follows self.old self.new }
-        ensures left { (whole : List ℕ) → IfOk result (λ _. CanBe (calls_of self.new) whole
-            → left self.old whole ≡ left self.new whole) }
-        ensures ended { IfOk result (λ some. some ≡ false → IsEndAt self.new) }
-        ensures unread { IfErr result (λ why. why ≡ ReadFault.Unread → IsUnread (calls_of self.new)) }
+        ensures { HasReadOn self.old self.new result }
     {
         if let Some(why) = self.fault {
             return Err(why);
@@ -96,11 +89,7 @@ impl Lines {
     /// Reads the next line, with its line feed, in place of what `line` has. No more than some
     /// 64 KiB of a line are in memory, however long it is.
     pub fn read_line(&mut self, line: &mut Vec<u8>) -> Result<NextLine, ReadFault>
-        ensures follows { Follows self.old self.new }
-        ensures next { (whole : List ℕ) → IfOk result (λ next. CanBe (calls_of self.new) whole
-            → IsNextLine (left self.old whole) line.new.items (left self.new whole) next) }
-        ensures ended { IfOk result (λ next. next ≡ NextLine.End → IsEndAt self.new) }
-        ensures unread { IfErr result (λ why. why ≡ ReadFault.Unread → IsUnread (calls_of self.new)) }
+        ensures { HasReadLine self.old self.new line.new.items result }
     {
         line.clear();
         for _ in 0..u64::MAX {

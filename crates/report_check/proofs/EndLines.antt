@@ -15,7 +15,8 @@ use Rattle.ledger_check.specs.Lines.{IsLine, Lacks, lines_of}
 use Rattle.line_forms.specs.Forms.{value_if}
 use Rattle.report_texts.proofs.EndTexts.{line_words, refused_spelled, small_number}
 use Rattle.report_texts.proofs.Lines.{head_complete, head_sound, upload_complete, upload_sound}
-use Rattle.report_texts.specs.FormLaws.{count_form, some_one}
+use Rattle.line_forms.specs.FormLaws.{some_one}
+use Rattle.report_texts.specs.FormLaws.{count_form}
 use Rattle.report_texts.specs.Forms.{count_at, head_in, upload_in}
 use Rattle.report_texts.specs.Numbers.{IsUploadEnd}
 use Rattle.report_texts.specs.Report.{upload_line, upload_lines}

@@ -14,7 +14,7 @@ use Rattle.tap_views.specs.Token.{Fits, bytes_of}
 use Rattle.tap_views.specs.declared.token.Token.{Token}
 use Rattle.line_forms.specs.Forms.{IsAfter, IsForm, IsThen, said_by, then_read, after_read}
 use Rattle.line_forms.specs.Forms.{value_if}
-use Rattle.line_forms.specs.FormLaws.{after_law, line_complete, line_sound, number_law, then_law}
+use Rattle.line_forms.specs.FormLaws.{after_law, line_complete, line_sound, number_law, some_one, then_law}
 use Rattle.line_forms.specs.FormLaws.{wide_64}
 use Rattle.line_forms.specs.Numbers.{BeginsWithNoDigit, IsNumber}
 use Rattle.report_texts.specs.Forms.{Counted, count_at, counts_read, end_in, end_or, fault_by}
@@ -22,7 +22,7 @@ use Rattle.report_texts.specs.Forms.{head_in, refused_by, refused_in, sums_by, s
 use Rattle.report_texts.specs.Forms.{token_line_in, token_read, totals_in, upload_if, upload_in}
 use Rattle.report_texts.specs.Forms.{validator_if, validator_in}
 use Rattle.report_texts.specs.FormLaws.{IsCount, IsCountedText, IsCountsText, IsTokenDigits}
-use Rattle.report_texts.specs.FormLaws.{count_form, counts_law, begins, begins_then, some_one}
+use Rattle.report_texts.specs.FormLaws.{count_form, counts_law, begins, begins_then}
 use Rattle.report_texts.specs.FormLaws.{token_law, value_if_some, begins_chosen}
 use Rattle.report_texts.specs.Numbers.{AreCounts, IsNameAlone, IsTokenSum, IsUploadEnd}
 use Rattle.report_texts.specs.Numbers.{IsValidatorSum}

@@ -22,16 +22,13 @@ use Rattle.hex.proofs.HexLemmas.{decode_sized-twice, length-encode_with}
 use Rattle.tap_views.proofs.TokenBytes.{back_byte, eight_bytes, front_byte, token_bytes}
 use Rattle.tap_views.proofs.TokenBytes.{token_length, two_numbers}
 use Rattle.tap_views.proofs.TokenLemmas.{high_back, low_back}
-use Rattle.line_forms.specs.Forms.{IsAfter, IsFirst, IsForm, IsThen, Reader, said_by, value_if}
-use Rattle.line_forms.specs.FormLaws.{after_law, number_law, then_law, wide_64, with_rest_some}
-use Rattle.line_forms.specs.Numbers.{BeginsWithNoDigit, IsNumber, with_rest}
+use Rattle.line_forms.specs.Forms.{IsAfter, IsFirst, IsForm, IsThen, Reader, said_by, value_if, with_rest}
+use Rattle.line_forms.specs.FormLaws.{after_law, number_law, some_one, then_law, wide_64, with_rest_some}
+use Rattle.line_forms.specs.Numbers.{BeginsWithNoDigit, IsNumber}
 use Rattle.report_texts.specs.Forms.{Counted, again, chosen, count_at, counted_read, counts_read, sums_by, sums_with, token_in, token_read, token_with}
 use Rattle.report_texts.specs.Numbers.{AreCounts}
 
 -- ---- values that are made of others
-pub some_one : {A : Type 0} {a b : A} → Some a ≡ Some b → a ≡ b
-some_one e = cc
-
 chosen_some : {A B : Type 0} (choice : A → Option B) (r : Option (A × List ℕ)) (b : B) (rest : List ℕ)
     → chosen choice r ≡ Some (b, rest) → (a : A) × (r ≡ Some (a, rest)) × (choice a ≡ Some b)
 chosen_some choice None b rest e = absurd (cc)

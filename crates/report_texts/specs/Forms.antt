@@ -12,8 +12,8 @@ use Rattle.tap_views.specs.declared.fault.LayoutFault.TheVariants.{Length, Momen
 use Rattle.tap_views.specs.declared.token.Token.{Token}
 use Rattle.tap_views.specs.declared.upload_end.UploadEnd.{UploadEnd}
 use Rattle.tap_views.specs.declared.upload_end.UploadEnd.TheVariants.{Posted, Refused}
-use Rattle.line_forms.specs.Forms.{Reader, after_read, said_by, then_read, value_if}
-use Rattle.line_forms.specs.Numbers.{number_at, with_rest}
+use Rattle.line_forms.specs.Forms.{Reader, after_read, said_by, then_read, value_if, with_rest}
+use Rattle.line_forms.specs.Numbers.{number_at}
 
 -- the number of 64 bits after a word
 abbrev pub count_at : List ℕ → Reader ℕ

@@ -1,19 +1,25 @@
--- Lists one behind the other, and what goes out at once.
-use Rattle.std.proofs.Common.{◌≡◌, ℕ, ◌+◌, ◌<◌, List, [], ◌∷◌, ◌++◌, All, Option, Some, None}
-use Rattle.std.proofs.Common.{length, take, drop, get_or, flat_map, sym, ap, subst, ◌∙◌}
-use Rattle.std.proofs.Common.{append-nil, add-one, drop-cons, Vec, Global, Bor}
-use Rattle.std.specs.Prelude.{IfSome, slice_get}
-use Rattle.std.specs.Slice.{IsItemAt}
-use Rattle.std.proofs.lemmas.Option.{slice_get-get_or}
-use Rattle.std.proofs.lemmas.List.{take-append-drop, take_more}
+-- Lists one behind the other, and taps between places of a list.
+use Rattle.std.proofs.Common.{◌≡◌, ℕ, ◌+◌, ◌<◌, ◌≤◌, List, [], ◌∷◌, ◌++◌, All, Option}
+use Rattle.std.proofs.Common.{length, take, drop, get_or, flat_map, refl, sym, ap, subst, ◌∙◌}
+use Rattle.std.proofs.Common.{append-nil, add-one, drop-cons, Vec, Global}
+use Rattle.std.specs.List.{between}
+use Rattle.std.proofs.lemmas.List.{take-append-drop, take-take, take_more}
 use Rattle.std.proofs.lemmas.List.Concat.{flat_map-append}
-use Rattle.tap_views.specs.declared.token.Token.{Token}
+use Rattle.std.proofs.lemmas.List.Edits.{split_between}
+use Rattle.std.proofs.lemmas.Slice.{between_is}
+use Rattle.tariffs.specs.Fares.{Fares}
 use Rattle.tap_views.specs.Layout.{moment_limit}
 use Rattle.tap_views.specs.declared.encoder.TapFields.{TapFields}
 use Rattle.tap_views.proofs.Lists.{All-split}
-use Rattle.settled_texts.specs.inside.WorkerSlots.{IsSoundList}
+use Rattle.fare_texts.specs.WrittenOut.{Begins, GoesOut}
+use Rattle.fare_texts.specs.declared.explainer.Explainer.{Explainer}
+use Rattle.fare_texts.proofs.Beginnings.{goes_begins, goes_on}
 use Rattle.settlement.specs.Nondecreasing.{TapsNondecreasingFrom, last_token}
 use Rattle.settlement.proofs.Nondecreasing.{nondecreasing_append}
+use Rattle.settled_texts.specs.ExplainedTaps.{Explains, HaveLines, MayExplain}
+use Rattle.settled_texts.specs.inside.WorkerSlots.{IsSoundList}
+use Rattle.settled_texts.proofs.TapsExplained.{begins_longer, explains_then, lines_front, lines_then}
+use Rattle.settled_texts.proofs.TapsExplained.{may_front, may_rest}
 
 -- the taps of lists, one list behind the other
 abbrev pub joined : List (Vec TapFields Global) → List TapFields
@@ -48,34 +54,74 @@ joined_at lists position other within =
     ∙ sym (flat_map-append f (take position lists) (drop position lists))
     ∙ ap (flat_map f) (take-append-drop position lists)
 
--- each of the lists is sound
-pub sound_at : (token : Token) (lists : List (Vec TapFields Global)) (position : ℕ)
-    (other : Vec TapFields Global) → position < length lists
-    → All Early (joined lists) → TapsNondecreasingFrom token (joined lists)
-    → IsSoundList (get_or lists position other).items
-sound_at token lists position other within early nondecreasing =
-    let whole = joined_at lists position other within in
-    let before = joined (take position lists) in
-    let here = (get_or lists position other).items in
-    let trailing = joined (drop (position + 1) lists) in
-    let rest = nondecreasing_append token before (here ++ trailing)
-    (subst (TapsNondecreasingFrom token) (sym whole) nondecreasing) in
+-- ---- taps between two places
+pub take_between : (taps : List TapFields) (begin end : ℕ) → begin ≤ end
+    → take end taps ≡ take begin taps ++ between begin end taps
+take_between taps begin end up =
+    sym (take-append-drop begin (take end taps))
+    ∙ ap (λ ts. ts ++ drop begin (take end taps)) (take-take begin end taps up)
+    ∙ ap (λ ts. take begin taps ++ ts) (sym (between_is taps begin end))
+
+-- those between two places of a sound list are sound
+pub sound_between : (taps : List TapFields) (begin end : ℕ) → begin ≤ end → IsSoundList taps
+    → IsSoundList (between begin end taps)
+sound_between taps begin end up sound =
+    let whole = sym (split_between taps begin end up) in
+    let before = take begin taps in
+    let here = between begin end taps in
+    let trailing = drop end taps in
+    let rest = nondecreasing_append sound.from before (here ++ trailing)
+    (subst (TapsNondecreasingFrom sound.from) (sym whole) sound.nondecreasing) in
     record {
       early = (All-split Early here trailing (All-split Early before (here ++ trailing)
-          (subst (λ (ts : List TapFields). All Early ts) (sym whole) early)).1).0;
-      from = last_token token before;
-      nondecreasing = (nondecreasing_append (last_token token before) here trailing rest.1).0;
+          (subst (λ (ts : List TapFields). All Early ts) (sym whole) sound.early)).1).0;
+      from = last_token sound.from before;
+      nondecreasing = (nondecreasing_append (last_token sound.from before) here trailing rest.1).0;
     }
 
-pub joined_append : (xs ys : List (Vec TapFields Global))
-    → joined (xs ++ ys) ≡ joined xs ++ joined ys
-joined_append xs ys = flat_map-append (λ (list : Vec TapFields Global). list.items) xs ys
+-- ---- lines that go out, and those of the taps that come next
+pub may_next : {fares : Fares} {old mid : Explainer} {done taps : List TapFields}
+    {said : List ℕ → Type 0} (next later : List TapFields) → done ++ (next ++ later) ≡ taps
+    → Explains fares old done mid said → MayExplain fares old taps → MayExplain fares mid next
+may_next {fares} {old} {mid} {done} {taps} {said} next later whole so_far may =
+    may_front fares mid next later (next ++ later) refl
+    (may_rest fares old mid done (next ++ later) taps said whole may so_far)
 
--- what holds of the element at a place holds of the one that is lent there
-pub at_provided : {A : Type 0} (P : A → Type 0) (xs : List A) (position : ℕ)
-    (provided : Option (Bor A))
-    → IsItemAt xs position provided → ((x : A) → slice_get xs position ≡ Some x → P x)
-    → IfSome provided (λ x. P x.now)
-at_provided P xs position None is holds = tt
-at_provided P xs position (Some x) is holds =
-    holds x.now (slice_get-get_or xs position x.now is.3.0 ∙ ap Some (sym is.1))
+pub explains_next : {fares : Fares} {old mid new : Explainer} {done next : List TapFields}
+    {begin out after : Option (List ℕ)} {text waits left : List ℕ}
+    → Explains fares old done mid (GoesOut begin text out waits)
+    → Explains fares mid next new (GoesOut out waits after left)
+    → Explains fares old (done ++ next) new (GoesOut begin text after left)
+explains_next {fares} {old} {mid} {new} {done} {next} {begin} {out} {after} {text} {waits} {left}
+    so_far is =
+    explains_then fares old mid new done next (GoesOut begin text out waits)
+    (GoesOut out waits after left) (GoesOut begin text after left) so_far is
+    (λ l m. goes_on begin out after text waits left l m)
+
+-- from one place to the next
+pub explains_between : {fares : Fares} {old mid new : Explainer}
+    {begin out after : Option (List ℕ)} {text waits left : List ℕ} (taps : List TapFields)
+    (done to : ℕ) → done ≤ to
+    → Explains fares old (take done taps) mid (GoesOut begin text out waits)
+    → Explains fares mid (between done to taps) new (GoesOut out waits after left)
+    → Explains fares old (take to taps) new (GoesOut begin text after left)
+explains_between {fares} {old} {mid} {new} {begin} {out} {after} {text} {waits} {left} taps
+    done to up so_far is =
+    subst (λ (ts : List TapFields). Explains fares old ts new (GoesOut begin text after left))
+    (sym (take_between taps done to up)) (explains_next so_far is)
+
+pub started_next : {fares : Fares} {old mid : Explainer} {done taps : List TapFields}
+    {begin out after : Option (List ℕ)} {text waits : List ℕ} (next later : List TapFields)
+    → done ++ (next ++ later) ≡ taps
+    → Explains fares old done mid (GoesOut begin text out waits)
+    → HaveLines fares mid next (λ lines. Begins out after (waits ++ lines))
+    → HaveLines fares old taps (λ lines. Begins begin after (text ++ lines))
+started_next {fares} {old} {mid} {done} {taps} {begin} {out} {after} {text} {waits} next later
+    whole so_far lines =
+    lines_then fares old mid done (next ++ later) taps (GoesOut begin text out waits)
+    (λ lines. Begins out after (waits ++ lines)) (λ lines. Begins begin after (text ++ lines))
+    whole so_far
+    (lines_front fares mid next later (next ++ later)
+    (λ lines. Begins out after (waits ++ lines)) (λ lines. Begins out after (waits ++ lines)) refl
+    lines (λ l m. begins_longer out after waits l m))
+    (λ l m. goes_begins begin out after text waits l m)

@@ -1,20 +1,16 @@
 -- Columns behind the lines of a text.
-use Rattle.std.proofs.Common.{◌≡◌, ◌∙◌, ℕ, zero, suc, ◌+◌, ◌==◌, Bool, true, false, List, [], ◌∷◌}
+use Rattle.std.proofs.Common.{◌≡◌, ◌∙◌, ℕ, suc, ◌+◌, ◌==◌, Bool, true, false, List, [], ◌∷◌}
 use Rattle.std.proofs.Common.{◌++◌, refl, sym, ap, drop, append_assoc, arith, drop-drop}
 use Rattle.std.specs.Prelude.{codes, if◌then◌else◌}
+use Rattle.std.proofs.lemmas.List.{drop-map, drop_all}
 use Rattle.fare_texts.specs.LedgerLines.{head_text}
-use Rattle.settled_texts.specs.Columns.{columns_by, head_columns, with_columns}
+use Rattle.settled_texts.specs.Columns.{columns_by, columns_of, head_columns, with_columns}
 use Rattle.settled_texts.specs.inside.Feeds.{feeds}
 use Rattle.settled_texts.specs.declared.trace.TracedTap.{TracedTap}
 
 pub no_columns : (text : List ℕ) → with_columns text [] ≡ text
 no_columns [] = refl
 no_columns (byte ∷ text) = refl
-
-drop_all : (n : ℕ) (none : List (List ℕ)) → none ≡ [] → drop n none ≡ []
-drop_all zero none is = is
-drop_all (suc n) [] is = refl
-drop_all (suc n) (x ∷ xs) is = cc
 
 -- a text behind another goes on with the columns that are left
 pub with_append : (a b : List ℕ) (columns : List (List ℕ))
@@ -23,7 +19,7 @@ pub with_append : (a b : List ℕ) (columns : List (List ℕ))
 with_append [] b columns = refl
 with_append (x ∷ a) b [] =
     ap (λ (t : List ℕ). (x ∷ a) ++ t)
-    (sym (ap (with_columns b) (drop_all (feeds (x ∷ a)) [] refl) ∙ no_columns b))
+    (sym (ap (with_columns b) (drop_all (feeds (x ∷ a)) [] (omega arith)) ∙ no_columns b))
 with_append (x ∷ a) b (c ∷ columns) =
     by (x == 10) (with_append a b columns) (with_append a b (c ∷ columns))
   where
@@ -74,16 +70,6 @@ pub with_other : (byte : ℕ) (trailing : List ℕ) (columns : List (List ℕ)) 
 with_other byte trailing [] is = ap (λ (t : List ℕ). byte ∷ t) (sym (no_columns trailing))
 with_other byte trailing (c ∷ columns) is = rw is refl
 
-pub drop_twice : {A : Type 0} (n m : ℕ) (xs : List A) → drop m (drop n xs) ≡ drop (n + m) xs
-drop_twice n m xs = drop-drop m n xs
-
--- the columns of the taps that are left
-pub columns_left : (classes : ℕ → List ℕ → List ℕ) (n : ℕ) (trace : List TracedTap)
-    → drop n (columns_by classes trace) ≡ columns_by classes (drop n trace)
-columns_left classes zero trace = refl
-columns_left classes (suc n) [] = refl
-columns_left classes (suc n) (traced ∷ trace) = columns_left classes n trace
-
 -- lines behind others have the columns of the taps that are left
 pub columns_on : (classes : ℕ → List ℕ → List ℕ) (lines more : List ℕ) (trace left : List TracedTap)
     → left ≡ drop (feeds lines) trace
@@ -93,14 +79,15 @@ columns_on classes lines more trace left is =
     with_append lines more (columns_by classes trace)
     ∙ ap (λ (cs : List (List ℕ)). with_columns lines (columns_by classes trace) ++ with_columns more
     cs)
-    (columns_left classes (feeds lines) trace ∙ ap (columns_by classes) (sym is))
+    (drop-map (λ traced. columns_of (classes traced.tap.moment traced.tap.token) traced)
+    (feeds lines) trace ∙ ap (columns_by classes) (sym is))
 
 -- the taps that are left behind more lines
 pub left_on : (lines more : List ℕ) (trace left next : List TracedTap)
     → left ≡ drop (feeds lines) trace → next ≡ drop (feeds more) left
     → next ≡ drop (feeds (lines ++ more)) trace
 left_on lines more trace left next is on =
-    on ∙ ap (drop (feeds more)) is ∙ drop_twice (feeds lines) (feeds more) trace
+    on ∙ ap (drop (feeds more)) is ∙ drop-drop (feeds more) (feeds lines) trace
     ∙ ap (λ (n : ℕ). drop n trace) (sym (feeds_append lines more))
 
 -- behind the head line, which takes the columns' names, are the lines with their columns

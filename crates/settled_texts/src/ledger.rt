@@ -1,19 +1,20 @@
 //! The ledger of settled taps.
 
 ghost use Rattle.std.specs.Prelude.{◌≡◌, ◌+◌, ◌*◌, ◌^◌, ◌<◌, ◌++◌, ℕ, All, List, None, IfErr, IfOk};
-ghost use Rattle.std.specs.Prelude.{OnOk, flat_map, length};
+ghost use Rattle.std.specs.Prelude.{OnErr, OnOk, flat_map, length, string_bytes};
 ghost use Rattle.std.specs.List.Sorted.{IsSorted};
 ghost use Rattle.std.specs.Io.KnownBytes.{Appends};
 ghost use Rattle.tap_views.specs.Encoding.{AreEarly};
 ghost use Rattle.tap_parts.specs.Canonical.{tap_cmp};
 ghost use Rattle.fare_texts.specs.PrintFaults.{UnchangedUnlessWrite};
-ghost use Rattle.fare_texts.specs.WrittenOut.{Begins};
+ghost use Rattle.fare_texts.specs.WrittenOut.{Begins, GoesOut};
 ghost use Rattle.fare_texts.specs.declared.print_fault.PrintFault.TheVariants.{Write as ForWrite};
 ghost use Rattle.fare_texts.specs.Ledger.{IsLedgerOver};
 ghost use Rattle.settlement.specs.Posted.{HasName, posted};
+ghost use Rattle.settled_texts.specs.ExplainedTaps.{Explains, HaveLines, MayExplain};
 
 use crate::lines::STRIDE_ROOM_BYTES;
-use crate::rounds::write_lists;
+use crate::rounds::{slots_of, write_by_workers};
 use crate::slot::WorkerSlot;
 use fare_texts::{Explainer, PrintFault, head_with_room, pass_on};
 use settlement::least_token;
@@ -22,7 +23,7 @@ use std::io::Write;
 use std::marker::Sync;
 use std::thread::Threads;
 use tap_views::{NoMemory, TapFields};
-use tariffs::FareTable;
+use tariffs::{Clock, FareTable};
 
 fn count(lists: &[Vec<TapFields>]) -> Result<u64, NoMemory>
     ensures count { IfOk result
@@ -35,22 +36,41 @@ fn count(lists: &[Vec<TapFields>]) -> Result<u64, NoMemory>
     Ok(count)
 }
 
-/// A slot for each worker, if there are two or more.
-fn seats_of(alloc: Global, workers: u32) -> Result<Vec<WorkerSlot>, NoMemory> {
-    let mut slots = Vec::new(alloc);
-    if workers > 1 {
-        for _ in 0..workers {
-            slots.push(WorkerSlot::new(alloc))?;
-        }
+/// The lines of lists, one after the other.
+fn write_lists<R: Threads + Sync, W: Write>(
+    rt: &R,
+    text: &mut String,
+    table: &FareTable,
+    clock: &Clock,
+    explainer: &mut Explainer,
+    slots: &mut [WorkerSlot],
+    lists: &[Vec<TapFields>],
+    out: &mut W,
+) -> Result<(), PrintFault>
+    requires clock { clock.now ≡ table.now.zone }
+    requires may { MayExplain table.now explainer.old
+        (flat_map (λ list. list.items) lists.now) }
+    ensures explained { OnOk result (Explains table.now explainer.old
+        (flat_map (λ list. list.items) lists.now) explainer.new
+        (GoesOut (W.contents out.old) (string_bytes text.old) (W.contents out.new)
+        (string_bytes text.new))) }
+    ensures started { OnErr result (HaveLines table.now explainer.old
+        (flat_map (λ list. list.items) lists.now)
+        (λ lines. Begins (W.contents out.old) (W.contents out.new)
+        (string_bytes text.old ++ lines))) }
+    ensures fault { IfErr result (λ fault. fault ≡ ForWrite) }
+{
+    for list in lists {
+        write_by_workers(rt, text, table, clock, explainer, slots, list, out)?;
     }
-    Ok(slots)
+    Ok(())
 }
 
 /// Writes the ledger of taps in canonical order, list after list: the header line, and a line for
 /// each tap with the reply and the reason of the account rule after its token's earlier taps. Each
-/// of `workers` threads makes the lines of a list, and these go out in order. If that fails, or a
-/// token has taps in two lists, this thread makes the lines in the room that it took at first. So
-/// if memory runs out, nothing was written.
+/// of `workers` threads makes the lines of a share of a list, and these go out in order. What no
+/// thread makes, this one makes in the room that it took at first. So if memory runs out, nothing
+/// was written.
 pub fn write_settled_ledger<R: Threads + Sync, W: Write>(
     rt: &R,
     alloc: Global,
@@ -75,7 +95,7 @@ pub fn write_settled_ledger<R: Threads + Sync, W: Write>(
     let _count = count(lists)?;
     let clock = table.clock(alloc)?;
     let mut text = head_with_room(alloc, STRIDE_ROOM_BYTES)?;
-    let mut slots = seats_of(alloc, workers)?;
+    let mut slots = slots_of(alloc, workers)?;
     let mut explainer = Explainer::of(least_token());
     write_lists(
         rt,

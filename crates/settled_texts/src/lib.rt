@@ -17,5 +17,7 @@ pub use class_names::{ClassFault, ClassNames, WrongNames};
 pub use ledger::write_settled_ledger;
 pub use lines::{STRIDE_ROOM_BYTES, token_of, write_taps};
 pub use one_token::{write_token_explained, write_token_ledger, write_token_statement};
+pub use rounds::{slots_of, write_by_workers};
+pub use slot::WorkerSlot;
 pub use trace::{Trace, TracedTap, trace_of};
 pub use traced_ledger::write_traced_ledger;

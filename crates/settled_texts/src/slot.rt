@@ -1,9 +1,7 @@
-//! The lines of one list, made by a thread of its own.
+//! The lines of a share of some taps, made by a thread of its own.
 
-ghost use Rattle.std.specs.Prelude.{◌≡◌, All, List, Some, map, slice_get};
-ghost use Rattle.tap_views.specs.Encoding.{AreEarly};
-ghost use Rattle.tap_views.specs.declared.encoder.TapFields.{TapFields};
-ghost use Rattle.settled_texts.specs.inside.WorkerSlots.{HasSat, IsSoundList};
+ghost use Rattle.std.specs.Prelude.{◌≡◌, ◌≤◌, length, true};
+ghost use Rattle.settled_texts.specs.inside.WorkerSlots.{HasSat, IsSoundList, IsWhole};
 
 use crate::lines::{explain_taps, token_of};
 use fare_texts::Explainer;
@@ -11,18 +9,34 @@ use std::alloc::Global;
 use tap_views::{TapFields, Token};
 use tariffs::{Clock, FareTable};
 
-/// The most taps of a list that a slot takes, so that its text stays small.
+/// The most taps whose lines a slot makes, so that its text stays small.
 const SLOT_TAPS: usize = 65_536;
 
-/// What one worker made of one list.
+/// The first position from this one on, but 0, at which another token begins.
+fn token_begin(taps: &[TapFields], from: usize) -> usize
+    ensures { result ≤ length taps.now }
+{
+    for position in from.max(1)..taps.len() {
+        if taps[position].token != taps[position - 1].token {
+            return position;
+        }
+    }
+    taps.len()
+}
+
+/// What one worker made of its share of the taps.
 #[derive(Drop)]
-pub(crate) struct WorkerSlot {
-    /// The token of the list's first tap.
+pub struct WorkerSlot {
+    /// Its taps begin here.
+    pub(crate) begin: usize,
+    /// The position after its last tap.
+    pub(crate) end: usize,
+    /// The token of its first tap.
     pub(crate) first: Token,
-    /// The last token of the list, with its account after the list.
+    /// The token of its last tap, with the account after that.
     pub(crate) explainer: Explainer,
     pub(crate) text: String,
-    /// Whether all taps of the list have their lines, if its first token had none before.
+    /// Whether all its taps have their lines, if its first token had none before.
     pub(crate) is_whole: bool,
 }
 
@@ -30,6 +44,8 @@ impl WorkerSlot {
     pub(crate) fn new(alloc: Global) -> Self {
         let first = Token::of(&[0; 16]);
         WorkerSlot {
+            begin: 0,
+            end: 0,
             first,
             explainer: Explainer::of(first),
             text: String::new(alloc),
@@ -41,7 +57,9 @@ impl WorkerSlot {
     fn explain(&mut self, table: &FareTable, clock: &Clock, list: &[TapFields])
         requires clock { clock.now ≡ table.now.zone }
         requires sound { IsSoundList list.now }
-        ensures { HasSat table.now list.now self.new }
+        ensures whole { self.new.is_whole ≡ true → IsWhole table.now list.now self.new }
+        ensures begin { self.new.begin ≡ self.old.begin }
+        ensures end { self.new.end ≡ self.old.end }
     {
         self.is_whole = false;
         if list.len() > SLOT_TAPS {
@@ -59,22 +77,25 @@ impl WorkerSlot {
         self.is_whole = true;
     }
 
+    /// Of as many shares as there are workers it takes the one at its position, from where a token
+    /// begins.
     pub(crate) fn take(
         &mut self,
         table: &FareTable,
         clock: &Clock,
-        lists: &[Vec<TapFields>],
+        taps: &[TapFields],
         position: usize,
+        share: usize,
     )
         requires clock { clock.now ≡ table.now.zone }
-        requires sound { All (λ list. IsSoundList list.items) lists.now }
-        ensures { (list : List TapFields)
-            → slice_get (map (λ list. list.items) lists.now) position ≡ Some list
-            → HasSat table.now list self.new }
+        requires sound { IsSoundList taps.now }
+        ensures { HasSat table.now taps.now self.new }
     {
-        match lists.get(position) {
-            Some(list) => self.explain(table, clock, list),
-            None => self.is_whole = false,
+        self.is_whole = false;
+        self.begin = token_begin(taps, position.saturating_mul(share));
+        self.end = token_begin(taps, position.saturating_add(1).saturating_mul(share));
+        if self.begin < self.end {
+            self.explain(table, clock, &taps[self.begin..self.end]);
         }
     }
 }

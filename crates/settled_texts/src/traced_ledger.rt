@@ -1,17 +1,15 @@
 //! The traced ledger of uploads.
 
-ghost use Rattle.std.specs.Prelude.{◌≡◌, ◌++◌, ◌∷◌, [], ℕ, All, List, None};
+ghost use Rattle.std.specs.Prelude.{◌≡◌, ◌++◌, ◌∷◌, [], ℕ, List, None};
 ghost use Rattle.std.specs.Prelude.{Bool, IfErr, IfOk, OnErr, OnOk, drop, map};
 ghost use Rattle.std.specs.Prelude.{string_bytes};
-ghost use Rattle.std.specs.List.Sorted.{IsSorted};
 ghost use Rattle.std.specs.Io.KnownBytes.{Appends};
-ghost use Rattle.tap_views.specs.Encoding.{AreEarly};
-ghost use Rattle.tap_views.specs.TapOrder.{tap_cmp};
 ghost use Rattle.fare_texts.specs.PrintFaults.{UnchangedUnlessWrite};
 ghost use Rattle.fare_texts.specs.WrittenOut.{Begins};
 ghost use Rattle.fare_texts.specs.declared.print_fault.PrintFault.TheVariants.{Write as ForWrite};
 ghost use Rattle.fare_texts.specs.Ledger.{IsLedgerOver};
-ghost use Rattle.settlement.specs.Posted.{HasName, posted};
+ghost use Rattle.settlement.specs.Posted.{posted};
+ghost use Rattle.settlement.specs.SettledTaps.{AreSettledTaps};
 ghost use Rattle.settled_texts.specs.ExplainedTaps.{Explains, HaveLines, MayExplain};
 ghost use Rattle.settled_texts.specs.Columns.{columns_by, head_columns, with_columns};
 ghost use Rattle.settled_texts.specs.inside.Feeds.{feeds};
@@ -180,9 +178,7 @@ fn write_trace<W: Write>(
     trace: &[TracedTap],
     out: &mut W,
 ) -> Result<(), PrintFault>
-    requires sorted { IsSorted tap_cmp (taps_of_trace trace.now) }
-    requires early { AreEarly (λ tap. tap.moment) (taps_of_trace trace.now) }
-    requires named { All HasName (taps_of_trace trace.now) }
+    requires { (files : List (List ℕ)) × AreSettledTaps files (taps_of_trace trace.now) }
     ensures ok { OnOk result ((untraced : List ℕ)
         × IsLedgerOver table.now (posted table.now (taps_of_trace trace.now)) None untraced
         × Appends (W.contents out.old) (W.contents out.new)

@@ -1,7 +1,7 @@
 -- Histories of lists that share no token, one behind the other, and their sums by token.
 use Rattle.std.proofs.Common.{◌≡◌, List, ◌∷◌, ◌++◌, map, filter, []}
-use Rattle.std.proofs.Common.{refl, sym, ap, ◌∙◌, append-nil, append_assoc}
-use Rattle.std.proofs.lemmas.List.Elements.{filter-append}
+use Rattle.std.proofs.Common.{All, refl, sym, ap, ◌∙◌, append-nil, append_assoc}
+use Rattle.std.proofs.lemmas.List.Elements.{All-head, All-tail, filter-append}
 use Rattle.tariffs.specs.Fares.{Fares}
 use Rattle.tap_views.specs.Token.{bytes_of}
 use Rattle.tap_views.specs.declared.encoder.TapFields.{TapFields}
@@ -10,8 +10,7 @@ use Rattle.fare_caps.specs.CapMeanings.{capped_rules_of}
 use Rattle.histories.specs.Entry.{is_of, own, tap_of, taps_of}
 use Rattle.histories.specs.declared.entry.Entry.{Entry}
 use Rattle.histories.specs.Plain.{answered, with_reply}
-use Rattle.settlement.specs.Posted.{posted, posted_after, unposted}
-use Rattle.settlement.specs.inside.Apart.{AreOthers}
+use Rattle.settlement.specs.Posted.{posted, posted_after, token_of_tap, unposted}
 
 -- entries of other tokens decide no reply
 answered_others : (fares : Fares) (front earlier : List Entry) (entry : Entry)
@@ -25,20 +24,22 @@ answered_others fares front earlier entry none =
     (filter-append (is_of entry.token) front earlier
     ∙ ap (λ (es : List Entry). es ++ filter (is_of entry.token) earlier) none)
 
-pub after_others : (fares : Fares) (front earlier : List Entry) (taps : List TapFields)
-    → AreOthers front taps
+after_others : (fares : Fares) (front earlier : List Entry) (taps : List TapFields)
+    → All (λ tap. own (token_of_tap tap) front ≡ []) taps
     → posted_after fares (front ++ earlier) taps ≡ posted_after fares earlier taps
 unfolding posted_after
 after_others fares front earlier [] others = refl
 after_others fares front earlier (tap ∷ taps) others =
     let entry = answered fares earlier (unposted tap) in
     let same : answered fares (front ++ earlier) (unposted tap) ≡ entry =
-    answered_others fares front earlier (unposted tap) others.0 in
+    answered_others fares front earlier (unposted tap)
+    (All-head (λ t. own (token_of_tap t) front ≡ []) tap taps others) in
     ap (λ (e : Entry). e ∷ posted_after fares ((front ++ earlier) ++ e ∷ []) taps) same
     ∙ ap (λ (es : List Entry). entry ∷ posted_after fares es taps)
     (append_assoc front earlier (entry ∷ []))
     ∙ ap (λ (es : List Entry). entry ∷ es)
-    (after_others fares front (earlier ++ entry ∷ []) taps others.1)
+    (after_others fares front (earlier ++ entry ∷ []) taps
+    (All-tail (λ t. own (token_of_tap t) front ≡ []) tap taps others))
 
 -- the entries of two lists of taps, one after the other
 pub posted_append : (fares : Fares) (earlier : List Entry) (xs ys : List TapFields)
@@ -56,7 +57,8 @@ posted_append fares earlier (x ∷ xs) ys =
     (append_assoc earlier (entry ∷ []) (posted_after fares (earlier ++ entry ∷ []) xs))
 
 -- the history of two lists of taps that share no token is both histories
-pub posted_apart : (fares : Fares) (xs ys : List TapFields) → AreOthers (posted fares xs) ys
+pub posted_apart : (fares : Fares) (xs ys : List TapFields)
+    → All (λ tap. own (token_of_tap tap) (posted fares xs) ≡ []) ys
     → posted fares (xs ++ ys) ≡ posted fares xs ++ posted fares ys
 posted_apart fares xs ys others =
     posted_append fares [] xs ys

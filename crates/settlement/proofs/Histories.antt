@@ -1,22 +1,12 @@
 -- Files that read alike have the same plain history and the same ends.
-use Rattle.std.proofs.Common.{◌≡◌, ℕ, List, ◌∷◌, ◌++◌, length, map, flat_map, refl, ap, ◌∙◌, []}
-use Rattle.std.proofs.Common.{arith}
+use Rattle.std.proofs.Common.{◌≡◌, List, ◌∷◌, ◌++◌, length, map, refl, ap, ◌∙◌, [], arith}
 use Rattle.tariffs.specs.Fares.{Fares}
 use Rattle.tap_views.specs.Encoding.{fields_of}
 use Rattle.tap_views.specs.Layout.{Tap}
 use Rattle.tap_views.specs.declared.encoder.TapFields.{TapFields}
 use Rattle.account_rule.specs.declared.reply.Answer.TheVariants.{Unknown}
 use Rattle.histories.specs.declared.entry.Entry.{Entry}
-use Rattle.tap_views.specs.Files.{AreValidTaps, IsFileOf, HasUniqueParse}
-use Rattle.histories.specs.Plain.{token_of_bytes, unanswered, answered}
-use Rattle.histories.specs.Plain.{plain_after}
-
--- a file's taps have the fields that it is read as
-pub read_fields : (file : List ℕ) (taps : List Tap) (list : List TapFields) → HasUniqueParse file
-    → AreValidTaps file taps → IsFileOf file list → map fields_of taps ≡ list
-read_fields file taps list cut of reads =
-    let same = cut of.batches reads.batches of.rest [] of.is_file reads.is_file in
-    ap (map fields_of) (of.all ∙ ap (flat_map (λ (batch : List Tap). batch)) same.0) ∙ reads.read
+use Rattle.histories.specs.Plain.{token_of_bytes, unanswered, answered, plain_after}
 
 -- an entry with no reply, by the fields
 unfoldable pub entry_of : TapFields → Entry

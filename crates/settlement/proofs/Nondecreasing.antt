@@ -82,19 +82,6 @@ not_below_zero high low =
     then_not (nat_cmp high 0) (nat_cmp low 0) (not_below high (nat_cmp high 0) (ranks high 0))
     (not_below low (nat_cmp low 0) (ranks low 0))
 
--- taps in canonical order do not fall from a token that is not above any of theirs
-pub sorted_nondecreasing : (token : Token) (taps : List TapFields)
-    → All (λ tap. IsUpTo token (token_of_tap tap)) taps → All HasName taps → IsSorted tap_cmp taps
-    → TapsNondecreasingFrom token taps
-sorted_nondecreasing token [] up names sorted = tt
-sorted_nondecreasing token (a ∷ taps) up names sorted =
-    let pairs = sorted_pairs (a ∷ taps) sorted in (
-      All-head (λ (tap : TapFields). IsUpTo token (token_of_tap tap)) a taps up,
-      nondecreasing_from a taps (All-head HasName a taps names) (All-tail HasName a taps names)
-          pairs.0
-          pairs.1,
-    )
-
 -- the least token is not above another
 pub least_up : (least token : Token) → least ≡ record { high = 0; low = 0 } → IsUpTo least token
 least_up least token is =
@@ -104,6 +91,11 @@ least_up least token is =
 pub canonical_nondecreasing : (least : Token) (taps : List TapFields)
     → least ≡ record { high = 0; low = 0 }
     → All HasName taps → IsSorted tap_cmp taps → TapsNondecreasingFrom least taps
-canonical_nondecreasing least taps is names sorted =
-    sorted_nondecreasing least taps
-    (λ i d inside. least_up least (token_of_tap (get_or taps i d)) is) names sorted
+canonical_nondecreasing least [] is names sorted = tt
+canonical_nondecreasing least (a ∷ taps) is names sorted =
+    let pairs = sorted_pairs (a ∷ taps) sorted in (
+      least_up least (token_of_tap a) is,
+      nondecreasing_from a taps (All-head HasName a taps names) (All-tail HasName a taps names)
+          pairs.0
+          pairs.1,
+    )

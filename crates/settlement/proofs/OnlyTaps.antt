@@ -1,6 +1,7 @@
 -- The taps of one token among taps: collected from uploads, and posted alone.
-use Rattle.std.proofs.Common.{◌≡◌, ℕ, Bool, true, false, cond, List, ◌∷◌, ◌++◌, map, refl}
-use Rattle.std.proofs.Common.{sym, ap, ◌∙◌, append-nil, append_assoc, []}
+use Rattle.std.proofs.Common.{◌≡◌, Bool, true, false, cond, List, ◌∷◌, ◌++◌, map, refl}
+use Rattle.std.proofs.Common.{sym, ap, ◌∙◌, append-nil, append_assoc, flat_map, [], Vec, Global}
+use Rattle.std.specs.List.{AllZip}
 use Rattle.std.proofs.lemmas.List.{map-append}
 use Rattle.std.proofs.lemmas.List.Concat.{flat_map-append}
 use Rattle.std.proofs.lemmas.List.Elements.{filter-append}
@@ -8,7 +9,6 @@ use Rattle.tariffs.specs.Fares.{Fares}
 use Rattle.tap_views.specs.Token.{bytes_of, token_eq}
 use Rattle.tap_views.specs.declared.token.Token.{Token}
 use Rattle.tap_views.specs.Encoding.{fields_of}
-use Rattle.tap_views.specs.Files.{AreValidTaps}
 use Rattle.tap_views.specs.Layout.{Tap}
 use Rattle.tap_views.specs.declared.encoder.TapFields.{TapFields}
 use Rattle.fare_caps.specs.CappedReplies.{capped_reply}
@@ -16,14 +16,11 @@ use Rattle.fare_caps.specs.CapMeanings.{capped_rules_of}
 use Rattle.histories.specs.Entry.{is_of, own, tap_of, taps_of}
 use Rattle.histories.specs.declared.entry.Entry.{Entry}
 use Rattle.tap_views.proofs.TokenLemmas.{same_token}
-use Rattle.tap_views.proofs.Lists.{AllZip-append}
 use Rattle.tap_parts.specs.Parts.{taps_of_uploads}
-use Rattle.tap_views.specs.UploadEnds.{IsPlainEnd}
 use Rattle.histories.specs.Plain.{answered, with_reply}
 use Rattle.histories.proofs.OwnEntries.{own-append, own_other, own_same}
-use Rattle.tap_views.specs.declared.upload_end.UploadEnd.{UploadEnd}
 use Rattle.settlement.specs.Posted.{only, posted, posted_after, token_of_tap, unposted}
-use Rattle.settlement.specs.inside.OwnTaps.{AreOwnAdded, AreOwnTaps}
+use Rattle.settlement.proofs.Files.{taps_in}
 
 -- ---- taps of one token
 -- whether the tap is of the token
@@ -66,41 +63,21 @@ only_batch token old now new done batch one other =
     (sym (flat_map-append (λ (b : List Tap). b) done (batch ∷ [])
     ∙ ap (λ (ts : List Tap). taps_of_uploads done ++ ts) (append-nil batch)))
 
--- ---- uploads
-pub no_own : (token : Token) → AreOwnTaps token [] [] []
-no_own token = record { taps = []; of_uploads = tt; are = refl; ended = tt }
+-- the list has the token's taps
+abbrev AreOwn : Token → List Tap → Vec TapFields Global → Type 0
+AreOwn token taps list = list.items ≡ only token (map fields_of taps)
 
--- one run of uploads, and then the next
-pub both_own : (token : Token) (one other : List (List ℕ)) (own more : List TapFields)
-    (ends later : List UploadEnd) → AreOwnTaps token one own ends
-    → AreOwnTaps token other more later
-    → AreOwnTaps token (one ++ other) (own ++ more) (ends ++ later)
-both_own token one other own more ends later front back = record {
-  taps = front.taps ++ back.taps;
-  of_uploads = AllZip-append AreValidTaps one front.taps other back.taps front.of_uploads
-      back.of_uploads;
-  are = ap (λ (ts : List TapFields). ts ++ more) front.are
-      ∙ ap (λ (ts : List TapFields). only token (map fields_of (taps_of_uploads front.taps)) ++ ts)
-      back.are
-      ∙ sym (only_fields token (taps_of_uploads front.taps) (taps_of_uploads back.taps))
-      ∙ ap (λ (ts : List Tap). only token (map fields_of ts))
-      (sym (flat_map-append (λ (upload : List Tap). upload) front.taps back.taps));
-  ended = AllZip-append IsPlainEnd one ends other later front.ended back.ended;
-}
-
--- one upload more
-pub upload_own : (token : Token) (uploads : List (List ℕ)) (upload : List ℕ)
-    (old new : List TapFields) (ends : List UploadEnd) (end : UploadEnd)
-    → AreOwnTaps token uploads old ends → AreOwnAdded token upload old new end
-    → AreOwnTaps token (uploads ++ upload ∷ []) new (ends ++ end ∷ [])
-upload_own token uploads upload old new ends end are is = record {
-  taps = are.taps ++ is.taps ∷ [];
-  of_uploads = AllZip-append AreValidTaps uploads are.taps (upload ∷ []) (is.taps ∷ [])
-      are.of_uploads (is.of_upload, tt);
-  are = only_batch token [] old new are.taps is.taps are.are is.added;
-  ended = AllZip-append IsPlainEnd uploads ends (upload ∷ []) (end ∷ []) are.ended
-      (is.ended, tt);
-}
+-- the token's taps in what was kept of runs of taps
+pub own_runs : (token : Token) (runs : List (List Tap)) (lists : List (Vec TapFields Global))
+    → AllZip (AreOwn token) runs lists
+    → flat_map taps_in lists ≡ only token (map fields_of (taps_of_uploads runs))
+own_runs token [] [] zip = refl
+own_runs token [] (l ∷ lists) zip = absurd zip
+own_runs token (r ∷ runs) [] zip = absurd zip
+own_runs token (r ∷ runs) (l ∷ lists) zip =
+    ap (λ ts. ts ++ flat_map taps_in lists) zip.0
+    ∙ ap (λ ts. only token (map fields_of r) ++ ts) (own_runs token runs lists zip.1)
+    ∙ sym (only_fields token r (taps_of_uploads runs))
 
 -- ---- posted alone
 

@@ -1,11 +1,10 @@
 -- Bills to which taps are added one by one.
 use Rattle.std.proofs.Common.{◌≡◌, ◌≢◌, ◌==◌, ℕ, ◌+◌, ◌<◌, true, false, List, [], ◌∷◌, ◌++◌, length}
 use Rattle.std.proofs.Common.{map, refl, sym, ap, subst, ◌∙◌, arith, All, append-nil, append_assoc}
-use Rattle.std.proofs.Common.{length-append}
+use Rattle.std.proofs.Common.{get_or, length-append}
 use Rattle.std.specs.declared.cmp.Ordering.TheVariants.{Less}
 use Rattle.std.proofs.lemmas.List.{map-append}
 use Rattle.std.proofs.lemmas.List.Elements.{All-append, All-cons, All-head, All-map, All-nil}
-use Rattle.std.proofs.lemmas.List.Elements.{All-weaker}
 use Rattle.tariffs.specs.Fares.{Fares}
 use Rattle.tap_views.specs.Token.{token_cmp}
 use Rattle.tap_views.specs.declared.token.Token.{Token}
@@ -28,8 +27,7 @@ use Rattle.settlement.specs.declared.bill.Bill.{Bill}
 use Rattle.tap_views.specs.TokenOrder.{AreBelow}
 use Rattle.settlement.proofs.Concats.{posted_append}
 use Rattle.settlement.proofs.Ranges.{posted_below}
-use Rattle.settlement.proofs.TokenRuns.{posted_length, tokens_are}
-use Rattle.settlement.proofs.TokenRuns.{tokens_posted, up_apart}
+use Rattle.settlement.proofs.TokenRuns.{posted_length, tokens_are, tokens_posted, up_apart}
 use Rattle.tap_views.proofs.TokenLemmas.{token_cmp-total}
 use Rattle.settlement.specs.declared.open_bill.OpenBill.{OpenBill}
 use Rattle.settlement.specs.OpenBills.{IsOpenBill}
@@ -83,13 +81,10 @@ module _ (fares : Fares) (token : Token) (lower last : List TapFields)
       subst (λ (ts : List Token). AreBelow ts (next ∷ []))
       (sym (map-append token_of_tap lower last))
       (All-append P (map token_of_tap lower) (map token_of_tap last)
-      (All-weaker (λ t. All (λ o. token_cmp t o ≡ Less) (token ∷ [])) P
-      (λ t all. one t (token_cmp-total.trans t token next
-      (All-head (λ o. token_cmp t o ≡ Less) token [] all) less)) (map token_of_tap lower) below)
-      (All-map P token_of_tap last
-      (All-weaker (λ (tap : TapFields). token_of_tap tap ≡ token)
-      (λ (tap : TapFields). P (token_of_tap tap)) (λ tap same. subst P (sym same) (one token less))
-      last its)))
+      (λ i d inside. let t = get_or (map token_of_tap lower) i d in
+      one t (token_cmp-total.trans t token next
+      (All-head (λ o. token_cmp t o ≡ Less) token [] (below i d inside)) less))
+      (All-map P token_of_tap last (λ i d inside. subst P (sym (its i d inside)) (one token less))))
 
 -- the entries of all taps are those of the lower tokens, and then those of the last
 entries_both : (fares : Fares) (taps : List TapFields) (bill : OpenBill)

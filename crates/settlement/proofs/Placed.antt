@@ -1,7 +1,6 @@
 -- Settled files: whose taps are where, and in which order.
-use Rattle.std.proofs.Common.{◌≡◌, suc, ◌<◌, ◌≤◌, ◌==◌, List, ◌∷◌, []}
-use Rattle.std.proofs.Common.{true, false, cond, sym, ap, ◌∙◌}
-use Rattle.std.proofs.Common.{arith, All, inl, inr}
+use Rattle.std.proofs.Common.{◌≡◌, suc, ◌<◌, ◌≤◌, ◌==◌, List, ◌∷◌, ◌++◌, []}
+use Rattle.std.proofs.Common.{true, false, cond, sym, ap, ◌∙◌, arith, All, inl, inr}
 use Rattle.std.specs.Prelude.{◌⊎◌}
 use Rattle.std.specs.Cmp.Lexicographic.{slice_cmp}
 use Rattle.std.specs.List.Sorted.{IsSorted}
@@ -10,7 +9,7 @@ use Rattle.std.specs.declared.cmp.Ordering.TheVariants.{Less, Equal, Greater}
 use Rattle.std.specs.Cmp.{tied_itself}
 use Rattle.std.proofs.lemmas.Bool.{cases_lt, lt-ltb}
 use Rattle.std.proofs.lemmas.Cmp.{nat_list_cmp_total}
-use Rattle.std.proofs.lemmas.List.Elements.{All-weaker}
+use Rattle.std.proofs.lemmas.List.Elements.{All-append, All-head, All-tail, All-weaker}
 use Rattle.std.proofs.lemmas.List.Sorted.{ranks_by, sorted_far}
 use Rattle.tap_views.specs.declared.encoder.TapFields.{TapFields}
 use Rattle.tap_parts.specs.Canonical.{tap_cmp}
@@ -63,6 +62,15 @@ pub pairs_map : {X : Type 0} (R S : X → X → Type 0) (xs : List X) → ((x y 
 pairs_map R S [] f pairs = tt
 pairs_map R S (x ∷ xs) f pairs =
     (All-weaker (R x) (S x) (f x) xs pairs.0, pairs_map R S xs f pairs.1)
+
+-- elements, and more of them
+pub pairs_append : {X : Type 0} (R : X → X → Type 0) (xs ys : List X) → Pairs R xs → Pairs R ys
+    → All (λ x. All (R x) ys) xs → Pairs R (xs ++ ys)
+pairs_append R [] ys one other all = other
+pairs_append R (x ∷ xs) ys one other all = (
+  All-append (R x) xs ys one.0 (All-head (λ z. All (R z) ys) x xs all),
+  pairs_append R xs ys one.1 other (All-tail (λ z. All (R z) ys) x xs all),
+)
 
 -- in order, and so in order within each token
 pub all_ascending : (xs : List TapFields) → IsSorted tap_cmp xs → Pairs Ascends xs

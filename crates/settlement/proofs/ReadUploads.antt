@@ -1,34 +1,24 @@
--- Uploads that were read one after another.
-use Rattle.std.proofs.Common.{◌≡◌, ℕ, ◌+◌, ◌-◌, ◌<◌, ◌≤◌, List, ◌∷◌, ◌++◌, All, length, map, get_or}
+-- Uploads that were read one after another, and what is kept of them.
+use Rattle.std.proofs.Common.{◌≡◌, ℕ, suc, ◌+◌, ◌-◌, ◌<◌, ◌≤◌, List, ◌∷◌, ◌++◌, All, length, get_or}
 use Rattle.std.proofs.Common.{[], ap, ◌∙◌, sym, subst, arith, inl, inr, length-append}
 use Rattle.std.proofs.Common.{append-nil, append_assoc}
-use Rattle.std.specs.Prelude.{◌⊎◌, suc}
+use Rattle.std.specs.Prelude.{◌⊎◌}
 use Rattle.std.proofs.lemmas.Bool.{cases_lt}
-use Rattle.std.proofs.lemmas.List.{get_or_append_left, get_or-append-add, map-append}
-use Rattle.std.proofs.lemmas.List.Elements.{All-append, All-cons, All-head, All-nil, All-tail}
-use Rattle.tap_views.specs.Encoding.{fields_of}
-use Rattle.tap_views.specs.Files.{AreValidTapsOfEach, taps_of_batches}
+use Rattle.std.proofs.lemmas.List.{get_or_append_left, get_or-append-add}
+use Rattle.std.proofs.lemmas.List.Concat.{flat_map-append}
+use Rattle.std.proofs.lemmas.List.Elements.{All-append, All-nil}
+use Rattle.tap_views.specs.Files.{AreValidTaps}
 use Rattle.tap_views.specs.Layout.{Tap}
-use Rattle.tap_views.specs.declared.encoder.TapFields.{TapFields}
-use Rattle.tap_views.proofs.ParseLemmas.{each_more}
-use Rattle.tap_parts.specs.Canonical.{HasTokenBytes}
-use Rattle.tap_parts.specs.Parts.{taps_of_uploads}
-use Rattle.tap_parts.specs.Uploads.{IsUploadAddedBy}
-use Rattle.tap_parts.specs.declared.upload.UploadTaps.{UploadTaps}
-use Rattle.tap_parts.proofs.Adding.{none_added, batch_added}
-use Rattle.tap_views.specs.UploadEnds.{IsPlainEnd, end_by}
+use Rattle.tap_views.specs.UploadEnds.{IsPlainEnd}
 use Rattle.tap_views.specs.declared.upload_end.UploadEnd.{UploadEnd}
-use Rattle.tap_views.specs.declared.token.Token.{Token}
 use Rattle.tap_views.proofs.Lists.{AllZip-append}
+use Rattle.tap_parts.specs.Parts.{taps_of_uploads}
 use Rattle.world.specs.Origins.{IsFrom, IsProvided, Origin, loads_from, with_loads}
 use Rattle.world.specs.Run.{Run, nothing_yet, with_all}
 use Rattle.world.proofs.Laws.{joined_loads, more_loads, no_loads}
 use Rattle.settlement.specs.Reading.{AreRead, loads_in_order}
-use Rattle.settlement.specs.inside.OwnTaps.{AreOwnAdded, AreOwnBetween}
-use Rattle.settlement.specs.inside.SplitTaps.{HasValidTokens, AreAddedBetween, AreInPartsBetween}
-use Rattle.settlement.proofs.Ends.{plain_end, taps_added}
-use Rattle.settlement.proofs.Lists.{both_split}
-use Rattle.settlement.proofs.OnlyTaps.{both_own, no_own, upload_own}
+use Rattle.settlement.specs.inside.Taken.{AreInRuns, AreTaken, HasToken, HasValidTokens}
+use Rattle.settlement.specs.inside.Taken.{IsUploadKept}
 
 loads_append : (origin : ℕ → Origin) (start : ℕ) (xs ys : List (List ℕ))
     → loads_in_order origin start (xs ++ ys)
@@ -106,112 +96,101 @@ joined_read origin start end files r s t read joined = record {
       ∙ joined_loads r (loads_in_order origin start files);
 }
 
--- the files that two threads read
-both_joined : (origin : ℕ → Origin) (start middle end : ℕ) (front back : List (List ℕ))
-    (r s t : Run) → AreRead origin start middle front nothing_yet r
-    → AreRead origin middle end back nothing_yet s → t ≡ with_all r s
-    → AreRead origin start end (front ++ back) nothing_yet t
-both_joined origin start middle end front back r s t one other joined =
-    both_read origin start middle end front back nothing_yet r t one
-    (joined_read origin middle end back r s t other joined)
-
--- the tokens of all good taps have 16 bytes
-pub all_tokens : (files : List (List ℕ)) (taps : List (List Tap)) → All HasValidTokens files
-    → AreValidTapsOfEach files taps → All HasTokenBytes (map fields_of (taps_of_uploads taps))
-all_tokens [] [] tokens each = All-nil HasTokenBytes
-all_tokens [] (t ∷ taps) tokens each = absurd each
-all_tokens (f ∷ files) [] tokens each = absurd each
-all_tokens (f ∷ files) (t ∷ taps) tokens each =
-    subst (All HasTokenBytes) (sym (map-append fields_of t (taps_of_uploads taps)))
-    (All-append HasTokenBytes (map fields_of t) (map fields_of (taps_of_uploads taps))
-    (All-head HasValidTokens f files tokens t each.0)
-    (all_tokens files taps (All-tail HasValidTokens f files tokens) each.1))
-
--- ---- taps that were added to parts
-pub no_run : (origin : ℕ → Origin) (start : ℕ) (part_of : List ℕ → ℕ)
-    (parts : List (List TapFields)) (r : Run)
-    → AreAddedBetween origin start start part_of parts parts [] r r
-no_run origin start part_of parts r = record {
+-- ---- what is kept
+pub none_taken : (origin : ℕ → Origin) (start : ℕ) (said : List Tap → Type 0) (r : Run) → said []
+    → AreTaken origin start start said [] r r
+none_taken origin start said r holds = record {
   files = [];
   read = none_read origin start r;
-  tokens = All-nil HasValidTokens;
-  added = record { taps = []; of_uploads = tt; added = none_added part_of parts; ended = tt };
+  taps = [];
+  of_files = tt;
+  ended = tt;
+  tokens = All-nil HasToken;
+  holds = holds;
 }
 
-pub run_more : (origin : ℕ → Origin) (start upload : ℕ) (part_of : List ℕ → ℕ)
-    (old now new : List (List TapFields)) (ends : List UploadEnd) (file : List ℕ)
-    (added : UploadTaps) (end : UploadEnd) (r s t : Run)
-    → AreAddedBetween origin start upload part_of old now ends r s
+-- uploads, and then more of them
+both_taken : (origin : ℕ → Origin) (start middle end : ℕ) (one other both : List Tap → Type 0)
+    (ends more : List UploadEnd) (r s t : Run) → AreTaken origin start middle one ends r s
+    → AreTaken origin middle end other more s t
+    → ((xs ys : List Tap) → one xs → other ys → both (xs ++ ys))
+    → AreTaken origin start end both (ends ++ more) r t
+both_taken origin start middle end one other both ends more r s t front back join =
+    let whole = flat_map-append (λ (upload : List Tap). upload) front.taps back.taps in
+    record {
+      files = front.files ++ back.files;
+      read = both_read origin start middle end front.files back.files r s t front.read back.read;
+      taps = front.taps ++ back.taps;
+      of_files = AllZip-append AreValidTaps front.files front.taps back.files back.taps
+          front.of_files back.of_files;
+      ended = AllZip-append IsPlainEnd front.files ends back.files more front.ended back.ended;
+      tokens = subst (All HasToken) (sym whole)
+          (All-append HasToken (taps_of_uploads front.taps) (taps_of_uploads back.taps)
+          front.tokens back.tokens);
+      holds = subst both (sym whole)
+          (join (taps_of_uploads front.taps) (taps_of_uploads back.taps) front.holds back.holds);
+    }
+
+-- one upload more
+pub upload_taken : {K : Type 0} (keeps : List Tap → K → Type 0) (origin : ℕ → Origin)
+    (start upload : ℕ) (old new : K) (ends : List UploadEnd) (file : List ℕ) (end : UploadEnd)
+    (r s t : Run) → AreTaken origin start upload (λ taps. keeps taps old) ends r s
     → IsProvided (origin upload) s t file → HasValidTokens file
-    → IsUploadAddedBy part_of file now new added → end ≡ end_by added.taps added.fault
-    → AreAddedBetween origin start (upload + 1) part_of old new (ends ++ end ∷ []) r t
-run_more origin start upload part_of old now new ends file added end r s t run is tokens one
-    ended =
-    let more = taps_of_batches one.batches in
-    record {
-      files = run.files ++ file ∷ [];
-      read = both_read origin start upload (upload + 1) run.files (file ∷ []) r s t run.read
-          (one_read origin upload file s t is);
-      tokens = All-append HasValidTokens run.files (file ∷ []) run.tokens
-          (All-cons HasValidTokens file [] tokens (All-nil HasValidTokens));
-      added = record {
-        taps = run.added.taps ++ more ∷ [];
-        of_uploads = each_more run.files run.added.taps file more run.added.of_uploads
-            (taps_added part_of file now new added one);
-        added = batch_added part_of run.added.taps more old now new run.added.added one.added;
-        ended = AllZip-append IsPlainEnd run.files ends (file ∷ []) (end ∷ []) run.added.ended
-            (plain_end part_of file now new added end one ended, tt);
-      };
-    }
+    → IsUploadKept keeps file old new end
+    → AreTaken origin start (upload + 1) (λ taps. keeps taps new) (ends ++ end ∷ []) r t
+upload_taken keeps origin start upload old new ends file end r s t front provided tokens kept =
+    both_taken origin start upload (upload + 1) (λ taps. keeps taps old) (λ taps. taps ≡ kept.taps)
+    (λ taps. keeps taps new) ends (end ∷ []) r s t front (record {
+      files = file ∷ [];
+      read = one_read origin upload file s t provided;
+      taps = kept.taps ∷ [];
+      of_files = (kept.of_upload, tt);
+      ended = (kept.ended, tt);
+      tokens = subst (All HasToken) (sym (append-nil kept.taps))
+          (tokens kept.taps kept.of_upload);
+      holds = append-nil kept.taps;
+    })
+    (λ xs ys before same. subst (λ zs. keeps (xs ++ zs) new) (sym same) (kept.added xs before))
 
-pub both_runs : (origin : ℕ → Origin) (start middle end : ℕ) (part_of : List ℕ → ℕ)
-    (parts : ℕ) (lists more : List (List (List TapFields))) (ends later : List UploadEnd)
-    (r s t : Run) → AreInPartsBetween origin start middle part_of parts lists ends nothing_yet r
-    → AreInPartsBetween origin middle end part_of parts more later nothing_yet s
-    → t ≡ with_all r s
-    → AreInPartsBetween origin start end part_of parts (lists ++ more) (ends ++ later) nothing_yet t
-both_runs origin start middle end part_of parts lists more ends later r s t one other joined =
-    record {
-      files = one.files ++ other.files;
-      read = both_joined origin start middle end one.files other.files r s t one.read other.read
-          joined;
-      tokens = All-append HasValidTokens one.files other.files one.tokens other.tokens;
-      inside = both_split part_of parts one.files other.files lists more ends later one.inside
-          other.inside;
-    }
-
--- ---- taps of one token
-pub no_run_own : (origin : ℕ → Origin) (start : ℕ) (token : Token) (r : Run)
-    → AreOwnBetween origin start start token [] [] r r
-no_run_own origin start token r = record {
-  files = [];
-  read = none_read origin start r;
-  tokens = All-nil HasValidTokens;
-  are = no_own token;
+-- what one thread kept
+pub run_taken : {K : Type 0} (keeps : List Tap → K → Type 0) (origin : ℕ → Origin)
+    (start end : ℕ) (kept : K) (ends : List UploadEnd) (r s : Run)
+    → AreTaken origin start end (λ taps. keeps taps kept) ends r s
+    → AreTaken origin start end (AreInRuns keeps (kept ∷ [])) ends r s
+run_taken keeps origin start end kept ends r s is = record {
+  files = is.files;
+  read = is.read;
+  taps = is.taps;
+  of_files = is.of_files;
+  ended = is.ended;
+  tokens = is.tokens;
+  holds = record {
+    runs = taps_of_uploads is.taps ∷ [];
+    whole = sym (append-nil (taps_of_uploads is.taps));
+    each = (is.holds, tt);
+  };
 }
 
-pub run_own_more : (origin : ℕ → Origin) (start upload : ℕ) (token : Token)
-    (old new : List TapFields) (ends : List UploadEnd) (file : List ℕ) (end : UploadEnd)
-    (r s t : Run) → AreOwnBetween origin start upload token old ends r s
-    → IsProvided (origin upload) s t file → HasValidTokens file → AreOwnAdded token file old new end
-    → AreOwnBetween origin start (upload + 1) token new (ends ++ end ∷ []) r t
-run_own_more origin start upload token old new ends file end r s t run is tokens one = record {
-  files = run.files ++ file ∷ [];
-  read = both_read origin start upload (upload + 1) run.files (file ∷ []) r s t run.read
-      (one_read origin upload file s t is);
-  tokens = All-append HasValidTokens run.files (file ∷ []) run.tokens
-      (All-cons HasValidTokens file [] tokens (All-nil HasValidTokens));
-  are = upload_own token run.files file old new ends end run.are one;
-}
-
-pub both_runs_own : (origin : ℕ → Origin) (start middle end : ℕ) (token : Token)
-    (own more : List TapFields) (ends later : List UploadEnd) (r s t : Run)
-    → AreOwnBetween origin start middle token own ends nothing_yet r
-    → AreOwnBetween origin middle end token more later nothing_yet s → t ≡ with_all r s
-    → AreOwnBetween origin start end token (own ++ more) (ends ++ later) nothing_yet t
-both_runs_own origin start middle end token own more ends later r s t one other joined = record {
-  files = one.files ++ other.files;
-  read = both_joined origin start middle end one.files other.files r s t one.read other.read joined;
-  tokens = All-append HasValidTokens one.files other.files one.tokens other.tokens;
-  are = both_own token one.files other.files own more ends later one.are other.are;
-}
+-- what two threads kept
+pub joined_taken : {K : Type 0} (keeps : List Tap → K → Type 0) (origin : ℕ → Origin)
+    (start middle end : ℕ) (kept more : List K) (ends later : List UploadEnd) (r s t : Run)
+    → AreTaken origin start middle (AreInRuns keeps kept) ends nothing_yet r
+    → AreTaken origin middle end (AreInRuns keeps more) later nothing_yet s → t ≡ with_all r s
+    → AreTaken origin start end (AreInRuns keeps (kept ++ more)) (ends ++ later) nothing_yet t
+joined_taken keeps origin start middle end kept more ends later r s t front back joined =
+    both_taken origin start middle end (AreInRuns keeps kept) (AreInRuns keeps more)
+    (AreInRuns keeps (kept ++ more)) ends later nothing_yet r t front (record {
+      files = back.files;
+      read = joined_read origin middle end back.files r s t back.read joined;
+      taps = back.taps;
+      of_files = back.of_files;
+      ended = back.ended;
+      tokens = back.tokens;
+      holds = back.holds;
+    })
+    (λ xs ys one other. record {
+      runs = one.runs ++ other.runs;
+      whole = ap (λ zs. zs ++ ys) one.whole ∙ ap (λ zs. taps_of_uploads one.runs ++ zs) other.whole
+          ∙ sym (flat_map-append (λ (run : List Tap). run) one.runs other.runs);
+      each = AllZip-append keeps one.runs kept other.runs more one.each other.each;
+    })

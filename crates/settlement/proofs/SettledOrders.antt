@@ -1,11 +1,13 @@
 -- The good taps of uploads in canonical order: their history, and the taps of one token among them.
-use Rattle.std.proofs.Common.{◌≡◌, ℕ, ◌<◌, List, ◌∷◌, ◌++◌, All, cond, map, flat_map, refl, sym, ap}
-use Rattle.std.proofs.Common.{true, ◌∙◌, subst, Vec, Global, []}
+use Rattle.std.proofs.Common.{◌≡◌, ℕ, ◌<◌, ◌≤◌, ◌^◌, List, ◌∷◌, ◌++◌, All, cond, length, map, flat_map}
+use Rattle.std.proofs.Common.{arith, refl, sym, ap, true, ◌∙◌, subst, Vec, Global, []}
 use Rattle.std.specs.List.{AllZip, sum_by}
 use Rattle.std.specs.Ordering.{is_lt}
+use Rattle.std.proofs.lemmas.List.Folds.{flat_map-map}
 use Rattle.std.proofs.lemmas.List.Elements.{All-filter, All-map, filter_passes, All-weaker}
 use Rattle.std.proofs.lemmas.List.Kept.{IsSortedBy-filter}
-use Rattle.std.proofs.lemmas.List.Sorted.{All-permutation, ranks_by, sum_by-IsPermutation}
+use Rattle.std.proofs.lemmas.List.Sorted.{All-permutation, IsPermutation-sym}
+use Rattle.std.proofs.lemmas.List.Sorted.{IsPermutation-trans, ranks_by, sum_by-IsPermutation}
 use Rattle.tariffs.specs.Fares.{Fares}
 use Rattle.tap_views.specs.declared.token.Token.{Token}
 use Rattle.tap_views.specs.Encoding.{AreEarly, fields_of}
@@ -17,9 +19,14 @@ use Rattle.tap_parts.specs.Canonical.{HasTokenBytes, IsCanonical, tap_cmp}
 use Rattle.tap_parts.specs.Parts.{taps_of_uploads}
 use Rattle.tap_parts.proofs.Total.{tap_cmp_exact, tap_cmp_total}
 use Rattle.tap_views.specs.declared.upload_end.UploadEnd.{UploadEnd}
-use Rattle.settlement.specs.Posted.{HasName, only, posted, token_of_tap}
+use Rattle.histories.specs.declared.entry.Entry.{Entry}
+use Rattle.histories.specs.Plain.{answered, plain_after, unanswered}
+use Rattle.settlement.specs.Bills.{IsBillOf}
+use Rattle.settlement.specs.Posted.{HasName, only, posted, posted_after, token_of_tap}
 use Rattle.settlement.specs.Settled.{IsSettledHistory}
 use Rattle.settlement.specs.SettledTaps.{AreSettledTaps, AreSettledTapsOf}
+use Rattle.settlement.specs.declared.bill.Bill.{Bill}
+use Rattle.settlement.specs.inside.Billing.{IsBillOfTaps}
 use Rattle.settlement.specs.inside.OwnTaps.{AreOwnTaps}
 use Rattle.settlement.specs.inside.SplitUploads.{AreSplit}
 use Rattle.settlement.proofs.Early.{uploads_early}
@@ -27,8 +34,9 @@ use Rattle.settlement.proofs.Files.{taps_in}
 use Rattle.settlement.proofs.OnlyTaps.{is_its}
 use Rattle.settlement.proofs.Ranges.{has_name}
 use Rattle.settlement.proofs.Same.{sum_filter}
-use Rattle.settlement.proofs.SettledBills.{posted_of, whole_order}
-use Rattle.settlement.proofs.Sorting.{canonical_order}
+use Rattle.settlement.proofs.PartBills.{flat, lists_joined, sound_flat}
+use Rattle.settlement.proofs.Sorting.{canonical_order, unmoved}
+use Rattle.settlement.proofs.TokenRuns.{posted_length}
 use Rattle.settlement.proofs.Unique.{same_sorted}
 
 -- taps in canonical order, with their tokens' names, are a settled order
@@ -50,10 +58,19 @@ settled_order uploads taps order each tokens canonical =
           (All-permutation HasTokenBytes (map fields_of valid) order canonical.moved tokens);
     }
 
-lists_joined : (lists : List (Vec TapFields Global))
-    → flat_map (λ list. list) (map taps_in lists) ≡ flat_map taps_in lists
-lists_joined [] = refl
-lists_joined (list ∷ lists) = ap (λ (ts : List TapFields). list.items ++ ts) (lists_joined lists)
+-- the taps of parts in canonical order
+pub split_settled : (uploads : List (List ℕ)) (ends : List UploadEnd)
+    (parts : List (List TapFields)) (order : List TapFields) → AreSplit uploads ends parts
+    → IsCanonical (flat parts) order → AreSettledTaps uploads order
+split_settled uploads ends parts order split canonical =
+    let valid = map fields_of (taps_of_uploads split.taps) in
+    settled_order uploads split.taps order split.of_uploads
+    (All-permutation HasTokenBytes (flat parts) valid
+    (IsPermutation-sym valid (flat parts) split.moved)
+    (λ i d inside. (sound_flat split.bounds 0 parts split.ranges i d inside).token)) (record {
+      moved = IsPermutation-trans valid (flat parts) order split.moved canonical.moved;
+      sorted = canonical.sorted;
+    })
 
 -- the lists of parts, one behind the other
 pub lists_settled : (uploads : List (List ℕ)) (ends : List UploadEnd)
@@ -61,28 +78,48 @@ pub lists_settled : (uploads : List (List ℕ)) (ends : List UploadEnd)
     → AreSplit uploads ends parts → AllZip IsCanonical parts (map taps_in lists)
     → AreSettledTaps uploads (flat_map taps_in lists)
 lists_settled uploads ends parts lists split zip =
-    subst (AreSettledTaps uploads) (lists_joined lists)
-    (settled_order uploads split.taps (flat_map (λ list. list) (map taps_in lists)) split.of_uploads
-    split.tokens (whole_order uploads ends parts split (map taps_in lists) zip))
+    subst (AreSettledTaps uploads) (flat_map-map (λ (list : List TapFields). list) taps_in lists)
+    (split_settled uploads ends parts (flat (map taps_in lists)) split
+    (lists_joined split.bounds 0 parts (map taps_in lists) split.ranges zip))
+
+-- taps posted by their fields are the plain history
+posted_of : (fares : Fares) (earlier : List Entry) (taps : List Tap)
+    → plain_after fares earlier taps ≡ posted_after fares earlier (map fields_of taps)
+unfolding plain_after posted_after
+posted_of fares earlier [] = refl
+posted_of fares earlier (tap ∷ taps) =
+    let entry = answered fares earlier (unanswered tap) in
+    ap (λ (es : List Entry). entry ∷ es) (posted_of fares (earlier ++ entry ∷ []) taps)
 
 -- the history of settled taps
 pub posted_history : (fares : Fares) (uploads : List (List ℕ)) (order : List TapFields)
     → AreSettledTaps uploads order → IsSettledHistory fares uploads (posted fares order)
 posted_history fares uploads order is =
     let valid = map fields_of (taps_of_uploads is.taps) in
-    let list = canonical_order (taps_of_uploads is.taps) in
-    let same : order ≡ map fields_of list.0 =
-    same_sorted tap_cmp tap_cmp_total tap_cmp_exact order (map fields_of list.0) is.canonical.sorted
-    list.1.sorted
-    (λ f. sum_by-IsPermutation f valid order is.canonical.moved
-    ∙ sym (sum_by-IsPermutation f valid (map fields_of list.0) list.1.moved)) in
+    let (list, same) = unmoved (taps_of_uploads is.taps) order is.canonical.moved in
     record {
       taps = is.taps;
       of_uploads = is.of_uploads;
-      order = list.0;
-      canonical = list.1;
-      entries = ap (posted fares) same ∙ sym (posted_of fares [] list.0);
+      order = list;
+      canonical = subst (IsCanonical valid) same is.canonical;
+      entries = ap (posted fares) same ∙ sym (posted_of fares [] list);
     }
+
+-- the bill of parts
+pub bill_settled : (uploads : List (List ℕ)) (ends : List UploadEnd)
+    (parts : List (List TapFields)) → AreSplit uploads ends parts → (fares : Fares) (bill : Bill)
+    → IsBillOfTaps fares (flat parts) bill
+    → (history : List Entry) × IsSettledHistory fares uploads history × IsBillOf history bill
+    × (length history ≤ 2 ^ 95)
+bill_settled uploads ends parts split fares bill billed =
+    let few = billed.few in
+    let long = posted_length fares [] billed.order in (
+      posted fares billed.order,
+      posted_history fares uploads billed.order
+          (split_settled uploads ends parts billed.order split billed.canonical),
+      billed.billed,
+      omega (arith, few, long),
+    )
 
 -- the taps of one token
 pub own_settled : (uploads : List (List ℕ)) (token : Token) (own list : List TapFields)

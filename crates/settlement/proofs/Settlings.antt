@@ -2,7 +2,7 @@
 use Rattle.std.proofs.Common.{◌≡◌, ℕ, List, ◌∷◌, ◌++◌, map, refl, sym, ap, subst, ◌∙◌, All, []}
 use Rattle.std.specs.List.Sorted.{IsPermutation}
 use Rattle.std.proofs.lemmas.List.Elements.{All-head, All-tail, All-contains}
-use Rattle.std.proofs.lemmas.List.Sorted.{All-permutation, sum_by-IsPermutation}
+use Rattle.std.proofs.lemmas.List.Sorted.{All-permutation}
 use Rattle.tariffs.specs.Fares.{Fares}
 use Rattle.tap_views.specs.Encoding.{fields_of}
 use Rattle.tap_views.specs.Layout.{Tap}
@@ -13,11 +13,9 @@ use Rattle.tap_views.specs.Token.{bytes_of}
 use Rattle.histories.specs.Entry.{AreEntriesOf}
 use Rattle.histories.specs.declared.entry.Entry.{Entry}
 use Rattle.tap_views.specs.Files.{AreValidTapsOfEach, HasUniqueParse}
-use Rattle.histories.specs.Plain.{IsPlain}
-use Rattle.histories.specs.Plain.{plain, plain_after, answered, unanswered}
+use Rattle.histories.specs.Plain.{IsPlain, plain, plain_after, answered, unanswered}
 use Rattle.histories.proofs.PlainReplies.{bare, plain_bare, plain_legal}
 use Rattle.settlement.specs.Alike.{HaveSameTaps}
-use Rattle.tap_parts.specs.Canonical.{tap_cmp}
 use Rattle.settlement.specs.Settled.{IsSettledHistory}
 use Rattle.tap_parts.specs.Parts.{taps_of_uploads}
 use Rattle.settlement.specs.SameMoments.{HasSameMoment, IsInTimeOrder}
@@ -25,11 +23,9 @@ use Rattle.settlement.proofs.Histories.{same_after}
 use Rattle.settlement.proofs.Own.{IsNamedBy}
 use Rattle.settlement.proofs.Placed.{all_ascending, no_earlier, Pairs, Ascends}
 use Rattle.tap_views.proofs.ParseLemmas.{one_list}
-use Rattle.settlement.proofs.Sorting.{canonical_order}
+use Rattle.settlement.proofs.Sorting.{canonical_order, one_canonical}
 use Rattle.settlement.proofs.Stale.{before_ascends, fields, has_same_moment, same_fields}
-use Rattle.settlement.proofs.OwnEntries.{fields_named}
-use Rattle.tap_parts.proofs.Total.{tap_cmp_total, tap_cmp_exact}
-use Rattle.settlement.proofs.Unique.{same_sorted}
+use Rattle.settlement.proofs.ValidTokens.{fields_named}
 
 pub same_history : (fares : Fares) (uploads others : List (List ℕ)) (history again : List Entry)
     → All HasUniqueParse uploads → All HasUniqueParse others → HaveSameTaps uploads others
@@ -46,16 +42,9 @@ same_history fares uploads others history again cuts other_cuts same one other =
     (map fields_of (taps_of_uploads ts)) in
     let moved : IsPermutation (map fields_of (taps_of_uploads one.taps))
     (map fields_of (taps_of_uploads other.taps)) = subst Q there (subst P here same.moved) in
-    let list = same_sorted tap_cmp tap_cmp_total tap_cmp_exact (map fields_of one.order)
-    (map fields_of other.order) one.canonical.sorted other.canonical.sorted
-    (λ f. sum_by-IsPermutation f (map fields_of (taps_of_uploads one.taps))
-    (map fields_of one.order)
-    one.canonical.moved
-    ∙ sym (sum_by-IsPermutation f (map fields_of (taps_of_uploads one.taps))
-    (map fields_of (taps_of_uploads other.taps)) moved)
-    ∙ sym (sum_by-IsPermutation f (map fields_of (taps_of_uploads other.taps))
-    (map fields_of other.order)
-    other.canonical.moved)) in
+    let list = one_canonical (map fields_of (taps_of_uploads one.taps))
+    (map fields_of (taps_of_uploads other.taps)) (map fields_of one.order)
+    (map fields_of other.order) moved one.canonical other.canonical in
     one.entries ∙ same_after fares [] one.order other.order list ∙ sym other.entries
 
 pub some_history : (fares : Fares) (uploads : List (List ℕ)) (taps : List (List Tap))

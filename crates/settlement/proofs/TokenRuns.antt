@@ -1,11 +1,11 @@
 -- The histories and the sums of taps that are posted token by token.
 use Rattle.std.proofs.Common.{◌≡◌, ◌≢◌, ℕ, suc, ◌+◌, ◌<◌, List, ◌∷◌, ◌++◌}
-use Rattle.std.proofs.Common.{length, get_or, take, map, refl, sym, ap, ◌∙◌, []}
-use Rattle.std.proofs.Common.{All}
+use Rattle.std.proofs.Common.{length, get_or, take, map, refl, sym, ap, subst, ◌∙◌, [], All}
 use Rattle.std.specs.declared.cmp.Ordering.{Ordering}
 use Rattle.std.specs.declared.cmp.Ordering.TheVariants.{Less, Equal, Greater}
 use Rattle.std.proofs.lemmas.List.{take_more}
-use Rattle.std.proofs.lemmas.List.Elements.{All-head, All-tail, All-nil, All-cons}
+use Rattle.std.proofs.lemmas.List.Elements.{All-map}
+use Rattle.tap_views.proofs.Lists.{All-unmap}
 use Rattle.tariffs.specs.Fares.{Fares}
 use Rattle.tap_views.specs.Token.{Fits, bytes_of, token_cmp}
 use Rattle.tap_views.specs.declared.token.Token.{Token}
@@ -59,13 +59,10 @@ posted_more fares taps i tap inside is =
 pub tokens_are : (token : Token) (fares : Fares) (earlier : List Entry) (taps : List TapFields)
     → All (λ tap. token_of_tap tap ≡ token) taps
     → All (λ entry. entry.token ≡ token) (posted_after fares earlier taps)
-unfolding posted_after answered
-tokens_are token fares earlier [] its = All-nil (λ (e : Entry). e.token ≡ token)
-tokens_are token fares earlier (tap ∷ taps) its =
-    All-cons (λ (e : Entry). e.token ≡ token) (answered fares earlier (unposted tap)) _
-    (All-head (λ (t : TapFields). token_of_tap t ≡ token) tap taps its)
-    (tokens_are token fares (earlier ++ answered fares earlier (unposted tap) ∷ []) taps
-    (All-tail (λ (t : TapFields). token_of_tap t ≡ token) tap taps its))
+tokens_are token fares earlier taps its =
+    All-unmap (λ t. t ≡ token) token_of (posted_after fares earlier taps)
+    (subst (All (λ t. t ≡ token)) (sym (tokens_posted fares earlier taps))
+    (All-map (λ t. t ≡ token) token_of_tap taps its))
 
 -- ---- the order of tokens
 

@@ -1,6 +1,6 @@
 -- The good taps of uploads have tokens of 16 bytes.
-use Rattle.std.proofs.Common.{ℕ, List, All, None, map, ap, subst, ◌∙◌, []}
-use Rattle.std.proofs.lemmas.List.Elements.{All-weaker}
+use Rattle.std.proofs.Common.{◌≡◌, ℕ, List, ◌∷◌, All, None, map, sym, ap, subst, ◌∙◌, []}
+use Rattle.std.proofs.lemmas.List.Elements.{All-cons, All-nil, All-weaker}
 use Rattle.tariffs.specs.Fares.{Fares}
 use Rattle.tariffs.specs.declared.window_span.WindowLength.TheVariants.{CalendarDay}
 use Rattle.histories.specs.Entry.{AreEntriesOf}
@@ -10,12 +10,25 @@ use Rattle.tap_views.specs.Files.{AreValidTapsOfEach, HasUniqueParse}
 use Rattle.tap_views.specs.Layout.{Tap}
 use Rattle.tap_parts.specs.Canonical.{HasTokenBytes}
 use Rattle.tap_parts.specs.Parts.{taps_of_uploads}
-use Rattle.histories.specs.Plain.{IsPlain}
+use Rattle.tap_views.specs.Token.{bytes_of}
+use Rattle.histories.specs.Plain.{IsPlain, unanswered}
 use Rattle.histories.proofs.PlainReplies.{bare, plain_bare}
 use Rattle.settlement.proofs.Own.{IsNamedBy}
 use Rattle.settlement.proofs.Ranges.{has_token_bytes}
 use Rattle.tap_views.proofs.ParseLemmas.{one_list}
-use Rattle.settlement.proofs.OwnEntries.{fields_named}
+
+-- taps whose entries have their fields have tokens that their bytes name
+pub fields_named : (taps : List Tap) (entries : List Entry) → AreEntriesOf taps entries
+    → map bare entries ≡ map unanswered taps → All IsNamedBy (map fields_of taps)
+fields_named [] [] zip same = All-nil IsNamedBy
+fields_named [] (entry ∷ entries) zip same = absurd zip
+fields_named (tap ∷ taps) [] zip same = absurd zip
+fields_named (tap ∷ taps) (entry ∷ entries) zip same =
+    let head : bare entry ≡ unanswered tap = cc in
+    let rest : map bare entries ≡ map unanswered taps = cc in
+    All-cons IsNamedBy (fields_of tap) (map fields_of taps)
+    (ap (λ (e : Entry). bytes_of e.token) (sym head)
+    ∙ zip.0.token) (fields_named taps entries zip.1 rest)
 
 -- a table of nothing: taps have the same tokens under any
 some_fares : Fares

@@ -1,13 +1,8 @@
 //! The bill of all parts, made by several threads.
 
-ghost use Rattle.std.specs.Prelude.{◌≡◌, ◌+◌, ◌^◌, ◌≤◌, All, List, length, IfOk, OnOk};
+ghost use Rattle.std.specs.Prelude.{◌≡◌, ◌<◌, ◌^◌, ℕ, List, length, flat_map, IfOk};
 ghost use Rattle.tap_parts.specs.Canonical.{IsCanonical};
-ghost use Rattle.tap_views.specs.TokenOrder.{IsUpTo};
-ghost use Rattle.settlement.specs.OpenBills.{IsOpenBill};
-ghost use Rattle.tap_views.specs.declared.encoder.TapFields.{TapFields};
-ghost use Rattle.settlement.specs.Posted.{token_of_tap};
-ghost use Rattle.settlement.specs.inside.Billing.{ArePartsInOrder, IsBillOfParts, IsPartAdded};
-ghost use Rattle.settlement.specs.inside.Billing.{IsSoundPart};
+ghost use Rattle.settlement.specs.inside.Billing.{AreRangesFrom, IsBillOfTaps};
 
 use crate::bill::Bill;
 use crate::open_bill::{OpenBill, least_token};
@@ -18,9 +13,9 @@ use std::alloc::{AllocError, Global};
 use std::marker::Sync;
 use std::thread;
 use std::thread::Threads;
-use tap_parts::{are_in_order, arrange_into, number_of};
+use tap_parts::{are_in_order, arrange_into};
 use tap_views::{NoMemory, TapFields};
-use tariffs::{Clock, FareTable};
+use tariffs::FareTable;
 
 /// The taps in canonical order: where they lie, or in `list`, which is room to work in.
 fn ordered<'a>(
@@ -40,35 +35,25 @@ fn ordered<'a>(
     Ok(list)
 }
 
-fn add_part(
-    alloc: Global,
-    table: &FareTable,
-    clock: &Clock,
-    list: &mut Vec<TapFields>,
-    pieces: &Pieces,
-    bill: &mut OpenBill,
-) -> Result<(), NoMemory>
-    requires clock { clock.now ≡ table.now.zone }
-    requires sound { IsSoundPart pieces.now }
-    requires up { All (λ tap. IsUpTo bill.old.replay.token (token_of_tap tap)) pieces.now }
-    requires room { (before : List TapFields) × IsOpenBill table.now before bill.old
-        × (length before + 2 ^ 58 ≤ 2 ^ 94) }
-    ensures { OnOk result (IsPartAdded table.now pieces.now bill.old bill.new) }
+fn count(pieces: &[Vec<TapFields>]) -> Result<u64, NoMemory>
+    ensures { IfOk result (λ taps. taps ≡ length (flat_map (λ piece. piece.items) pieces.now)) }
 {
-    let taps = ordered(alloc, list, pieces)?;
-    // proof: a list has fewer than 2^58 taps
-    let _ = number_of(taps);
-    bill.add(alloc, table, clock, taps)?;
-    Ok(())
+    let mut taps: u64 = 0;
+    for piece in pieces {
+        taps = taps.checked_add(piece.len() as u64).ok_or(NoMemory)?;
+    }
+    Ok(taps)
 }
 
-/// `u64::MAX` if there are more.
-fn count_of(parts: &[Pieces]) -> u64 {
-    let mut taps = 0u64;
+/// An error is that there are too many to count.
+fn count_of(parts: &[Pieces]) -> Result<u64, NoMemory>
+    ensures { IfOk result (λ taps. taps ≡ length (flat_map (λ part. part) parts.now)) }
+{
+    let mut taps: u64 = 0;
     for pieces in parts {
-        taps = taps.saturating_add(pieces.count());
+        taps = taps.checked_add(count(pieces.as_slice())?).ok_or(NoMemory)?;
     }
-    taps
+    Ok(taps)
 }
 
 fn bill_of<U: Uploads>(
@@ -78,17 +63,17 @@ fn bill_of<U: Uploads>(
     uploads: &U,
     parts: &[Pieces],
 ) -> Result<Bill, NoMemory>
-    requires sound { All IsSoundPart parts.now }
-    requires order { ArePartsInOrder parts.now }
-    requires few { length parts.now ≤ 65535 }
-    ensures { IfOk result (IsBillOfParts table.now parts.now) }
+    requires ranges { (bounds : List ℕ) × (start : ℕ) × AreRangesFrom bounds start parts.now }
+    requires few { length (flat_map (λ part. part) parts.now) < 2 ^ 64 }
+    ensures { IfOk result (IsBillOfTaps table.now (flat_map (λ part. part) parts.now)) }
 {
     let clock = table.clock(alloc)?;
     let mut list = Vec::new(alloc);
     let mut bill = OpenBill::new(alloc, seed, least_token());
     for pieces in parts {
-        add_part(alloc, table, &clock, &mut list, pieces, &mut bill)?;
-        uploads.note_charged(pieces.count());
+        let taps = ordered(alloc, &mut list, pieces)?;
+        bill.add(alloc, table, &clock, taps)?;
+        uploads.note_charged(taps.len() as u64);
     }
     let bill = bill.into_bill(alloc)?;
     Ok(bill)
@@ -105,12 +90,10 @@ pub(crate) fn bill_by_threads<R: Threads + Sync, U: Uploads + Sync>(
     parts: &[Pieces],
     workers: u32,
 ) -> Result<Bill, NoMemory>
-    requires sound { All IsSoundPart parts.now }
-    requires order { ArePartsInOrder parts.now }
-    requires few { length parts.now ≤ 65535 }
-    ensures { IfOk result (IsBillOfParts table.now parts.now) }
+    requires { (bounds : List ℕ) × (start : ℕ) × AreRangesFrom bounds start parts.now }
+    ensures { IfOk result (IsBillOfTaps table.now (flat_map (λ part. part) parts.now)) }
 {
-    uploads.note_all(count_of(parts));
+    uploads.note_all(count_of(parts)?);
     let size = parts.len().div_ceil(workers.max(1) as usize).max(1);
     let bills = thread::map_chunks(
         rt,

@@ -2,7 +2,7 @@
 
 ghost use Rattle.std.specs.Prelude.{◌≡◌, ◌<◌, ◌++◌, ℕ, All, flat_map, length, IfOk, OnOk, []};
 ghost use Rattle.std.specs.Prelude.{map, slice_index_or};
-ghost use Rattle.settlement.specs.inside.SplitTaps.{ArePiecesAdded, in_part};
+ghost use Rattle.settlement.specs.inside.Taken.{ArePiecesAdded, in_part};
 
 use std::alloc::{AllocError, Global};
 use std::marker::Model;
@@ -39,15 +39,6 @@ impl Pieces {
     {
         self.list.push(piece)?;
         Ok(())
-    }
-
-    /// `u64::MAX` if there are more.
-    pub(crate) fn count(&self) -> u64 {
-        let mut taps = 0u64;
-        for piece in &self.list {
-            taps = taps.saturating_add(piece.len() as u64);
-        }
-        taps
     }
 
     pub(crate) fn as_slice(&self) -> &[Vec<TapFields>]

@@ -10,20 +10,18 @@ ghost use Rattle.settlement.specs.Reading.{AreRead};
 ghost use Rattle.settlement.specs.Settled.{IsSettledHistory};
 ghost use Rattle.settlement.specs.SettledTaps.{AreSettledTaps, AreSettledTapsOf};
 ghost use Rattle.settlement.specs.inside.SplitUploads.{AreSplit};
-ghost use Rattle.tap_parts.specs.Canonical.{IsCanonical};
 
 use crate::bill::Bill;
 use crate::bill_by_threads::bill_by_threads;
 use crate::lists_by_threads::lists_by_threads;
-use crate::own_taps::{OwnTaps, own_by_threads};
 use crate::pieces::{Pieces, pieces_of};
-use crate::split_taps::{SplitTaps, bytes_of, split_by_threads};
+use crate::reading::{Kept, bytes_of, read_by_threads};
 use crate::uploads::Uploads;
 use histories::HashSeed;
 use std::alloc::{AllocError, Global};
 use std::marker::Sync;
 use std::thread::Threads;
-use tap_parts::{TokenRanges, sort};
+use tap_parts::{TokenRanges, arranged};
 use tap_views::{NoMemory, TapFields, Token, UploadEnd};
 use tariffs::FareTable;
 use world::Trace;
@@ -71,9 +69,7 @@ fn sample_of<U: Uploads>(alloc: Global, uploads: &U) -> Result<Vec<u128>, AllocE
     Ok(sample)
 }
 
-fn ranges_for<U: Uploads>(alloc: Global, uploads: &U) -> Result<TokenRanges, AllocError>
-    ensures { IfOk result (λ ranges. length ranges < 65535) }
-{
+fn ranges_for<U: Uploads>(alloc: Global, uploads: &U) -> Result<TokenRanges, AllocError> {
     let sample = sample_of(alloc, uploads)?;
     TokenRanges::of_sample(alloc, sample, parts_for(uploads))
 }
@@ -91,11 +87,11 @@ fn split<R: Threads + Sync, U: Uploads + Sync>(
         × AreSplit files made.ends.items made.parts.items) }
 {
     let ranges = ranges_for(alloc, uploads)?;
-    let SplitTaps {
+    let Kept {
         lists,
         ends,
         calls: made,
-    } = split_by_threads(rt, alloc, &ranges, uploads, 0, uploads.len(), HALVINGS)?;
+    } = read_by_threads(rt, alloc, &ranges, uploads, 0, uploads.len(), HALVINGS)?;
     calls.join(made);
     let parts = pieces_of(alloc, lists, ranges.len())?;
     Ok(SplitUploads { ends, parts })
@@ -176,14 +172,6 @@ pub struct TokenTaps {
     pub taps: Vec<TapFields>,
 }
 
-fn sorted(taps: Vec<TapFields>) -> Vec<TapFields>
-    ensures { IsCanonical taps.items result.items }
-{
-    let mut list = taps;
-    sort(&mut list);
-    list
-}
-
 /// The valid taps of one token in canonical order. No other tap is kept. Four threads read the
 /// uploads, and append the system calls to `calls`. An error is out of memory, or an upload that
 /// cannot be read.
@@ -202,12 +190,12 @@ pub fn settled_taps_of<R: Threads + Sync, U: Uploads + Sync>(
     ensures early { IfOk result (λ made. AreEarly (λ tap. tap.moment) made.taps.items) }
     ensures its { IfOk result (λ made. All (λ tap. token_of_tap tap ≡ token) made.taps.items) }
 {
-    let OwnTaps {
-        taps,
+    let Kept {
+        lists,
         ends,
         calls: made,
-    } = own_by_threads(rt, alloc, token, uploads, 0, uploads.len(), HALVINGS)?;
+    } = read_by_threads(rt, alloc, &token, uploads, 0, uploads.len(), HALVINGS)?;
     calls.join(made);
-    let taps = sorted(taps);
+    let taps = arranged(alloc, &lists)?;
     Ok(TokenTaps { ends, taps })
 }

@@ -1,7 +1,7 @@
 -- Parts of files that join, and what the files have in all of them.
 use Rattle.std.proofs.Common.{◌≡◌, ℕ, suc, zero, ◌+◌, ◌<◌, List, [], ◌∷◌, ◌++◌, length, map, All}
 use Rattle.std.proofs.Common.{get_or, refl, sym, ap, subst, ◌∙◌, arith, None, Some}
-use Rattle.std.proofs.Common.{append-nil, length-append}
+use Rattle.std.proofs.Common.{append-nil, append_assoc, length-append, take}
 use Rattle.std.specs.Prelude.{Option, flat_map}
 use Rattle.std.specs.List.Sorted.{IsPermutation, IsSorted}
 use Rattle.std.specs.Ordering.{is_lt, nat_cmp, ordering_reverse, ordering_then}
@@ -24,20 +24,22 @@ use Rattle.histories.specs.SumsByKey.{token_of}
 use Rattle.histories.specs.declared.entry.Entry.{Entry}
 use Rattle.settlement.specs.Posted.{HasName, posted, token_of_tap}
 use Rattle.settlement.specs.SettledTaps.{AreSettledTaps}
-use Rattle.settlement.proofs.Ranges.{posted_below, posted_each, to_taps}
+use Rattle.settlement.proofs.Ranges.{posted_below, to_taps}
 use Rattle.settlement.proofs.TokenRuns.{tokens_posted}
 use Rattle.sorted_taps.specs.Merged.{IsNotBefore}
 use Rattle.sorted_taps.specs.Merges.{AreSortedFiles}
-use Rattle.sorted_taps.specs.Positions.{AreSpanned, AreWhole, DoJoin, IsLeftAfter, first_position}
+use Rattle.sorted_taps.specs.Positions.{AreSpanned, AreWhole, DoJoin, IsLeftAfter, IsLeftAt}
+use Rattle.sorted_taps.specs.Positions.{IsSpanned, first_position}
 use Rattle.sorted_taps.specs.Reading.{AreTapsBetween}
 use Rattle.sorted_taps.specs.Sorted.{IsSortedFile}
 use Rattle.sorted_taps.specs.declared.positions.FileSpan.{FileSpan}
 use Rattle.sorted_taps.specs.declared.positions.Position.{Position}
-use Rattle.sorted_taps.proofs.Joining.{inner_swap, sorted_across}
-use Rattle.sorted_taps.proofs.Placing.{sorted_glue}
+use Rattle.sorted_taps.proofs.Joining.{inner_swap, sorted_across, sorted_glue}
 use Rattle.sorted_taps.proofs.Standing.{whole_file}
+use Rattle.sorted_taps.proofs.Taking.{first_only}
 use Rattle.sorted_bills.specs.Parts.{ArePartsOf, AreIncreasing, IsPartOf, PartView, added}
 use Rattle.sorted_bills.specs.Parts.{numbers_of_parts}
+use Rattle.sorted_bills.specs.inside.Charged.{HaveTaps, joined_spans}
 use Rattle.sorted_bills.proofs.Counted.{plain_ends}
 use Rattle.sorted_bills.proofs.Settled.{settled_list}
 
@@ -46,7 +48,7 @@ abbrev all_of : List (List TapFields) → List TapFields
 all_of lists = flat_map (λ list. list) lists
 
 -- ---- the lists of two parts, file by file
-abbrev joined : List (List TapFields) → List (List TapFields) → List (List TapFields)
+abbrev pub joined : List (List TapFields) → List (List TapFields) → List (List TapFields)
 joined [] others = others
 joined (list ∷ lists) [] = list ∷ lists
 joined (list ∷ lists) (other ∷ others) = (list ++ other) ∷ joined lists others
@@ -65,7 +67,7 @@ joined_moved (list ∷ lists) (other ∷ others) =
     (all_of lists ++ all_of others) (joined_moved lists others))
     (inner_swap list other (all_of lists) (all_of others))
 
-joined_lengths : (lists others : List (List TapFields))
+pub joined_lengths : (lists others : List (List TapFields))
     → map length (joined lists others) ≡ added (map length lists) (map length others)
 joined_lengths [] others = refl
 joined_lengths (list ∷ lists) [] = refl
@@ -73,192 +75,66 @@ joined_lengths (list ∷ lists) (other ∷ others) =
     ap (λ n. n ∷ map length (joined lists others)) (length-append list other)
     ∙ ap (λ ns. (length list + length other) ∷ ns) (joined_lengths lists others)
 
--- ---- what each file has in some parts, the last of which ends with the file
--- no taps of each file
-abbrev nothing : List (List ℕ) → List (List TapFields)
-nothing [] = []
-nothing (file ∷ files) = [] ∷ nothing files
-
-abbrev rests : List (List ℕ) → List PartView → List (List TapFields)
-rests files [] = nothing files
-rests files (part ∷ parts) = joined part.lists (rests files parts)
-
-all_nothing : (files : List (List ℕ)) → all_of (nothing files) ≡ []
-all_nothing [] = refl
-all_nothing (file ∷ files) = all_nothing files
-
--- these taps lie behind the ends, and are in order
-abbrev AreLeft : List (List ℕ) → List (Option Position) → List (List TapFields) → Type 0
-AreLeft [] [] [] = Unit {0}
-AreLeft (file ∷ files) (end ∷ ends) (list ∷ lists) =
-    IsLeftAfter file end list × IsSorted tap_cmp list × AreLeft files ends lists
-AreLeft _ _ _ = ⊥
-
-nothing_left : (files : List (List ℕ)) (ends : List (Option Position)) → length ends ≡ length files
-    → All (λ end. end ≡ None) ends → AreLeft files ends (nothing files)
-nothing_left [] [] number none = tt
-nothing_left [] (end ∷ ends) number none = absurd (omega (arith, number))
-nothing_left (file ∷ files) [] number none = absurd (omega (arith, number))
-nothing_left (file ∷ files) (end ∷ ends) number none = (
-  subst (λ e. IsLeftAfter file e []) (sym (All-head (λ e. e ≡ None) end ends none)) refl,
-  λ k d low high. absurd (omega (arith, high)),
-  nothing_left files ends (omega (arith, number)) (All-tail (λ e. e ≡ None) end ends none),
-)
-
-abbrev ends_of : List FileSpan → List (Option Position)
-ends_of spans = map (λ (span : FileSpan). span.to) spans
-
-abbrev begins_of : List FileSpan → List (Option Position)
+-- ---- two parts, the second of which begins where the first one ends
+abbrev pub begins_of : List FileSpan → List (Option Position)
 begins_of spans = map (λ (span : FileSpan). Some span.from) spans
 
-joined_left : (files : List (List ℕ)) (spans : List FileSpan) (lists others : List (List TapFields))
-    → AreSpanned files spans lists → AreLeft files (ends_of spans) others
-    → AreLeft files (begins_of spans) (joined lists others)
-joined_left [] [] [] [] spanned left = tt
-joined_left [] [] [] (other ∷ others) spanned left = absurd left
-joined_left [] [] (list ∷ lists) others spanned left = absurd spanned
-joined_left [] (span ∷ spans) lists others spanned left = absurd spanned
-joined_left (file ∷ files) [] lists others spanned left = absurd spanned
-joined_left (file ∷ files) (span ∷ spans) [] others spanned left = absurd spanned
-joined_left (file ∷ files) (span ∷ spans) (list ∷ lists) [] spanned left = absurd left
-joined_left (file ∷ files) (span ∷ spans) (list ∷ lists) (other ∷ others) (first, more)
-    (here, sorted, rest)
-    = (
-      first.goes other here,
-      sorted_glue list other (first.sorted other here) sorted,
-      joined_left files spans lists others more rest,
+abbrev pub ends_of : List FileSpan → List (Option Position)
+ends_of spans = map (λ (span : FileSpan). span.to) spans
+
+one_spanned : (file : List ℕ) (span other : FileSpan) (list more : List TapFields)
+    → IsSpanned file span list → IsSpanned file other more → span.to ≡ Some other.from
+    → IsSpanned file (record { from = span.from; to = other.to }) (list ++ more)
+one_spanned file span other list more one next meet = record {
+  goes = λ rest left. subst (λ taps. IsLeftAt file span.from taps)
+      (sym (append_assoc list more rest)) (one.goes (more ++ rest) (here rest left));
+  sorted = λ rest left. subst (λ taps. IsSorted tap_cmp taps)
+      (sym (append_assoc list more (take 1 rest)))
+      (sorted_glue list (more ++ take 1 rest)
+      (subst (λ taps. IsSorted tap_cmp (list ++ taps)) (sym (first_only more rest))
+      (one.sorted (more ++ rest) (here rest left))) (next.sorted rest left));
+}
+  where
+    here : (rest : List TapFields) → IsLeftAfter file other.to rest
+        → IsLeftAfter file span.to (more ++ rest)
+    here rest left =
+        subst (λ to. IsLeftAfter file to (more ++ rest)) (sym meet) (next.goes rest left)
+
+-- the files have the taps of both
+spanned_both : (files : List (List ℕ)) (spans others : List FileSpan)
+    (lists more : List (List TapFields)) → AreSpanned files spans lists
+    → AreSpanned files others more → ends_of spans ≡ begins_of others
+    → AreSpanned files (joined_spans spans others) (joined lists more)
+spanned_both [] [] [] [] [] first next meet = tt
+spanned_both [] [] [] [] (l ∷ more) first next meet = absurd next
+spanned_both [] [] [] (list ∷ lists) more first next meet = absurd first
+spanned_both [] [] (other ∷ others) lists more first next meet = absurd next
+spanned_both [] (span ∷ spans) others lists more first next meet = absurd first
+spanned_both (file ∷ files) [] others lists more first next meet = absurd first
+spanned_both (file ∷ files) (span ∷ spans) [] lists more first next meet = absurd next
+spanned_both (file ∷ files) (span ∷ spans) (other ∷ others) [] more first next meet = absurd first
+spanned_both (file ∷ files) (span ∷ spans) (other ∷ others) (list ∷ lists) [] first next meet =
+    absurd next
+spanned_both (file ∷ files) (span ∷ spans) (other ∷ others) (list ∷ lists) (l ∷ more) (one, first)
+    (two, next) meet
+    =
+    let here : span.to ≡ Some other.from = cc in
+    let rest : ends_of spans ≡ begins_of others = cc in (
+      one_spanned file span other list l one two here,
+      spanned_both files spans others lists more first next rest,
     )
 
-spans_number : (files : List (List ℕ)) (spans : List FileSpan) (lists : List (List TapFields))
-    → AreSpanned files spans lists
-    → (length spans ≡ length files) × (length lists ≡ length files)
-spans_number [] [] [] spanned = (refl, refl)
-spans_number [] [] (list ∷ lists) spanned = absurd spanned
-spans_number [] (span ∷ spans) lists spanned = absurd spanned
-spans_number (file ∷ files) [] lists spanned = absurd spanned
-spans_number (file ∷ files) (span ∷ spans) [] spanned = absurd spanned
-spans_number (file ∷ files) (span ∷ spans) (list ∷ lists) (first, more) =
-    let (many, number) = spans_number files spans lists more in (ap suc many, ap suc number)
-
-ends_number : (spans : List FileSpan) → length (ends_of spans) ≡ length spans
-ends_number [] = refl
-ends_number (span ∷ spans) = ap suc (ends_number spans)
-
-abbrev IsPart : Fares → List (List ℕ) → PartView → Type 0
-IsPart fares files part = IsPartOf fares files part.spans part.lists part.history
-
--- what the files have in the parts lies behind where these begin
-parts_left : (fares : Fares) (files : List (List ℕ)) (ends : List (Option Position))
-    (parts : List PartView) → length ends ≡ length files → ArePartsOf fares files parts
-    → DoJoin ends (map (λ (part : PartView). part.spans) parts)
-    → AreLeft files ends (rests files parts)
-parts_left fares files ends [] number are join = nothing_left files ends number join
-parts_left fares files ends (part ∷ parts) number are (begin, join) =
-    let first = All-head (IsPart fares files) part parts are in
-    let many = (spans_number files part.spans part.lists first.spanned).0 in
-    subst (λ es. AreLeft files es (joined part.lists (rests files parts))) (sym begin)
-    (joined_left files part.spans part.lists (rests files parts) first.spanned
-    (parts_left fares files (ends_of part.spans) parts (ends_number part.spans ∙ many)
-    (All-tail (IsPart fares files) part parts are) join))
-
--- ---- from the files' begins
-abbrev at_begin : List FileSpan → List (Option Position)
-at_begin spans = map (λ (span : FileSpan). Some first_position) spans
-
-left_file : (file : List ℕ) (list : List TapFields) → IsLeftAfter file (Some first_position) list
-    → IsSorted tap_cmp list → IsSortedFile file list
-left_file file list left sorted = record {
-  read = whole_file file (length file) list
-      (subst (λ l. AreTapsBetween file 0 (length file) l) (sym left.rest_is) left.between)
-      (drop-length file);
-  sorted = sorted;
-}
-
--- a file more in front
-files_more : (file : List ℕ) (files : List (List ℕ)) (list : List TapFields)
-    (lists : List (List TapFields)) → IsSortedFile file list → AreSortedFiles files lists
-    → AreSortedFiles (file ∷ files) (list ∷ lists)
-files_more file files list lists first rest = record { number = ap suc rest.number; each = at }
-  where
-    at : (k : ℕ) → k < length (file ∷ files)
-        → IsSortedFile (get_or (file ∷ files) k []) (get_or (list ∷ lists) k [])
-    at zero inside = first
-    at (suc k) inside = rest.each k (omega (arith, inside))
-
-left_files : (files : List (List ℕ)) (spans : List FileSpan) (lists : List (List TapFields))
-    → AreLeft files (at_begin spans) lists → AreSortedFiles files lists
-left_files [] [] [] left =
-    record { number = refl; each = λ k inside. absurd (omega (arith, inside)) }
-left_files [] [] (list ∷ lists) left = absurd left
-left_files [] (span ∷ spans) lists left = absurd left
-left_files (file ∷ files) [] lists left = absurd left
-left_files (file ∷ files) (span ∷ spans) [] left = absurd left
-left_files (file ∷ files) (span ∷ spans) (list ∷ lists) (here, sorted, rest) =
-    files_more file files list lists (left_file file list here sorted)
-    (left_files files spans lists rest)
-
-begins_number : (spans : List FileSpan) → length (at_begin spans) ≡ length spans
-begins_number [] = refl
-begins_number (span ∷ spans) = ap suc (begins_number spans)
-
--- the files are sorted, and have the taps of all parts
-pub whole_files : (fares : Fares) (files : List (List ℕ)) (parts : List PartView)
-    → ArePartsOf fares files parts → AreWhole (map (λ (part : PartView). part.spans) parts)
-    → AreSortedFiles files (rests files parts)
-whole_files fares files [] are whole = absurd whole
-whole_files fares files (part ∷ parts) are whole =
-    let first = All-head (IsPart fares files) part parts are in
-    let many = (spans_number files part.spans part.lists first.spanned).0 in
-    left_files files part.spans (rests files (part ∷ parts))
-    (parts_left fares files (at_begin part.spans) (part ∷ parts)
-    (begins_number part.spans ∙ many) are whole)
-
--- ---- how many
-added_zeros : (files : List (List ℕ)) (lists : List (List TapFields))
-    → length lists ≡ length files
-    → added (map length lists) (map length (nothing files)) ≡ map length lists
-added_zeros [] [] number = refl
-added_zeros [] (list ∷ lists) number = absurd (omega (arith, number))
-added_zeros (file ∷ files) [] number = absurd (omega (arith, number))
-added_zeros (file ∷ files) (list ∷ lists) number =
-    let none : length list + 0 ≡ length list = omega arith in
-    ap (λ n. n ∷ added (map length lists) (map length (nothing files))) none
-    ∙ ap (λ ns. length list ∷ ns) (added_zeros files lists (omega (arith, number)))
-
-added_none : (numbers : List ℕ) → added numbers [] ≡ numbers
-added_none [] = refl
-added_none (number ∷ numbers) = refl
-
-counted_parts : (fares : Fares) (files : List (List ℕ)) (part : PartView) (parts : List PartView)
-    → ArePartsOf fares files (part ∷ parts)
-    → map length (rests files (part ∷ parts)) ≡ numbers_of_parts (part ∷ parts)
-counted_parts fares files part [] are =
-    let first = All-head (IsPart fares files) part [] are in
-    joined_lengths part.lists (nothing files)
-    ∙ added_zeros files part.lists (spans_number files part.spans part.lists first.spanned).1
-    ∙ sym (added_none (map length part.lists))
-counted_parts fares files part (next ∷ parts) are =
-    joined_lengths part.lists (rests files (next ∷ parts))
-    ∙ ap (added (map length part.lists))
-    (counted_parts fares files next parts (All-tail (IsPart fares files) part (next ∷ parts) are))
-
-pub parts_ended : (fares : Fares) (files : List (List ℕ)) (parts : List PartView)
-    → ArePartsOf fares files parts → AreWhole (map (λ (part : PartView). part.spans) parts)
-    → ArePlainEnds files (map Posted (numbers_of_parts parts))
-parts_ended fares files [] are whole = absurd whole
-parts_ended fares files (part ∷ parts) are whole =
-    subst (λ (ns : List ℕ). ArePlainEnds files (map Posted ns))
-    (counted_parts fares files part parts are)
-    (plain_ends files (rests files (part ∷ parts))
-    (whole_files fares files (part ∷ parts) are whole))
-
--- ---- the taps of all parts
--- all taps of the parts are in canonical order, and the histories are theirs
-record AreAllTaps (fares : Fares) (files : List (List ℕ)) (parts : List PartView) : Type 0 where
-  taps : List TapFields
-  canonical : IsCanonical (all_of (rests files parts)) taps
-  named : All HasName taps
-  are : flat_map (λ (part : PartView). part.history) parts ≡ posted fares taps
+-- they begin where the first begins, and end where the second ends
+joined_ends : (spans others : List FileSpan) → ends_of spans ≡ begins_of others
+    → (begins_of (joined_spans spans others) ≡ begins_of spans)
+    × (ends_of (joined_spans spans others) ≡ ends_of others)
+joined_ends [] [] meet = (refl, refl)
+joined_ends [] (other ∷ others) meet = absurd (let long = ap length meet in omega (arith, long))
+joined_ends (span ∷ spans) [] meet = absurd (let long = ap length meet in omega (arith, long))
+joined_ends (span ∷ spans) (other ∷ others) meet =
+    let rest : ends_of spans ≡ begins_of others = cc in
+    let (begins, ends) = joined_ends spans others rest in
+    (ap (λ all. Some span.from ∷ all) begins, ap (λ all. other.to ∷ all) ends)
 
 -- a tap of a lower token is not behind the other
 lower_first : (a b : TapFields) → HasName a → HasName b
@@ -294,52 +170,201 @@ each_lower (a ∷ taps) others of_taps named below =
     (all_lower a others (All-head HasName a taps of_taps) named (All-head P a taps below))
     (each_lower taps others (All-tail HasName a taps of_taps) named (All-tail P a taps below))
 
+-- the taps of both, if the tokens of the first are below those of the second
+canonical_both : (lists others : List (List TapFields)) (taps more : List TapFields)
+    → IsCanonical (all_of lists) taps → IsCanonical (all_of others) more → All HasName taps
+    → All HasName more → AreBelow (map token_of_tap taps) (map token_of_tap more)
+    → IsCanonical (all_of (joined lists others)) (taps ++ more)
+canonical_both lists others taps more one next named other below = record {
+  moved = IsPermutation-trans (all_of (joined lists others)) (all_of lists ++ all_of others)
+      (taps ++ more) (joined_moved lists others)
+      (IsPermutation-append (all_of lists) taps (all_of others) more one.moved next.moved);
+  sorted = sorted_across taps more (each_lower taps more named other (to_taps taps more below))
+      one.sorted next.sorted;
+}
+
+pub both_have : (files : List (List ℕ)) (spans others : List FileSpan) (numbers counts : List ℕ)
+    (taps more : List TapFields) → HaveTaps files spans numbers taps
+    → HaveTaps files others counts more → ends_of spans ≡ begins_of others → All HasName taps
+    → All HasName more → AreBelow (map token_of_tap taps) (map token_of_tap more)
+    → HaveTaps files (joined_spans spans others) (added numbers counts) (taps ++ more)
+both_have files spans others numbers counts taps more one next meet named other below = record {
+  lists = joined one.lists next.lists;
+  spanned = spanned_both files spans others one.lists next.lists one.spanned next.spanned meet;
+  counted = (λ i. added (one.counted i) (next.counted i))
+      ∙ sym (joined_lengths one.lists next.lists);
+  canonical = canonical_both one.lists next.lists taps more one.canonical next.canonical named
+      other below;
+}
+
+-- ---- spans that are whole files
+file_of_span : (file : List ℕ) (span : FileSpan) (list : List TapFields)
+    → IsSpanned file span list → Some span.from ≡ Some first_position → span.to ≡ None
+    → IsSortedFile file list
+file_of_span file span list is begin end =
+    let none : IsLeftAfter file span.to [] =
+    subst (λ to. IsLeftAfter file to []) (sym end) refl in
+    let left : IsLeftAfter file (Some first_position) (list ++ []) =
+    subst (λ from. IsLeftAfter file from (list ++ [])) begin (is.goes [] none) in
+    subst (λ taps. IsSortedFile file taps) (append-nil list) (record {
+      read = whole_file file (length file) (list ++ [])
+          (subst (λ taps. AreTapsBetween file 0 (length file) taps) (sym left.rest_is)
+          left.between) (drop-length file);
+      sorted = is.sorted [] none;
+    })
+
+-- a file more in front
+files_more : (file : List ℕ) (files : List (List ℕ)) (list : List TapFields)
+    (lists : List (List TapFields)) → IsSortedFile file list → AreSortedFiles files lists
+    → AreSortedFiles (file ∷ files) (list ∷ lists)
+files_more file files list lists first rest = record { number = ap suc rest.number; each = at }
+  where
+    at : (k : ℕ) → k < length (file ∷ files)
+        → IsSortedFile (get_or (file ∷ files) k []) (get_or (list ∷ lists) k [])
+    at zero inside = first
+    at (suc k) inside = rest.each k (omega (arith, inside))
+
+pub whole_files : (files : List (List ℕ)) (spans : List FileSpan) (lists : List (List TapFields))
+    → AreSpanned files spans lists → All (λ begin. begin ≡ Some first_position) (begins_of spans)
+    → All (λ end. end ≡ None) (ends_of spans) → AreSortedFiles files lists
+whole_files [] [] [] spanned begins ends =
+    record { number = refl; each = λ k inside. absurd (omega (arith, inside)) }
+whole_files [] [] (list ∷ lists) spanned begins ends = absurd spanned
+whole_files [] (span ∷ spans) lists spanned begins ends = absurd spanned
+whole_files (file ∷ files) [] lists spanned begins ends = absurd spanned
+whole_files (file ∷ files) (span ∷ spans) [] spanned begins ends = absurd spanned
+whole_files (file ∷ files) (span ∷ spans) (list ∷ lists) (first, more) begins ends =
+    let P : Option Position → Type 0 = λ begin. begin ≡ Some first_position in
+    let Q : Option Position → Type 0 = λ end. end ≡ None in
+    files_more file files list lists
+    (file_of_span file span list first (All-head P (Some span.from) (begins_of spans) begins)
+    (All-head Q span.to (ends_of spans) ends))
+    (whole_files files spans lists more (All-tail P (Some span.from) (begins_of spans) begins)
+    (All-tail Q span.to (ends_of spans) ends))
+
+-- ---- some parts
+abbrev IsPart : Fares → List (List ℕ) → PartView → Type 0
+IsPart fares files part = IsPartOf fares files part.spans part.lists part.history
+
+-- what each file has in them
+abbrev lists_of : PartView → List PartView → List (List TapFields)
+lists_of part [] = part.lists
+lists_of part (next ∷ parts) = joined part.lists (lists_of next parts)
+
+-- the files have these taps in spans that begin there, and end where the files do
+record AreJoined (files : List (List ℕ)) (begins : List (Option Position))
+    (lists : List (List TapFields)) : Type 0 where
+  spans : List FileSpan
+  spanned : AreSpanned files spans lists
+  begin : begins_of spans ≡ begins
+  ends : All (λ end. end ≡ None) (ends_of spans)
+
+joined_parts : (fares : Fares) (files : List (List ℕ)) (part : PartView) (parts : List PartView)
+    → ArePartsOf fares files (part ∷ parts)
+    → DoJoin (ends_of part.spans) (map (λ (part : PartView). part.spans) parts)
+    → AreJoined files (begins_of part.spans) (lists_of part parts)
+joined_parts fares files part [] are join = record {
+  spans = part.spans;
+  spanned = (All-head (IsPart fares files) part [] are).spanned;
+  begin = refl;
+  ends = join;
+}
+joined_parts fares files part (next ∷ parts) are (at, join) =
+    let first = All-head (IsPart fares files) part (next ∷ parts) are in
+    let rest = joined_parts fares files next parts
+    (All-tail (IsPart fares files) part (next ∷ parts) are) join in
+    let meet = at ∙ sym rest.begin in
+    let (begin, end) = joined_ends part.spans rest.spans meet in
+    record {
+      spans = joined_spans part.spans rest.spans;
+      spanned = spanned_both files part.spans rest.spans part.lists (lists_of next parts)
+          first.spanned rest.spanned meet;
+      begin = begin;
+      ends = subst (λ ends. All (λ end. end ≡ None) ends) (sym end) rest.ends;
+    }
+
+all_begin : (spans : List FileSpan)
+    → All (λ begin. begin ≡ Some first_position) (map (λ (span : FileSpan). Some first_position) spans)
+all_begin [] = All-nil (λ begin. begin ≡ Some first_position)
+all_begin (span ∷ spans) =
+    All-cons (λ begin. begin ≡ Some first_position) (Some first_position)
+    (map (λ (span : FileSpan). Some first_position) spans) refl (all_begin spans)
+
+-- the files are sorted, and have the taps of all parts
+sorted_parts : (fares : Fares) (files : List (List ℕ)) (part : PartView) (parts : List PartView)
+    → ArePartsOf fares files (part ∷ parts)
+    → AreWhole (map (λ (part : PartView). part.spans) (part ∷ parts))
+    → AreSortedFiles files (lists_of part parts)
+sorted_parts fares files part parts are (begins, join) =
+    let all = joined_parts fares files part parts are join in
+    whole_files files all.spans (lists_of part parts) all.spanned
+    (subst (λ begins. All (λ begin. begin ≡ Some first_position) begins)
+    (begins ∙ sym all.begin) (all_begin part.spans)) all.ends
+
+added_none : (numbers : List ℕ) → added numbers [] ≡ numbers
+added_none [] = refl
+added_none (number ∷ numbers) = refl
+
+counted_parts : (part : PartView) (parts : List PartView)
+    → map length (lists_of part parts) ≡ numbers_of_parts (part ∷ parts)
+counted_parts part [] = sym (added_none (map length part.lists))
+counted_parts part (next ∷ parts) =
+    joined_lengths part.lists (lists_of next parts)
+    ∙ ap (added (map length part.lists)) (counted_parts next parts)
+
+pub parts_ended : (fares : Fares) (files : List (List ℕ)) (parts : List PartView)
+    → ArePartsOf fares files parts → AreWhole (map (λ (part : PartView). part.spans) parts)
+    → ArePlainEnds files (map Posted (numbers_of_parts parts))
+parts_ended fares files [] are whole = absurd whole
+parts_ended fares files (part ∷ parts) are whole =
+    subst (λ (ns : List ℕ). ArePlainEnds files (map Posted ns)) (counted_parts part parts)
+    (plain_ends files (lists_of part parts) (sorted_parts fares files part parts are whole))
+
 all_histories : (parts : List PartView)
     → flat_map (λ (entries : List Entry). entries) (map (λ (part : PartView). part.history) parts)
     ≡ flat_map (λ (part : PartView). part.history) parts
 all_histories [] = refl
 all_histories (part ∷ parts) = ap (λ es. part.history ++ es) (all_histories parts)
 
-all_taps : (fares : Fares) (files : List (List ℕ)) (parts : List PartView)
-    → ArePartsOf fares files parts → AreIncreasing (map (λ (part : PartView). part.history) parts)
-    → AreAllTaps fares files parts
-all_taps fares files [] are increase = record {
-  taps = [];
-  canonical = record {
-    moved = subst (λ l. IsPermutation l []) (sym (all_nothing files)) (IsPermutation-refl []);
-    sorted = λ k d low high. absurd (omega (arith, high));
-  };
-  named = All-nil HasName;
-  are = sym (posted_each fares [] tt);
-}
-all_taps fares files (part ∷ parts) are (below, increase) =
-    let first = All-head (IsPart fares files) part parts are in
-    let more = all_taps fares files parts (All-tail (IsPart fares files) part parts are) increase in
+-- all taps of the parts are in canonical order, and the histories are theirs
+record AreAllTaps (fares : Fares) (part : PartView) (parts : List PartView) : Type 0 where
+  taps : List TapFields
+  canonical : IsCanonical (all_of (lists_of part parts)) taps
+  named : All HasName taps
+  are : flat_map (λ (part : PartView). part.history) (part ∷ parts) ≡ posted fares taps
+
+all_taps : (fares : Fares) (files : List (List ℕ)) (part : PartView) (parts : List PartView)
+    → ArePartsOf fares files (part ∷ parts)
+    → AreIncreasing (map (λ (part : PartView). part.history) (part ∷ parts))
+    → AreAllTaps fares part parts
+all_taps fares files part [] are increase =
+    let first = All-head (IsPart fares files) part [] are in
+    record {
+      taps = first.taps;
+      canonical = first.canonical;
+      named = first.named;
+      are = append-nil part.history ∙ first.posted_are;
+    }
+all_taps fares files part (next ∷ parts) are (below, increase) =
+    let first = All-head (IsPart fares files) part (next ∷ parts) are in
+    let more = all_taps fares files next parts
+    (All-tail (IsPart fares files) part (next ∷ parts) are) increase in
     let taps = first.taps in
     let tokens : map token_of part.history ≡ map token_of_tap taps =
     ap (map token_of) first.posted_are ∙ tokens_posted fares [] taps in
     let others : map token_of (flat_map (λ (entries : List Entry). entries)
-    (map (λ (p : PartView). p.history) parts)) ≡ map token_of_tap more.taps =
-    ap (map token_of) (all_histories parts ∙ more.are) ∙ tokens_posted fares [] more.taps in
+    (map (λ (p : PartView). p.history) (next ∷ parts))) ≡ map token_of_tap more.taps =
+    ap (map token_of) (all_histories (next ∷ parts) ∙ more.are)
+    ∙ tokens_posted fares [] more.taps in
     let lower : AreBelow (map token_of_tap taps) (map token_of_tap more.taps) =
     subst (λ ts. AreBelow ts (map token_of_tap more.taps)) tokens
     (subst (λ ts. AreBelow (map token_of part.history) ts) others below) in
-    let left = rests files parts in
     record {
       taps = taps ++ more.taps;
-      canonical = record {
-        moved = IsPermutation-trans (all_of (joined part.lists left))
-            (all_of part.lists ++ all_of left) (taps ++ more.taps)
-            (joined_moved part.lists left)
-            (IsPermutation-append (all_of part.lists) taps (all_of left) more.taps
-            first.canonical.moved more.canonical.moved);
-        sorted = sorted_across taps more.taps
-            (each_lower taps more.taps first.named more.named (to_taps taps more.taps lower))
-            first.canonical.sorted more.canonical.sorted;
-      };
+      canonical = canonical_both part.lists (lists_of next parts) taps more.taps first.canonical
+          more.canonical first.named more.named lower;
       named = All-append HasName taps more.taps first.named more.named;
-      are = ap (λ es. es ++ flat_map (λ (p : PartView). p.history) parts) first.posted_are
-          ∙ ap (λ es. posted fares taps ++ es) more.are
+      are = (λ i. first.posted_are i ++ more.are i)
           ∙ sym (posted_below fares taps more.taps lower);
     }
 
@@ -354,11 +379,12 @@ pub settled_parts : (fares : Fares) (files : List (List ℕ)) (parts : List Part
     → ArePartsOf fares files parts → AreWhole (map (λ (part : PartView). part.spans) parts)
     → AreIncreasing (map (λ (part : PartView). part.history) parts)
     → AreSettledParts fares files parts
-settled_parts fares files parts are whole increase =
-    let all = all_taps fares files parts are increase in
+settled_parts fares files [] are whole increase = absurd whole
+settled_parts fares files (part ∷ parts) are whole increase =
+    let all = all_taps fares files part parts are increase in
     record {
       taps = all.taps;
-      settled = settled_list files (rests files parts) all.taps
-          (whole_files fares files parts are whole) all.canonical all.named;
+      settled = settled_list files (lists_of part parts) all.taps
+          (sorted_parts fares files part parts are whole) all.canonical all.named;
       are = all.are;
     }

@@ -18,7 +18,6 @@ use Rattle.tap_views.specs.Layout.{spelling}
 use Rattle.tap_views.specs.declared.encoder.TapFields.{TapFields}
 use Rattle.tap_views.proofs.Lists.{All-back, All-front}
 use Rattle.tap_parts.specs.Canonical.{HasTokenBytes, IsCanonical, tap_cmp}
-use Rattle.sorted_taps.specs.Merged.{IsMerged}
 use Rattle.fare_texts.specs.LedgerLines.{head_text}
 use Rattle.fare_texts.specs.WrittenOut.{Begins}
 use Rattle.fare_texts.proofs.Along.{ledger_along}
@@ -37,7 +36,6 @@ use Rattle.sorted_taps.specs.Merges.{AreStarted, AreSortedFiles}
 use Rattle.sorted_taps.specs.declared.reader.TapReader.{TapReader}
 use Rattle.sorted_bills.specs.Ledgers.{AreBytes, IsLedgerOfFiles}
 use Rattle.sorted_bills.specs.inside.Explained.{HasTaken}
-use Rattle.sorted_bills.proofs.Explained.{consumed_none}
 use Rattle.sorted_bills.proofs.Rest.{goes_on}
 use Rattle.sorted_bills.proofs.Settled.{settled_list}
 
@@ -147,12 +145,6 @@ same_files (file ∷ all) (first ∷ others) is =
     let rest : map Some all ≡ map Some others = cc in
     ap (λ f. f ∷ all) here ∙ ap (λ more. first ∷ more) (same_files all others rest)
 
--- merged lists in canonical order are the canonical list of all taps
-abbrev pub MergedAreCanonical : Type 0
-MergedAreCanonical = (lists : List (List TapFields)) (merged : List TapFields)
-    → All (IsSorted tap_cmp) lists → IsMerged lists merged
-    → IsCanonical (flat_map (λ list. list) lists) merged
-
 -- of known files of bytes the text is the ledger, and of it a beginning was written
 abbrev pub HasStartedLedger : Fares → List (Option (List ℕ)) → Option (List ℕ) → Option (List ℕ)
     → Type 0
@@ -163,23 +155,18 @@ HasStartedLedger fares known start after = (text : List ℕ)
 
 known_started : (fares : Fares) (known : List (Option (List ℕ))) (all : List (List ℕ))
     (lists : List (List TapFields)) (started : List TapReader) (explainer : Explainer)
-    (start after : Option (List ℕ)) → MergedAreCanonical → known ≡ map Some all
+    (start after : Option (List ℕ)) → known ≡ map Some all
     → AreSortedFiles all lists → AreStarted all started
     → explainer.token ≡ record { high = 0; low = 0 } → HasExplained fares explainer []
     → ((taps : List TapFields) → AreSettledTaps all taps
     → IsSettledHistory fares all (posted fares taps))
     → HasTaken fares known started explainer (λ lines. Begins start after (head_text ++ lines))
     → HasStartedLedger fares known start after
-known_started fares known all lists started explainer start after law are sorted is least fresh
-    settled taken =
-    let (readers, way) = taken.goes_on all are in
-    let consumed = way started [] (consumed_none all started) in
-    let (rest, merged) =
-    goes_on all lists started consumed.to taken.taps sorted is consumed.taken in
+known_started fares known all lists started explainer start after are sorted is least fresh settled
+    taken =
+    let (rest, canonical) =
+    goes_on all lists started taken.readers taken.taps sorted is (taken.taken.taken all are) in
     let taps = taken.taps ++ rest in
-    let canonical = law lists taps (λ k d inside.
-    subst (λ list. IsSorted tap_cmp list) (get_or_default lists k [] d inside)
-    (sorted.each k (let number = sorted.number in omega (arith, inside, number))).sorted) merged in
     let (lines, along, begins) = lines_front fares explainer taken.taps rest taps
     (λ lines. Begins start after (head_text ++ lines))
     (λ lines. Begins start after (head_text ++ lines)) refl taken.lines
@@ -202,7 +189,6 @@ known_started fares known all lists started explainer start after law are sorted
 
 pub ledger_started : (fares : Fares) (known : List (Option (List ℕ))) (numbers : List ℕ)
     (started : List TapReader) (explainer : Explainer) (start after : Option (List ℕ))
-    → MergedAreCanonical
     → ((all : List (List ℕ)) → known ≡ map Some all → AreCountedFiles all numbers)
     → ((all : List (List ℕ)) → known ≡ map Some all → AreStarted all started)
     → explainer.token ≡ record { high = 0; low = 0 } → HasExplained fares explainer []
@@ -210,12 +196,11 @@ pub ledger_started : (fares : Fares) (known : List (Option (List ℕ))) (numbers
     → IsSettledHistory fares all (posted fares taps))
     → HasTaken fares known started explainer (λ lines. Begins start after (head_text ++ lines))
     → HasStartedLedger fares known start after
-ledger_started fares known numbers started explainer start after law counted is least fresh settled
-    taken =
+ledger_started fares known numbers started explainer start after counted is least fresh settled taken =
     elim (known_or_not known) [
       | inl are ↦
           let files = counted are.0 are.1 in
-          known_started fares known are.0 files.lists started explainer start after law are.1
+          known_started fares known are.0 files.lists started explainer start after are.1
           files.sorted (is are.0 are.1) least fresh (settled are.0) taken
       | inr none ↦
           let lines = taken.lines [] (consumed_first fares explainer fresh) in (

@@ -102,7 +102,7 @@ pub part_within : (fares : Fares) (known : List (Option (List ℕ))) (few most :
     → IsPart fares known few part → few ≤ most → IsPart fares known most part
 part_within fares known few most part is up = record {
   taps = is.taps;
-  spanned = is.spanned;
+  in_files = is.in_files;
   named = is.named;
   bill_is = is.bill_is;
   range = is.range;

@@ -14,9 +14,8 @@ use Rattle.settlement.specs.Posted.{HasName, token_of_tap}
 use Rattle.settlement.proofs.TokenRuns.{named_token}
 use Rattle.settlement.specs.Nondecreasing.{TapsNondecreasingFrom, last_token}
 use Rattle.settlement.proofs.Nondecreasing.{last_append}
-use Rattle.sorted_taps.specs.Merges.{TakesTaps}
 use Rattle.sorted_taps.specs.declared.reader.TapReader.{TapReader}
-use Rattle.sorted_taps.proofs.Spans.{taken_append}
+use Rattle.sorted_taps.proofs.Taking.{taken_append, taken_none}
 use Rattle.sorted_bills.specs.inside.Taken.{AreFollowing, AreTapsTaken}
 
 abbrev pub Early : TapFields → Type 0
@@ -25,7 +24,7 @@ Early tap = tap.moment < moment_limit
 pub none_taken : (known : List (Option (List ℕ))) (readers : List TapReader)
     → AreTapsTaken known readers [] readers
 none_taken known readers = record {
-  taken = λ files are. refl;
+  taken = λ files are. taken_none files readers;
   early = All-nil Early;
   named = All-nil HasName;
 }
@@ -90,14 +89,6 @@ pub none_there : (taps : Vec TapFields Global) (is_empty : Bool) → is_empty �
 none_there taps is_empty test empty =
     let zero : vec_len taps ≡ 0 = eqb-true (vec_len taps) 0 (sym test ∙ empty) in
     nil_from_length taps.items (grind arith)
-
--- taps that a run took, which can come one after another
-pub run_taken : (known : List (Option (List ℕ))) (old new : List TapReader)
-    (before after : List TapFields) (from last : Token)
-    → (takes : TakesTaps known old before after new) → AreFollowing from takes.more last
-    → AreTapsTaken known old takes.more new
-run_taken known old new before after from last takes are =
-    record { taken = takes.taken; early = are.early; named = are.named }
 
 -- the last turn takes no tap
 pub last_taken : (known : List (Option (List ℕ))) (old mid new : List TapReader)

@@ -3,6 +3,5 @@ pub mod Billed
 pub mod Charged
 pub mod OwnTaps
 pub mod Printed
-pub mod Ranges
 pub mod Taken
 pub mod Explained

@@ -10,47 +10,17 @@ ghost use Rattle.sorted_taps.specs.Reading.{window_bytes};
 ghost use Rattle.sorted_bills.specs.Faults.{IsBillFault};
 ghost use Rattle.sorted_bills.specs.inside.Billed.{IsBilled};
 
-use crate::by_threads::bill_by_threads;
-use crate::charges::charge;
+use crate::by_threads::part_by_threads;
 use crate::fault::BillFault;
-use crate::taker::Taker;
-use crate::tap_numbers::{count, ends_of};
+use crate::part::part_of;
 use histories::HashSeed;
 use placed_files::Placed;
-use settlement::{Billed, OpenBill, least_token};
+use settlement::Billed;
 use sorted_taps::{WINDOW_BYTES, check_files, have_stamps, stamps_of};
 use std::alloc::Global;
 use std::marker::Sync;
 use std::thread::Threads;
 use tariffs::FareTable;
-
-/// Its fault need not be the first one of the files.
-fn bill_of<F: Placed>(
-    alloc: Global,
-    table: &FareTable,
-    seed: HashSeed,
-    files: &[F],
-) -> Result<Billed, BillFault>
-    ensures billed { IfOk result (IsBilled table.now (map F.bytes files.now)) }
-    ensures posted { IfOk result (λ made. are_posted made.ends.items ≡ true) }
-    ensures fault { IfErr result (λ fault. (all : List (List ℕ))
-        → map F.bytes files.now ≡ map Some all → IsBillFault all fault) }
-    ensures unwritten { IfErr result (λ fault. fault ≢ BillFault.Write) }
-{
-    // proof: taps that are taken to the ends of the files are their settled taps
-    crate::laws::taken_taps_are_settled();
-    settlement::laws::posted_taps();
-    sorted_taps::laws::taken_taps_are_canonical();
-    let window = vec![in alloc; 0u8; WINDOW_BYTES]?;
-    let mut taker = Taker::begin(alloc, files, window)?;
-    let mut so_far = OpenBill::new(alloc, seed, least_token());
-    charge(alloc, table, files, None, &mut taker, &mut so_far)?;
-    let numbers = taker.merge.numbers(alloc)?;
-    let _counted = count(&numbers)?;
-    let ends = ends_of(alloc, &numbers)?;
-    let bill = so_far.into_bill(alloc)?;
-    Ok(Billed { ends, bill })
-}
 
 /// The first fault in the order of the files.
 pub(crate) fn first_fault<F: Placed>(alloc: Global, files: &[F], met: BillFault) -> BillFault
@@ -73,8 +43,9 @@ pub(crate) fn first_fault<F: Placed>(alloc: Global, files: &[F], met: BillFault)
     }
 }
 
-/// A worker that is refused has all charged again by one.
-fn bill_by_workers<R: Threads + Sync, F: Placed + Sync>(
+/// A worker that is refused has all charged again by one. A fault need not be the first one of the
+/// files.
+fn bill_of<R: Threads + Sync, F: Placed + Sync>(
     rt: &R,
     alloc: Global,
     table: &FareTable,
@@ -82,25 +53,19 @@ fn bill_by_workers<R: Threads + Sync, F: Placed + Sync>(
     files: &[F],
     workers: u32,
 ) -> Result<Billed, BillFault>
-    ensures ended { IfOk result (λ made. (all : List (List ℕ))
-        → map F.bytes files.now ≡ map Some all → ArePlainEnds all made.ends.items) }
+    ensures billed { IfOk result (IsBilled table.now (map F.bytes files.now)) }
     ensures posted { IfOk result (λ made. are_posted made.ends.items ≡ true) }
-    ensures billed { IfOk result (λ made. (history : List Entry) × IsBillOf history made.bill
-        × (length history ≤ 2 ^ 95) × ((all : List (List ℕ))
-        → map F.bytes files.now ≡ map Some all → IsSettledHistory table.now all history)) }
     ensures fault { IfErr result (λ fault. (all : List (List ℕ))
         → map F.bytes files.now ≡ map Some all → IsBillFault all fault) }
     ensures unwritten { IfErr result (λ fault. fault ≢ BillFault.Write) }
 {
     if workers > 1 {
-        if let Ok(made) = bill_by_threads(rt, alloc, table, seed, files, workers) {
-            return Ok(made);
+        if let Some(part) = part_by_threads(rt, alloc, table, seed, files, workers) {
+            return part.into_billed(alloc);
         }
     }
-    match bill_of(alloc, table, seed, files) {
-        Ok(made) => Ok(made),
-        Err(met) => Err(first_fault(alloc, files, met)),
-    }
+    let part = part_of(alloc, table, seed, files, None, None)?;
+    part.into_billed(alloc)
 }
 
 /// The bill of the settled history of sorted files, in one pass. Of each file some batches are in
@@ -130,9 +95,13 @@ pub fn sorted_bill<R: Threads + Sync, F: Placed + Sync>(
     ensures unwritten { IfErr result (λ fault. fault ≢ BillFault.Write) }
 {
     let stamps = stamps_of(alloc, files)?;
-    let made = bill_by_workers(rt, alloc, table, seed, files, workers)?;
-    if !have_stamps(files, &stamps) {
-        return Err(BillFault::Changed);
+    match bill_of(rt, alloc, table, seed, files, workers) {
+        Ok(made) => {
+            if !have_stamps(files, &stamps) {
+                return Err(BillFault::Changed);
+            }
+            Ok(made)
+        }
+        Err(met) => Err(first_fault(alloc, files, met)),
     }
-    Ok(made)
 }

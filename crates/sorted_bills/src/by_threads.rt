@@ -1,22 +1,13 @@
 //! The bill of all taps, made by several threads.
 
-ghost use Rattle.std.specs.Prelude.{◌≡◌, ◌^◌, ◌<◌, ◌≤◌, true, ℕ, List, Option, IfOk, IfSome, OnOk};
-ghost use Rattle.std.specs.Prelude.{length, map};
+ghost use Rattle.std.specs.Prelude.{◌^◌, ℕ, List, Option, IfOk, IfSome, map};
 ghost use Rattle.tariffs.specs.Fares.{Fares};
-ghost use Rattle.tap_views.specs.UploadEnds.{are_posted};
-ghost use Rattle.tap_views.specs.declared.upload_end.UploadEnd.TheVariants.{Posted};
-ghost use Rattle.sorted_taps.specs.Merges.{AreAtEnd};
-ghost use Rattle.sorted_taps.specs.Reading.{window_bytes};
-ghost use Rattle.sorted_bills.specs.inside.Billed.{IsBilled};
 ghost use Rattle.sorted_bills.specs.inside.Charged.{AreParts, IsPart};
 
-use crate::fault::BillFault;
 use crate::part::{Part, part_of};
-use crate::tap_numbers::{count, ends_of};
 use histories::HashSeed;
 use placed_files::Placed;
-use settlement::{Bill, Billed};
-use sorted_taps::{TapReader, WINDOW_BYTES, are_at_end, bounds_of, joined, numbers_of, started};
+use sorted_taps::bounds_of;
 use std::alloc::{AllocError, Global};
 use std::marker::Sync;
 use std::thread;
@@ -118,68 +109,25 @@ fn join_parts(alloc: Global, parts: Vec<Option<Part>>) -> Option<Part>
     None
 }
 
-fn closed(alloc: Global, readers: &[TapReader], bill: Bill) -> Result<Billed, BillFault>
-    ensures at_end { OnOk result (AreAtEnd readers.now) }
-    ensures bill { IfOk result (λ made. made.bill ≡ bill) }
-    ensures ends { IfOk result (λ made.
-        made.ends.items ≡ map Posted (map (λ reader. reader.passed) readers.now)) }
-    ensures posted { IfOk result (λ made. are_posted made.ends.items ≡ true) }
-{
-    if !are_at_end(readers) {
-        return Err(BillFault::Changed);
-    }
-    let numbers = numbers_of(alloc, readers)?;
-    let _counted = count(&numbers)?;
-    let ends = ends_of(alloc, &numbers)?;
-    Ok(Billed { ends, bill })
-}
-
-fn billed<F: Placed>(
-    alloc: Global,
-    files: &[F],
-    window: &mut [u8],
-    part: Part,
-) -> Result<Billed, BillFault>
-    requires { window_bytes ≤ length window.old }
-    ensures billed { IfOk result (λ made. (fares : Fares) (few : ℕ)
-        → IsPart fares (map F.bytes files.now) few part → few ≤ 2 ^ 95
-        → IsBilled fares (map F.bytes files.now) made) }
-    ensures posted { IfOk result (λ made. are_posted made.ends.items ≡ true) }
-{
-    // proof: taps that are taken to the ends of the files are their settled taps
-    crate::laws::taken_taps_are_settled();
-    settlement::laws::posted_taps();
-    let readers = started(alloc, files, window)?;
-    let Part { span, bill, .. } = part;
-    let Some(end) = joined(&readers, span) else {
-        return Err(BillFault::Changed);
-    };
-    let made = closed(alloc, &end, bill)?;
-    Ok(made)
-}
-
-/// A fault says nothing of the files: the ranges may be ill chosen.
-pub(crate) fn bill_by_threads<R: Threads + Sync, F: Placed + Sync>(
+/// None if a range is refused, or does not begin where the one before it ends.
+pub(crate) fn part_by_threads<R: Threads + Sync, F: Placed + Sync>(
     rt: &R,
     alloc: Global,
     table: &FareTable,
     seed: HashSeed,
     files: &[F],
     workers: u32,
-) -> Result<Billed, BillFault>
-    requires { 1 < workers }
-    ensures billed { IfOk result (IsBilled table.now (map F.bytes files.now)) }
-    ensures posted { IfOk result (λ made. are_posted made.ends.items ≡ true) }
+) -> Option<Part>
+    ensures { IfSome result (IsPart table.now (map F.bytes files.now) (2 ^ 80)) }
 {
-    let mut window = vec![in alloc; 0u8; WINDOW_BYTES]?;
-    let bounds = bounds_of(alloc, files, workers.min(MAX_WORKERS) - 1)?;
-    if bounds.is_empty() {
-        return Err(BillFault::Changed);
-    }
-    let parts = parts_of(rt, alloc, table, seed, files, &bounds)?;
-    let Some(part) = join_parts(alloc, parts) else {
-        return Err(BillFault::Changed);
+    let Ok(bounds) = bounds_of(alloc, files, workers.min(MAX_WORKERS).saturating_sub(1)) else {
+        return None;
     };
-    let made = billed(alloc, files, &mut window, part)?;
-    Ok(made)
+    if bounds.is_empty() {
+        return None;
+    }
+    match parts_of(rt, alloc, table, seed, files, &bounds) {
+        Ok(parts) => join_parts(alloc, parts),
+        Err(_) => None,
+    }
 }

@@ -8,7 +8,7 @@ ghost use Rattle.settlement.specs.OpenBills.{IsOpenBill};
 ghost use Rattle.sorted_bills.specs.inside.Taken.{IsReady};
 
 use crate::fault::BillFault;
-use crate::taker::Taker;
+use crate::taker::{TAKEN_TAPS, Taker};
 use placed_files::Placed;
 use settlement::OpenBill;
 use std::alloc::Global;
@@ -35,11 +35,17 @@ pub(crate) fn charge<F: Placed>(
     ensures unwritten { IfErr result (λ fault. fault ≢ BillFault.Write) }
 {
     let clock = table.clock(alloc)?;
+    let mut count = 0u64;
     for _round in 0..u64::MAX {
-        taker.take(files, so_far.token(), below)?;
+        taker.take(files, so_far.token(), below, TAKEN_TAPS)?;
         if taker.taps.is_empty() {
             return Ok(());
         }
+        // no files have so many taps
+        let Some(more) = count.checked_add(taker.taps.len() as u64) else {
+            return Err(BillFault::Changed);
+        };
+        count = more;
         so_far.add(alloc, table, &clock, &taker.taps)?;
     }
     Err(BillFault::Changed)

@@ -15,26 +15,11 @@ ghost use Rattle.settlement.specs.SettledTaps.{AreSettledTaps};
 ghost use Rattle.tap_views.specs.UploadEnds.{ArePlainEnds};
 ghost use Rattle.tap_views.specs.declared.upload_end.UploadEnd.TheVariants.{Posted};
 ghost use Rattle.sorted_bills.specs.Parts.{ArePartsOf, AreIncreasing, PartView, numbers_of_parts};
-ghost use Rattle.sorted_taps.specs.Merged.{IsMerged};
 ghost use Rattle.sorted_taps.specs.Positions.{AreWhole};
 ghost use Rattle.sorted_taps.specs.Merges.{AreAtEnd, AreStarted, AreTaken};
 ghost use Rattle.sorted_taps.specs.declared.reader.TapReader.{TapReader};
 
-use settlement::laws::one_canonical_list;
-use sorted_taps::laws::{merged_is_canonical, taken_taps_are_canonical};
-
-/// If the valid taps of each file are in order, the merged list is that of the settled history.
-pub fn merged_files_are_settled()
-    ensures { (fares : Fares) (files : List (List ℕ)) (taps : List (List Tap))
-        (merged : List TapFields) → AreValidTapsOfEach files taps
-        → All (IsSorted tap_cmp) (map (map fields_of) taps)
-        → IsMerged (map (map fields_of) taps) merged
-        → (order : List Tap) × (map fields_of order ≡ merged)
-        × IsSettledHistory fares files (plain fares order) }
-{
-    merged_is_canonical();
-    one_canonical_list();
-}
+use sorted_taps::laws::taken_taps_are_canonical;
 
 /// Taps that are taken from the begin of some files to their ends are the files' settled taps.
 pub fn taken_taps_are_settled()

@@ -9,16 +9,17 @@ ghost use Rattle.sorted_bills.specs.Ledgers.{AreBytes, IsLedgerOfFiles};
 ghost use Rattle.sorted_bills.specs.declared.fault.BillFault.TheVariants.{Write as AFailedWrite};
 ghost use Rattle.fare_texts.specs.WrittenOut.{Begins};
 
+use crate::by_threads::MAX_WORKERS;
 use crate::fault::BillFault;
+use crate::lines_below::explain_below;
 use crate::own_taps::check_all;
-use crate::rounds::{Rounds, write_ranges};
 use crate::taker::Taker;
 use crate::tap_numbers::{count, ends_of};
 use fare_texts::{Explainer, head_with_room, pass_on};
 use placed_files::Placed;
-use settled_texts::STRIDE_ROOM_BYTES;
+use settled_texts::{STRIDE_ROOM_BYTES, slots_of};
 use settlement::least_token;
-use sorted_taps::{WINDOW_BYTES, have_stamps, stamps_of};
+use sorted_taps::{WINDOW_BYTES, are_at_end, have_stamps, stamps_of};
 use std::alloc::Global;
 use std::io::Write;
 use std::marker::Sync;
@@ -31,10 +32,9 @@ use tariffs::FareTable;
 /// pass checks each file whole, and a second merges the files and writes. Memory holds some batches
 /// of each file and one account. A fault of the first pass is the first in the order of the files,
 /// and nothing is written. A file with another number of taps, or another stamp at the end, is
-/// reported as changed. Of several workers, 64 at most, each makes the lines of a range of the
-/// tokens, with up to 16 MiB for lines and some 32 KiB for each file of `sort`; of more than 256
-/// files this thread makes all. The bounds are a hint: a range that does not join, or whose worker
-/// is refused, is made again by this thread, so the text does not depend on the workers.
+/// reported as changed. This thread merges. Of several workers, 64 at most, each makes the lines of
+/// a share of some 24,576 taps, with up to 16 MiB for taps and lines. This thread makes what no
+/// worker made, so the text does not depend on the workers.
 pub fn write_sorted_ledger<R: Threads + Sync, F: Placed + Sync, W: Write>(
     rt: &R,
     alloc: Global,
@@ -64,8 +64,6 @@ pub fn write_sorted_ledger<R: Threads + Sync, F: Placed + Sync, W: Write>(
     // proof: taps that are taken to the ends of the files are their settled taps
     crate::laws::taken_taps_are_settled();
     settlement::laws::posted_taps();
-    // proof: where a write fails, the taps that were not taken yet go on to a merged list
-    sorted_taps::laws::merged_is_canonical();
     let stamps = stamps_of(alloc, files)?;
     let numbers = check_all(rt, alloc, files, workers)?;
     let window = vec![in alloc; 0u8; WINDOW_BYTES]?;
@@ -75,21 +73,24 @@ pub fn write_sorted_ledger<R: Threads + Sync, F: Placed + Sync, W: Write>(
     let mut text = head_with_room(alloc, STRIDE_ROOM_BYTES)?;
     let mut taker = Taker::begin(alloc, files, window)?;
     let mut explainer = Explainer::of(least_token());
-    let mut rounds = Rounds::of(alloc, files, counted, workers);
-    write_ranges(
+    let mut slots = slots_of(alloc, workers.min(MAX_WORKERS))?;
+    let mut left = counted;
+    explain_below(
         rt,
-        alloc,
         &mut text,
         table,
         &clock,
         &mut explainer,
         &mut taker,
         files,
-        &rounds.bounds,
-        &mut rounds.ranges,
-        counted,
+        None,
+        &mut slots,
+        &mut left,
         out,
     )?;
+    if left > 0 || !are_at_end(taker.merge.readers()) {
+        return Err(BillFault::Changed);
+    }
     pass_on(&mut text, out)?;
     if !have_stamps(files, &stamps) {
         return Err(BillFault::Changed);

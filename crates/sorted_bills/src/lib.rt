@@ -1,6 +1,6 @@
 //! Files whose taps are in canonical order, charged as a settled run charges them: read in pieces,
-//! merged and posted tap by tap, without a list of the taps. Several workers take a range of the
-//! tokens or a share of the files each.
+//! merged and posted tap by tap, without a list of all taps. Several workers take a range of the
+//! tokens, a share of the files or a share of the next taps each.
 #![tactic(auto)]
 
 mod bill;
@@ -14,8 +14,6 @@ mod own_by_threads;
 mod own_taps;
 mod part;
 mod part_ledger;
-mod range;
-mod rounds;
 mod taker;
 mod tap_numbers;
 mod token_part;

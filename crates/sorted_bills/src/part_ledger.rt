@@ -23,6 +23,8 @@ use settlement::least_token;
 use sorted_taps::{FileSpan, WINDOW_BYTES, have_stamps, stamps_of};
 use std::alloc::Global;
 use std::io::Write;
+use std::marker::Sync;
+use std::thread::Threads;
 use tap_views::Token;
 use tariffs::FareTable;
 
@@ -43,7 +45,8 @@ fn are_spans(made: &[FileSpan], spans: &[FileSpan]) -> bool
 /// Writes the ledger of a part of sorted files: the header line, and a line for each tap with a
 /// token from one on and below another, each bound optional. If the part is not in these spans,
 /// those of `part_spans`, the files are reported as changed, with a prefix of the ledger written.
-pub fn write_part_ledger<F: Placed, W: Write>(
+pub fn write_part_ledger<R: Threads + Sync, F: Placed, W: Write>(
+    rt: &R,
     alloc: Global,
     table: &FareTable,
     files: &[F],
@@ -78,6 +81,7 @@ pub fn write_part_ledger<F: Placed, W: Write>(
     let mut explainer = Explainer::of(from.unwrap_or(least_token()));
     let mut left = u64::MAX;
     explain_below(
+        rt,
         &mut text,
         table,
         &clock,
@@ -85,6 +89,7 @@ pub fn write_part_ledger<F: Placed, W: Write>(
         &mut taker,
         files,
         below,
+        &mut [],
         &mut left,
         out,
     )?;

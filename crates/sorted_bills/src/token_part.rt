@@ -14,13 +14,13 @@ ghost use Rattle.sorted_bills.specs.Parts.{IsPartOf};
 ghost use Rattle.sorted_bills.specs.inside.Taken.{AreTapsTaken, IsReady};
 
 use crate::bill::first_fault;
-use crate::charges::charge;
 use crate::fault::BillFault;
-use crate::taker::Taker;
+use crate::part::{Part, part_of};
+use crate::taker::{TAKEN_TAPS, Taker};
 use crate::tap_numbers::ends_of;
 use histories::HashSeed;
 use placed_files::Placed;
-use settlement::{Billed, OpenBill, least_token};
+use settlement::{Billed, least_token};
 use sorted_taps::{
     FileSpan, PlacedReaders, Position, SortedFault, TapReader, WINDOW_BYTES, have_stamps,
     readers_from, spans_to, stamps_of,
@@ -108,19 +108,9 @@ fn bill_part<F: Placed>(
     ensures fault { IfErr result (λ fault. (all : List (List ℕ)) → IsBillFault all fault) }
     ensures unwritten { IfErr result (λ fault. fault ≢ BillFault.Write) }
 {
-    let mut window = vec![in alloc; 0u8; WINDOW_BYTES]?;
-    let started = begin_part(alloc, files, from, &mut window)?;
-    let StartedPart {
-        positions,
-        mut taker,
-    } = started;
-    let mut so_far = OpenBill::new(alloc, seed, from.unwrap_or(least_token()));
-    charge(alloc, table, files, below, &mut taker, &mut so_far)?;
-    let numbers = taker.merge.numbers(alloc)?;
-    let ends = ends_of(alloc, &numbers)?;
-    let bill = so_far.into_bill(alloc)?;
-    let readers = taker.merge.readers();
-    let spans = end_part(alloc, files, &positions, readers, below, &mut window)?;
+    let part = part_of(alloc, table, seed, files, from, below)?;
+    let ends = ends_of(alloc, &part.numbers)?;
+    let Part { spans, bill, .. } = part;
     let billed = Billed { ends, bill };
     Ok(PartBill { spans, billed })
 }
@@ -176,7 +166,7 @@ fn pass_taps<F: Placed>(
     ensures unwritten { IfErr result (λ fault. fault ≢ BillFault.Write) }
 {
     for _ in 0..u64::MAX {
-        taker.take(files, least_token(), below)?;
+        taker.take(files, least_token(), below, TAKEN_TAPS)?;
         if taker.taps.is_empty() {
             return Ok(());
         }

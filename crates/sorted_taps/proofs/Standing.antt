@@ -32,7 +32,7 @@ last_of xs tap d =
     get_or_push xs tap d (length (xs ++ tap ∷ []) - 1) (omega (arith, long))
 
 -- one more tap, which is not before the last
-sorted_more : (xs : List TapFields) (tap : TapFields) (rest : List TapFields)
+pub sorted_more : (xs : List TapFields) (tap : TapFields) (rest : List TapFields)
     → IsSorted tap_cmp (xs ++ tap ∷ []) → BeginsNotBefore tap rest
     → IsSorted tap_cmp ((xs ++ tap ∷ []) ++ take 1 rest)
 sorted_more xs tap [] sorted order =

@@ -1,186 +1,233 @@
 -- Taps that are taken of files, also from their begins to their ends.
-use Rattle.std.proofs.Common.{◌≡◌, ℕ, suc, ◌+◌, ◌<◌, List, [], ◌∷◌, ◌++◌, length}
+use Rattle.std.proofs.Common.{◌≡◌, ℕ, zero, suc, ◌<◌, List, [], ◌∷◌, ◌++◌, All, length}
 use Rattle.std.proofs.Common.{map, take, drop, refl, sym, ap, subst, ◌∙◌, arith, append_assoc}
-use Rattle.std.proofs.Common.{get_or, set, inl, inr, append-nil, replicate}
+use Rattle.std.proofs.Common.{get_or, append-nil, length-append, replicate}
 use Rattle.std.specs.Prelude.{flat_map}
-use Rattle.std.specs.List.Sorted.{IsSorted}
-use Rattle.std.proofs.lemmas.Bool.{cases_eq}
-use Rattle.std.proofs.lemmas.List.{get_or_default, get_or-set_same, get_or-set_other, length-set}
-use Rattle.std.proofs.lemmas.List.{set_split, set-get_or, get_or-replicate, length-replicate}
-use Rattle.std.proofs.lemmas.List.Elements.{All-replicate}
+use Rattle.std.specs.List.Sorted.{IsPermutation, IsSorted}
+use Rattle.std.proofs.lemmas.List.{get_or-replicate, length-replicate}
+use Rattle.std.proofs.lemmas.List.Elements.{All-append, All-head, All-nil}
+use Rattle.std.proofs.lemmas.List.Sorted.{All-permutation, IsPermutation-append}
+use Rattle.std.proofs.lemmas.List.Sorted.{IsPermutation-append_right, IsPermutation-refl}
+use Rattle.std.proofs.lemmas.List.Sorted.{IsPermutation-trans}
 use Rattle.tap_views.specs.declared.encoder.TapFields.{TapFields}
+use Rattle.tap_views.proofs.Lists.{All-back, All-front}
 use Rattle.tap_parts.specs.Canonical.{tap_cmp, IsCanonical}
-use Rattle.sorted_taps.specs.Merged.{BeginsNotBefore, IsMerged}
-use Rattle.sorted_taps.specs.Merges.{AreAtEnd, AreStarted, AreSortedFiles, AreTaken, IsTapTaken}
-use Rattle.sorted_taps.specs.Readers.{ahead, IsAdvanced}
+use Rattle.sorted_taps.specs.Merged.{BeginsNotBefore, IsNotBefore}
+use Rattle.sorted_taps.specs.Merges.{AreAtEnd, AreStarted, AreSortedFiles, AreTaken, IsPassed}
+use Rattle.sorted_taps.specs.Reading.{AreTapsBetween}
+use Rattle.sorted_taps.specs.Readers.{ahead, IsPositionedIn}
 use Rattle.sorted_taps.specs.Sorted.{IsSortedFile}
 use Rattle.sorted_taps.specs.declared.reader.TapReader.{TapReader}
-use Rattle.sorted_taps.proofs.Merging.{merged_canonical}
-use Rattle.sorted_taps.proofs.Standing.{LiesIn, lies_of, lies_on, sorted_at_end}
+use Rattle.sorted_taps.proofs.Batches.{front_append, front_none}
+use Rattle.sorted_taps.proofs.Joining.{inner_swap, none_before, sorted_across, sorted_glue}
+use Rattle.sorted_taps.proofs.Standing.{whole_file}
 
--- the reader has passed the taps of the list
-pub record HasPassed (all : List ℕ) (old : TapReader) (list : List TapFields) (new : TapReader)
-    : Type 0 where
-  pub lies : (from : ℕ) (passed : List TapFields) → LiesIn all from passed old
-      → LiesIn all from (passed ++ list) new
-  pub begins : (tap : TapFields) → BeginsNotBefore tap (ahead old) → BeginsNotBefore tap list
-  pub number : new.passed ≡ old.passed + length list
+-- the taps of all lists
+abbrev pub all_of : List (List TapFields) → List TapFields
+all_of lists = flat_map (λ list. list) lists
 
-passed_none : (all : List ℕ) (reader : TapReader) → HasPassed all reader [] reader
+-- what holds of the taps of each list holds of all
+pub all_of_each : (P : TapFields → Type 0) (lists : List (List TapFields))
+    → ((k : ℕ) → k < length lists → All P (get_or lists k [])) → All P (all_of lists)
+all_of_each P [] each = All-nil P
+all_of_each P (list ∷ lists) each =
+    All-append P list (all_of lists) (each zero (omega arith))
+    (all_of_each P lists (λ k inside. each (suc k) (omega (arith, inside))))
+
+-- ---- lists that go on, each with the one at its index
+abbrev both : List (List TapFields) → List (List TapFields) → List (List TapFields)
+both [] ys = ys
+both (x ∷ xs) [] = x ∷ xs
+both (x ∷ xs) (y ∷ ys) = (x ++ y) ∷ both xs ys
+
+both_long : (xs ys : List (List TapFields)) → length ys ≡ length xs
+    → length (both xs ys) ≡ length xs
+both_long [] ys same = same
+both_long (x ∷ xs) [] same = refl
+both_long (x ∷ xs) (y ∷ ys) same =
+    let rest = both_long xs ys (omega (arith, same)) in omega (arith, rest)
+
+both_at : (xs ys : List (List TapFields)) (k : ℕ)
+    → get_or (both xs ys) k [] ≡ get_or xs k [] ++ get_or ys k []
+both_at [] ys k = refl
+both_at (x ∷ xs) [] k = sym (append-nil (get_or (x ∷ xs) k []))
+both_at (x ∷ xs) (y ∷ ys) zero = refl
+both_at (x ∷ xs) (y ∷ ys) (suc k) = both_at xs ys k
+
+both_moved : (xs ys : List (List TapFields))
+    → IsPermutation (all_of (both xs ys)) (all_of xs ++ all_of ys)
+both_moved [] ys = IsPermutation-refl (all_of ys)
+both_moved (x ∷ xs) [] =
+    subst (λ l. IsPermutation (all_of (x ∷ xs)) l) (sym (append-nil (all_of (x ∷ xs))))
+    (IsPermutation-refl (all_of (x ∷ xs)))
+both_moved (x ∷ xs) (y ∷ ys) =
+    IsPermutation-trans ((x ++ y) ++ all_of (both xs ys)) ((x ++ y) ++ (all_of xs ++ all_of ys))
+    ((x ++ all_of xs) ++ (y ++ all_of ys))
+    (IsPermutation-append_right (x ++ y) (all_of (both xs ys)) (all_of xs ++ all_of ys)
+    (both_moved xs ys))
+    (inner_swap x y (all_of xs) (all_of ys))
+
+-- ---- one reader
+begins_alike : (a : TapFields) (xs ys : List TapFields) → take 1 xs ≡ take 1 ys
+    → BeginsNotBefore a ys → BeginsNotBefore a xs
+begins_alike a [] ys same begins = tt
+begins_alike a (x ∷ xs) [] same begins = absurd (cc)
+begins_alike a (x ∷ xs) (y ∷ ys) same begins =
+    let one : y ≡ x = cc in subst (IsNotBefore a) one begins
+
+pub first_only : (run rest : List TapFields) → take 1 (run ++ take 1 rest) ≡ take 1 (run ++ rest)
+first_only [] [] = refl
+first_only [] (x ∷ rest) = refl
+first_only (x ∷ run) rest = refl
+
+first_both : (one mid two rest old : List TapFields) → take 1 (one ++ mid) ≡ take 1 old
+    → take 1 (two ++ rest) ≡ take 1 mid → take 1 ((one ++ two) ++ rest) ≡ take 1 old
+first_both [] mid two rest old first then = then ∙ first
+first_both (x ∷ one) mid two rest old first then = first
+
+begins_of : (a : TapFields) (list : List TapFields) → All (IsNotBefore a) (take 1 list)
+    → BeginsNotBefore a list
+begins_of a [] all = tt
+begins_of a (x ∷ list) all = All-head (IsNotBefore a) x [] all
+
+pub passed_none : (all : List ℕ) (reader : TapReader) → IsPassed all reader [] reader
 passed_none all reader = record {
-  lies = λ from passed lies. subst (λ l. LiesIn all from l reader) (sym (append-nil passed)) lies;
-  begins = λ tap from. tt;
+  read = [];
+  between = front_none (drop reader.offset all);
+  goes_on = append-nil (ahead reader);
+  first = refl;
+  sorted = one_sorted (ahead reader);
+  end = λ was. was;
   number = omega arith;
 }
+  where
+    one_sorted : (list : List TapFields) → IsSorted tap_cmp (take 1 list)
+    one_sorted [] = λ k d low high. absurd (omega (arith, high))
+    one_sorted (x ∷ list) = λ k d low high. absurd (omega (arith, high))
 
--- and one before them
-passed_step : (all : List ℕ) (old mid new : TapReader) (step : IsAdvanced all old mid)
-    (list : List TapFields) → HasPassed all mid list new
-    → HasPassed all old (step.tap ∷ list) new
-passed_step all old mid new step list is = record {
-  lies = λ from passed lies. subst (λ l. LiesIn all from l new)
-      (append_assoc passed (step.tap ∷ []) list)
-      (is.lies from (passed ++ step.tap ∷ []) (lies_on all from passed old mid lies step));
-  begins = λ tap from. subst (λ l. BeginsNotBefore tap l) step.stood from;
-  number = let more = is.number in let one = step.number in omega (arith, more, one);
+passed_both : (all : List ℕ) (old mid new : TapReader) (one two : List TapFields)
+    → IsPassed all old one mid → IsPassed all mid two new → IsPassed all old (one ++ two) new
+passed_both all old mid new one two p q =
+    let long = length-append one two in
+    let first = p.number in
+    let then = q.number in
+    record {
+      read = p.read ++ q.read;
+      between = front_append (drop old.offset all) (drop mid.offset all) (drop new.offset all)
+          p.read q.read p.between q.between;
+      goes_on = sym (append_assoc (ahead old) p.read q.read)
+          ∙ ap (λ l. l ++ q.read) p.goes_on ∙ append_assoc one (ahead mid) q.read
+          ∙ ap (λ l. one ++ l) q.goes_on ∙ sym (append_assoc one two (ahead new));
+      first = first_both one (ahead mid) two (ahead new) (ahead old) p.first q.first;
+      sorted = subst (λ l. IsSorted tap_cmp l) (sym (append_assoc one two (take 1 (ahead new))))
+          (sorted_glue one (two ++ take 1 (ahead new))
+          (subst (λ l. IsSorted tap_cmp (one ++ l))
+          (sym (first_only two (ahead new) ∙ q.first)) p.sorted) q.sorted);
+      end = λ was none. q.end (p.end was) none;
+      number = omega (arith, first, then, long);
+    }
+
+-- a reader passes none, and comes to none, that is before a tap before which it was not
+passed_after : (all : List ℕ) (old new : TapReader) (run : List TapFields)
+    → IsPassed all old run new → (a : TapFields) → BeginsNotBefore a (ahead old)
+    → All (IsNotBefore a) (run ++ take 1 (ahead new))
+passed_after all old new run p a begins =
+    none_before a (run ++ take 1 (ahead new)) p.sorted
+    (begins_alike a (run ++ take 1 (ahead new)) (ahead old)
+    (first_only run (ahead new) ∙ p.first) begins)
+
+-- ---- all readers
+-- an element of a list that has one
+pub some_of : (readers : List TapReader) (k : ℕ) → k < length readers → TapReader
+some_of [] k inside = absurd (omega (arith, inside))
+some_of (reader ∷ readers) k inside = reader
+
+pub taken_none : (files : List (List ℕ)) (readers : List TapReader)
+    → AreTaken files readers [] readers
+taken_none files readers = record {
+  runs = replicate (length readers) [];
+  number = length-replicate (length readers) [];
+  as_many = refl;
+  each = λ k d inside.
+      subst (λ run. IsPassed (get_or files k []) (get_or readers k d) run (get_or readers k d))
+      (sym (get_or-replicate (length readers) k [] [] inside))
+      (passed_none (get_or files k []) (get_or readers k d));
+  canonical = record {
+    moved = subst (λ l. IsPermutation l []) (sym (empty (length readers))) (IsPermutation-refl []);
+    sorted = λ k d low high. absurd (omega (arith, high));
+  };
+  left = λ k d inside. All-nil (λ tap. BeginsNotBefore tap (ahead (get_or readers k d)));
 }
+  where
+    empty : (n : ℕ) → all_of (replicate n []) ≡ []
+    empty zero = refl
+    empty (suc n) = empty n
 
--- the taps of each file that its reader has passed: merged they are those that were taken
-pub record ArePassed (files : List (List ℕ)) (old new : List TapReader) (taps : List TapFields)
-    : Type 0 where
-  pub lists : List (List TapFields)
-  pub number : length lists ≡ length old
-  pub each : (k : ℕ) (d : TapReader) → k < length old
-      → HasPassed (get_or files k []) (get_or old k d) (get_or lists k []) (get_or new k d)
-  pub merged : IsMerged lists taps
-  pub as_many : length new ≡ length old
+-- taps that were taken, and then more
+pub taken_append : (files : List (List ℕ)) (old mid new : List TapReader) (xs ys : List TapFields)
+    → AreTaken files old xs mid → AreTaken files mid ys new → AreTaken files old (xs ++ ys) new
+taken_append files old mid new xs ys one two =
+    let first = one.number in
+    let many = one.as_many in
+    let then = two.number in
+    let after : (k : ℕ) (d : TapReader) → k < length old → (a : TapFields)
+    → BeginsNotBefore a (ahead (get_or mid k d))
+    → All (IsNotBefore a) (get_or two.runs k [] ++ take 1 (ahead (get_or new k d))) =
+    λ k d inside a begins. passed_after (get_or files k []) (get_or mid k d) (get_or new k d)
+    (get_or two.runs k []) (two.each k d (omega (arith, inside, many))) a begins in
+    record {
+      runs = both one.runs two.runs;
+      number = let long = both_long one.runs two.runs (omega (arith, first, many, then)) in
+          omega (arith, long, first);
+      as_many = two.as_many ∙ many;
+      each = λ k d inside.
+          subst (λ run. IsPassed (get_or files k []) (get_or old k d) run (get_or new k d))
+          (sym (both_at one.runs two.runs k))
+          (passed_both (get_or files k []) (get_or old k d) (get_or mid k d) (get_or new k d)
+          (get_or one.runs k []) (get_or two.runs k []) (one.each k d inside)
+          (two.each k d (omega (arith, inside, many))));
+      canonical = record {
+        moved = IsPermutation-trans (all_of (both one.runs two.runs))
+            (all_of one.runs ++ all_of two.runs) (xs ++ ys) (both_moved one.runs two.runs)
+            (IsPermutation-append (all_of one.runs) xs (all_of two.runs) ys one.canonical.moved
+            two.canonical.moved);
+        sorted = sorted_across xs ys (λ j d inside.
+            All-permutation (IsNotBefore (get_or xs j d)) (all_of two.runs) ys two.canonical.moved
+            (all_of_each (IsNotBefore (get_or xs j d)) two.runs (λ k low.
+            let here : k < length old = omega (arith, low, then, many) in
+            let reader = some_of old k here in
+            All-front (IsNotBefore (get_or xs j d)) (get_or two.runs k [])
+            (take 1 (ahead (get_or new k reader)))
+            (after k reader here (get_or xs j d) (one.left k reader here j d inside)))))
+            one.canonical.sorted two.canonical.sorted;
+      };
+      left = λ k d inside. All-append (λ tap. BeginsNotBefore tap (ahead (get_or new k d))) xs ys
+          (λ j e low. begins_of (get_or xs j e) (ahead (get_or new k d))
+          (All-back (IsNotBefore (get_or xs j e)) (get_or two.runs k [])
+          (take 1 (ahead (get_or new k d)))
+          (after k d inside (get_or xs j e) (one.left k d inside j e low))))
+          (two.left k d (omega (arith, inside, many)));
+    }
 
+-- ---- from the begins to the ends
 -- a list has one first tap
 pub same_head : (was : List TapFields) (one other : TapFields) (rest more : List TapFields)
     → was ≡ one ∷ rest → was ≡ other ∷ more → one ≡ other
 same_head was one other rest more e f = let h : one ∷ rest ≡ other ∷ more = sym e ∙ f in cc
 
--- a tap is taken before those that the readers pass then
-module _ (files : List (List ℕ)) (old mid end : List TapReader) (tap : TapFields)
-    (taps : List TapFields) (taken : IsTapTaken files old tap mid)
-    (then : ArePassed files mid end taps) where
-  abbrev at : ℕ
-  at = taken.at
-
-  abbrev file : List ℕ
-  file = get_or files taken.at []
-
-  abbrev lists : List (List TapFields)
-  lists = then.lists
-
-  abbrev rest : List TapFields
-  rest = get_or then.lists taken.at []
-
-  abbrev before : List (List TapFields)
-  before = set then.lists taken.at (tap ∷ get_or then.lists taken.at [])
-
-  within : taken.at < length old
-  within = taken.least.within
-
-  number : length then.lists ≡ length mid
-  number = then.number
-
-  many : length mid ≡ length old
-  many = ap length taken.moved ∙ length-set old taken.at taken.is
-
-  size : length before ≡ length then.lists
-  size = length-set lists at (tap ∷ rest)
-
-  inside_lists : taken.at < length then.lists
-  inside_lists = let w = within in let m = many in let n = number in omega (arith, w, m, n)
-
-  there : (d : TapReader) → get_or old taken.at d ≡ taken.was
-  there d = get_or_default old at d taken.was within ∙ sym taken.there
-
-  now : (d : TapReader) → get_or mid taken.at d ≡ taken.is
-  now d = ap (λ l. get_or l at d) taken.moved ∙ get_or-set_same old at taken.is d within
-
-  the_tap : taken.step.tap ≡ tap
-  the_tap =
-      let (others, holds) = taken.least.head taken.was in
-      same_head (ahead taken.was) taken.step.tap tap taken.step.trailing others taken.step.stood
-      (ap ahead (sym (there taken.was)) ∙ holds)
-
-  first : (d : TapReader) → HasPassed file taken.was (tap ∷ rest) (get_or end taken.at d)
-  first d =
-      let w = within in
-      let m = many in
-      subst (λ t. HasPassed file taken.was (t ∷ rest) (get_or end at d)) the_tap
-      (passed_step file taken.was taken.is (get_or end at d) taken.step rest
-      (subst (λ r. HasPassed file r rest (get_or end at d)) (now d)
-      (then.each at d (omega (arith, w, m)))))
-
-  each : (k : ℕ) (d : TapReader) → k < length old
-      → HasPassed (get_or files k []) (get_or old k d) (get_or before k []) (get_or end k d)
-  each k d inside = elim (cases_eq k at) [
-    | inl same ↦
-        subst (λ n. HasPassed (get_or files n []) (get_or old n d) (get_or before n [])
-        (get_or end n d)) (sym same)
-        (subst (λ r. HasPassed file r (get_or before at []) (get_or end at d)) (sym (there d))
-        (subst (λ l. HasPassed file taken.was l (get_or end at d))
-        (sym (get_or-set_same lists at (tap ∷ rest) [] inside_lists)) (first d)))
-    | inr apart ↦
-        let m = many in
-        subst (λ r. HasPassed (get_or files k []) r (get_or before k []) (get_or end k d))
-        (ap (λ l. get_or l k d) taken.moved ∙ get_or-set_other old at k taken.is d apart)
-        (subst (λ l. HasPassed (get_or files k []) (get_or mid k d) l (get_or end k d))
-        (sym (get_or-set_other lists at k (tap ∷ rest) [] apart))
-        (then.each k d (omega (arith, inside, m))))
-  ]
-
-  tap_passed : ArePassed files old end (tap ∷ taps)
-  tap_passed =
-      let m = many in
-      let long = size in
-      let n = number in
-      record {
-        lists = before;
-        number = omega (arith, m, long, n);
-        each = each;
-        merged = (
-          lists,
-          record {
-            least = λ j d inside.
-                let low : j < length old = omega (arith, inside, m, long, n) in
-                subst (λ l. BeginsNotBefore tap l) (get_or_default before j [] d inside)
-                ((each j taken.was low).begins tap (taken.least.least j taken.was low));
-            front = take at lists;
-            rest = rest;
-            back = drop (suc at) lists;
-            were = set_split lists at (tap ∷ rest) inside_lists;
-            are = sym (set-get_or lists at []) ∙ set_split lists at rest inside_lists;
-          },
-          then.merged,
-        );
-        as_many = then.as_many ∙ many;
-      }
-
--- the taps that are taken are those that the readers pass, merged
-pub taken_passed : (files : List (List ℕ)) (taps : List TapFields) (old new : List TapReader)
-    → AreTaken files old taps new → ArePassed files old new taps
-taken_passed files [] old new taken = record {
-  lists = replicate (length old) [];
-  number = length-replicate (length old) [];
-  each = λ k d inside.
-      subst (λ l. HasPassed (get_or files k []) (get_or old k d) l (get_or new k d))
-      (sym (get_or-replicate (length old) k [] [] inside))
-      (subst (λ rs. HasPassed (get_or files k []) (get_or old k d) [] (get_or rs k d)) taken
-      (passed_none (get_or files k []) (get_or old k d)));
-  merged = All-replicate (λ (list : List TapFields). list ≡ []) (length old) [] refl;
-  as_many = sym (ap length taken);
+-- a reader that began at its file's begin and came to its end has passed all its taps
+passed_file : (all : List ℕ) (old new : TapReader) (run : List TapFields)
+    → IsPositionedIn all 0 [] old → IsPassed all old run new → ahead new ≡ []
+    → IsSortedFile all run
+passed_file all old new run is p none = record {
+  read = whole_file all new.offset run
+      (subst (λ l. AreTapsBetween all 0 new.offset l)
+      (p.goes_on ∙ ap (λ l. run ++ l) none ∙ append-nil run)
+      (front_append all (drop old.offset all) (drop new.offset all) (ahead old) p.read is.between
+      p.between)) (p.end is.end none);
+  sorted = subst (λ l. IsSorted tap_cmp l) (ap (λ l. run ++ take 1 l) none ∙ append-nil run)
+      p.sorted;
 }
-taken_passed files (tap ∷ taps) old new (mid, taken, more) =
-    tap_passed files old mid new tap taps taken (taken_passed files taps mid new more)
-
--- an element of a list that has one
-pub some_of : (readers : List TapReader) (k : ℕ) → k < length readers → TapReader
-some_of [] k inside = absurd (omega (arith, inside))
-some_of (reader ∷ readers) k inside = reader
 
 pub passed_lengths : (end : List TapReader) (lists : List (List TapFields))
     → length lists ≡ length end
@@ -210,32 +257,27 @@ pub taken_merged : (files : List (List ℕ)) (started end : List TapReader) (tap
     → AreStarted files started → AreTaken files started taps end → AreAtEnd end
     → AreMerged files end taps
 taken_merged files started end taps is taken at_end =
-    let passed = taken_passed files taps started end taken in
     let number = is.number in
-    let lists = passed.lists in
-    let many = passed.number in
-    let end_many = passed.as_many in
-    let each : (k : ℕ) → k < length started → IsSortedFile (get_or files k []) (get_or lists k []) =
-    λ k inside. let d = some_of started k inside in
-    sorted_at_end (get_or files k []) (get_or lists k [])
-    (record (get_or end k d) { passed = length (get_or lists k []) })
-    ((passed.each k d inside).lies 0 []
-    (lies_of (get_or files k []) 0 [] (get_or started k d) (is.each k d inside)))
-    (at_end k d (omega (arith, inside, end_many))) in
+    let lists = taken.runs in
+    let many = taken.number in
+    let end_many = taken.as_many in
     record {
       lists = lists;
       sorted = record {
         number = omega (arith, number, many);
-        each = λ k inside. each k (omega (arith, inside, number));
+        each = λ k inside.
+            let here : k < length started = omega (arith, inside, number) in
+            let d = some_of started k here in
+            passed_file (get_or files k []) (get_or started k d) (get_or end k d)
+            (get_or lists k []) (is.each k d here) (taken.each k d here)
+            (at_end k d (omega (arith, here, end_many)));
       };
       counted = passed_lengths end lists (omega (arith, many, end_many)) (λ k d inside.
-          let in_started : k < length started = omega (arith, inside, end_many) in
-          let all = (passed.each k d in_started).number in
-          let none : (get_or started k d).passed ≡ 0 = (is.each k d in_started).number in
+          let here : k < length started = omega (arith, inside, end_many) in
+          let all = (taken.each k d here).number in
+          let none : (get_or started k d).passed ≡ 0 = (is.each k d here).number in
           omega (arith, all, none));
-      canonical = merged_canonical lists taps ((λ j d inside.
-          subst (λ l. IsSorted tap_cmp l) (get_or_default lists j [] d inside)
-          (each j (omega (arith, inside, many))).sorted)) passed.merged;
+      canonical = taken.canonical;
     }
 
 pub taken_canonical : (files : List (List ℕ)) (started end : List TapReader) (taps : List TapFields)

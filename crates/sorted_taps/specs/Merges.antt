@@ -1,18 +1,14 @@
 -- Readers of several files whose taps are merged.
-use Rattle.std.specs.Prelude.{◌≡◌, ℕ, ◌<◌, List, [], ◌∷◌, ◌++◌, length, get_or, map, set}
-use Rattle.std.specs.Prelude.{Option, Some}
+use Rattle.std.specs.Prelude.{◌≡◌, ℕ, ◌+◌, ◌<◌, All, List, [], ◌++◌, drop, flat_map, get_or, length}
+use Rattle.std.specs.Prelude.{take}
+use Rattle.std.specs.List.Sorted.{IsSorted}
 use Rattle.tap_views.specs.declared.encoder.TapFields.{TapFields}
+use Rattle.tap_parts.specs.Canonical.{IsCanonical, tap_cmp}
 use Rattle.sorted_taps.specs.Merged.{BeginsNotBefore}
-use Rattle.sorted_taps.specs.Readers.{ahead, IsPositionedIn, IsAdvanced}
+use Rattle.sorted_taps.specs.Reading.{AreTapsBetween}
+use Rattle.sorted_taps.specs.Readers.{ahead, IsPositionedIn}
 use Rattle.sorted_taps.specs.Sorted.{IsSortedFile}
 use Rattle.sorted_taps.specs.declared.reader.TapReader.{TapReader}
-
--- a tap at which a reader is, before which no reader is
-pub record IsLeastHead (readers : List TapReader) (at : ℕ) (tap : TapFields) : Type 0 where
-  pub within : at < length readers
-  pub head : (d : TapReader) → (rest : List TapFields) × (ahead (get_or readers at d) ≡ tap ∷ rest)
-  pub least : (k : ℕ) (d : TapReader) → k < length readers
-      → BeginsNotBefore tap (ahead (get_or readers k d))
 
 -- no reader is at a tap
 abbrev pub AreAtEnd : List TapReader → Type 0
@@ -24,29 +20,30 @@ pub record AreStarted (files : List (List ℕ)) (readers : List TapReader) : Typ
   pub each : (k : ℕ) (d : TapReader) → k < length readers
       → IsPositionedIn (get_or files k []) 0 [] (get_or readers k d)
 
--- a least tap was taken, and its reader alone has gone on in its file
-pub record IsTapTaken (files : List (List ℕ)) (old : List TapReader) (tap : TapFields)
+-- the reader has passed this run of its file's taps, which are in order up to the tap at which it
+-- is now
+pub record IsPassed (all : List ℕ) (old : TapReader) (run : List TapFields) (new : TapReader)
+    : Type 0 where
+  pub read : List TapFields
+  pub between : AreTapsBetween all old.offset new.offset read
+  pub goes_on : ahead old ++ read ≡ run ++ ahead new
+  pub first : take 1 (run ++ ahead new) ≡ take 1 (ahead old)
+  pub sorted : IsSorted tap_cmp (run ++ take 1 (ahead new))
+  pub end : (ahead old ≡ [] → drop old.offset all ≡ []) → ahead new ≡ [] → drop new.offset all ≡ []
+  pub number : new.passed ≡ old.passed + length run
+
+-- these taps were taken: each reader has passed a run of them, the taps are those of all runs in
+-- canonical order, and none of them is after a tap at which a reader is now
+pub record AreTaken (files : List (List ℕ)) (old : List TapReader) (taps : List TapFields)
     (new : List TapReader) : Type 0 where
-  pub at : ℕ
-  pub was : TapReader
-  pub is : TapReader
-  pub least : IsLeastHead old at tap
-  pub there : was ≡ get_or old at was
-  pub step : IsAdvanced (get_or files at []) was is
-  pub moved : new ≡ set old at is
-
--- these taps were taken, one after the other
-abbrev pub AreTaken : List (List ℕ) → List TapReader → List TapFields → List TapReader → Type 0
-AreTaken files old [] new = old ≡ new
-AreTaken files old (tap ∷ taps) new =
-    (mid : List TapReader) × IsTapTaken files old tap mid × AreTaken files mid taps new
-
--- the list went on with taps that were taken, of files whose bytes are these if they are known
-pub record TakesTaps (known : List (Option (List ℕ))) (old : List TapReader)
-    (before after : List TapFields) (new : List TapReader) : Type 0 where
-  pub more : List TapFields
-  pub items : after ≡ before ++ more
-  pub taken : (files : List (List ℕ)) → known ≡ map Some files → AreTaken files old more new
+  pub runs : List (List TapFields)
+  pub number : length runs ≡ length old
+  pub as_many : length new ≡ length old
+  pub each : (k : ℕ) (d : TapReader) → k < length old
+      → IsPassed (get_or files k []) (get_or old k d) (get_or runs k []) (get_or new k d)
+  pub canonical : IsCanonical (flat_map (λ run. run) runs) taps
+  pub left : (k : ℕ) (d : TapReader) → k < length old
+      → All (λ tap. BeginsNotBefore tap (ahead (get_or new k d))) taps
 
 -- each file is sorted, and has the taps of the list at its place
 pub record AreSortedFiles (files : List (List ℕ)) (lists : List (List TapFields)) : Type 0 where

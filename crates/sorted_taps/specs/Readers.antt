@@ -1,7 +1,5 @@
 -- Readers of a file's taps: where one is, and how it goes on.
 use Rattle.std.specs.Prelude.{◌≡◌, ℕ, ◌+◌, ◌<◌, List, [], ◌∷◌, ◌++◌, length, take, drop, true}
-use Rattle.std.specs.Prelude.{Option}
-use Rattle.std.specs.Prelude.{None, Some}
 use Rattle.std.specs.List.Sorted.{IsSorted}
 use Rattle.std.specs.Ordering.{is_lt}
 use Rattle.tap_views.specs.Faults.{IsFault}
@@ -14,18 +12,9 @@ use Rattle.sorted_taps.specs.declared.fault.SortedFault.{SortedFault}
 use Rattle.sorted_taps.specs.declared.fault.SortedFault.TheVariants.{Layout, OutOfOrder}
 use Rattle.sorted_taps.specs.declared.reader.TapReader.{TapReader}
 
--- the first tap of the list, if it has one
-abbrev pub first_of : List TapFields → Option TapFields
-first_of [] = None
-first_of (tap ∷ rest) = Some tap
-
 -- the taps in memory from the one on at which the reader is
 abbrev pub ahead : TapReader → List TapFields
 ahead reader = drop reader.next reader.taps.items
-
--- the tap at which the reader is, or none at the file's end
-abbrev pub head_of : TapReader → Option TapFields
-head_of reader = first_of (ahead reader)
 
 -- the reader began at an offset and has passed these taps: they and those in memory are the taps of
 -- the file up to the reader's offset, and none is before its predecessor up to the one at which it

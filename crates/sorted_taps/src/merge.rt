@@ -1,38 +1,30 @@
 //! The taps of several files, merged.
 
-ghost use Rattle.std.specs.Prelude.{◌≡◌, ◌<◌, ◌≤◌, ℕ, List, length, map, IfOk};
-ghost use Rattle.std.specs.Prelude.{None, Some, OnOk};
-ghost use Rattle.sorted_taps.specs.Heads.{IsRanked};
-ghost use Rattle.sorted_taps.specs.Merges.{AreAtEnd, AreStarted};
-ghost use Rattle.sorted_taps.specs.Merges.{TakesTaps};
+ghost use Rattle.std.specs.Prelude.{◌≡◌, ◌<◌, ◌≤◌, ℕ, [], List, length, map, IfOk};
+ghost use Rattle.std.specs.Prelude.{IsTrue, None, Some, OnOk};
+ghost use Rattle.sorted_taps.specs.Merges.{AreAtEnd, AreStarted, AreTaken};
 ghost use Rattle.sorted_taps.specs.Reading.{window_bytes};
 
 use crate::fault::SortedFault;
-use crate::heads::{Head, least_key, least_of, put_back, put_end, tree_of};
-use crate::ranges::reader_near;
 use crate::reader::TapReader;
-use crate::run::{is_below, take_run};
-use crate::span::{numbers_of, started};
+use crate::step::take_step;
 use placed_files::Placed;
 use std::alloc::{AllocError, Global};
 use tap_views::{TapFields, Token};
 
-/// Readers of several sorted files, from which the taps of all are taken in canonical order: a tap
-/// takes as many compares as the number of files has bits. Each call gets the files, in one order.
+/// Readers of several sorted files, from which the taps of all are taken in canonical order, a
+/// token at a time. Each call gets the files, in one order.
 #[derive(Drop)]
 pub struct Merge {
     readers: Vec<TapReader>,
-    heads: Vec<Head>,
 }
 
 impl Merge {
     /// The merge goes on from where the readers are.
-    pub fn of(alloc: Global, readers: Vec<TapReader>) -> Result<Merge, AllocError>
-        ensures readers { IfOk result (λ merge. merge.readers ≡ readers) }
-        ensures ranked { IfOk result (λ merge. IsRanked merge.readers.items merge.heads.items) }
+    pub fn of(readers: Vec<TapReader>) -> Merge
+        ensures { result.readers ≡ readers }
     {
-        let heads = tree_of(alloc, &readers)?;
-        Ok(Merge { readers, heads })
+        Merge { readers }
     }
 
     /// At the first tap of each file. The window has `WINDOW_BYTES` at least.
@@ -43,31 +35,14 @@ impl Merge {
     ) -> Result<Merge, SortedFault>
         requires { window_bytes ≤ length window.old }
         ensures number { IfOk result (λ merge. length merge.readers.items ≡ length files.now) }
-        ensures ranked { IfOk result (λ merge. IsRanked merge.readers.items merge.heads.items) }
         ensures started { IfOk result (λ merge. (all : List (List ℕ))
             → map F.bytes files.now ≡ map Some all → AreStarted all merge.readers.items) }
     {
-        let readers = started(alloc, files, window)?;
-        Ok(Merge::of(alloc, readers)?)
-    }
-
-    /// At the first tap of each file whose token is not below this one, in batches of 512 taps in
-    /// order: else at other taps, or a fault. The window has `WINDOW_BYTES` at least.
-    pub fn near<F: Placed>(
-        alloc: Global,
-        files: &[F],
-        token: Token,
-        window: &mut [u8],
-    ) -> Result<Merge, SortedFault>
-        requires { window_bytes ≤ length window.old }
-        ensures number { IfOk result (λ merge. length merge.readers.items ≡ length files.now) }
-        ensures ranked { IfOk result (λ merge. IsRanked merge.readers.items merge.heads.items) }
-    {
         let mut readers = Vec::new(alloc);
         for file in files {
-            readers.push(reader_near(alloc, file, token, window)?)?;
+            readers.push(TapReader::at(alloc, file, 0, window)?)?;
         }
-        Ok(Merge::of(alloc, readers)?)
+        Ok(Merge { readers })
     }
 
     /// The readers, in the order of the files.
@@ -84,48 +59,37 @@ impl Merge {
         self.readers
     }
 
-    /// Takes the next taps of one file into the list, while no other file's is less, up to `most`
-    /// taps or to the bound. Without a bound it takes none only at the ends of all files. It
-    /// compares each tap with one other alone. After a fault, the reader's, the merge is of no use.
-    /// The window has `WINDOW_BYTES` at least.
-    pub fn take_run<F: Placed>(
+    /// Takes the next taps, in place of those in the list: enough of them, or all that are left, or
+    /// all with tokens below the bound. It stops after a step, which takes at most what the readers
+    /// store. After a fault the merge is of no use. The window has `WINDOW_BYTES` at least.
+    pub fn take<F: Placed>(
         &mut self,
         files: &[F],
         window: &mut [u8],
         below: Option<Token>,
-        most: usize,
+        enough: usize,
         taps: &mut Vec<TapFields>,
     ) -> Result<(), SortedFault>
+        requires enough { 0 < enough }
         requires window { window_bytes ≤ length window.old }
         requires files { length self.old.readers.items ≡ length files.now }
-        requires ranked { IsRanked self.old.readers.items self.old.heads.items }
-        requires room { length taps.old.items < most }
-        ensures ranked { OnOk result (IsRanked self.new.readers.items self.new.heads.items) }
-        ensures number { OnOk result
-            (length self.new.readers.items ≡ length files.now) }
-        ensures taken { OnOk result (TakesTaps (map F.bytes files.now) self.old.readers.items
-            taps.old.items taps.new.items self.new.readers.items) }
-        ensures few { OnOk result (length taps.new.items ≤ most) }
-        ensures end { OnOk result (below ≡ None → taps.new.items ≡ taps.old.items
+        ensures number { OnOk result (length self.new.readers.items ≡ length files.now) }
+        ensures taken { OnOk result ((all : List (List ℕ))
+            → map F.bytes files.now ≡ map Some all
+            → AreTaken all self.old.readers.items taps.new.items self.new.readers.items) }
+        ensures end { OnOk result (below ≡ None → taps.new.items ≡ []
             → AreAtEnd self.new.readers.items) }
     {
-        let Some((at, tap)) = least_of(&self.heads) else {
-            return Ok(());
-        };
-        if !is_below(&tap, below) {
-            return Ok(());
-        }
-        let before = taps.len();
-        // proof: the tree ranks the heads of the readers as they are
-        let _reader = &self.readers[at];
-        put_end(&mut self.heads, &self.readers, at);
-        let other = least_key(&self.heads);
-        let reader = &mut self.readers[at];
-        take_run(reader, &files[at], window, &other, below, most, taps)?;
-        put_back(&mut self.heads, &self.readers, at);
-        // proof: a least head is after none of the others
-        if taps.len() == before {
-            return Err(SortedFault::Unread);
+        taps.clear();
+        for _step in 0..enough {
+            let before = taps.len();
+            if before >= enough {
+                return Ok(());
+            }
+            take_step(&mut self.readers, files, window, below, taps)?;
+            if taps.len() == before {
+                return Ok(());
+            }
         }
         Ok(())
     }
@@ -135,6 +99,22 @@ impl Merge {
         ensures { IfOk result (λ numbers.
             numbers.items ≡ map (λ reader. reader.passed) self.now.readers.items) }
     {
-        numbers_of(alloc, &self.readers)
+        let mut numbers = Vec::new(alloc);
+        for reader in &self.readers {
+            numbers.push(reader.passed())?;
+        }
+        Ok(numbers)
     }
+}
+
+/// Whether all readers are at their files' ends.
+pub fn are_at_end(readers: &[TapReader]) -> bool
+    ensures { IsTrue result → AreAtEnd readers.now }
+{
+    for reader in readers {
+        if reader.head().is_some() {
+            return false;
+        }
+    }
+    true
 }

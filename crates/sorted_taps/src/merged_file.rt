@@ -88,8 +88,7 @@ fn write_merged<F: Placed, W: Write>(
     let mut run = Vec::with_capacity(alloc, BATCH_TAPS)?;
     let mut merge = Merge::begin(alloc, files, window)?;
     for _ in 0..u64::MAX {
-        run.clear();
-        merge.take_run(files, window, None, BATCH_TAPS, &mut run)?;
+        merge.take(files, window, None, BATCH_TAPS, &mut run)?;
         if run.is_empty() {
             let numbers = merge.numbers(alloc)?;
             // a file that was cut short on the way reads as one that ends there

@@ -54,7 +54,7 @@ fn placed_reader<F: Placed>(
         (λ all. IsPlacedAnew all made.position made.reader)) }
 {
     match from {
-        Some(token) => reader_from(alloc, file, token, u64::MAX, window),
+        Some(token) => reader_from(alloc, file, token, window),
         None => {
             let reader = TapReader::at(alloc, file, 0, window)?;
             Ok(PlacedReader {
@@ -107,7 +107,7 @@ fn span_to<F: Placed>(
 {
     match below {
         Some(token) => {
-            let end = reader_from(alloc, file, token, u64::MAX, window)?;
+            let end = reader_from(alloc, file, token, window)?;
             if !reader.is_at(&end.reader) {
                 return Ok(None);
             }

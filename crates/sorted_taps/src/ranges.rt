@@ -1,5 +1,4 @@
-//! Hints of where ranges of tokens begin in sorted files of batches of 512 taps. Nothing rests on
-//! them: whether ranges join is checked later.
+//! Where a token begins in a sorted file, found at once in batches of 512 taps.
 
 ghost use Rattle.std.specs.Prelude.{◌≤◌, IfOk, IfSome, length};
 ghost use Rattle.sorted_taps.specs.Positions.{IsPlacedAnew};
@@ -21,9 +20,6 @@ const BATCH_BYTES: u64 = FIRST_READ_BYTES as u64;
 const FULL_HEADER: [u8; TAP1_HEADER_BYTES] = *b"TAP1\x02\x00\x00\x00";
 
 const TOKEN_BYTES: usize = 16;
-
-/// How many taps in front of a range are passed at most.
-const PASSED_TAPS: u64 = 1024;
 
 /// If all have 512 taps but for the last.
 fn batches_in<F: Placed>(file: &F) -> Result<u64, SortedFault> {
@@ -75,12 +71,11 @@ fn offset_below<F: Placed>(file: &F, token: Token) -> Result<u64, SortedFault> {
     Ok(low.saturating_mul(BATCH_BYTES))
 }
 
-/// It is sought among the taps of batches from a sufficient position on, at most `most` of them.
+/// It is sought among the taps of batches from a sufficient position on.
 pub(crate) fn reader_from<F: Placed>(
     alloc: Global,
     file: &F,
     token: Token,
-    most: u64,
     window: &mut [u8],
 ) -> Result<PlacedReader, SortedFault>
     requires { window_bytes ≤ length window.old }
@@ -89,7 +84,7 @@ pub(crate) fn reader_from<F: Placed>(
 {
     let offset = offset_below(file, token)?;
     let mut reader = TapReader::at(alloc, file, offset, window)?;
-    for _ in 0..most {
+    for _ in 0..u64::MAX {
         match reader.head() {
             Some(tap) if Token::of(&tap.token) < token => {}
             _ => {
@@ -102,17 +97,4 @@ pub(crate) fn reader_from<F: Placed>(
         reader.advance(file, window)?;
     }
     Err(SortedFault::Unread)
-}
-
-/// None if more than `PASSED_TAPS` taps are passed on the way.
-pub(crate) fn reader_near<F: Placed>(
-    alloc: Global,
-    file: &F,
-    token: Token,
-    window: &mut [u8],
-) -> Result<TapReader, SortedFault>
-    requires { window_bytes ≤ length window.old }
-{
-    let PlacedReader { reader, .. } = reader_from(alloc, file, token, PASSED_TAPS, window)?;
-    Ok(reader)
 }

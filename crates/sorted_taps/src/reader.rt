@@ -7,13 +7,12 @@ ghost use Rattle.sorted_taps.specs.Reading.{window_bytes};
 ghost use Rattle.sorted_taps.specs.Merged.{BeginsNotBefore};
 ghost use Rattle.sorted_taps.specs.Readers.{ahead, IsPositionedIn, IsAdvanced, IsAfterFault};
 ghost use Rattle.sorted_taps.specs.Readers.{IsStepFault};
-ghost use Rattle.sorted_taps.specs.Represents.{IsAlignedWith};
-ghost use Rattle.sorted_taps.specs.inside.Steps.{BeginsBefore, IsMovedOn, IsRefilled};
+ghost use Rattle.sorted_taps.specs.inside.Steps.{BeginsBefore, IsAlike, IsMovedOn, IsRefilled};
 
 use crate::fault::SortedFault;
 use crate::file_batches::read_batches;
 use placed_files::Placed;
-use std::alloc::{AllocError, Global};
+use std::alloc::Global;
 use std::cmp::Ordering;
 use tap_parts::{compare, is_before};
 use tap_views::TapFields;
@@ -86,19 +85,6 @@ impl TapReader {
         self.passed
     }
 
-    pub(crate) fn copy(&self, alloc: Global) -> Result<TapReader, AllocError>
-        ensures { IfOk result (λ copy. IsAlignedWith 0 self.now copy) }
-    {
-        let mut taps = Vec::new(alloc);
-        taps.extend_from_slice(self.ahead())?;
-        Ok(TapReader {
-            offset: self.offset,
-            taps,
-            next: 0,
-            passed: self.passed,
-        })
-    }
-
     /// The taps in memory from the one on at which it is.
     pub(crate) fn ahead(&self) -> &[TapFields]
         ensures { result.now ≡ ahead self.now }
@@ -112,22 +98,10 @@ impl TapReader {
         self.passed = 0;
     }
 
-    pub(crate) fn count_on(&mut self, other: &TapReader) -> bool
-        ensures { IsTrue result → IsAlignedWith other.now.passed self.new self.old }
-    {
-        match self.passed.checked_add(other.passed) {
-            Some(passed) => {
-                self.passed = passed;
-                true
-            }
-            None => false,
-        }
-    }
-
     pub(crate) fn is_at(&self, other: &TapReader) -> bool
-        ensures { IsTrue result → IsAlignedWith self.now.passed self.now other.now }
+        ensures { IsTrue result → IsAlike self.now other.now }
     {
-        if self.offset != other.offset || other.passed != 0 {
+        if self.offset != other.offset {
             return false;
         }
         let here = self.ahead();

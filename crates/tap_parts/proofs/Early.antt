@@ -1,12 +1,9 @@
 -- The taps of a file have moments that a file can have.
-use Rattle.std.proofs.Common.{ℕ, ◌<◌, ◌==◌, List, [], ◌∷◌, map, flat_map, All}
+use Rattle.std.proofs.Common.{ℕ, ◌<◌, List, [], ◌∷◌, flat_map, All}
 use Rattle.std.specs.List.{AllByRecursion}
-use Rattle.std.proofs.lemmas.List.Elements.{All-nil, All-cons, All-append, All-filter, All-map}
-use Rattle.tap_views.specs.Encoding.{fields_of, AreEarly}
+use Rattle.std.proofs.lemmas.List.Elements.{All-nil, All-cons, All-append}
 use Rattle.tap_views.specs.Files.{IsFile}
 use Rattle.tap_views.specs.Layout.{Tap, Layout, Tap1, Tap2, IsTapOf, num, moment_limit}
-use Rattle.tap_views.specs.declared.encoder.TapFields.{TapFields}
-use Rattle.tap_parts.specs.Parts.{taps_at}
 
 -- the tap's moment fits
 abbrev pub Early : Tap → Type 0
@@ -31,10 +28,3 @@ file_early file (batch ∷ batches) rest is =
     let (front, back, one, spelled, more) = is in
     All-append Early batch (flat_map (λ (b : List Tap). b) batches)
     (batch_early one.0 batch one.1.each) (file_early back batches rest more)
-
--- the taps of a part have moments that fit
-pub part_early : (part_of : List ℕ → ℕ) (part : ℕ) (taps : List Tap) → All Early taps
-    → AreEarly (λ (f : TapFields). f.moment) (map fields_of (taps_at part_of part taps))
-part_early part_of part taps early =
-    All-map (λ (f : TapFields). f.moment < moment_limit) fields_of (taps_at part_of part taps)
-    (All-filter (λ (tap : Tap). part_of tap.token == part) Early taps early)

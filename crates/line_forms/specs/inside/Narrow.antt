@@ -2,12 +2,12 @@
 use Rattle.std.specs.Prelude.{◌≡◌, ◌<◌, ◌^◌, ℕ, true, length, List, Option, Some, None, nat_lt}
 use Rattle.std.specs.Str.{all_ascii_digits}
 use Rattle.std.specs.Str.Parse.{digits_value, digits_value_after}
-use Rattle.line_forms.specs.Numbers.{number_if}
+use Rattle.line_forms.specs.Forms.{value_if}
 
 -- the number, if it is below the bound
 abbrev pub below : ℕ → Option ℕ → Option ℕ
 below bound None = None
-below bound (Some number) = number_if (nat_lt number bound) number
+below bound (Some number) = value_if (nat_lt number bound) number
 
 -- these are digits, of this value
 abbrev pub IsValueOf : List ℕ → ℕ → Type 0

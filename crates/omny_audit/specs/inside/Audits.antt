@@ -28,16 +28,12 @@ given_in audit valid = record {
   report = text_of audit.report;
 }
 
--- this text was checked, and this reported of it
-pub record HasTaken (audit : Audit) (valid : List TapFields) (text written : List ℕ) : Type 0 where
-  pub clock : audit.clock.now ≡ audit.table.now.zone
-  pub checked : HasChecked audit.table.now audit.subtracts valid audit.check text written
-
--- the file was read so far, and this reported of it
+-- the file was read so far, as this text, which was checked, and this was reported of it
 pub record HasAudited (audit : Audit) (valid : List TapFields) (file written : List ℕ) : Type 0 where
+  pub clock : audit.clock.now ≡ audit.table.now.zone
   pub text : List ℕ
   pub as_text : HasReadAs audit.trace file text
-  pub taken : HasTaken audit valid text written
+  pub checked : HasChecked audit.table.now audit.subtracts valid audit.check text written
 
 -- the file was read whole, or a line is the first wrong one, and this was reported of it
 pub record HasEnded (audit : Audit) (valid : List TapFields) (file written : List ℕ) : Type 0 where

@@ -2,25 +2,20 @@
 use Rattle.std.specs.Prelude.{◌≡◌, ◌⊎◌, ℕ, ◌<◌, List, ◌++◌, length, Option, None, Some, option_map}
 use Rattle.class_names.specs.Names.{class_by}
 use Rattle.tap_views.specs.declared.encoder.TapFields.{TapFields}
-use Rattle.ledger_check.specs.Columns.{untraced_lines}
+use Rattle.ledger_check.specs.Columns.{cut_of, untraced_lines}
 use Rattle.ledger_check.specs.Lines.{Lacks, lines_of}
 use Rattle.ledger_check.specs.Positions.{is_named, uploads_of}
+use Rattle.ledger_check.specs.declared.columns.CutLine.{CutLine}
 use Rattle.ledger_check.specs.declared.positions.Positions.{Positions}
 use Rattle.omny_audit.specs.Traced.{AreLinesOf, AreRead, ReadLine, TapWithColumns, Wanted}
 use Rattle.omny_audit.specs.Traced.{have_position, lines_read, wrong_class, wrong_position}
 use Rattle.omny_audit.specs.declared.traced.LinesRead.{LinesRead}
-use Rattle.omny_audit.specs.declared.traced.PlacedLine.{PlacedLine}
 use Rattle.omny_audit.specs.declared.traced.PositionFault.{PositionFault}
 use Rattle.omny_audit.specs.declared.traced.TracedPieces.{TracedPieces}
 
 -- what a line names
-abbrev pub placed_of : PlacedLine → TapWithColumns
-placed_of named = record {
-  tap = named.tap;
-  class = named.class.now;
-  upload = named.upload;
-  position = named.position;
-}
+abbrev pub placed_of : TapFields × CutLine → TapWithColumns
+placed_of named = (named.0, cut_of named.1)
 
 -- the valid taps of the uploads whose places are kept
 abbrev pub uploads_in : Option Positions → Option (List (List TapFields))

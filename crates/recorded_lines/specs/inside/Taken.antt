@@ -1,14 +1,36 @@
 -- What is at hand of the next line.
-use Rattle.std.specs.Prelude.{◌≡◌, ◌==◌, ⊤, ℕ, Bool, true, false, List, [], ◌∷◌, ◌++◌}
+use Rattle.std.specs.Prelude.{◌≡◌, ◌==◌, ⊤, ℕ, Bool, false, List, [], ◌∷◌, ◌++◌, IfErr, IfOk, Result}
+use Rattle.line_folds.specs.declared.reader.ReadFault.{ReadFault}
+use Rattle.line_folds.specs.declared.reader.ReadFault.TheVariants.{Unread}
+use Rattle.recorded_lines.specs.Texts.{CanBe, Follows, IsEndAt, calls_of, left}
+use Rattle.recorded_lines.specs.Unread.{IsUnread}
+use Rattle.recorded_lines.specs.declared.text.Lines.{Lines}
 
--- no byte is a line feed
-abbrev pub IsPlain : List ℕ → Type 0
-IsPlain [] = ⊤
-IsPlain (byte ∷ bytes) = ((byte == 10) ≡ false) × IsPlain bytes
+-- no byte but the last is a line feed
+abbrev pub IsLine : List ℕ → Type 0
+IsLine [] = ⊤
+IsLine (byte ∷ []) = ⊤
+IsLine (byte ∷ other ∷ more) = ((byte == 10) ≡ false) × IsLine (other ∷ more)
+
+-- the last byte is a line feed
+abbrev pub ends_line : List ℕ → Bool
+ends_line [] = false
+ends_line (byte ∷ []) = byte == 10
+ends_line (byte ∷ other ∷ more) = ends_line (other ∷ more)
 
 -- the bytes through the first line feed were taken; or all, of which none is one
-abbrev pub HasTaken : List ℕ → List ℕ → List ℕ → List ℕ → Bool → Type 0
-HasTaken before after line line' true = (front : List ℕ) × IsPlain front
-    × (before ≡ front ++ (10 ∷ after)) × (line' ≡ line ++ (front ++ 10 ∷ []))
-HasTaken before after line line' false =
-    IsPlain before × (after ≡ []) × (line' ≡ line ++ before)
+pub record HasTaken (before after line line' : List ℕ) (is_whole : Bool) : Type 0 where
+  pub front : List ℕ
+  pub is_line : IsLine front
+  pub ends : ends_line front ≡ is_whole
+  pub split : before ≡ front ++ after
+  pub taken : line' ≡ line ++ front
+  pub all : is_whole ≡ false → after ≡ []
+
+-- it was read on once: if that gave no bytes, the text has ended
+pub record HasReadOn (old new : Lines) (result : Result Bool ReadFault) : Type 0 where
+  pub follows : Follows old new
+  pub left : (whole : List ℕ) → IfOk result (λ some. CanBe (calls_of new) whole
+      → left old whole ≡ left new whole)
+  pub ended : IfOk result (λ some. some ≡ false → IsEndAt new)
+  pub unread : IfErr result (λ why. why ≡ Unread → IsUnread (calls_of new))

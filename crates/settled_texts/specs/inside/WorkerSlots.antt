@@ -1,5 +1,6 @@
 -- What a thread makes of a list of taps. Private functions alone cite this.
-use Rattle.std.specs.Prelude.{◌≡◌, true, false, List, string_bytes}
+use Rattle.std.specs.Prelude.{◌≡◌, ◌≤◌, true, false, List, length, string_bytes}
+use Rattle.std.specs.List.{between}
 use Rattle.tariffs.specs.Fares.{Fares}
 use Rattle.tap_views.specs.declared.token.Token.{Token}
 use Rattle.tap_views.specs.Encoding.{AreEarly}
@@ -25,6 +26,7 @@ pub record IsWhole (fares : Fares) (taps : List TapFields) (slot : WorkerSlot) :
       → token_eq old.token slot.first ≡ false
       → Explains fares old taps slot.explainer (λ lines. string_bytes slot.text ≡ lines)
 
--- the slot's text has all lines of the taps, if the slot says so
+-- the slot's text has all lines of its taps, which are some of these, if the slot says so
 abbrev pub HasSat : Fares → List TapFields → WorkerSlot → Type 0
-HasSat fares taps slot = slot.is_whole ≡ true → IsWhole fares taps slot
+HasSat fares taps slot = slot.is_whole ≡ true → (slot.begin ≤ slot.end)
+    × (slot.end ≤ length taps) × IsWhole fares (between slot.begin slot.end taps) slot

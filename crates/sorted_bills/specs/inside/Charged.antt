@@ -1,13 +1,16 @@
 -- Bills of ranges of the taps: what private functions alone cite.
-use Rattle.std.specs.Prelude.{◌≡◌, ℕ, ◌^◌, ◌≤◌, All, List, Option, Some, IfSome, length, map}
+use Rattle.std.specs.Prelude.{◌≡◌, ℕ, ◌^◌, ◌≤◌, All, List, [], ◌∷◌, Option, Some, IfSome, flat_map}
+use Rattle.std.specs.Prelude.{length, map}
 use Rattle.tariffs.specs.Fares.{Fares}
 use Rattle.tap_views.specs.declared.encoder.TapFields.{TapFields}
 use Rattle.tap_views.specs.declared.token.Token.{Token}
 use Rattle.tap_views.specs.TokenOrder.{IsUpTo}
+use Rattle.tap_parts.specs.Canonical.{IsCanonical}
 use Rattle.settlement.specs.Bills.{IsBillOf}
 use Rattle.settlement.specs.Posted.{HasName, posted, token_of_tap}
 use Rattle.settlement.specs.Nondecreasing.{TapsNondecreasingFrom, last_token}
-use Rattle.sorted_taps.specs.Spans.{IsSpanOf}
+use Rattle.sorted_taps.specs.Positions.{AreSpanned}
+use Rattle.sorted_taps.specs.declared.positions.FileSpan.{FileSpan}
 use Rattle.sorted_taps.specs.declared.reader.TapReader.{TapReader}
 use Rattle.settlement.specs.OpenBills.{IsOpenBill}
 use Rattle.sorted_bills.specs.inside.Taken.{AreTapsTaken}
@@ -24,12 +27,28 @@ pub record IsCharged (fares : Fares) (known : List (Option (List ℕ))) (old : L
   pub last : bill.replay.token ≡ last_token from taps
   pub few : length taps ≤ 2 ^ 73
 
--- the part has the taps of its span, at most `most`, and the bill is theirs; no token is below its
+-- the spans of files from where one begins to where another ends
+abbrev pub joined_spans : List FileSpan → List FileSpan → List FileSpan
+joined_spans [] others = []
+joined_spans (span ∷ spans) [] = []
+joined_spans (span ∷ spans) (other ∷ others) =
+    record { from = span.from; to = other.to } ∷ joined_spans spans others
+
+-- the files have taps in the spans, so many each, which are these in canonical order
+pub record HaveTaps (files : List (List ℕ)) (spans : List FileSpan) (numbers : List ℕ)
+    (taps : List TapFields) : Type 0 where
+  pub lists : List (List TapFields)
+  pub spanned : AreSpanned files spans lists
+  pub counted : numbers ≡ map length lists
+  pub canonical : IsCanonical (flat_map (λ list. list) lists) taps
+
+-- the part has the taps of its spans, at most `most`, and the bill is theirs; no token is below its
 -- first one or above its last one
 pub record IsPart (fares : Fares) (known : List (Option (List ℕ))) (most : ℕ) (part : Part)
     : Type 0 where
   pub taps : List TapFields
-  pub spanned : (files : List (List ℕ)) → known ≡ map Some files → IsSpanOf files taps part.span
+  pub in_files : (files : List (List ℕ)) → known ≡ map Some files
+      → HaveTaps files part.spans.items part.numbers.items taps
   pub named : All HasName taps
   pub bill_is : IsBillOf (posted fares taps) part.bill
   pub range : IsUpTo part.first part.last

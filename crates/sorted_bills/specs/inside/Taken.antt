@@ -5,13 +5,12 @@ use Rattle.tap_views.specs.declared.encoder.TapFields.{TapFields}
 use Rattle.tap_views.specs.declared.token.Token.{Token}
 use Rattle.settlement.specs.Posted.{HasName}
 use Rattle.settlement.specs.Nondecreasing.{TapsNondecreasingFrom, last_token}
-use Rattle.sorted_taps.specs.Heads.{IsRanked}
 use Rattle.sorted_taps.specs.Merges.{AreTaken}
 use Rattle.sorted_taps.specs.Reading.{window_bytes}
 use Rattle.sorted_taps.specs.declared.reader.TapReader.{TapReader}
 use Rattle.sorted_bills.specs.declared.taker.Taker.{Taker}
 
--- these taps were taken, one after the other, of files whose bytes are these if they are known;
+-- these taps were taken of files whose bytes are these if they are known;
 -- their moments are before 2100, and the 16 bytes of each token name it
 pub record AreTapsTaken (known : List (Option (List ℕ))) (old : List TapReader)
     (taps : List TapFields) (new : List TapReader) : Type 0 where
@@ -27,8 +26,7 @@ pub record AreFollowing (from : Token) (taps : List TapFields) (last : Token) : 
   pub nondecreasing : TapsNondecreasingFrom from taps
   pub is_last : last ≡ last_token from taps
 
--- there is a reader of each of the files, their heads are ranked, and there is room to read
+-- there is a reader of each of the files, and there is room to read
 pub record IsReady (files : ℕ) (taker : Taker) : Type 0 where
   pub readers : length taker.merge.readers.items ≡ files
-  pub ranked : IsRanked taker.merge.readers.items taker.merge.heads.items
   pub window : window_bytes ≤ length taker.window.items

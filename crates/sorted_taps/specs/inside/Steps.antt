@@ -12,6 +12,11 @@ abbrev pub BeginsBefore : TapFields → List TapFields → Type 0
 BeginsBefore tap [] = ⊥
 BeginsBefore tap (head ∷ rest) = is_lt (tap_cmp head tap) ≡ true
 
+-- both readers go on alike
+pub record IsAlike (one other : TapReader) : Type 0 where
+  pub offset : one.offset ≡ other.offset
+  pub ahead : ahead one ≡ ahead other
+
 -- the reader's taps are those of the file from its old offset on; it has none only at the file's
 -- end
 pub record IsRefilled (all : List ℕ) (old new : TapReader) : Type 0 where

@@ -1,4 +1,4 @@
-use Rattle.std.proofs.Common.{◌∙◌, ap, refl}
+use Rattle.std.proofs.Common.{◌∙◌, ap}
 use Rattle.std.proofs.lemmas.Result.{IfErr-weaker}
 use Rattle.fare_service.specs.Headline.{drawn_by}
 use Rattle.fare_program.specs.inside.Causes.{IsRightOfUploads}

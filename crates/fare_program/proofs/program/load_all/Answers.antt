@@ -1,5 +1,5 @@
 use Rattle.std.proofs.Common.{◌≡◌, ◌∙◌, ◌<◌, ◌++◌, ◌∷◌, [], Some, List, ℕ, length, map, take, arith}
-use Rattle.std.proofs.Common.{ap, get_or, Bor, nat_eq, ◌+◌, inl, refl, sym}
+use Rattle.std.proofs.Common.{ap, get_or, Bor, nat_eq, ◌+◌, inl, sym}
 use Rattle.std.proofs.lemmas.Bool.Decides.{nat_tests}
 use Rattle.std.proofs.lemmas.List.{map-append, take_all, take_more}
 use Rattle.fare_program.proofs.Loads.{loads_push, names_to_load_are}

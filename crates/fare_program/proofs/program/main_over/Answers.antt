@@ -1,13 +1,13 @@
-use Rattle.std.proofs.Common.{◌≡◌, ◌≤◌, ℕ, suc, zero, Bool, List, None, Option, Some, arith, false}
-use Rattle.std.proofs.Common.{inl, inr, map, refl, subst, sym, true}
+use Rattle.std.proofs.Common.{◌≡◌, ◌≤◌, ℕ, suc, zero, Bool, List, None, Option, Some, arith}
+use Rattle.std.proofs.Common.{inl, inr, map, refl, subst}
 use Rattle.std.specs.Prelude.{◌≢◌, ◌⊎◌, string_bytes}
 use Rattle.std.proofs.KnownBytes.{Appends-kept, Keeps-refl}
 use Rattle.clap.specs.Words.{IsAmong, Text, fault_of, kind_of}
 use Rattle.clap.specs.declared.error.kind.ErrorKind.{ErrorKind}
 use Rattle.clap.specs.declared.error.kind.ErrorKind.TheVariants.{OutOfMemory}
 use Rattle.fare_program.specs.Causes.{IsRightFault}
-use Rattle.fare_program.specs.Ends.{AreOfBytes, Did, Ends, EndsAnswer, EndsCommand}
-use Rattle.fare_program.specs.Ends.{Leaves}
+use Rattle.fare_program.specs.Ends.{AreOfBytes, Did, Ends, EndsAnswer, EndsCommand, Leaves}
+use Rattle.fare_program.specs.Ends.{did_over}
 use Rattle.fare_program.specs.inside.Options.{request_of}
 use Rattle.fare_texts.proofs.Beginnings.{begins_whole}
 use Rattle.fare_program.specs.Options.{AsksForText, Parses, Request, program, request_by}
@@ -136,20 +136,9 @@ work-requires-clause-dates g c κs within = (words_read (request_of c.in-Ok.opti
 pub returns-in-Err-work : goal.returns-in-Err-work
 returns-in-Err-work g c =
     let request = request_of c.in-Ok.options in
-    let did : Did = record {
-      under = g.D.Disk.bytes_under c.args.disk.now;
-      origin = g.D.Disk.origin c.args.disk.now;
-      loaded = g.S.FileSource.loaded c.args.source.now;
-      loaded' = g.S.FileSource.loaded c.work.new.source;
-      refused = g.S.FileSource.refused c.work.new.source;
-      out = g.W.Write.contents c.args.out.now.writer;
-      out' = g.W.Write.contents c.work.new.out.writer;
-      end = c.work.new.out.end;
-      flushed = c.work.new.out.is_flushed;
-      said = g.E.Write.contents c.args.err.now.writer;
-      said' = g.E.Write.contents c.report-in-Err-work.new.err.writer;
-      failed = c.report-in-Err-work.new.err.failed;
-    } in
+    let did = did_over g.D.Disk.bytes_under g.D.Disk.origin g.S.FileSource.loaded
+    g.S.FileSource.refused g.W.Write.contents g.E.Write.contents c.args.disk.now c.args.source.now
+    c.work.new.source c.args.out.now c.work.new.out c.args.err.now c.report-in-Err-work.new.err in
     let fault = c.in-Err-work.fault in
     rw c.report-in-Err-work.ensures.status
     (ends_by _ did _ c.in-Ok.options.workers c.in-Ok.options.shards request c.in-Ok.ensures.request

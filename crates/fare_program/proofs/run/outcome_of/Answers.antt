@@ -1,4 +1,4 @@
-use Rattle.std.proofs.Common.{length, sym}
+use Rattle.std.proofs.Common.{length}
 use Rattle.fare_program.proofs.run.outcome_of.Goals as goal
 
 -- the service is the one that was opened

@@ -1,6 +1,5 @@
-use Rattle.std.proofs.Common.{◌∙◌, ap, sym}
+use Rattle.std.proofs.Common.{◌∙◌, ap}
 use Rattle.tap_views.specs.UploadEnds.{are_posted}
-use Rattle.settlement.specs.Posted.{posted}
 use Rattle.fare_program.specs.inside.Options.{request_of}
 use Rattle.fare_program.specs.inside.Fault.{ended_as}
 use Rattle.fare_program.proofs.Billed.{shows_ledger}

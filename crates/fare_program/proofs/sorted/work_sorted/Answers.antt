@@ -25,8 +25,8 @@ not_true false never = refl
 pub returns-in-Err-clause-right : goal.returns-in-Err-clause-right
 returns-in-Err-clause-right g c = rw c.deref.ensures.value at c.in-Err.ensures.fault
 
-pub charge_part-requires : goal.charge_part-requires
-charge_part-requires g c = rw c.in-Some.is at c.requires.word
+pub charge_part-requires-clause-word : goal.charge_part-requires-clause-word
+charge_part-requires-clause-word g c κs within = rw c.in-Some.is at c.requires.word
 
 pub returns-in-Some-clause-ends : goal.returns-in-Some-clause-ends
 returns-in-Some-clause-ends g c =

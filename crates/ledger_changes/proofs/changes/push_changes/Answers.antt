@@ -12,8 +12,8 @@ use Rattle.ledger_changes.specs.declared.pairs.LinePair.{LinePair}
 use Rattle.ledger_changes.specs.declared.row.LedgerRow.{LedgerRow}
 use Rattle.ledger_changes.specs.inside.Readings.{rows_at}
 use Rattle.ledger_changes.specs.inside.Views.{pair_of, row_in, sum_in}
-use Rattle.ledger_changes.proofs.Walking.{can_be_read, moved, moved_end, moved_next, stops_new}
-use Rattle.ledger_changes.proofs.Walking.{stops_old}
+use Rattle.ledger_changes.specs.declared.fault.Bill.TheVariants.{New, Old}
+use Rattle.ledger_changes.proofs.Walking.{can_be_read, moved, moved_end, moved_next, stops}
 use Rattle.ledger_changes.proofs.changes.push_changes.Goals as goal
 
 pub loop-init : goal.loop-init
@@ -61,7 +61,7 @@ returns-in_err-before-clause-stopped c =
     let p = err_from_is_err_and c.from_residual.result c.from_residual.ensures.1 in
     let new = calls_of c.loop.new.from in
     rw (p.1, p.2) (λ text of_old of_new w.
-    stops_old _ c.loop.old.bill (calls_of c.row_if.new.self.from) new
+    stops _ Old (calls_of c.row_if.new.self.from) new
     (λ whole. rows_at c.loop.old whole) (c.loop.invariant.old_bill ∙ of_old)
     c.in_err-before.ensures.wrong (λ whole can wrong is.
     (c.loop.invariant.walked text w whole new.reading.bytes
@@ -73,7 +73,7 @@ returns-in_err-after-clause-stopped c =
     c.from_residual-in_err-after.ensures.1 in
     let old = calls_of c.loop.old.from in
     rw (p.1, p.2) (λ text of_old of_new w.
-    stops_new _ c.loop.new.bill (calls_of c.row_if.new.self.from)
+    stops _ New (calls_of c.row_if.new.self.from)
     (calls_of c.row_if-in-loop.new.self.from) (λ whole. rows_at c.loop.new whole)
     (c.loop.invariant.new_bill ∙ of_new) c.in_err-after.ensures.wrong (λ whole can wrong is.
     (c.loop.invariant.walked text w old.reading.bytes whole (can_be_read old)

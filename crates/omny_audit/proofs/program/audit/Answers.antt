@@ -13,98 +13,62 @@ use Rattle.omny_audit.specs.inside.Audits.{EndsAs}
 use Rattle.omny_audit.specs.inside.Options.{audit_request_of}
 use Rattle.omny_audit.specs.inside.Reports.{text_of}
 use Rattle.omny_audit.specs.inside.Traced.{uploads_in, wanted_by}
-use Rattle.omny_audit.proofs.Causes.{among_reports, among_uploads, started_none, class_cause}
-use Rattle.omny_audit.proofs.Causes.{ends_audit, load_cause, stream_cause, tables_cause}
-use Rattle.omny_audit.proofs.Causes.{unopened_cause}
+use Rattle.omny_audit.proofs.Causes.{among_reports, among_uploads, class_cause, ends_audit}
+use Rattle.omny_audit.proofs.Causes.{load_cause, stopped_before, stream_cause, unopened_cause}
 use Rattle.omny_audit.proofs.ProgramLemmas.{compared_is, given_is, headed, kept_as, loads_same}
 use Rattle.omny_audit.proofs.ProgramLemmas.{named_none, read_named}
 use Rattle.omny_audit.proofs.program.audit.Goals as goal
 
 pub returns-in-Err : goal.returns-in-Err
 returns-in-Err g c =
-    let run = g.W.Inputs.run c.args.world.now in (
-      record {
-        is_cause = tables_cause (audit_request_of c.args.options.now)
-            (did_by c.args.files.now.loads c.load_tables.new.source.loads c.args.ledger.now.trace
-            run run) c.in-Err.fault c.in-Err.ensures.right;
-        started = started_none _ _;
-      },
-      refl,
-    )
+    stopped_before _ (g.W.Inputs.run c.args.world.now) c.in-Err.ensures.right
 
 pub returns-in_default : goal.returns-in_default
-returns-in_default g c = (record { is_cause = tt; started = started_none _ _ }, refl)
+returns-in_default g c = stopped_before _ (g.W.Inputs.run c.args.world.now) tt
 
 pub returns-in-Err-load_uploads : goal.returns-in-Err-load_uploads
 returns-in-Err-load_uploads g c =
     let request = audit_request_of c.args.options.now in
     let run = g.W.Inputs.run c.args.world.now in
-    let (name, one, is) = c.in-Err-load_uploads.ensures.fault in (
-      record {
-        is_cause = load_cause request c.args.files.now.loads c.load_uploads.new.files.loads
-            c.args.ledger.now.trace run run name c.in-Err-load_uploads.fault (among_uploads request name
-            (subst (λ (ns : List (Bor (List ℕ))). Contains (map (λ n. n.now) ns) name)
-            c.as_slice-names.ensures.value one)) is;
-        started = started_none _ _;
-      },
-      refl,
-    )
+    let (name, one, is) = c.in-Err-load_uploads.ensures.fault in
+    stopped_before _ run (load_cause request c.args.files.now.loads c.load_uploads.new.files.loads
+    c.args.ledger.now.trace run run name c.in-Err-load_uploads.fault (among_uploads request name
+    (subst (λ (ns : List (Bor (List ℕ))). Contains (map (λ n. n.now) ns) name)
+    c.as_slice-names.ensures.value one)) is)
 
 pub returns-in-Err-load_report : goal.returns-in-Err-load_report
 returns-in-Err-load_report g c =
     let request = audit_request_of c.args.options.now in
     let run = g.W.Inputs.run c.args.world.now in
-    let (name, one, is) = c.in-Err-load_report.ensures.fault in (
-      record {
-        is_cause = load_cause request c.args.files.now.loads c.load_report.new.files.loads
-            c.args.ledger.now.trace run run name c.in-Err-load_report.fault (among_reports request name one) is;
-        started = started_none _ _;
-      },
-      refl,
-    )
+    let (name, one, is) = c.in-Err-load_report.ensures.fault in
+    stopped_before _ run (load_cause request c.args.files.now.loads c.load_report.new.files.loads
+    c.args.ledger.now.trace run run name c.in-Err-load_report.fault
+    (among_reports request name one) is)
 
 pub returns-in-Err-open_ledger : goal.returns-in-Err-open_ledger
 returns-in-Err-open_ledger g c =
-    let run = g.W.Inputs.run c.args.world.now in (
-      record {
-        is_cause = unopened_cause (audit_request_of c.args.options.now)
-            (did_by c.args.files.now.loads c.load_report.new.files.loads
-            c.open_ledger.new.ledger.trace run run) c.in-Err-open_ledger.fault
-            c.in-Err-open_ledger.ensures.fault;
-        started = started_none _ _;
-      },
-      refl,
-    )
+    let run = g.W.Inputs.run c.args.world.now in
+    stopped_before _ run (unopened_cause (audit_request_of c.args.options.now)
+    (did_by c.args.files.now.loads c.load_report.new.files.loads c.open_ledger.new.ledger.trace run
+    run) c.in-Err-open_ledger.fault c.in-Err-open_ledger.ensures.fault)
 
 pub returns-in-Err-read_head : goal.returns-in-Err-read_head
 returns-in-Err-read_head g c =
-    let run = g.W.Inputs.run c.args.world.now in (
-      record {
-        is_cause = stream_cause (audit_request_of c.args.options.now)
-            (did_by c.args.files.now.loads c.load_report.new.files.loads
-            c.read_head.new.ledger.trace run run)
-            (c.read_head.ensures.name
-            ∙ ap (λ (x : Load). x.name) c.in_default-open_ledger.ensures.opened.reading)
-            c.in-Err-read_head.fault (c.in-Err-read_head.ensures.fault run.cut);
-        started = started_none _ _;
-      },
-      refl,
-    )
+    let run = g.W.Inputs.run c.args.world.now in
+    stopped_before _ run (stream_cause (audit_request_of c.args.options.now)
+    (did_by c.args.files.now.loads c.load_report.new.files.loads c.read_head.new.ledger.trace run
+    run) (c.read_head.ensures.name
+    ∙ ap (λ (x : Load). x.name) c.in_default-open_ledger.ensures.opened.reading)
+    c.in-Err-read_head.fault (c.in-Err-read_head.ensures.fault run.cut))
 
 pub returns-in-Err-trace_of : goal.returns-in-Err-trace_of
 returns-in-Err-trace_of g c =
-    let run = g.W.Inputs.run c.args.world.now in (
-      record {
-        is_cause = class_cause (audit_request_of c.args.options.now)
-            (did_by c.args.files.now.loads c.load_report.new.files.loads
-            c.read_head.new.ledger.trace run run)
-            c.load_tables.new.source.loads.trace.run.loads
-            (map (λ t. t.items) c.in-Ok.tables.texts.items) c.in-Ok.tables.fares
-            c.in-Err-trace_of.fault c.in-Ok.ensures.ok c.in-Err-trace_of.ensures.fault;
-        started = started_none _ _;
-      },
-      refl,
-    )
+    let run = g.W.Inputs.run c.args.world.now in
+    stopped_before _ run (class_cause (audit_request_of c.args.options.now)
+    (did_by c.args.files.now.loads c.load_report.new.files.loads c.read_head.new.ledger.trace run
+    run) c.load_tables.new.source.loads.trace.run.loads
+    (map (λ t. t.items) c.in-Ok.tables.texts.items) c.in-Ok.tables.fares c.in-Err-trace_of.fault
+    c.in-Ok.ensures.ok c.in-Err-trace_of.ensures.fault)
 
 pub trace_of-requires-clause-positions : goal.trace_of-requires-clause-positions
 trace_of-requires-clause-positions g c =
@@ -122,12 +86,10 @@ audit_over-requires-clause-audited g c =
     let loaded = c.in-Ok-load_uploads.ensures.ok in (
       loaded.1,
       record {
+        clock = c.in-Ok-clock.ensures.zone;
         text = [];
         as_text = c.in-Ok-trace_of.ensures.read;
-        taken = record {
-          clock = c.in-Ok-clock.ensures.zone;
-          checked = c.new.ensures.checked c.in-Ok.tables.fares _ loaded.1 loaded.4.balance;
-        };
+        checked = c.new.ensures.checked c.in-Ok.tables.fares _ loaded.1 loaded.4.balance;
       },
     )
 
@@ -200,10 +162,8 @@ returns g c =
     (given_is _ options.all (compared request.uploads loaded.1) (compared request.uploads ends)
     c.new.ensures.all valid known)
     (c.audit_over.ensures.ends loaded.1 (record {
+      clock = c.in-Ok-clock.ensures.zone;
       text = [];
       as_text = c.in-Ok-trace_of.ensures.read;
-      taken = record {
-        clock = c.in-Ok-clock.ensures.zone;
-        checked = c.new.ensures.checked tables.fares _ loaded.1 loaded.4.balance;
-      };
+      checked = c.new.ensures.checked tables.fares _ loaded.1 loaded.4.balance;
     })))

@@ -12,8 +12,9 @@ returns-in-Err g c = λ request did ends.
     rw c.fail.ensures.status (inr (record {
       fault = c.in-Err.fault;
       before = g.W.Inputs.run c.args.world.now;
-      fails = failed.0;
-      quiet = failed.1;
+      right = failed.0;
+      started = failed.1;
+      quiet = failed.2;
       reported = c.fail.ensures.reported;
     }))
 
@@ -30,7 +31,8 @@ returns-in-Err-flush g c = λ request did ends.
     rw c.fail-in-Err-flush.ensures.status (inr (record {
       fault = Unwritten c.in-Err-flush.unflushed;
       before = g.W.Inputs.run c.flush.new.self;
-      fails = rw cut (unflushed request did done.0 c.in-Ok.succeeded
+      right = ap (λ r. r.cut) cut;
+      started = rw cut (unflushed request did done.0 c.in-Ok.succeeded
           (g.W.Inputs.run c.args.world.now) c.in-Err-flush.unflushed done.1 done.2);
       quiet = ap (λ r. r.said) cut ∙ ap (λ r. r.said) done.2;
       reported = c.fail-in-Err-flush.ensures.reported;

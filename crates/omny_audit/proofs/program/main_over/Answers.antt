@@ -1,20 +1,17 @@
-use Rattle.std.proofs.Common.{◌≡◌, ◌∙◌, ◌≤◌, ℕ, List, None, ap, arith, inl, inr, map, refl, rules}
-use Rattle.std.proofs.Common.{Some, option_map, string_bytes, subst, suc, sym, tests, zero}
+use Rattle.std.proofs.Common.{◌≡◌, ◌∙◌, None, Some, ap, arith, inl, inr, option_map, refl, rules}
+use Rattle.std.proofs.Common.{subst, sym, tests}
 use Rattle.std.specs.Prelude.{◌⊎◌}
-use Rattle.clap.specs.Words.{HasKind, IsAmong, Kinds, Text, kind_of}
+use Rattle.clap.specs.Words.{HasKind, IsAmong, Kinds, kind_of}
 use Rattle.clap.specs.declared.error.Error.{Error}
 use Rattle.clap.specs.declared.error.kind.ErrorKind.{ErrorKind}
 use Rattle.clap.specs.declared.error.kind.ErrorKind.TheVariants.{DisplayHelp, DisplayVersion}
 use Rattle.program_manners.proofs.Refusals.{only_memory}
 use Rattle.program_manners.specs.Words.{IsRequest}
-use Rattle.world.specs.Run.{Run}
-use Rattle.world.specs.Writes.{IsSaid}
 use Rattle.program_manners.specs.TableViews.{names_of, wrong_of}
 use Rattle.program_manners.specs.TableWords.{wrong_word}
-use Rattle.omny_audit.specs.Ends.{EndsAnswer, IsPrinted, did_by}
-use Rattle.omny_audit.specs.inside.Ends.{IsRefused}
+use Rattle.omny_audit.specs.Ends.{did_by}
 use Rattle.omny_audit.specs.inside.Options.{audit_request_of}
-use Rattle.omny_audit.specs.Options.{AsksForAuditText, AuditRequest}
+use Rattle.omny_audit.specs.Options.{AuditRequest}
 use Rattle.omny_audit.specs.declared.fault.Fault.TheVariants.{NoMemory}
 use Rattle.omny_audit.proofs.Causes.{started_none}
 use Rattle.omny_audit.proofs.program.main_over.Goals as goal
@@ -31,19 +28,6 @@ requested_of kinds e has (inr version) = elim has [
   | inr among ↦ inr (subst (λ (k : ErrorKind). IsAmong k kinds) version among)
 ]
 
-answer_is : (words : List Text) (old new : Run) (n : ℕ) → n ≤ 2
-    → (n ≡ 0 → AsksForAuditText words × IsPrinted old new) → (n ≡ 2 → IsSaid old new)
-    → EndsAnswer words old new n
-answer_is words old new zero few none two = none refl
-answer_is words old new (suc zero) few none two = tt
-answer_is words old new (suc (suc zero)) few none two = two refl
-answer_is words old new (suc (suc (suc n))) few none two = absurd (omega (arith, few))
-
-refused_is : (words : List Text) (old new : Run) (n : ℕ) → IsRefused old new n
-    → EndsAnswer words old new n
-refused_is words old new n (inl two, said) = rw two said
-refused_is words old new n (inr one, said) = rw one tt
-
 -- words that are a command line are refused for want of memory alone
 pub returns-in-Err-clause-ends : goal.returns-in-Err-clause-ends
 returns-in-Err-clause-ends g c = record {
@@ -53,17 +37,16 @@ returns-in-Err-clause-ends g c = record {
       rw refused.0 (inr (record {
         fault = NoMemory;
         before = g.W.Inputs.run c.args.world.now;
-        fails = record { is_cause = tt; started = started_none _ _ };
+        right = tt;
+        started = started_none _ _;
         quiet = refl;
         reported = refused.1;
       }));
-  answer = λ no. (
-    answer_is (map string_bytes c.args.words.now) _ _ c.show.result c.show.ensures.status
-        (λ none. let help = c.show.ensures.help none in
-        (requested_of _ c.in-Err.error c.in-Err.ensures.kinds help.0, help.1))
-        c.show.ensures.refused,
-    record { unloaded = refl; unread = c.requires },
-  );
+  answer = λ no. record {
+    asks = λ zero. requested_of _ c.in-Err.error c.in-Err.ensures.kinds (c.show.ensures.requested zero);
+    unloaded = refl;
+    unread = c.requires;
+  };
 }
 
 -- a table has a wrong date
@@ -74,10 +57,14 @@ returns-in-Some-clause-ends g c = record {
       sym (ap (option_map wrong_of) c.in-Some.is) ∙ c.wrong_word.ensures
       ∙ ap (λ (r : AuditRequest). wrong_word r.table) c.in-Ok.ensures.request ∙ is.1 in
       absurd cc;
-  answer = λ no. (
-    refused_is (map string_bytes c.args.words.now) _ _ c.say.result c.say.ensures,
-    record { unloaded = refl; unread = c.requires },
-  );
+  answer = λ no. record {
+    asks = λ zero. elim c.say.ensures [
+      | inl two ↦ absurd (omega (arith, zero, two))
+      | inr one ↦ absurd (omega (arith, zero, one))
+    ];
+    unloaded = refl;
+    unread = c.requires;
+  };
 }
 
 pub returns-clause-ends : goal.returns-clause-ends

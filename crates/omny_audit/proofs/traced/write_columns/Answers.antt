@@ -1,5 +1,5 @@
 use Rattle.std.proofs.Common.{◌≡◌, ◌∙◌, ◌++◌, ℕ, Bool, List, Option, true, ap, ap₂, append_assoc}
-use Rattle.std.proofs.Common.{rules, tests}
+use Rattle.std.proofs.Common.{rules, string_bytes, tests}
 use Rattle.std.specs.Prelude.{◌&&◌, is_some, not}
 use Rattle.class_names.specs.Names.{class_by}
 use Rattle.omny_audit.specs.Traced.{class_text, position_text}
@@ -17,7 +17,7 @@ returns c =
     let second = position_text (uploads_in so_far.positions) positions.0 in (
       first ++ second,
       positions.1 ∙ ap (λ (t : List ℕ). t ++ second) classes.text
-          ∙ append_assoc c.args.text.now.items first second,
+          ∙ append_assoc (string_bytes c.args.text.now) first second,
       λ file all.
           let known = rw c.in-Some.is at (all looked) in
           rw (c.in-Some.is, looked) (

@@ -1,7 +1,9 @@
-use Rattle.std.proofs.Common.{length, ap, sym, refl, append-nil, arith, length-append, is_some}
+use Rattle.std.proofs.Common.{[], ◌∷◌, ◌++◌, ◌∙◌, map, length, ap, sym, refl, append-nil, arith, length-append, is_some}
+use Rattle.std.proofs.lemmas.List.{length-map, map-append}
+use Rattle.tap_views.specs.Encoding.{fields_of}
 use Rattle.tap_views.specs.Files.{taps_of_batches}
 use Rattle.tap_views.proofs.ParseLemmas.{read_end, read_on, taps_more}
-use Rattle.settled_texts.proofs.Numbering.{not_back, numbered_batch}
+use Rattle.settled_texts.proofs.Numbering.{not_back, numbered_on}
 use Rattle.settled_texts.proofs.trace.add_upload.Goals as goal
 
 pub loop-batch-init : goal.loop-batch-init
@@ -22,9 +24,13 @@ loop-batch-preserved c =
       may = tt;
       ends = tt;
       read = read_on _ _ _ _ _ before.read c.in-Some.ensures.steps;
-      added = numbered_batch c.args.upload c.args.taps.now.items c.loop-batch.taps.items
-          c.add_batch.new.taps.items done batch c.loop-batch.position before.added before.count
-          c.in_ok-position.ensures.added;
+      added = numbered_on c.args.upload 1 c.loop-batch.position c.args.taps.now.items
+          c.loop-batch.taps.items c.add_batch.new.taps.items (map fields_of (taps_of_batches done))
+          (map fields_of batch) (map fields_of (taps_of_batches (done ++ batch ∷ []))) before.added
+          (omega (arith, before.count, length-map (taps_of_batches done) fields_of))
+          c.in_ok-position.ensures.added
+          (sym (map-append fields_of (taps_of_batches done) batch)
+          ∙ ap (map fields_of) (sym (taps_more done batch)));
       count = omega (
         arith,
         before.count,

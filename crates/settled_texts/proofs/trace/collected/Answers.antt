@@ -3,9 +3,11 @@ use Rattle.std.proofs.Common.{sym, subst, arith, length-append, refl, Bool}
 use Rattle.std.specs.Prelude.{◌&&◌}
 use Rattle.std.specs.List.{list_all}
 use Rattle.std.proofs.lemmas.List.{map-append, take_more}
+use Rattle.tap_views.specs.Files.{IsReadAs, ValidBatchesView}
+use Rattle.tap_views.proofs.Lists.{AllZip-append}
 use Rattle.settled_texts.specs.Traces.{AreReadAs, valid_fields, is_whole, numbered}
 use Rattle.settled_texts.specs.declared.trace.TracedTap.{TracedTap}
-use Rattle.settled_texts.proofs.Numbering.{read_push, traced_push, whole_push}
+use Rattle.settled_texts.proofs.Numbering.{traced_push, whole_push}
 use Rattle.settled_texts.proofs.trace.collected.Goals as goal
 
 abbrev bytes_in : Vec ℕ Global → List ℕ
@@ -37,8 +39,9 @@ loop-upload-preserved c =
     record {
       readings = inv.readings ++ reading ∷ [];
       read = subst (λ (fs : List (List ℕ)). AreReadAs fs (inv.readings ++ reading ∷ [])) (sym files)
-          (read_push (map bytes_in (take at uploads)) inv.readings c.deref.result.now reading
-          inv.read read);
+          (AllZip-append (λ (file : List ℕ) (r : ValidBatchesView). IsReadAs file r.batches r.fault)
+          (map bytes_in (take at uploads)) inv.readings (c.deref.result.now ∷ []) (reading ∷ [])
+          inv.read (read, tt));
       added = added ∙ ap
           (λ (ts : List TracedTap). ts ++ numbered c.loop-upload.number 1 (valid_fields reading))
           inv.added

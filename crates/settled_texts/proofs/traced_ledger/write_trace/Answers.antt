@@ -25,10 +25,10 @@ write_lines-requires-clause-may g c =
     let none = c.of-explainer.ensures.none in
     let long = length-map c.args.trace.now (λ (traced : TracedTap). traced.tap) in
     record {
-      early = c.requires.early;
+      early = c.requires.1.early;
       nondecreasing = canonical_nondecreasing explainer.token (taps_of_trace c.args.trace.now)
-          (c.of-explainer.ensures.token ∙ c.least_token.ensures) c.requires.named
-          c.requires.sorted;
+          (c.of-explainer.ensures.token ∙ c.least_token.ensures) c.requires.1.named
+          c.requires.1.canonical.sorted;
       earlier = [];
       consumed = consumed_first c.args.table.now explainer
           (c.of-explainer.ensures.explained c.args.table.now);
@@ -64,7 +64,7 @@ returns-clause-ok g c =
     ledger_of fares explainer taps (λ l. Appends out after (with_columns l columns))
     (λ text. Appends begin after (with_columns text (head_columns ∷ columns)))
     (c.of-explainer.ensures.token ∙ c.least_token.ensures)
-    (c.of-explainer.ensures.explained fares) c.requires.named c.requires.sorted
+    (c.of-explainer.ensures.explained fares) c.requires.1.named c.requires.1.canonical.sorted
     (explained_lines fares explainer c.write_lines.new.explainer taps
     (λ l. Appends out after (with_columns l columns)) c.in_ok-write_lines.ensures.explained)
     (λ l shown. subst (Appends begin after)
@@ -86,7 +86,7 @@ returns-in_err-write_out-clause-started g c =
     rw p.1 (λ write. ledger_of fares c.of-explainer.result taps (λ l. Unit {0})
     (λ text. Begins begin after (with_columns text (head_columns ∷ columns)))
     (c.of-explainer.ensures.token ∙ c.least_token.ensures)
-    (c.of-explainer.ensures.explained fares) c.requires.named c.requires.sorted
+    (c.of-explainer.ensures.explained fares) c.requires.1.named c.requires.1.canonical.sorted
     (lines_exist fares c.of-explainer.result taps (λ l. Unit {0}) (λ l. tt))
     (λ l some. subst (Begins begin after)
     (with_head c.as_bytes.result.now (codes ",class,upload,place\n") l columns
@@ -105,7 +105,7 @@ returns-in_err-write_out-2-clause-started g c =
     rw p.1 (λ write. ledger_of fares c.of-explainer.result taps (λ l. Unit {0})
     (λ text. Begins begin after (with_columns text (head_columns ∷ columns)))
     (c.of-explainer.ensures.token ∙ c.least_token.ensures)
-    (c.of-explainer.ensures.explained fares) c.requires.named c.requires.sorted
+    (c.of-explainer.ensures.explained fares) c.requires.1.named c.requires.1.canonical.sorted
     (lines_exist fares c.of-explainer.result taps (λ l. Unit {0}) (λ l. tt))
     (λ l some. subst (Begins begin after)
     (with_head c.as_bytes.result.now c.as_bytes-2.result.now l columns c.as_bytes.ensures.value
@@ -127,7 +127,7 @@ returns-in_err-write_lines-clause-started g c =
     (λ l. Begins out after (with_columns l columns))
     (λ text. Begins begin after (with_columns text (head_columns ∷ columns)))
     (c.of-explainer.ensures.token ∙ c.least_token.ensures)
-    (c.of-explainer.ensures.explained fares) c.requires.named c.requires.sorted
+    (c.of-explainer.ensures.explained fares) c.requires.1.named c.requires.1.canonical.sorted
     c.in_err-write_lines.ensures.started
     (λ l begins. subst (Begins begin after)
     (with_head c.as_bytes.result.now c.as_bytes-2.result.now l columns c.as_bytes.ensures.value

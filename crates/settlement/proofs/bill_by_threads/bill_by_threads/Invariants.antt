@@ -1,6 +1,6 @@
 use Rattle.std.proofs.Common.{◌≡◌, length}
 use Rattle.std.specs.Vec.Iter.{into_iter_items, into_iter_len}
-use Rattle.settlement.proofs.PartBills.{IsJoining}
+use Rattle.settlement.proofs.PartBills.{AreJoining}
 use Rattle.settlement.proofs.bill_by_threads.bill_by_threads.Given as goal
 
 abbrev pub invariant-loop-more : goal.invariant-loop-more
@@ -8,5 +8,5 @@ invariant-loop-more g l = record {
   may : (goal.iterator-loop-more g).can_next l.more-iterator;
   ends : (goal.iterator-loop-more g).is_finite l.more-iterator;
   left_len : into_iter_len l.more-iterator ≡ length (into_iter_items l.more-iterator);
-  joining : IsJoining l.table l.parts l.bill (into_iter_items l.more-iterator);
+  joining : AreJoining l.table l.parts l.size l.bill (into_iter_items l.more-iterator);
 }

@@ -1,69 +1,108 @@
-use Rattle.std.proofs.Common.{◌+◌, ◌∙◌, List, [], ◌∷◌, ◌++◌, take, sym, ap, subst, arith}
-use Rattle.std.proofs.lemmas.List.{length-take, take_all, take_more}
+use Rattle.std.proofs.Common.{◌+◌, ◌<◌, ◌∙◌, List, [], ◌++◌, length, take, refl, sym, ap, subst}
+use Rattle.std.proofs.Common.{arith}
+use Rattle.std.proofs.lemmas.List.{get_or_default, take_all}
+use Rattle.std.proofs.lemmas.List.Folds.{length-flat_map-take}
+use Rattle.std.proofs.lemmas.List.Sorted.{All-permutation, length_permutation}
+use Rattle.tap_views.specs.Layout.{moment_limit}
 use Rattle.tap_views.specs.declared.encoder.TapFields.{TapFields}
-use Rattle.settlement.specs.inside.Billing.{ArePartsInOrder, IsOpenOfParts, IsSoundPart}
-use Rattle.settlement.proofs.PartBills.{next_room, next_up, none_open, order_take, part_more}
-use Rattle.settlement.proofs.PartBills.{parts_done}
+use Rattle.tap_views.specs.declared.token.Token.{Token}
+use Rattle.tap_parts.specs.Canonical.{IsCanonical}
+use Rattle.settlement.specs.Nondecreasing.{last_token}
+use Rattle.settlement.proofs.Nondecreasing.{last_append}
+use Rattle.settlement.proofs.PartBills.{flat, flat_more, flat_take, next_up, no_order}
+use Rattle.settlement.proofs.PartBills.{ranges_joined, sound_before, sound_here}
 use Rattle.settlement.proofs.bill_by_threads.bill_of.Goals as goal
 
-pub loop-pieces-init : goal.loop-pieces-init
-loop-pieces-init g c =
-    none_open c.args.table.now c.new-bill.result (c.new-bill.ensures.bill c.args.table.now)
-    (c.new-bill.ensures.token ∙ c.least_token.ensures)
+abbrev least : Token
+least = record { high = 0; low = 0 }
 
-pub add_part-requires-clause-sound : goal.add_part-requires-clause-sound
-add_part-requires-clause-sound g c =
+pub loop-pieces-init : goal.loop-pieces-init
+loop-pieces-init g c = record {
+  order = [];
+  canonical = no_order;
+  is_open = c.new-bill.ensures.bill c.args.table.now;
+  token = c.new-bill.ensures.token ∙ c.least_token.ensures;
+}
+
+pub add-requires-clause-early : goal.add-requires-clause-early
+add-requires-clause-early g c =
+    let (bounds, start, are) = c.requires.ranges in
+    let part = c.pieces-item.result in
+    All-permutation (λ (tap : TapFields). tap.moment < moment_limit) part c.in_ok-taps.taps.now
+    c.in_ok-taps.ensures.moved
+    (λ k d there. (sound_here bounds start c.loop-pieces.pieces-index c.args.parts.now part are
+    c.loop-pieces-test.true c.pieces-item.is k d there).early)
+
+pub add-requires-clause-nondecreasing : goal.add-requires-clause-nondecreasing
+add-requires-clause-nondecreasing g c =
+    let (bounds, start, are) = c.requires.ranges in
+    let parts = c.args.parts.now in
+    let i = c.loop-pieces.pieces-index in
+    let part = c.pieces-item.result in
+    let before = c.loop-pieces.invariant in
+    next_up bounds start (start + i) (start + i + 1) (flat (take i parts)) part before.order
+    c.in_ok-taps.taps.now (sound_before bounds start i parts are)
+    (sound_here bounds start i parts part are c.loop-pieces-test.true c.pieces-item.is)
+    before.canonical c.in_ok-taps.ensures least c.loop-pieces.bill.replay.token refl before.token
+
+pub add-requires-clause-bill : goal.add-requires-clause-bill
+add-requires-clause-bill g c =
+    let parts = c.args.parts.now in
+    let i = c.loop-pieces.pieces-index in
+    let part = c.pieces-item.result in
+    let before = c.loop-pieces.invariant in
+    let done = length_permutation (flat (take i parts)) before.order before.canonical.moved in
+    let more = length_permutation part c.in_ok-taps.taps.now c.in_ok-taps.ensures.moved in
+    let all = length-flat_map-take (λ (p : List TapFields). p) parts i part
+    c.loop-pieces-test.true in
+    let here = ap length c.pieces-item.is in
+    let few = c.requires.few in
+    (before.order, before.is_open, omega (arith, done, more, all, here, few))
+
+pub loop-pieces-preserved : goal.loop-pieces-preserved
+loop-pieces-preserved g c =
+    let (bounds, start, are) = c.requires.ranges in
     let parts = c.args.parts.now in
     let i = c.loop-pieces.pieces-index in
     let inside = c.loop-pieces-test.true in
     let part = c.pieces-item.result in
-    subst IsSoundPart (sym c.pieces-item.is) (c.requires.sound i part inside)
-
-pub add_part-requires-clause-up : goal.add_part-requires-clause-up
-add_part-requires-clause-up g c =
-    let parts = c.args.parts.now in
-    let i = c.loop-pieces.pieces-index in
-    let part = c.pieces-item.result in
-    let more = take_more parts i part c.loop-pieces-test.true
-    ∙ ap (λ (p : List TapFields). take i parts ++ p ∷ []) (sym c.pieces-item.is) in
-    next_up c.args.table.now (take i parts) part c.loop-pieces.bill
-    (subst ArePartsInOrder more (order_take (i + 1) parts c.requires.order))
-    c.loop-pieces.invariant
-
-pub add_part-requires-clause-room : goal.add_part-requires-clause-room
-add_part-requires-clause-room g c =
-    let parts = c.args.parts.now in
-    let i = c.loop-pieces.pieces-index in
-    let short = length-take i parts in
-    let few = c.requires.few in
-    next_room c.args.table.now (take i parts) c.loop-pieces.bill (omega (arith, short, few))
-    c.loop-pieces.invariant
-
-pub loop-pieces-preserved : goal.loop-pieces-preserved
-loop-pieces-preserved g c =
-    let fares = c.args.table.now in
-    let parts = c.args.parts.now in
-    let i = c.loop-pieces.pieces-index in
-    let part = c.pieces-item.result in
-    let more = take_more parts i part c.loop-pieces-test.true
-    ∙ ap (λ (p : List TapFields). take i parts ++ p ∷ []) (sym c.pieces-item.is) in
-    subst (λ (ps : List (List TapFields)). IsOpenOfParts fares ps c.add_part.new.bill) (sym more)
-    (part_more fares (take i parts) part c.loop-pieces.bill c.add_part.new.bill
-    c.loop-pieces.invariant c.in_ok-add_part.ensures)
+    let taps = c.in_ok-taps.taps.now in
+    let before = c.loop-pieces.invariant in
+    record {
+      order = before.order ++ taps;
+      canonical = subst (λ (ts : List TapFields). IsCanonical ts (before.order ++ taps))
+          (sym (flat_more parts i inside ∙ ap (λ (p : List TapFields). flat (take i parts) ++ p)
+          (get_or_default parts i [] part inside ∙ sym c.pieces-item.is)))
+          (ranges_joined bounds start (start + i) (start + i + 1) (flat (take i parts)) part
+          before.order taps (sound_before bounds start i parts are)
+          (sound_here bounds start i parts part are inside c.pieces-item.is) before.canonical
+          c.in_ok-taps.ensures);
+      is_open = c.in_ok-add.ensures.bill before.order before.is_open;
+      token = c.in_ok-add.ensures.token ∙ ap (λ (t : Token). last_token t taps) before.token
+          ∙ sym (last_append least before.order taps);
+    }
 
 pub into_bill-requires : goal.into_bill-requires
 into_bill-requires g c =
-    let (before, is, few) = next_room c.args.table.now
-    (take c.loop-pieces.pieces-index c.args.parts.now) c.loop-pieces.bill
-    (let short = length-take c.loop-pieces.pieces-index c.args.parts.now in
-    let few = c.requires.few in omega (arith, short, few)) c.loop-pieces.invariant in
-    (c.args.table.now, before, is, omega (arith, few))
+    let i = c.loop-pieces.pieces-index in
+    let done = c.loop-pieces.invariant in
+    let long = length_permutation (flat (take i c.args.parts.now)) done.order done.canonical.moved in
+    let all = flat_take i c.args.parts.now in
+    let few = c.requires.few in
+    (c.args.table.now, done.order, done.is_open, omega (arith, long, all, few))
 
 pub returns : goal.returns
 returns g c =
     let parts = c.args.parts.now in
     let i = c.loop-pieces.pieces-index in
-    parts_done c.args.table.now parts c.loop-pieces.bill _ c.requires.order
-    (subst (λ (ps : List (List TapFields)). IsOpenOfParts c.args.table.now ps c.loop-pieces.bill)
-    (take_all i parts (omega (arith, c.loop-pieces-test.false))) c.loop-pieces.invariant)
-    c.in_ok-bill.ensures
+    let done = c.loop-pieces.invariant in
+    let long = length_permutation (flat (take i parts)) done.order done.canonical.moved in
+    let all = flat_take i parts in
+    let few = c.requires.few in
+    record {
+      order = done.order;
+      canonical = subst (λ (ps : List (List TapFields)). IsCanonical (flat ps) done.order)
+          (take_all i parts (omega (arith, c.loop-pieces-test.false))) done.canonical;
+      billed = c.in_ok-bill.ensures c.args.table.now done.order done.is_open;
+      few = omega (arith, long, all, few);
+    }

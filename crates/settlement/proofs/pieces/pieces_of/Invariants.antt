@@ -1,6 +1,6 @@
 use Rattle.std.proofs.Common.{◌≡◌, ℕ, ◌<◌, ◌++◌, length, get_or, []}
 use Rattle.std.specs.Vec.Iter.{into_iter_items, into_iter_len}
-use Rattle.settlement.specs.inside.SplitTaps.{in_part}
+use Rattle.settlement.specs.inside.Taken.{in_part}
 use Rattle.settlement.proofs.pieces.pieces_of.Given as goal
 
 abbrev pub invariant-loop-list : goal.invariant-loop-list

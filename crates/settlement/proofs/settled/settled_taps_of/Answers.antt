@@ -1,34 +1,50 @@
-use Rattle.std.proofs.Common.{ap, subst}
+use Rattle.std.proofs.Common.{◌∙◌, flat_map, map, ap, subst, sym}
+use Rattle.std.proofs.lemmas.List.Elements.{All-map}
+use Rattle.tap_views.specs.Encoding.{fields_of}
+use Rattle.tap_parts.specs.Canonical.{HasTokenBytes, IsCanonical}
+use Rattle.tap_parts.specs.Parts.{taps_of_uploads}
 use Rattle.world.specs.Run.{Calls}
+use Rattle.settlement.specs.Posted.{only}
 use Rattle.settlement.specs.Reading.{AreRead}
-use Rattle.settlement.proofs.ReadUploads.{all_tokens, joined_read}
+use Rattle.settlement.proofs.Files.{taps_in}
+use Rattle.settlement.proofs.OnlyTaps.{own_runs}
+use Rattle.settlement.proofs.ReadUploads.{joined_read}
 use Rattle.settlement.proofs.SettledOrders.{own_early, own_its, own_settled}
 use Rattle.settlement.proofs.settled.settled_taps_of.Goals as goal
 
 pub returns-clause-order : goal.returns-clause-order
 returns-clause-order g c =
     let origin = g.U.Uploads.origin c.args.uploads.now in
-    let run = c.in_ok-taps.ensures in
-    let own = run.are in (
+    let token = c.args.token in
+    let run = c.in_ok-lists.ensures in
+    let lists = c.in_ok-lists.field-0.lists.items in (
       run.files,
       subst (λ n. AreRead origin 0 n run.files c.args.calls.now.run c.join.new.self.run)
           c.len.ensures
           (joined_read origin 0 c.len.result run.files c.args.calls.now.run
-          c.in_ok-taps.field-0.calls.run c.join.new.self.run run.read
+          c.in_ok-lists.field-0.calls.run c.join.new.self.run run.read
           (ap (λ (calls : Calls). calls.run) c.join.ensures)),
-      own.ended,
-      own_settled run.files c.args.token c.in_ok-taps.field-0.taps.items c.sorted-taps.result.items
-          c.in_ok-taps.field-0.ends.items own
-          (all_tokens run.files own.taps run.tokens own.of_uploads)
-          c.sorted-taps.ensures,
+      run.ended,
+      own_settled run.files token (flat_map taps_in lists) c.in_ok-taps.taps.items
+          c.in_ok-lists.field-0.ends.items
+          (record {
+            taps = run.taps;
+            of_uploads = run.of_files;
+            are = own_runs token run.holds.runs lists run.holds.each
+                ∙ ap (λ taps. only token (map fields_of taps)) (sym run.holds.whole);
+            ended = run.ended;
+          })
+          (All-map HasTokenBytes fields_of (taps_of_uploads run.taps) run.tokens)
+          (subst (λ ls. IsCanonical (flat_map taps_in ls) c.in_ok-taps.taps.items)
+          c.deref.ensures.value c.in_ok-taps.ensures),
     )
 
 pub returns-clause-early : goal.returns-clause-early
 returns-clause-early g c =
     let (files, read, ended, settled) = returns-clause-order g c in
-    own_early files c.args.token c.sorted-taps.result.items settled
+    own_early files c.args.token c.in_ok-taps.taps.items settled
 
 pub returns-clause-its : goal.returns-clause-its
 returns-clause-its g c =
     let (files, read, ended, settled) = returns-clause-order g c in
-    own_its files c.args.token c.sorted-taps.result.items settled
+    own_its files c.args.token c.in_ok-taps.taps.items settled

@@ -1,34 +1,41 @@
-use Rattle.std.proofs.Common.{ap, ◌<◌, ◌∙◌, subst, arith}
+use Rattle.std.proofs.Common.{ap, map, ◌<◌, ◌∙◌, subst, sym}
+use Rattle.std.proofs.lemmas.List.Elements.{All-map}
+use Rattle.tap_views.specs.Encoding.{fields_of}
+use Rattle.tap_parts.specs.Canonical.{HasTokenBytes}
+use Rattle.tap_parts.specs.Parts.{taps_at, taps_of_uploads}
+use Rattle.tap_parts.specs.Ranges.{range_of_token}
 use Rattle.world.specs.Run.{Calls}
 use Rattle.settlement.specs.Reading.{AreRead}
-use Rattle.settlement.proofs.ReadUploads.{all_tokens, joined_read}
+use Rattle.settlement.proofs.ReadUploads.{joined_read}
+use Rattle.settlement.proofs.Splits.{are_split, parts_runs}
 use Rattle.settlement.proofs.settled.split.Goals as goal
+
+pub pieces_of-requires : goal.pieces_of-requires
+pieces_of-requires g c = (parts_runs c.in_ok-ranges.ranges c.in_ok-lists.ensures.holds.runs
+    c.in_ok-lists.field-0.lists.items c.in_ok-lists.ensures.holds.each c.len-2.result
+    c.len-2.ensures.number).0
 
 pub returns : goal.returns
 returns g c =
     let origin = g.U.Uploads.origin c.args.uploads.now in
     let run = c.in_ok-lists.ensures in
-    let inside = run.inside in
+    let lists = c.in_ok-lists.field-0.lists.items in
     let pieces = c.in_ok-parts.ensures in
     let bounds = c.in_ok-ranges.ranges in
-    let number = pieces.number ∙ c.len-2.ensures.number in
-    let few = c.in_ok-ranges.ensures in (
+    let inside = parts_runs bounds run.holds.runs lists run.holds.each c.len-2.result
+    c.len-2.ensures.number in (
       run.files,
       subst (λ n. AreRead origin 0 n run.files c.args.calls.now.run c.join.new.self.run)
           c.len.ensures
           (joined_read origin 0 c.len.result run.files c.args.calls.now.run
           c.in_ok-lists.field-0.calls.run c.join.new.self.run run.read
           (ap (λ (calls : Calls). calls.run) c.join.ensures)),
-      record {
-        ended = inside.ended;
-        taps = inside.taps;
-        of_uploads = inside.of_uploads;
-        bounds = bounds;
-        number = number;
-        few_parts = omega (arith, number, few);
-        tokens = all_tokens run.files inside.taps run.tokens inside.of_uploads;
-        each = λ part within.
-            pieces.each part (subst (λ n. part < n) pieces.number within)
-            ∙ inside.each part (subst (λ n. part < n) number within);
-      },
+      are_split run.files c.in_ok-lists.field-0.ends.items c.in_ok-parts.parts.items run.taps bounds
+          run.ended run.of_files
+          (All-map HasTokenBytes fields_of (taps_of_uploads run.taps) run.tokens)
+          (pieces.number ∙ c.len-2.ensures.number) (λ part within.
+          let there = subst (λ n. part < n) pieces.number within in
+          pieces.each part there ∙ inside.1 part there
+          ∙ ap (λ taps. map fields_of (taps_at (range_of_token bounds) part taps))
+          (sym run.holds.whole)),
     )

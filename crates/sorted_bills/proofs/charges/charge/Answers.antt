@@ -21,11 +21,12 @@ loop-round-init g c = record {
   bill = c.requires.none;
   nondecreasing = tt;
   token = refl;
-  few = omega arith;
+  few = refl;
+  small = omega arith;
 }
 
-pub take-requires : goal.take-requires
-take-requires g c = c.loop-round.invariant.ready
+pub take-requires-clause-ready : goal.take-requires-clause-ready
+take-requires-clause-ready g c = c.loop-round.invariant.ready
 
 pub add-requires-clause-early : goal.add-requires-clause-early
 add-requires-clause-early g c =
@@ -43,10 +44,12 @@ pub add-requires-clause-bill : goal.add-requires-clause-bill
 add-requires-clause-bill g c =
     let inv = c.loop-round.invariant in
     let few = inv.few in
-    let more = c.in_ok-take.ensures.few in
+    let (fits, more) = c.in-Some.ensures in
+    let taps = c.take.new.self.taps in
+    let long = c.len.ensures in
+    let ok = taps.ok.0 in
     let here = ap length c.deref.ensures.value in
-    let test = c.loop-round-test.true in
-    (inv.done, inv.bill, omega (arith, few, more, here, test))
+    (inv.done, inv.bill, omega (arith, few, fits, more, long, ok, here))
 
 pub loop-round-preserved : goal.loop-round-preserved
 loop-round-preserved g c =
@@ -56,7 +59,9 @@ loop-round-preserved g c =
     let begin = c.args.taker.now.merge.readers.items in
     let from = c.args.so_far.now.replay.token in
     let few = inv.few in
-    let more = c.in_ok-take.ensures.few in
+    let (fits, more) = c.in-Some.ensures in
+    let size = c.len.ensures in
+    let ok = c.take.new.self.taps.ok.0 in
     let long = length-append inv.done taps in
     record {
       ready = c.in_ok-take.ensures.ready;
@@ -73,7 +78,8 @@ loop-round-preserved g c =
           ∙ ap (last_token c.loop-round.so_far.replay.token) c.deref.ensures.value
           ∙ ap (λ (t : Token). last_token t taps) inv.token
           ∙ sym (last_append from inv.done taps);
-      few = omega (arith, few, more, long);
+      few = omega (arith, few, more, size, ok, long);
+      small = omega (arith, fits, more);
     }
 
 pub returns-then-is_empty-clause-charged : goal.returns-then-is_empty-clause-charged
@@ -86,7 +92,7 @@ returns-then-is_empty-clause-charged g c =
     let new = c.take.new.self.merge.readers.items in
     let none = none_there taps _ c.is_empty.ensures c.if-is_empty.true in
     let few = inv.few in
-    let test = c.loop-round-test.true in
+    let small = inv.small in
     record {
       taps = inv.done;
       taken = last_taken known begin mid new inv.done taps.items none inv.taken
@@ -94,7 +100,7 @@ returns-then-is_empty-clause-charged g c =
       bill_is = inv.bill;
       nondecreasing = inv.nondecreasing;
       last = inv.token;
-      few = omega (arith, few, test);
+      few = omega (arith, few, small);
     }
 
 pub returns-then-is_empty-clause-end : goal.returns-then-is_empty-clause-end

@@ -1,4 +1,4 @@
-use Rattle.std.proofs.Common.{◌≡◌, ◌*◌, ◌≤◌, List, length, map}
+use Rattle.std.proofs.Common.{◌≡◌, ◌<◌, ◌^◌, List, length, map}
 use Rattle.tap_views.specs.declared.encoder.TapFields.{TapFields}
 use Rattle.settlement.specs.Nondecreasing.{TapsNondecreasingFrom, last_token}
 use Rattle.settlement.specs.OpenBills.{IsOpenBill}
@@ -15,5 +15,6 @@ invariant-loop-round g l = record {
   bill : IsOpenBill l.table done l.so_far;
   nondecreasing : TapsNondecreasingFrom l.fn.so_far.replay.token done;
   token : l.so_far.replay.token ≡ last_token l.fn.so_far.replay.token done;
-  few : length done ≤ l._round * 512;
+  few : length done ≡ l.count;
+  small : l.count < 2 ^ 64;
 }

@@ -1,5 +1,5 @@
 -- All taps of the files are their settled taps, and their lines are the ledger.
-use Rattle.std.proofs.Common.{ℕ, All, List, [], ◌++◌, map, string_bytes, sym, ap, subst, ◌∙◌, arith}
+use Rattle.std.proofs.Common.{ℕ, List, [], ◌++◌, map, string_bytes, refl, sym, ap, subst, ◌∙◌, arith}
 use Rattle.std.proofs.Common.{◌≡◌, ◌^◌, ◌<◌}
 use Rattle.std.specs.Prelude.{sum}
 use Rattle.std.proofs.lemmas.Result.{err_from_is_err_and}
@@ -14,66 +14,58 @@ use Rattle.fare_texts.specs.WrittenOut.{Begins, GoesOut}
 use Rattle.fare_texts.proofs.PieceWriting.{consumed_first}
 use Rattle.settlement.specs.Posted.{posted}
 use Rattle.settled_texts.proofs.Rows.{posted_nondecreasing}
-use Rattle.sorted_taps.proofs.Spans.{at_end_too}
+use Rattle.sorted_taps.specs.Merges.{AreAtEnd}
+use Rattle.sorted_taps.specs.declared.reader.TapReader.{TapReader}
 use Rattle.sorted_bills.specs.declared.fault.BillFault.TheVariants.{NoMemory, Write}
-use Rattle.sorted_bills.specs.declared.range.Range.{Range}
-use Rattle.sorted_bills.specs.inside.Ranges.{IsRange}
 use Rattle.sorted_bills.proofs.Counted.{counted_ends, late_is_no_fault, late_no_write}
 use Rattle.sorted_bills.proofs.Counted.{late_says_nothing, too_many}
-use Rattle.sorted_bills.proofs.Explained.{consumed_none, has_taken}
+use Rattle.sorted_bills.proofs.Explained.{has_taken}
 use Rattle.sorted_bills.proofs.LedgerStarted.{ledger_started}
 use Rattle.sorted_bills.specs.inside.Explained.{HasTaken}
 use Rattle.sorted_bills.proofs.ledger.write_sorted_ledger.Goals as goal
 
-pub write_ranges-requires-clause-room : goal.write_ranges-requires-clause-room
-write_ranges-requires-clause-room g c =
+pub explain_below-requires-clause-room : goal.explain_below-requires-clause-room
+explain_below-requires-clause-room g c =
     let none = c.of-explainer.ensures.none in
     let few = c.in_ok-counted.ensures.few.1 in
     omega (arith, none, few)
 
-pub write_ranges-requires-clause-consumed : goal.write_ranges-requires-clause-consumed
-write_ranges-requires-clause-consumed g c κs within = (
+pub explain_below-requires-clause-consumed : goal.explain_below-requires-clause-consumed
+explain_below-requires-clause-consumed g c κs within = (
   [],
   consumed_first c.args.table.now c.of-explainer.result
       (c.of-explainer.ensures.explained c.args.table.now),
 )
-
-pub write_ranges-requires-clause-ranges : goal.write_ranges-requires-clause-ranges
-write_ranges-requires-clause-ranges g c κs within =
-    let known = map g.F.Placed.bytes c.args.files.now in
-    subst (λ (rs : List Range). All (IsRange c.args.table.now known) rs)
-    (sym c.deref_mut.ensures.value)
-    (c.of-rounds.ensures c.args.table.now known)
 
 pub returns-clause-ok : goal.returns-clause-ok
 returns-clause-ok g c =
     let fares = c.args.table.now in
     let explainer = c.of-explainer.result in
     let started = c.in_ok-taker.taker.merge.readers.items in
-    let end = c.write_ranges.new.taker.merge.readers.items in
-    let taken = c.in_ok-write_ranges.ensures.explained in
+    let end = c.explain_below.new.taker.merge.readers.items in
+    let taken = c.in_ok-explain_below.ensures.explained in
+    let at_end = subst (λ (rs : List TapReader). AreAtEnd rs) c.readers.ensures
+    (c.if-not-are_at_end.ensures refl) in
     let history = posted fares taken.taps in
     let (lines, explained, gone) = taken.explains.lines []
     (consumed_first fares explainer (c.of-explainer.ensures.explained fares)) in (
       head_text ++ lines,
       λ all are.
-          let way = taken.goes_on all are started [] (consumed_none all started) in
           record {
             history = history;
             is_settled = c.posted_taps.ensures.history fares all taken.taps
-                (c.taken_taps_are_settled.ensures all started way.to taken.taps
-                (c.in_ok-taker.ensures.started all are) way.taken
-                (at_end_too way.to end way.aligned c.in_ok-write_ranges.ensures.end)
-                taken.named);
+                (c.taken_taps_are_settled.ensures all started end taken.taps
+                (c.in_ok-taker.ensures.started all are) (taken.taken.taken all are)
+                at_end taken.taken.named);
             over = ledger_along fares history lines
                 (posted_nondecreasing fares explainer.token taken.taps taken.nondecreasing)
                 explained.are;
           },
       subst (λ (head : List ℕ). Appends (g.W.Write.contents c.args.out.now)
           (g.W.Write.contents c.pass_on.new.out) (head ++ lines)) c.in_ok-text.ensures
-          (goes_last (g.W.Write.contents c.args.out.now) (g.W.Write.contents c.write_ranges.new.out)
+          (goes_last (g.W.Write.contents c.args.out.now) (g.W.Write.contents c.explain_below.new.out)
           (g.W.Write.contents c.pass_on.new.out) (string_bytes c.in_ok-text.text)
-          (string_bytes c.write_ranges.new.text) lines gone c.in_ok-pass_on.ensures.whole),
+          (string_bytes c.explain_below.new.text) lines gone c.in_ok-pass_on.ensures.whole),
     )
 
 pub returns-clause-ended : goal.returns-clause-ended
@@ -97,31 +89,31 @@ returns-in_err-taker-clause-fault g c =
     c.from_residual-in_err-taker.ensures.1 in
     rw (p.1, p.2) (λ all are. late_says_nothing all c.in_err-taker.field-0.0)
 
-pub returns-in_err-write_ranges-clause-fault : goal.returns-in_err-write_ranges-clause-fault
-returns-in_err-write_ranges-clause-fault g c =
-    let p = err_from_is_err_and c.from_residual-in_err-write_ranges.result
-    c.from_residual-in_err-write_ranges.ensures.1 in
-    rw (p.1, p.2) (λ all are. late_is_no_fault all _ c.in_err-write_ranges.ensures.fault)
+pub returns-in_err-explain_below-clause-fault : goal.returns-in_err-explain_below-clause-fault
+returns-in_err-explain_below-clause-fault g c =
+    let p = err_from_is_err_and c.from_residual-in_err-explain_below.result
+    c.from_residual-in_err-explain_below.ensures.1 in
+    rw (p.1, p.2) (λ all are. late_is_no_fault all _ c.in_err-explain_below.ensures.fault)
 
 -- ---- a beginning was written
-pub returns-in_err-write_ranges-clause-started : goal.returns-in_err-write_ranges-clause-started
-returns-in_err-write_ranges-clause-started g c =
-    let p = err_from_is_err_and c.from_residual-in_err-write_ranges.result
-    c.from_residual-in_err-write_ranges.ensures.1 in
+pub returns-in_err-explain_below-clause-started : goal.returns-in_err-explain_below-clause-started
+returns-in_err-explain_below-clause-started g c =
+    let p = err_from_is_err_and c.from_residual-in_err-explain_below.result
+    c.from_residual-in_err-explain_below.ensures.1 in
     let fares = c.args.table.now in
     let known = map g.F.Placed.bytes c.args.files.now in
     let explainer = c.of-explainer.result in
     let started = c.in_ok-taker.taker.merge.readers.items in
     let begin = g.W.Write.contents c.args.out.now in
-    let after = g.W.Write.contents c.write_ranges.new.out in
+    let after = g.W.Write.contents c.explain_below.new.out in
     rw (p.1) (λ is_write.
     ledger_started fares known c.in_ok-numbers.numbers.items started explainer begin after
-    c.merged_is_canonical.ensures c.in_ok-numbers.ensures.sorted c.in_ok-taker.ensures.started
+    c.in_ok-numbers.ensures.sorted c.in_ok-taker.ensures.started
     (c.of-explainer.ensures.token ∙ c.least_token.ensures) (c.of-explainer.ensures.explained fares)
     (λ all taps settled. c.posted_taps.ensures.history fares all taps settled)
     (subst (λ (head : List ℕ). HasTaken fares known started explainer
     (λ lines. Begins begin after (head ++ lines))) c.in_ok-text.ensures
-    c.in_err-write_ranges.ensures.started))
+    c.in_err-explain_below.ensures.started))
 
 pub returns-in_err-pass_on-clause-started : goal.returns-in_err-pass_on-clause-started
 returns-in_err-pass_on-clause-started g c =
@@ -132,25 +124,25 @@ returns-in_err-pass_on-clause-started g c =
     let explainer = c.of-explainer.result in
     let started = c.in_ok-taker.taker.merge.readers.items in
     let begin = g.W.Write.contents c.args.out.now in
-    let mid = g.W.Write.contents c.write_ranges.new.out in
+    let mid = g.W.Write.contents c.explain_below.new.out in
     let after = g.W.Write.contents c.pass_on.new.out in
     let head = string_bytes c.in_ok-text.text in
-    let waits = string_bytes c.write_ranges.new.text in
+    let waits = string_bytes c.explain_below.new.text in
     rw (p.1) (λ is_write.
     ledger_started fares known c.in_ok-numbers.numbers.items started explainer begin after
-    c.merged_is_canonical.ensures c.in_ok-numbers.ensures.sorted c.in_ok-taker.ensures.started
+    c.in_ok-numbers.ensures.sorted c.in_ok-taker.ensures.started
     (c.of-explainer.ensures.token ∙ c.least_token.ensures) (c.of-explainer.ensures.explained fares)
     (λ all taps settled. c.posted_taps.ensures.history fares all taps settled)
-    (has_taken fares known started c.write_ranges.new.taker.merge.readers.items explainer
-    c.write_ranges.new.explainer _ 0 (GoesOut begin head mid waits)
-    (λ lines. Begins begin after (head_text ++ lines)) c.in_ok-write_ranges.ensures.explained
+    (has_taken fares known started c.explain_below.new.taker.merge.readers.items explainer
+    c.explain_below.new.explainer (GoesOut begin head mid waits)
+    (λ lines. Begins begin after (head_text ++ lines)) c.in_ok-explain_below.ensures.explained
     (λ l gone. subst (λ (h : List ℕ). Begins begin after (h ++ l)) c.in_ok-text.ensures
     (goes_then begin mid after head waits l gone c.in_err-pass_on.ensures.started))))
 
-pub returns-in_err-write_ranges-clause-sorted : goal.returns-in_err-write_ranges-clause-sorted
-returns-in_err-write_ranges-clause-sorted g c =
-    let p = err_from_is_err_and c.from_residual-in_err-write_ranges.result
-    c.from_residual-in_err-write_ranges.ensures.1 in
+pub returns-in_err-explain_below-clause-sorted : goal.returns-in_err-explain_below-clause-sorted
+returns-in_err-explain_below-clause-sorted g c =
+    let p = err_from_is_err_and c.from_residual-in_err-explain_below.result
+    c.from_residual-in_err-explain_below.ensures.1 in
     rw (p.1) (λ is_write all are. (
       c.in_ok-ends.ends.items,
       subst (λ (ends : List UploadEnd). ArePlainEnds all ends)

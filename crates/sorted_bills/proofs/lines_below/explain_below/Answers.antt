@@ -10,7 +10,6 @@ use Rattle.settlement.specs.Posted.{posted_after}
 use Rattle.settlement.specs.Nondecreasing.{TapsNondecreasingFrom}
 use Rattle.settled_texts.specs.ExplainedTaps.{Explains, HaveLines}
 use Rattle.settled_texts.proofs.TapsExplained.{explains_none}
-use Rattle.sorted_taps.proofs.Spans.{consumed_further}
 use Rattle.sorted_bills.proofs.Counted.{late_is_late}
 use Rattle.sorted_bills.proofs.Takings.{Early}
 use Rattle.sorted_bills.proofs.Explained.{gone_begins, has_taken, taken_then, takes_none, takes_then}
@@ -22,21 +21,20 @@ loop-init g c =
     let text = string_bytes c.args.text.now in
     record {
       ready = c.requires.ready;
+      room = c.requires.room;
       explained = takes_none c.args.table.now (map g.F.Placed.bytes c.args.files.now)
-          c.args.taker.now.merge.readers.items c.args.explainer.now c.args.left.now
+          c.args.taker.now.merge.readers.items c.args.explainer.now
           (GoesOut out text out text) (goes_nothing out text);
     }
 
-pub take-requires : goal.take-requires
-take-requires g c = c.loop.invariant.ready
+pub take-requires-clause-ready : goal.take-requires-clause-ready
+take-requires-clause-ready g c = c.loop.invariant.ready
 
-pub write_taps-requires-clause-may : goal.write_taps-requires-clause-may
-write_taps-requires-clause-may g c =
+pub write_by_workers-requires-clause-may : goal.write_by_workers-requires-clause-may
+write_by_workers-requires-clause-may g c κs within =
     let so_far = c.loop.invariant.explained in
     let (earlier, consumed) = c.requires.consumed in
-    let few = so_far.explains.few in
-    let counted = so_far.counted in
-    let room = c.requires.room in
+    let room = c.loop.invariant.room in
     let less = c.if-number-left.false in
     let long = c.deref.ensures.len in
     record {
@@ -46,7 +44,7 @@ write_taps-requires-clause-may g c =
           (sym c.deref.ensures.value) c.in_ok-take.ensures.nondecreasing;
       earlier = earlier ++ posted_after c.args.table.now earlier so_far.taps;
       consumed = (so_far.explains.lines earlier consumed).1.consumed;
-      room = omega (arith, few, counted, room, less, long);
+      room = omega (arith, room, less, long);
     }
 
 pub loop-preserved : goal.loop-preserved
@@ -58,30 +56,30 @@ loop-preserved g c =
     let is = c.take.new.self.merge.readers.items in
     let begin = g.W.Write.contents c.args.out.now in
     let out = g.W.Write.contents c.loop.out in
-    let after = g.W.Write.contents c.write_taps.new.out in
+    let after = g.W.Write.contents c.write_by_workers.new.out in
     let text = string_bytes c.args.text.now in
     let waits = string_bytes c.loop.text in
-    let next = string_bytes c.write_taps.new.text in
+    let next = string_bytes c.write_by_workers.new.text in
     let less = c.if-number-left.false in
     let long = c.deref.ensures.len in
     let here = ap length c.deref.ensures.value in
+    let few = c.in_ok-write_by_workers.ensures.explained.few in
+    let room = c.loop.invariant.room in
     record {
       ready = c.in_ok-take.ensures.ready;
-      explained = takes_then fares known c.args.taker.now.merge.readers.items was is
-          c.args.explainer.now c.loop.explainer c.args.left.now c.loop.left
-          (GoesOut begin text out waits) (GoesOut out waits after next)
-          (GoesOut begin text after next) c.loop.invariant.explained
-          (λ l m. goes_on begin out after text waits next l m) c.write_taps.new.explainer _
+      room = omega (arith, less, long, here, few, room);
+      explained = takes_then fares known c.args.taker.now.merge.readers.items was
+          c.args.explainer.now c.loop.explainer (GoesOut begin text out waits)
+          (GoesOut out waits after next) (GoesOut begin text after next)
+          c.loop.invariant.explained (λ l m. goes_on begin out after text waits next l m) is
+          c.write_by_workers.new.explainer
           (record {
             taps = taps;
-            goes_on = λ files are from before has. consumed_further files from was is before taps
-                has (c.in_ok-take.ensures.taken.taken files are);
-            named = c.in_ok-take.ensures.taken.named;
+            taken = c.in_ok-take.ensures.taken;
             nondecreasing = c.in_ok-take.ensures.nondecreasing;
             explains = subst (λ (ts : List TapFields). Explains fares c.loop.explainer ts
-                c.write_taps.new.explainer (GoesOut out waits after next)) c.deref.ensures.value
-                c.in_ok-write_taps.ensures.explained;
-            counted = omega (arith, less, long, here);
+                c.write_by_workers.new.explainer (GoesOut out waits after next))
+                c.deref.ensures.value c.in_ok-write_by_workers.ensures.explained;
           });
     }
 
@@ -99,21 +97,18 @@ returns-then-is_empty-clause-explained g c =
     let e = c.is_empty.ensures in
     let f = c.if-is_empty.true in
     let none : taps ≡ [] = nil_from_length taps (grind arith) in
-    takes_then fares known c.args.taker.now.merge.readers.items was is c.args.explainer.now
-    c.loop.explainer c.args.left.now c.loop.left (GoesOut begin text out waits)
-    (GoesOut out waits out waits) (GoesOut begin text out waits) c.loop.invariant.explained
-    (λ l m. goes_on begin out out text waits waits l m) c.loop.explainer c.loop.left
+    takes_then fares known c.args.taker.now.merge.readers.items was c.args.explainer.now
+    c.loop.explainer (GoesOut begin text out waits) (GoesOut out waits out waits)
+    (GoesOut begin text out waits) c.loop.invariant.explained
+    (λ l m. goes_on begin out out text waits waits l m) is c.loop.explainer
     (record {
       taps = taps;
-      goes_on = λ files are from before has. consumed_further files from was is before taps has
-          (c.in_ok-take.ensures.taken.taken files are);
-      named = c.in_ok-take.ensures.taken.named;
+      taken = c.in_ok-take.ensures.taken;
       nondecreasing = c.in_ok-take.ensures.nondecreasing;
       explains = subst (λ (ts : List TapFields). Explains fares c.loop.explainer ts
           c.loop.explainer (GoesOut out waits out waits)) (sym none)
           (explains_none fares c.loop.explainer (GoesOut out waits out waits)
           (goes_nothing out waits));
-      counted = let long = ap length none in omega (arith, long);
     })
 
 pub returns-in_err-take-clause-fault : goal.returns-in_err-take-clause-fault
@@ -121,11 +116,11 @@ returns-in_err-take-clause-fault g c =
     let p = err_from_is_err_and c.from_residual.result c.from_residual.ensures.1 in
     rw (p.1, p.2) (late_is_late c.in_err-take.field-0.0)
 
-pub returns-in_err-write_taps-clause-fault : goal.returns-in_err-write_taps-clause-fault
-returns-in_err-write_taps-clause-fault g c =
-    let p = err_from_is_err_and c.from_residual-in_err-write_taps.result
-    c.from_residual-in_err-write_taps.ensures.1 in
-    rw (p.1, p.2, c.in_err-write_taps.ensures.fault) (λ before. before)
+pub returns-in_err-write_by_workers-clause-fault : goal.returns-in_err-write_by_workers-clause-fault
+returns-in_err-write_by_workers-clause-fault g c =
+    let p = err_from_is_err_and c.from_residual-in_err-write_by_workers.result
+    c.from_residual-in_err-write_by_workers.ensures.1 in
+    rw (p.1, p.2, c.in_err-write_by_workers.ensures.fault) (λ before. before)
 
 -- ---- a beginning was written
 pub returns-in_err-take-clause-started : goal.returns-in_err-take-clause-started
@@ -133,51 +128,44 @@ returns-in_err-take-clause-started g c =
     let p = err_from_is_err_and c.from_residual.result c.from_residual.ensures.1 in
     rw (p.1) (has_taken c.args.table.now (map g.F.Placed.bytes c.args.files.now)
     c.args.taker.now.merge.readers.items c.loop.taker.merge.readers.items c.args.explainer.now
-    c.loop.explainer c.args.left.now c.loop.left _ _ c.loop.invariant.explained
+    c.loop.explainer _ _ c.loop.invariant.explained
     (λ l gone. gone_begins _ _ _ _ l gone))
 
 pub returns-then-number-left-clause-started : goal.returns-then-number-left-clause-started
 returns-then-number-left-clause-started g c =
     has_taken c.args.table.now (map g.F.Placed.bytes c.args.files.now)
     c.args.taker.now.merge.readers.items c.loop.taker.merge.readers.items c.args.explainer.now
-    c.loop.explainer c.args.left.now c.loop.left _ _ c.loop.invariant.explained
+    c.loop.explainer _ _ c.loop.invariant.explained
     (λ l gone. gone_begins _ _ _ _ l gone)
 
 pub returns-clause-started : goal.returns-clause-started
 returns-clause-started g c =
     has_taken c.args.table.now (map g.F.Placed.bytes c.args.files.now)
     c.args.taker.now.merge.readers.items c.loop.taker.merge.readers.items c.args.explainer.now
-    c.loop.explainer c.args.left.now c.loop.left _ _ c.loop.invariant.explained
+    c.loop.explainer _ _ c.loop.invariant.explained
     (λ l gone. gone_begins _ _ _ _ l gone)
 
-pub returns-in_err-write_taps-clause-started : goal.returns-in_err-write_taps-clause-started
-returns-in_err-write_taps-clause-started g c =
-    let p = err_from_is_err_and c.from_residual-in_err-write_taps.result
-    c.from_residual-in_err-write_taps.ensures.1 in
+pub returns-in_err-write_by_workers-clause-started : goal.returns-in_err-write_by_workers-clause-started
+returns-in_err-write_by_workers-clause-started g c =
+    let p = err_from_is_err_and c.from_residual-in_err-write_by_workers.result
+    c.from_residual-in_err-write_by_workers.ensures.1 in
     let fares = c.args.table.now in
     let known = map g.F.Placed.bytes c.args.files.now in
-    let taps = c.take.new.self.taps.items in
     let was = c.loop.taker.merge.readers.items in
-    let is = c.take.new.self.merge.readers.items in
     let begin = g.W.Write.contents c.args.out.now in
     let out = g.W.Write.contents c.loop.out in
-    let after = g.W.Write.contents c.write_taps.new.out in
+    let after = g.W.Write.contents c.write_by_workers.new.out in
     let text = string_bytes c.args.text.now in
     let waits = string_bytes c.loop.text in
-    rw (p.1) (taken_then fares known c.args.taker.now.merge.readers.items was is
-    c.args.explainer.now c.loop.explainer c.args.left.now c.loop.left
-    (GoesOut begin text out waits) (λ lines. Begins out after (waits ++ lines))
-    (λ lines. Begins begin after (text ++ lines)) c.loop.invariant.explained
-    (λ l m. goes_begins begin out after text waits l m) (record {
-      taps = taps;
-      goes_on = λ files are. (
-        is,
-        λ from before has. consumed_further files from was is before taps has
-            (c.in_ok-take.ensures.taken.taken files are),
-      );
-      named = c.in_ok-take.ensures.taken.named;
+    rw (p.1) (taken_then fares known c.args.taker.now.merge.readers.items was
+    c.args.explainer.now c.loop.explainer (GoesOut begin text out waits)
+    (λ lines. Begins out after (waits ++ lines)) (λ lines. Begins begin after (text ++ lines))
+    c.loop.invariant.explained (λ l m. goes_begins begin out after text waits l m) (record {
+      taps = c.take.new.self.taps.items;
+      readers = c.take.new.self.merge.readers.items;
+      taken = c.in_ok-take.ensures.taken;
       nondecreasing = c.in_ok-take.ensures.nondecreasing;
       lines = subst (λ (ts : List TapFields). HaveLines fares c.loop.explainer ts
           (λ lines. Begins out after (waits ++ lines))) c.deref.ensures.value
-          c.in_err-write_taps.ensures.started;
+          c.in_err-write_by_workers.ensures.started;
     }))

@@ -1,9 +1,14 @@
-use Rattle.std.proofs.Common.{List, All, sym, subst, arith, ◌∙◌, Vec, Global}
+-- The taps that were taken lie between the places of the spans.
+use Rattle.std.proofs.Common.{List, All, sym, subst, arith, ◌∙◌}
+use Rattle.std.proofs.lemmas.Result.{err_from_is_err_and}
 use Rattle.tap_views.specs.declared.token.Token.{Token}
 use Rattle.tap_views.specs.TokenOrder.{IsUpTo}
-use Rattle.sorted_taps.specs.Represents.{AreAlignedWith}
+use Rattle.sorted_taps.specs.Positions.{DoSpan}
+use Rattle.sorted_taps.specs.declared.positions.Position.{Position}
 use Rattle.sorted_taps.specs.declared.reader.TapReader.{TapReader}
-use Rattle.sorted_taps.proofs.Spans.{are_self_aligned}
+use Rattle.sorted_taps.proofs.Files.{known_number}
+use Rattle.sorted_taps.proofs.Placing.{taken_between}
+use Rattle.sorted_bills.proofs.Counted.{late_no_write, late_says_nothing}
 use Rattle.sorted_bills.proofs.Parts.{From, UpTo, nondecreasing_between}
 use Rattle.sorted_bills.proofs.part.part_of.Goals as goal
 
@@ -16,28 +21,37 @@ into_bill-requires g c =
     let few = made.few in
     (c.args.table.now, made.taps, made.bill_is, omega (arith, few))
 
-pub returns : goal.returns
-returns g c =
+pub returns-clause-part : goal.returns-clause-part
+returns-clause-part g c =
     let made = c.in_ok-charge.ensures.charged in
     let taps = made.taps in
     let from = c.new-so_far.result.replay.token in
     let between = nondecreasing_between from taps made.nondecreasing in
     let first = c.new-so_far.ensures.token in
     let last = c.token-last.ensures ∙ made.last in
-    let end = c.charge.new.taker.merge.readers in
+    let positions = c.in_ok-started.started.positions.items in
+    let begin = c.in_ok-started.started.taker.merge.readers.items in
+    let new = c.charge.new.taker.merge.readers.items in
+    let spans = c.in_ok-spans.spans.items in
     record {
       taps = taps;
-      spanned = λ files are. record {
-        from = c.in_ok-taker.taker.merge.readers.items;
-        begins = subst (λ (rs : List TapReader). AreAlignedWith rs c.in_ok-begin.begin.items)
-            c.readers.ensures c.in_ok-begin.ensures;
-        consumed = record {
-          to = end.items;
-          taken = made.taken.taken files are;
-          aligned = subst (λ (v : Vec TapReader Global). AreAlignedWith end.items v.items)
-              (sym c.into_readers-end.ensures) (are_self_aligned end.items);
-        };
-      };
+      in_files = λ files are.
+          let number = known_number g.F.Placed.bytes c.args.files.now files are in
+          let readers = c.in_ok-started.ensures.ready.readers in
+          let many = c.in_ok-spans.ensures.number in
+          let merged = taken_between files positions begin new spans taps
+          (omega (arith, number, readers)) (omega (arith, number, many))
+          (c.in_ok-started.ensures.placed files are) (made.taken.taken files are)
+          (subst (λ (rs : List TapReader). DoSpan files positions rs spans)
+          c.readers-readers.ensures
+          (subst (λ (ps : List Position). DoSpan files ps c.readers-readers.result.now spans)
+          c.deref.ensures.value (c.in_ok-spans.ensures.spanned files are))) in
+          record {
+            lists = merged.lists;
+            spanned = merged.spanned;
+            counted = c.in_ok-numbers.ensures ∙ merged.counted;
+            canonical = merged.canonical;
+          };
       named = made.taken.named;
       bill_is = c.in_ok-bill.ensures c.args.table.now taps made.bill_is;
       range = subst (λ (t : Token). IsUpTo t c.token-last.result) first
@@ -46,3 +60,28 @@ returns g c =
       up = subst (λ (t : Token). All (UpTo t) taps) (sym last) between.1;
       few = made.few;
     }
+
+-- ---- faults
+pub returns-in_err-started-clause-fault : goal.returns-in_err-started-clause-fault
+returns-in_err-started-clause-fault g c =
+    let p = err_from_is_err_and c.from_residual-in_err-started.result
+    c.from_residual-in_err-started.ensures.1 in
+    rw (p.1, p.2) (λ all. late_says_nothing all c.in_err-started.field-0.0)
+
+pub returns-in_err-started-clause-unwritten : goal.returns-in_err-started-clause-unwritten
+returns-in_err-started-clause-unwritten g c =
+    let p = err_from_is_err_and c.from_residual-in_err-started.result
+    c.from_residual-in_err-started.ensures.1 in
+    rw (p.1, p.2) (late_no_write c.in_err-started.field-0.0)
+
+pub returns-in_err-numbers-clause-fault : goal.returns-in_err-numbers-clause-fault
+returns-in_err-numbers-clause-fault g c =
+    let p = err_from_is_err_and c.from_residual-in_err-numbers.result
+    c.from_residual-in_err-numbers.ensures.1 in
+    rw (p.1, p.2) (λ all. tt)
+
+pub returns-in_err-bill-clause-fault : goal.returns-in_err-bill-clause-fault
+returns-in_err-bill-clause-fault g c =
+    let p = err_from_is_err_and c.from_residual-in_err-bill.result
+    c.from_residual-in_err-bill.ensures.1 in
+    rw (p.1, p.2) (λ all. tt)

@@ -15,9 +15,8 @@ use Rattle.sorted_taps.specs.declared.positions.FileSpan.{FileSpan}
 use Rattle.sorted_taps.specs.declared.positions.Position.{Position}
 use Rattle.sorted_taps.specs.declared.reader.TapReader.{TapReader}
 use Rattle.sorted_taps.proofs.Files.{known_number}
-use Rattle.sorted_taps.proofs.Placing.{span_alike, taken_between}
+use Rattle.sorted_taps.proofs.Placing.{taken_between}
 use Rattle.sorted_bills.proofs.Counted.{late_is_no_fault, late_no_write, late_says_nothing}
-use Rattle.sorted_bills.proofs.Explained.{consumed_none}
 use Rattle.sorted_bills.proofs.part_ledger.write_part_ledger.Goals as goal
 
 pub explain_below-requires-clause-room : goal.explain_below-requires-clause-room
@@ -25,7 +24,7 @@ explain_below-requires-clause-room g c =
     let none = c.of-explainer.ensures.none in omega (arith, none)
 
 pub explain_below-requires-clause-consumed : goal.explain_below-requires-clause-consumed
-explain_below-requires-clause-consumed g c = (
+explain_below-requires-clause-consumed g c κs within = (
   [],
   consumed_first c.args.table.now c.of-explainer.result
       (c.of-explainer.ensures.explained c.args.table.now),
@@ -49,32 +48,26 @@ returns-clause-ok g c =
     let history = posted fares explained.taps in (
       head_text ++ lines,
       λ all known.
-          let way = explained.goes_on all known begin [] (consumed_none all begin) in
           let number = known_number g.F.Placed.bytes c.args.files.now all known in
           let readers = c.in_ok-started.ensures.ready.readers in
-          let after = c.in_ok-explain_below.ensures.ready.readers in
-          let aligned = way.aligned.number in
           let many = c.in_ok-made.ensures.number in
           let made = c.in_ok-made.made.items in
           let ends : DoSpan all positions end made =
           subst (λ (rs : List TapReader). DoSpan all positions rs made) c.readers-readers.ensures
           (subst (λ (ps : List Position). DoSpan all ps c.readers-readers.result.now made)
           c.deref.ensures.value (c.in_ok-made.ensures.spanned all known)) in
-          let between = taken_between all positions begin way.to spans explained.taps
+          let between = taken_between all positions begin end spans explained.taps
           (omega (arith, number, readers))
           (ap length (sym same) ∙ many ∙ number)
-          (c.in_ok-started.ensures.placed all known) way.taken
-          (subst (λ (ss : List FileSpan). DoSpan all positions way.to ss) same
-          (span_alike all positions way.to end made way.aligned
-          (omega (arith, aligned, after, many))
-          ends)) in (
+          (c.in_ok-started.ensures.placed all known) (explained.taken.taken all known)
+          (subst (λ (ss : List FileSpan). DoSpan all positions end ss) same ends) in (
             between.lists,
             history,
             record {
               taps = explained.taps;
               spanned = between.spanned;
               canonical = between.canonical;
-              named = explained.named;
+              named = explained.taken.named;
               posted_are = refl;
             },
             ledger_along fares history lines

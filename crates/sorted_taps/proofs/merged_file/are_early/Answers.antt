@@ -3,7 +3,7 @@ use Rattle.std.proofs.lemmas.List.{take_all}
 use Rattle.std.proofs.lemmas.List.Elements.{All-more}
 use Rattle.tap_views.specs.Layout.{moment_limit}
 use Rattle.tap_views.specs.declared.encoder.TapFields.{TapFields}
-use Rattle.sorted_taps.specs.inside.Runs.{no_tap}
+use Rattle.sorted_taps.specs.inside.Limits.{no_tap}
 use Rattle.sorted_taps.proofs.merged_file.are_early.Goals as goal
 
 abbrev Early : TapFields → Type 0

@@ -1,4 +1,4 @@
-use Rattle.std.proofs.Common.{◌≡◌, ◌≢◌, List, [], ◌++◌, ap, sym, ◌∙◌, subst, refl, arith}
+use Rattle.std.proofs.Common.{◌≡◌, ◌≢◌, [], ◌++◌, ap, append-nil, sym, ◌∙◌, subst, refl, arith}
 use Rattle.std.proofs.Common.{vec_len}
 use Rattle.std.proofs.lemmas.Bool.{eqb-true}
 use Rattle.std.proofs.lemmas.List.{nil_from_length}
@@ -8,10 +8,8 @@ use Rattle.sorted_taps.specs.Written.{IsPartlyWritten}
 use Rattle.sorted_taps.specs.declared.merged_file.MergeStop.TheVariants.{Write}
 use Rattle.sorted_taps.specs.inside.Waiting.{HasPut}
 use Rattle.sorted_taps.proofs.Putting.{if_any, may_wait_none, put_none}
-use Rattle.sorted_taps.proofs.Spans.{taken_append}
-use Rattle.sorted_taps.proofs.Taking.{taken_merged}
+use Rattle.sorted_taps.proofs.Taking.{taken_append, taken_merged, taken_none}
 use Rattle.sorted_taps.specs.Merges.{AreTaken}
-use Rattle.tap_views.specs.declared.encoder.TapFields.{TapFields}
 use Rattle.sorted_taps.proofs.merged_file.write_merged.Goals as goal
 
 pub returns-in_err-stamps-clause-started : goal.returns-in_err-stamps-clause-started
@@ -39,12 +37,12 @@ loop-init g c =
     record {
       room = omega (arith, long, room);
       readers = c.in_ok-merge.ensures.number;
-      ranked = c.in_ok-merge.ensures.ranked;
       may_wait = may_wait_none waiting none;
       taps = [];
       put = subst (λ l. HasPut old old [] l) (sym none) (put_none old);
       taken = λ all are.
-          (c.in_ok-merge.merge.readers.items, c.in_ok-merge.ensures.started all are, refl);
+          (c.in_ok-merge.merge.readers.items, c.in_ok-merge.ensures.started all are,
+          taken_none all c.in_ok-merge.merge.readers.items);
     }
 
 pub returns-in_err-run-clause-started : goal.returns-in_err-run-clause-started
@@ -52,9 +50,9 @@ returns-in_err-run-clause-started g c =
     if_any _ c.from_residual-in_err-run.result
     (λ stop is. (put_none (g.W.Write.contents c.args.out.now)).part)
 
-pub returns-in_err-take_run-clause-started : goal.returns-in_err-take_run-clause-started
-returns-in_err-take_run-clause-started g c =
-    if_any _ c.from_residual-in_err-take_run.result (λ stop is. c.loop.invariant.put.part)
+pub returns-in_err-take-clause-started : goal.returns-in_err-take-clause-started
+returns-in_err-take-clause-started g c =
+    if_any _ c.from_residual-in_err-take.result (λ stop is. c.loop.invariant.put.part)
 
 pub returns-in_err-numbers-clause-started : goal.returns-in_err-numbers-clause-started
 returns-in_err-numbers-clause-started g c =
@@ -88,20 +86,16 @@ returns-then-is_empty-clause-merged g c = λ all are.
     let here = g.W.Write.contents c.loop.out in
     let taps = c.loop.invariant.taps in
     let mid = c.loop.merge.readers.items in
-    let new = c.take_run.new.self.readers.items in
-    let run = c.take_run.new.taps in
-    let takes = c.in_ok-take_run.ensures.taken in
-    let cleared = c.clear.ensures.items in
-    let is : run.items ≡ takes.more =
-    takes.items ∙ ap (λ (l : List TapFields). l ++ takes.more) cleared in
+    let new = c.take.new.self.readers.items in
+    let run = c.take.new.taps in
     let zero : vec_len run ≡ 0 = eqb-true (vec_len run) 0 (sym c.is_empty.ensures ∙ c.if-is_empty.true) in
     let none : run.items ≡ [] = nil_from_length run.items (grind arith) in
     let (started, earlier, taken) = c.loop.invariant.taken all are in
-    let still : AreTaken all mid [] new =
-    subst (λ (ts : List TapFields). AreTaken all mid ts new) (sym is ∙ none) (takes.taken all are) in
-    let end = c.in_ok-take_run.ensures.end refl (none ∙ sym cleared) in
+    let both = taken_append all started mid new taps run.items taken
+    (c.in_ok-take.ensures.taken all are) in
     let merged = taken_merged all started new taps earlier
-    (subst (λ rs. AreTaken all started taps rs) still taken) end in
+    (subst (λ ts. AreTaken all started ts new) (ap (λ ts. taps ++ ts) none ∙ append-nil taps) both)
+    (c.in_ok-take.ensures.end refl none) in
     record {
       lists = merged.lists;
       sorted = merged.sorted;
@@ -117,17 +111,13 @@ loop-preserved g c =
     let old = g.W.Write.contents c.args.out.now in
     let taps = c.loop.invariant.taps in
     let mid = c.loop.merge.readers.items in
-    let new = c.take_run.new.self.readers.items in
-    let run = c.take_run.new.taps in
-    let takes = c.in_ok-take_run.ensures.taken in
-    let is : run.items ≡ takes.more =
-    takes.items ∙ ap (λ (l : List TapFields). l ++ takes.more) c.clear.ensures.items in
-    let long = c.take_run.auto.window in
+    let new = c.take.new.self.readers.items in
+    let run = c.take.new.taps in
+    let long = c.take.auto.window in
     let room = c.loop.invariant.room in
     record {
       room = omega (arith, long, room);
-      readers = c.in_ok-take_run.ensures.number;
-      ranked = c.in_ok-take_run.ensures.ranked;
+      readers = c.in_ok-take.ensures.number;
       may_wait = c.in_ok-put_all.ensures.waiting;
       taps = taps ++ run.items;
       put = rw c.deref-in-loop-2.ensures.value at
@@ -137,7 +127,6 @@ loop-preserved g c =
             started,
             earlier,
             taken_append all started mid new taps run.items taken
-                (subst (λ (ts : List TapFields). AreTaken all mid ts new) (sym is)
-                (takes.taken all are)),
+                (c.in_ok-take.ensures.taken all are),
           );
     }

@@ -1,6 +1,5 @@
 use Rattle.std.proofs.Common.{◌≡◌, ◌≤◌, List, ℕ, Some, map, length}
 use Rattle.tap_views.specs.declared.encoder.TapFields.{TapFields}
-use Rattle.sorted_taps.specs.Heads.{IsRanked}
 use Rattle.sorted_taps.specs.Merges.{AreStarted, AreTaken}
 use Rattle.sorted_taps.specs.Reading.{window_bytes}
 use Rattle.sorted_taps.specs.declared.reader.TapReader.{TapReader}
@@ -11,7 +10,6 @@ abbrev pub invariant-loop : goal.invariant-loop
 invariant-loop g l = record {
   room : window_bytes ≤ length l.window;
   readers : length l.merge.readers.items ≡ length l.files;
-  ranked : IsRanked l.merge.readers.items l.merge.heads.items;
   may_wait : MayWait l.waiting.items;
   taps : List TapFields;
   put : HasPut (g.W.Write.contents l.fn.out) (g.W.Write.contents l.out) taps l.waiting.items;

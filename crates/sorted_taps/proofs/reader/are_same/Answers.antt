@@ -2,7 +2,7 @@ use Rattle.std.proofs.Common.{◌≡◌, ◌<◌, ◌∙◌, arith, below_more, 
 use Rattle.std.proofs.lemmas.List.{get_or_default, same_lists}
 use Rattle.tap_views.specs.declared.encoder.TapFields.{TapFields}
 use Rattle.tap_parts.proofs.Total.{tap_cmp_exact}
-use Rattle.sorted_taps.specs.inside.Runs.{no_tap}
+use Rattle.sorted_taps.specs.inside.Limits.{no_tap}
 use Rattle.sorted_taps.proofs.reader.are_same.Goals as goal
 
 pub loop-at-preserved : goal.loop-at-preserved

@@ -1,13 +1,14 @@
 use Rattle.std.proofs.Common.{◌∙◌, ap, refl, sym}
 use Rattle.recorded_lines.specs.Texts.{calls_of, left}
 use Rattle.ledger_changes.specs.Ledgers.{rows_of}
-use Rattle.ledger_changes.proofs.Walking.{all_left, stops_new, stops_old, walk_first}
+use Rattle.ledger_changes.specs.declared.fault.Bill.TheVariants.{New, Old}
+use Rattle.ledger_changes.proofs.Walking.{all_left, stops, walk_first}
 use Rattle.ledger_changes.proofs.changes.Corrections.begin.Goals as goal
 
 pub returns-in-Err-clause-wrong : goal.returns-in-Err-clause-wrong
 returns-in-Err-clause-wrong c =
     let old = c.args.self.now.old in
-    stops_old c.in-Err.fault old.bill (calls_of c.begin.new.self.from)
+    stops c.in-Err.fault Old (calls_of c.begin.new.self.from)
     (calls_of c.args.self.now.new.from) (λ whole. rows_of (left old.from whole))
     c.requires.of_old c.in-Err.ensures.wrong (λ whole can wrong is.
     ap rows_of (sym (all_left old.from whole c.requires.fresh_old)) ∙ is)
@@ -15,7 +16,7 @@ returns-in-Err-clause-wrong c =
 pub returns-in-Err-begin-clause-wrong : goal.returns-in-Err-begin-clause-wrong
 returns-in-Err-begin-clause-wrong c =
     let new = c.args.self.now.new in
-    stops_new c.in-Err-begin.fault new.bill (calls_of c.begin.new.self.from)
+    stops c.in-Err-begin.fault New (calls_of c.begin.new.self.from)
     (calls_of c.begin-2.new.self.from) (λ whole. rows_of (left new.from whole))
     c.requires.of_new c.in-Err-begin.ensures.wrong (λ whole can wrong is.
     ap rows_of (sym (all_left new.from whole c.requires.fresh_new)) ∙ is)

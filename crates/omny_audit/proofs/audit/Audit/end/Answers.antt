@@ -60,8 +60,8 @@ returns-clause-ended c = λ valid file before has.
             found.2.sums (and_parts legal right (sym whole ∙ yes)).0 entries of));
         shown = ap (λ (t : List ℕ). before ++ t)
             (c.in_ok-write_last_lines.ensures ∙ ap (λ (t : List ℕ). t ++ last)
-            (columns.1 ∙ ap (λ (t : List ℕ). t ++ columns.0)
-            (ap (λ (v : Vec ℕ Global). v.items) c.into_bytes-text.ensures.value ∙ found.1))
+            (ap (λ (v : Vec ℕ Global). v.items) c.into_bytes-text.ensures.value ∙ columns.1
+            ∙ ap (λ (t : List ℕ). t ++ columns.0) found.1)
             ∙ append_assoc (string_bytes c.args.reported ++ found.0) columns.0 last
             ∙ append_assoc (string_bytes c.args.reported) found.0 (columns.0 ++ last))
             ∙ sym (append_assoc before (string_bytes c.args.reported)

@@ -1,34 +1,26 @@
-use Rattle.std.proofs.Common.{◌∙◌, ◌++◌, Option, subst, sym}
-use Rattle.omny_audit.specs.declared.traced.TracedPieces.{TracedPieces}
-use Rattle.omny_audit.specs.inside.Traced.{HasReadAs}
-use Rattle.omny_audit.proofs.Audits.{given_traced}
+use Rattle.std.proofs.Common.{◌++◌, List, subst, ℕ}
+use Rattle.omny_audit.specs.inside.Checks.{HasChecked}
+use Rattle.omny_audit.proofs.Audits.{given_kept}
 use Rattle.omny_audit.proofs.audit.Audit.read.Goals as goal
 
-pub take-requires : goal.take-requires
-take-requires c = let has = c.requires.3 in (
-  c.requires.0,
-  has.text,
-  c.requires.2,
-  record { clock = has.taken.clock; checked = has.taken.checked },
-)
+pub feed-requires-clause-fed : goal.feed-requires-clause-fed
+feed-requires-clause-fed c = (c.requires.0, c.requires.3.text, c.requires.2, c.requires.3.checked)
 
 pub returns : goal.returns
 returns c = λ valid file written has.
     let audit = c.args.self.now in
     let text = c.read_piece.new.text in
-    let trace = c.read_piece.new.trace in
-    let taken = c.in_ok-take.ensures.taken valid has.text written (record {
-      clock = has.taken.clock;
-      checked = has.taken.checked;
-    }) in (
-      taken.0,
-      taken.1,
-      taken.2 ∙ given_traced audit trace text valid c.read_piece.ensures.wanted,
+    let check = c.feed.new.self in
+    let fed = c.in_ok-feed.ensures.fed valid has.text written has.checked in (
+      fed.0,
+      fed.1,
+      given_kept audit check c.read_piece.new.trace text valid c.feed.ensures.all
+          c.read_piece.ensures.wanted,
       record {
+        clock = has.clock;
         text = has.text ++ text.items;
-        as_text = subst (λ (t : Option TracedPieces). HasReadAs t (file ++ c.args.piece.now)
-            (has.text ++ text.items)) (sym c.take.ensures.trace)
-            (c.in_ok-read_piece.ensures.read file has.text has.as_text);
-        taken = taken.3;
+        as_text = c.in_ok-read_piece.ensures.read file has.text has.as_text;
+        checked = subst (λ (t : List ℕ). HasChecked audit.table.now audit.subtracts valid check
+            (has.text ++ t) (written ++ fed.0)) c.as_slice-text.ensures.value fed.2;
       },
     )

@@ -3,7 +3,7 @@ use Rattle.std.proofs.Common.{drop, length-drop, sym, ap, arith}
 use Rattle.std.specs.Prelude.{nat_lt}
 use Rattle.std.proofs.lemmas.Bool.Decides.{nat_tests}
 use Rattle.std.proofs.lemmas.List.{take_all}
-use Rattle.line_forms.specs.Numbers.{with_rest}
+use Rattle.line_forms.specs.Forms.{with_rest}
 use Rattle.report_texts.specs.Forms.{token_in}
 use Rattle.report_texts.proofs.forms.TokenDigitsFormOf.read.Goals as goal
 

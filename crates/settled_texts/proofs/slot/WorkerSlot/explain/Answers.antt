@@ -23,8 +23,8 @@ explain_taps-requires-clause-may c =
       room = omega (arith, none);
     }
 
-pub returns : goal.returns
-returns c = λ whole.
+pub returns-clause-whole : goal.returns-clause-whole
+returns-clause-whole c = λ whole.
     let fares = c.args.table.now in
     let list = c.args.list.now in
     let its = c.of-self.ensures.token in

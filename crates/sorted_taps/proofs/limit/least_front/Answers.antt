@@ -1,0 +1,29 @@
+use Rattle.std.proofs.Common.{◌-◌, length, subst, sym, ◌∙◌}
+use Rattle.std.specs.Prelude.{IfSome, None, Option, Some}
+use Rattle.std.proofs.lemmas.Option.{get_or_from_slice_get}
+use Rattle.tap_parts.specs.Keys.{tap_of_key}
+use Rattle.sorted_taps.specs.Merged.{IsNotBefore}
+use Rattle.sorted_taps.specs.declared.limit.Front.{Front}
+use Rattle.sorted_taps.proofs.Joining.{not_before_self}
+use Rattle.sorted_taps.proofs.limit.least_front.Goals as goal
+
+kept : (front : Option Front) → IfSome front
+    (λ least. IfSome front (λ front. IsNotBefore (tap_of_key least.last) (tap_of_key front.last)))
+kept None = tt
+kept (Some front) = not_before_self (tap_of_key front.last)
+
+pub returns-in_default-2-clause-kept : goal.returns-in_default-2-clause-kept
+returns-in_default-2-clause-kept c = kept c.args.front
+
+pub returns-in-None-clause-last : goal.returns-in-None-clause-last
+returns-in-None-clause-last c = λ d some.
+    subst (IsNotBefore (tap_of_key c.of-other.result.last))
+    (c.of-other.ensures ∙ sym (get_or_from_slice_get c.args.ahead.now (length c.args.ahead.now - 1)
+    c.in-Some-Some.last.now d (sym c.in-Some-Some.ensures'.value)))
+    (not_before_self (tap_of_key c.of-other.result.last))
+
+pub returns-in-Some-clause-last : goal.returns-in-Some-clause-last
+returns-in-Some-clause-last c = λ d some.
+    subst (IsNotBefore (tap_of_key c.least.result.last))
+    (c.of-other.ensures ∙ sym (get_or_from_slice_get c.args.ahead.now (length c.args.ahead.now - 1)
+    c.in-Some-Some.last.now d (sym c.in-Some-Some.ensures'.value))) c.least.ensures.other

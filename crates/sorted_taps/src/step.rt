@@ -1,0 +1,119 @@
+//! A step of a merge: taps up to a limit, of all readers.
+
+ghost use Rattle.std.specs.Prelude.{◌≡◌, ◌≤◌, List, None, OnOk, drop, length, map, take};
+ghost use Rattle.tap_parts.specs.Canonical.{IsCanonical};
+ghost use Rattle.tap_parts.specs.Keys.{tap_of_key};
+ghost use Rattle.sorted_taps.specs.Merges.{AreAtEnd};
+ghost use Rattle.sorted_taps.specs.Reading.{window_bytes};
+ghost use Rattle.sorted_taps.specs.inside.Limits.{IsRunUpTo, IsSortedFrom, TakeUpTo, TakesTaps};
+ghost use Rattle.sorted_taps.specs.inside.Limits.{TakesUpTo};
+
+use crate::fault::SortedFault;
+use crate::limit::front_of;
+use crate::reader::TapReader;
+use placed_files::Placed;
+use tap_parts::{TapKey, is_before, sort};
+use tap_views::{TapFields, Token};
+
+/// How many taps in front are in order, and not after the limit.
+fn run_length(ahead: &[TapFields], limit: TapKey) -> usize
+    ensures { IsRunUpTo (tap_of_key limit) ahead.now result }
+{
+    let Some(first) = ahead.first() else {
+        return 0;
+    };
+    if limit.is_before(TapKey::of(first)) {
+        return 0;
+    }
+    for position in 1..ahead.len() {
+        let tap = &ahead[position];
+        if limit.is_before(TapKey::of(tap)) {
+            return position;
+        }
+        if is_before(tap, &ahead[position - 1]) {
+            return position;
+        }
+    }
+    ahead.len()
+}
+
+/// The reader passes its run of taps up to the limit, and reads on after its last tap in memory.
+fn take_run<F: Placed>(
+    reader: &mut TapReader,
+    file: &F,
+    window: &mut [u8],
+    limit: TapKey,
+    taps: &mut Vec<TapFields>,
+) -> Result<(), SortedFault>
+    requires window { window_bytes ≤ length window.old }
+    ensures { OnOk result (TakesUpTo (F.bytes file.now) (tap_of_key limit) reader.old
+        taps.old.items taps.new.items reader.new) }
+{
+    let waiting = reader.ahead();
+    let number = run_length(waiting, limit);
+    if number == 0 {
+        return Ok(());
+    }
+    let run = &waiting[..number];
+    taps.extend_from_slice(run)?;
+    reader.pass(number - 1)?;
+    reader.advance(file, window)
+}
+
+fn take_runs<F: Placed>(
+    readers: &mut [TapReader],
+    files: &[F],
+    window: &mut [u8],
+    limit: TapKey,
+    taps: &mut Vec<TapFields>,
+) -> Result<(), SortedFault>
+    requires window { window_bytes ≤ length window.old }
+    requires files { length readers.old ≡ length files.now }
+    ensures { OnOk result (TakeUpTo (map F.bytes files.now) (tap_of_key limit) readers.old
+        taps.old.items taps.new.items readers.new) }
+{
+    for at in 0..readers.len() {
+        let reader = &mut readers[at];
+        take_run(reader, &files[at], window, limit, taps)?;
+    }
+    Ok(())
+}
+
+fn sort_from(taps: &mut Vec<TapFields>, begin: usize)
+    requires { begin ≤ length taps.old.items }
+    ensures { IsSortedFrom begin taps.old.items taps.new.items }
+{
+    sort(&mut taps[begin..]);
+}
+
+/// Takes the taps of the least token, of all files, or of several tokens, but for those after which
+/// a reader has others to read. Without a bound it takes none only at the ends of all files.
+pub(crate) fn take_step<F: Placed>(
+    readers: &mut [TapReader],
+    files: &[F],
+    window: &mut [u8],
+    below: Option<Token>,
+    taps: &mut Vec<TapFields>,
+) -> Result<(), SortedFault>
+    requires window { window_bytes ≤ length window.old }
+    requires files { length readers.old ≡ length files.now }
+    ensures taken { OnOk result (TakesTaps (map F.bytes files.now) readers.old taps.old.items
+        taps.new.items readers.new) }
+    ensures end { OnOk result (below ≡ None → taps.new.items ≡ taps.old.items
+        → AreAtEnd readers.new) }
+{
+    let Some(front) = front_of(readers) else {
+        return Ok(());
+    };
+    if !front.is_below(below) {
+        return Ok(());
+    }
+    let before = taps.len();
+    take_runs(readers, files, window, front.limit(files.len(), below), taps)?;
+    // proof: the reader of the least token has a tap that is not after the limit
+    if taps.len() == before {
+        return Err(SortedFault::Unread);
+    }
+    sort_from(taps, before);
+    Ok(())
+}
