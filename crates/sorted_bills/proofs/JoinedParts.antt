@@ -9,7 +9,8 @@ use Rattle.std.specs.Cmp.Lexicographic.{slice_cmp}
 use Rattle.std.specs.declared.cmp.Ordering.TheVariants.{Less, Greater}
 use Rattle.std.proofs.Math.Seq.{drop-length}
 use Rattle.std.proofs.lemmas.Cmp.{nat_list_cmp_total}
-use Rattle.std.proofs.lemmas.List.Elements.{All-append, All-cons, All-head, All-nil, All-tail}
+use Rattle.std.proofs.lemmas.List.Elements.{All-append, All-cons, All-head, All-map, All-nil}
+use Rattle.std.proofs.lemmas.List.Elements.{All-tail}
 use Rattle.std.proofs.lemmas.List.Sorted.{IsPermutation-append, IsPermutation-append_right}
 use Rattle.std.proofs.lemmas.List.Sorted.{IsPermutation-refl, IsPermutation-trans}
 use Rattle.tariffs.specs.Fares.{Fares}
@@ -41,7 +42,7 @@ use Rattle.sorted_bills.specs.Parts.{ArePartsOf, AreIncreasing, IsPartOf, PartVi
 use Rattle.sorted_bills.specs.Parts.{numbers_of_parts}
 use Rattle.sorted_bills.specs.inside.Charged.{HaveTaps, joined_spans}
 use Rattle.sorted_bills.proofs.Counted.{plain_ends}
-use Rattle.sorted_bills.proofs.Settled.{settled_list}
+use Rattle.sorted_bills.proofs.Settled.{files_more, settled_list}
 
 -- the taps of all lists
 abbrev all_of : List (List TapFields) → List TapFields
@@ -148,28 +149,6 @@ lower_first a b of_a of_b less =
     ap (λ r. is_lt (ordering_then r (ordering_then (nat_cmp b.moment a.moment)
     (nat_cmp b.validator a.validator)))) greater
 
-all_lower : (a : TapFields) (others : List TapFields) → HasName a → All HasName others
-    → All (λ (b : TapFields). token_cmp (token_of_tap a) (token_of_tap b) ≡ Less) others
-    → All (IsNotBefore a) others
-all_lower a [] of_a named below = All-nil (IsNotBefore a)
-all_lower a (b ∷ others) of_a named below =
-    let P : TapFields → Type 0 = λ t. token_cmp (token_of_tap a) (token_of_tap t) ≡ Less in
-    All-cons (IsNotBefore a) b others
-    (lower_first a b of_a (All-head HasName b others named) (All-head P b others below))
-    (all_lower a others of_a (All-tail HasName b others named) (All-tail P b others below))
-
-each_lower : (taps others : List TapFields) → All HasName taps → All HasName others
-    → All (λ (a : TapFields). All (λ (b : TapFields).
-    token_cmp (token_of_tap a) (token_of_tap b) ≡ Less) others) taps
-    → All (λ a. All (IsNotBefore a) others) taps
-each_lower [] others of_taps named below = All-nil (λ a. All (IsNotBefore a) others)
-each_lower (a ∷ taps) others of_taps named below =
-    let P : TapFields → Type 0 = λ t. All (λ (b : TapFields).
-    token_cmp (token_of_tap t) (token_of_tap b) ≡ Less) others in
-    All-cons (λ t. All (IsNotBefore t) others) a taps
-    (all_lower a others (All-head HasName a taps of_taps) named (All-head P a taps below))
-    (each_lower taps others (All-tail HasName a taps of_taps) named (All-tail P a taps below))
-
 -- the taps of both, if the tokens of the first are below those of the second
 canonical_both : (lists others : List (List TapFields)) (taps more : List TapFields)
     → IsCanonical (all_of lists) taps → IsCanonical (all_of others) more → All HasName taps
@@ -179,8 +158,9 @@ canonical_both lists others taps more one next named other below = record {
   moved = IsPermutation-trans (all_of (joined lists others)) (all_of lists ++ all_of others)
       (taps ++ more) (joined_moved lists others)
       (IsPermutation-append (all_of lists) taps (all_of others) more one.moved next.moved);
-  sorted = sorted_across taps more (each_lower taps more named other (to_taps taps more below))
-      one.sorted next.sorted;
+  sorted = sorted_across taps more (λ j d inside k e within.
+      lower_first (get_or taps j d) (get_or more k e) (named j d inside) (other k e within)
+      (to_taps taps more below j d inside k e within)) one.sorted next.sorted;
 }
 
 pub both_have : (files : List (List ℕ)) (spans others : List FileSpan) (numbers counts : List ℕ)
@@ -213,18 +193,7 @@ file_of_span file span list is begin end =
       sorted = is.sorted [] none;
     })
 
--- a file more in front
-files_more : (file : List ℕ) (files : List (List ℕ)) (list : List TapFields)
-    (lists : List (List TapFields)) → IsSortedFile file list → AreSortedFiles files lists
-    → AreSortedFiles (file ∷ files) (list ∷ lists)
-files_more file files list lists first rest = record { number = ap suc rest.number; each = at }
-  where
-    at : (k : ℕ) → k < length (file ∷ files)
-        → IsSortedFile (get_or (file ∷ files) k []) (get_or (list ∷ lists) k [])
-    at zero inside = first
-    at (suc k) inside = rest.each k (omega (arith, inside))
-
-pub whole_files : (files : List (List ℕ)) (spans : List FileSpan) (lists : List (List TapFields))
+whole_files : (files : List (List ℕ)) (spans : List FileSpan) (lists : List (List TapFields))
     → AreSpanned files spans lists → All (λ begin. begin ≡ Some first_position) (begins_of spans)
     → All (λ end. end ≡ None) (ends_of spans) → AreSortedFiles files lists
 whole_files [] [] [] spanned begins ends =
@@ -234,13 +203,20 @@ whole_files [] (span ∷ spans) lists spanned begins ends = absurd spanned
 whole_files (file ∷ files) [] lists spanned begins ends = absurd spanned
 whole_files (file ∷ files) (span ∷ spans) [] spanned begins ends = absurd spanned
 whole_files (file ∷ files) (span ∷ spans) (list ∷ lists) (first, more) begins ends =
-    let P : Option Position → Type 0 = λ begin. begin ≡ Some first_position in
-    let Q : Option Position → Type 0 = λ end. end ≡ None in
     files_more file files list lists
-    (file_of_span file span list first (All-head P (Some span.from) (begins_of spans) begins)
-    (All-head Q span.to (ends_of spans) ends))
-    (whole_files files spans lists more (All-tail P (Some span.from) (begins_of spans) begins)
-    (All-tail Q span.to (ends_of spans) ends))
+    (file_of_span file span list first (begins zero None (omega arith)) (ends zero None (omega arith)))
+    (whole_files files spans lists more (λ k d inside. begins (suc k) d (omega (arith, inside)))
+    (λ k d inside. ends (suc k) d (omega (arith, inside))))
+
+-- each of the spans is all of its file
+pub whole_spans : (files : List (List ℕ)) (spans : List FileSpan) (lists : List (List TapFields))
+    → AreSpanned files spans lists → All (λ (span : FileSpan). span.from ≡ first_position) spans
+    → All (λ (span : FileSpan). span.to ≡ None) spans → AreSortedFiles files lists
+whole_spans files spans lists spanned begins ends =
+    whole_files files spans lists spanned
+    (All-map (λ begin. begin ≡ Some first_position) (λ (span : FileSpan). Some span.from) spans
+    (λ k d inside. ap Some (begins k d inside)))
+    (All-map (λ end. end ≡ None) (λ (span : FileSpan). span.to) spans ends)
 
 -- ---- some parts
 abbrev IsPart : Fares → List (List ℕ) → PartView → Type 0
