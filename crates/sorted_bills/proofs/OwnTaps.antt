@@ -1,6 +1,6 @@
 -- The taps of one token, collected from sorted files.
 use Rattle.std.proofs.Common.{◌≡◌, ℕ, zero, suc, ◌+◌, ◌<◌, Bool, true, false, List, [], ◌∷◌, ◌++◌, All}
-use Rattle.std.proofs.Common.{length, map, take, get_or, flat_map, cond, refl, sym, ap, subst, ◌∙◌}
+use Rattle.std.proofs.Common.{length, map, take, get_or, cond, refl, sym, ap, subst, ◌∙◌}
 use Rattle.std.proofs.Common.{append-nil, option_map, Option, None, Some, arith, length-take-le}
 use Rattle.std.specs.Prelude.{slice_get}
 use Rattle.std.proofs.lemmas.List.{get_or-take, map-append, take_more}
@@ -22,13 +22,13 @@ use Rattle.settlement.proofs.Ranges.{has_token_bytes}
 use Rattle.settlement.proofs.SettledOrders.{own_settled}
 use Rattle.sorted_taps.specs.Checked.{AreCountedFiles, IsFirstFault}
 use Rattle.sorted_taps.specs.Merges.{AreSortedFiles}
-use Rattle.sorted_taps.specs.Readers.{ahead, IsAdvanced, IsPositionedIn}
+use Rattle.sorted_taps.specs.Readers.{ahead, IsPassed, IsPositionedIn}
 use Rattle.sorted_taps.specs.Sorted.{IsSortedFault, IsSortedFile}
 use Rattle.sorted_taps.specs.declared.fault.FileFault.{FileFault}
 use Rattle.sorted_taps.specs.declared.reader.TapReader.{TapReader}
 use Rattle.sorted_taps.proofs.Files.{known_number}
-use Rattle.sorted_taps.proofs.Standing.{sorted_at_end, holds_on}
-use Rattle.sorted_taps.proofs.Taking.{all_of, same_head}
+use Rattle.sorted_taps.proofs.Standing.{positioned_further, sorted_at_end}
+use Rattle.sorted_taps.proofs.Taking.{all_of}
 use Rattle.sorted_bills.specs.declared.own_by_threads.OwnTaps.{OwnTaps}
 use Rattle.sorted_bills.specs.inside.OwnTaps.{AreOwnOf, IsOwnOf, IsOwnPushed, own_of}
 use Rattle.sorted_bills.specs.inside.Taken.{AreFollowing}
@@ -89,20 +89,17 @@ none_read token all taps reader none holds = record {
 
 pub one_read : (token : Option Token) (all : List ℕ) (own more : List TapFields) (tap : TapFields)
     (rest : List TapFields) (was is : TapReader) → ahead was ≡ tap ∷ rest
-    → IsOwnPushed token tap own more → IsOwnRead token all own was → IsAdvanced all was is
-    → IsOwnRead token all more is
-one_read token all own more tap rest was is stood pushed read step =
-    let one = subst (λ (t : TapFields). IsOwnPushed token t own more)
-    (same_head (ahead was) tap step.tap rest step.trailing stood step.stood) pushed in
-    record {
-      passed = read.passed ++ step.tap ∷ [];
-      holds = holds_on all 0 read.passed was is read.holds step;
-      named = All-append HasName read.passed (step.tap ∷ []) read.named
-          (All-cons HasName step.tap [] one.named (All-nil HasName));
-      are = one.pushed
-          ∙ ap (λ (ts : List TapFields). ts ++ own_of token (step.tap ∷ [])) read.are
-          ∙ sym (only_both token read.passed (step.tap ∷ []));
-    }
+    → IsOwnPushed token tap own more → IsOwnRead token all own was
+    → IsPassed all was (take 1 (ahead was)) is → IsOwnRead token all more is
+one_read token all own more tap rest was is stood one read step = record {
+  passed = read.passed ++ tap ∷ [];
+  holds = positioned_further all 0 read.passed (tap ∷ []) was is read.holds
+      (subst (λ (run : List TapFields). IsPassed all was run is) (ap (take 1) stood) step);
+  named = All-append HasName read.passed (tap ∷ []) read.named
+      (All-cons HasName tap [] one.named (All-nil HasName));
+  are = one.pushed ∙ ap (λ (ts : List TapFields). ts ++ own_of token (tap ∷ [])) read.are
+      ∙ sym (only_both token read.passed (tap ∷ []));
+}
 
 pub whole_read : (token : Option Token) (all : List ℕ) (own : OwnTaps) (reader : TapReader)
     → IsOwnRead token all own.taps.items reader → ahead reader ≡ []
@@ -112,7 +109,7 @@ whole_read token all own reader read none counted = record {
   of_file = sorted_at_end all read.passed reader read.holds none;
   named = read.named;
   are = read.are;
-  counted = counted ∙ read.holds.number;
+  counted = counted ∙ read.holds.1;
 }
 
 -- ---- one file more

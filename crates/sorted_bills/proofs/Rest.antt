@@ -15,8 +15,8 @@ use Rattle.tap_parts.specs.Canonical.{IsCanonical, tap_cmp}
 use Rattle.tap_parts.specs.Parts.{taps_of_uploads}
 use Rattle.settlement.proofs.Sorting.{canonical_order, unmoved}
 use Rattle.sorted_taps.specs.Merged.{BeginsNotBefore, IsNotBefore}
-use Rattle.sorted_taps.specs.Merges.{AreStarted, AreSortedFiles, AreTaken, IsPassed}
-use Rattle.sorted_taps.specs.Readers.{IsPositionedIn, ahead}
+use Rattle.sorted_taps.specs.Merges.{AreStarted, AreSortedFiles, AreTaken}
+use Rattle.sorted_taps.specs.Readers.{IsPassed, IsPositionedIn, ahead}
 use Rattle.sorted_taps.specs.Sorted.{IsSortedFile}
 use Rattle.sorted_taps.specs.declared.reader.TapReader.{TapReader}
 use Rattle.sorted_taps.proofs.After.{after_read, none_of_nothing}
@@ -32,7 +32,7 @@ left_of : (all : List ℕ) (old new : TapReader) (list run : List TapFields)
     × ((tap : TapFields) → BeginsNotBefore tap (ahead new) → All (IsNotBefore tap) left)
 left_of all old new list run is sorted passed =
     let (mid, mid_file, first) = after_read all 0 old.offset (ahead old) sorted.read.batches
-    is.between sorted.read.is_file in
+    is.0.between sorted.read.is_file in
     let (last, last_file, then) = after_read all old.offset new.offset passed.read mid
     passed.between mid_file in
     let more = map fields_of (taps_of_batches last) in
@@ -46,7 +46,7 @@ left_of all old new list run is sorted passed =
           (sorted_back run (ahead new ++ more)
           (subst (λ l. IsSorted tap_cmp l) whole sorted.sorted))
           (by_list (ahead new) refl more (λ none. ap (λ bs. map fields_of (taps_of_batches bs))
-          (none_of_nothing last (subst (λ l. IsFile l last []) (passed.end is.end none) last_file)))
+          (none_of_nothing last (subst (λ l. IsFile l last []) (passed.end is.0.end none) last_file)))
           tap begins),
     )
   where

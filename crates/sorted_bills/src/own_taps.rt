@@ -55,11 +55,13 @@ pub(crate) fn own_of_file<F: Placed>(
     let mut taps = Vec::new(alloc);
     let mut reader = TapReader::at(alloc, file, 0, window)?;
     for _ in 0..u64::MAX {
-        let Some(tap) = reader.head() else {
-            let number = reader.passed();
-            return Ok(OwnTaps { taps, number });
-        };
-        push_own(token, tap, &mut taps)?;
+        match reader.head() {
+            None => {
+                let number = reader.passed();
+                return Ok(OwnTaps { taps, number });
+            }
+            Some(tap) => push_own(token, tap, &mut taps)?,
+        }
         reader.advance(file, window)?;
     }
     Err(SortedFault::Unread)

@@ -71,11 +71,11 @@ loop-round-preserved g c =
             was.taken c.in_ok-take.ensures.taken;
         bill_is = subst
             (λ (ts : List TapFields). IsOpenBill c.args.table.now (was.taps ++ ts) c.add.new.self)
-            c.deref.ensures.value (c.in_default.ensures.bill was.taps was.bill_is);
+            c.deref.ensures.value (c.in_default-add.ensures.bill was.taps was.bill_is);
         nondecreasing = nondecreasing_both from was.taps taps was.nondecreasing
             (subst (λ (t : Token). TapsNondecreasingFrom t taps) (c.token.ensures ∙ was.last)
             c.in_ok-take.ensures.nondecreasing);
-        last = c.in_default.ensures.token
+        last = c.in_default-add.ensures.token
             ∙ ap (last_token c.loop-round.so_far.replay.token) c.deref.ensures.value
             ∙ ap (λ (t : Token). last_token t taps) was.last
             ∙ sym (last_append from was.taps taps);

@@ -1,5 +1,5 @@
 -- All taps of the files are their settled taps, and their lines are the ledger.
-use Rattle.std.proofs.Common.{◌∙◌, ◌++◌, ◌^◌, ◌<◌, List, ap, length, map, refl, subst, sym, ℕ}
+use Rattle.std.proofs.Common.{◌∙◌, ◌++◌, ◌^◌, ◌<◌, List, ap, map, refl, subst, sym, ℕ}
 use Rattle.std.specs.Prelude.{sum}
 use Rattle.std.proofs.lemmas.Result.{err_from_is_err_and}
 use Rattle.tap_views.specs.UploadEnds.{ArePlainEnds}

@@ -1,9 +1,10 @@
-use Rattle.std.proofs.Common.{◌≡◌, [], ap, arith, length}
+use Rattle.std.proofs.Common.{[], ap, arith, length, take}
 use Rattle.std.proofs.lemmas.Result.{err_from_is_err_and}
 use Rattle.std.specs.Prelude.{Err, Ok}
-use Rattle.sorted_taps.specs.Readers.{ahead, IsAdvanced, IsAfterFault, IsStepFault, IsPositionedIn}
+use Rattle.sorted_taps.specs.Readers.{ahead, IsAfterFault, IsPassed, IsPositionedIn, IsStepFault}
 use Rattle.sorted_taps.proofs.Known.{known_all, known_map, known_map2}
 use Rattle.sorted_taps.proofs.Standing.{opening_fault, step_fault}
+use Rattle.sorted_bills.specs.declared.own_by_threads.OwnTaps.{OwnTaps}
 use Rattle.sorted_bills.specs.inside.OwnTaps.{IsOwnResult}
 use Rattle.sorted_bills.proofs.OwnTaps.{IsOwnRead, none_read, one_read, whole_read}
 use Rattle.sorted_bills.proofs.own_taps.own_of_file.Goals as goal
@@ -35,15 +36,13 @@ pub returns-in-None : goal.returns-in-None
 returns-in-None g c =
     let reader = c.loop.reader in
     let token = c.args.token in
-    known_map (λ all. IsOwnRead token all c.loop.taps.items reader) (IsOwnResult token _)
+    let own : OwnTaps = record { taps = c.loop.taps; number = c.passed-number.result } in
+    known_map (λ all. IsOwnRead token all c.loop.taps.items reader) (IsOwnResult token (Ok own))
     (g.F.Placed.bytes c.args.file.now)
     (λ all read. (
-      whole_read token all
-          (record { taps = c.loop.taps; number = c.passed-number.result }) reader read
-          c.in-None.ensures c.passed-number.ensures,
+      whole_read token all own reader read c.in-None.ensures c.passed-number.ensures,
       tt,
-    ))
-    c.loop.invariant.read
+    )) c.loop.invariant.read
 
 pub advance-requires-clause-head : goal.advance-requires-clause-head
 advance-requires-clause-head g c = let one = ap length c.in-Some.ensures.1 in omega (arith, one)
@@ -60,7 +59,7 @@ loop-preserved g c =
     let (rest, stood) = c.in-Some.ensures in
     record {
       window = omega (arith, long, room);
-      read = known_map2 (λ all. IsOwnRead token all now old) (λ all. IsAdvanced all old new)
+      read = known_map2 (λ all. IsOwnRead token all now old) (λ all. IsPassed all old (take 1 (ahead old)) new)
           (λ all. IsOwnRead token all more new) (g.F.Placed.bytes c.args.file.now)
           (λ all read step. one_read token all now more c.in-Some.tap.now rest old new stood
           c.in_ok-push_own.ensures read step)
