@@ -1,6 +1,6 @@
 -- What is left of sorted files after taps that were taken: with it they are all in canonical order.
 use Rattle.std.proofs.Common.{◌≡◌, ◌∙◌, ℕ, zero, suc, ◌<◌, List, [], ◌∷◌, ◌++◌, All, append_assoc}
-use Rattle.std.proofs.Common.{arith, ap, drop, get_or, length, map, subst, sym}
+use Rattle.std.proofs.Common.{arith, ap, drop, get_or, length, map, refl, subst, sym}
 use Rattle.std.specs.List.Sorted.{IsPermutation, IsSorted}
 use Rattle.std.proofs.Math.Seq.{drop-append_seam}
 use Rattle.std.proofs.lemmas.List.{drop-map}
@@ -10,6 +10,7 @@ use Rattle.std.proofs.lemmas.List.Sorted.{IsPermutation-append_right, IsPermutat
 use Rattle.std.proofs.lemmas.List.Sorted.{IsPermutation-trans}
 use Rattle.tap_views.specs.Encoding.{fields_of}
 use Rattle.tap_views.specs.Files.{IsFile, taps_of_batches}
+use Rattle.tap_views.specs.Layout.{Tap}
 use Rattle.tap_views.specs.declared.encoder.TapFields.{TapFields}
 use Rattle.tap_parts.specs.Canonical.{IsCanonical, tap_cmp}
 use Rattle.tap_parts.specs.Parts.{taps_of_uploads}
@@ -86,6 +87,12 @@ all_left taps (list ∷ lists) (run ∷ runs) same each =
       λ j d low. All-append (IsNotBefore (get_or taps j d)) left rest (not j d low) (nots j d low),
     )
 
+behind_front : (front left : List TapFields) (taps : List Tap)
+    → front ++ left ≡ map fields_of taps → map fields_of (drop (length front) taps) ≡ left
+behind_front front left taps same =
+    sym (drop-map fields_of (length front) taps) ∙ ap (drop (length front)) (sym same)
+    ∙ drop-append_seam front left
+
 -- taps that were taken of sorted files go on to all their taps, in canonical order
 pub goes_on : (files : List (List ℕ)) (lists : List (List TapFields)) (started new : List TapReader)
     (taps : List TapFields) → AreSortedFiles files lists → AreStarted files started
@@ -107,12 +114,10 @@ goes_on files lists started new taps sorted is taken =
     let of = file_taps files lists sorted in
     let (others, same) = unmoved (taps_of_uploads of.taps) (front ++ left)
     (subst (λ l. IsPermutation l (front ++ left)) (sym of.fields) moved) in
-    let back : map fields_of (drop (length front) others) ≡ left =
-    sym (drop-map fields_of (length front) others) ∙ ap (drop (length front)) (sym same)
-    ∙ drop-append_seam front left in
     let (order, canonical) = canonical_order (drop (length front) others) in
     let rest = map fields_of order in
-    let of_rest : IsCanonical left rest = subst (λ l. IsCanonical l rest) back canonical in (
+    let of_rest : IsCanonical left rest = subst (λ l. IsCanonical l rest)
+    (behind_front front left others same) canonical in (
       rest,
       record {
         moved = IsPermutation-trans (all_of lists) (front ++ left) (taps ++ rest) moved

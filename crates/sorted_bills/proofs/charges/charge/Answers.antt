@@ -87,10 +87,16 @@ loop-round-preserved g c =
 pub returns-then-is_empty-clause-charged : goal.returns-then-is_empty-clause-charged
 returns-then-is_empty-clause-charged g c =
     let was = c.loop-round.invariant.charged in
-    record was {
+    record {
+      taps = was.taps;
       taken = last_taken (map g.F.Placed.bytes c.args.files.now)
           c.args.taker.now.merge.readers.items c.loop-round.taker.merge.readers.items
           c.take.new.self.merge.readers.items was.taps c.take.new.self.taps.items
           (none_there c.take.new.self.taps _ c.is_empty.ensures c.if-is_empty.true) was.taken
           c.in_ok-take.ensures.taken;
+      bill_is = was.bill_is;
+      nondecreasing = was.nondecreasing;
+      last = was.last;
+      counted = was.counted;
+      few = was.few;
     }

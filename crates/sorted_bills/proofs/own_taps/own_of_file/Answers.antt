@@ -62,14 +62,14 @@ loop-preserved g c =
       read = known_map2 (λ all. IsOwnRead token all now old) (λ all. IsPassed all old (take 1 (ahead old)) new)
           (λ all. IsOwnRead token all more new) (g.F.Placed.bytes c.args.file.now)
           (λ all read step. one_read token all now more c.in-Some.tap.now rest old new stood
-          c.in_ok-push_own.ensures read step)
+          c.in_ok-push_own-in-Some.ensures read step)
           c.loop.invariant.read c.in_ok-advance.ensures.kept;
     }
 
-pub returns-in_err-push_own : goal.returns-in_err-push_own
-returns-in_err-push_own g c =
-    let p = err_from_is_err_and c.from_residual-in_err-push_own.result
-    c.from_residual-in_err-push_own.ensures.1 in
+pub returns-in_err-push_own-in-Some : goal.returns-in_err-push_own-in-Some
+returns-in_err-push_own-in-Some g c =
+    let p = err_from_is_err_and c.from_residual-in_err-push_own-in-Some.result
+    c.from_residual-in_err-push_own-in-Some.ensures.1 in
     rw (p.1, p.2) (known_all _ (g.F.Placed.bytes c.args.file.now) (λ all. (tt, tt)))
 
 pub returns-in_err-advance : goal.returns-in_err-advance

@@ -29,7 +29,12 @@ returns g c =
           let have = c.in_ok-spans.ensures files
           c.in_ok-started.started.taker.merge.readers.items taps are
           (c.in_ok-started.ensures.placed files are) (made.taken.taken files are) in
-          record have { counted = c.in_ok-numbers.ensures ∙ have.counted };
+          record {
+            lists = have.lists;
+            spanned = have.spanned;
+            counted = c.in_ok-numbers.ensures ∙ have.counted;
+            canonical = have.canonical;
+          };
       named = made.taken.named;
       bill_is = c.in-Ok.ensures c.args.table.now taps made.bill_is;
       range = subst (λ (t : Token). IsUpTo t c.token-last.result) first
