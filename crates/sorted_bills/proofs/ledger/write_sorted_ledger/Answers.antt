@@ -20,7 +20,7 @@ use Rattle.sorted_bills.proofs.OwnTaps.{own_counted, own_ends}
 use Rattle.sorted_bills.proofs.ledger.write_sorted_ledger.Goals as goal
 
 pub write_lines-requires-clause-ready : goal.write_lines-requires-clause-ready
-write_lines-requires-clause-ready g c = subst (λ (n : ℕ). IsReady n c.in_ok-taker.taker)
+write_lines-requires-clause-ready g c κs within = subst (λ (n : ℕ). IsReady n c.in_ok-taker.taker)
     c.in_ok-merge.ensures.number c.in_ok-taker.ensures.ready
 
 pub returns-clause-ok : goal.returns-clause-ok
@@ -108,6 +108,18 @@ returns-in_err-ends-clause-sorted g c =
     let p = err_from_is_err_and c.from_residual-in_err-ends.result
     c.from_residual-in_err-ends.ensures.1 in
     rw (p.1, p.2) (λ is_write all are. absurd (let wrong : NoMemory ≡ Write = is_write in cc))
+
+pub returns-in_err-taker-clause-sorted : goal.returns-in_err-taker-clause-sorted
+returns-in_err-taker-clause-sorted g c =
+    let p = err_from_is_err_and c.from_residual-in_err-taker.result
+    c.from_residual-in_err-taker.ensures.1 in
+    rw (p.1, p.2) (λ is_write all are. absurd (let wrong : NoMemory ≡ Write = is_write in cc))
+
+pub returns-in_err-write_lines-clause-fault : goal.returns-in_err-write_lines-clause-fault
+returns-in_err-write_lines-clause-fault g c =
+    let p = err_from_is_err_and c.from_residual-in_err-write_lines.result
+    c.from_residual-in_err-write_lines.ensures.1 in
+    rw (p.1, p.2) (λ all are. c.in_err-write_lines.ensures.fault all)
 
 pub returns-in_err-merge-clause-started : goal.returns-in_err-merge-clause-started
 returns-in_err-merge-clause-started g c =
