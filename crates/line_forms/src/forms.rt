@@ -54,6 +54,7 @@ impl<'a, 'w, F: FormOf<'a> + Drop> FormOf<'a> for After<'w, F> {
 
     ghost valid = { λ form. F.valid form.1 };
 
+    #[inline(always)]
     fn read(&self, text: &'a [u8]) -> Option<(F::Value, &'a [u8])> {
         let rest = after_word(text, self.0)?;
         self.1.read(rest)
@@ -82,6 +83,7 @@ impl<'a, A: FormOf<'a> + Drop, B: FormOf<'a> + Drop> FormOf<'a> for Then<A, B> {
     ghost valid = { λ form. A.valid form.0 × B.valid form.1
         × IsFirst (A.ends form.0) (B.says form.1) };
 
+    #[inline(always)]
     fn read(&self, text: &'a [u8]) -> Option<((A::Value, B::Value), &'a [u8])> {
         let (first, rest) = self.0.read(text)?;
         let (second, rest) = self.1.read(rest)?;

@@ -103,6 +103,7 @@ impl<'a> FormOf<'a> for Number64 {
 
     ghost valid = { λ form. Unit {0} };
 
+    #[inline(always)]
     fn read(&self, text: &'a [u8]) -> Option<(u64, &'a [u8])> {
         let size = digits_before(text);
         let number = number_of(&text[..size])?;
@@ -131,6 +132,7 @@ impl<'a> FormOf<'a> for Number32 {
 
     ghost valid = { λ form. Unit {0} };
 
+    #[inline(always)]
     fn read(&self, text: &'a [u8]) -> Option<(u32, &'a [u8])> {
         let size = digits_before(text);
         let number = number_32_of(&text[..size])?;
