@@ -3,9 +3,7 @@
 ghost use Rattle.std.specs.Prelude.{◌≡◌, ◌<◌, ◌≤◌, ◌^◌, ℕ, false, length, MatchOption};
 ghost use Rattle.std.specs.Fmt.{decimal};
 ghost use Rattle.std.specs.Str.{all_ascii_digits};
-ghost use Rattle.line_forms.specs.FormLaws.{number_law, wide_32, wide_64};
-ghost use Rattle.line_forms.specs.Numbers.{BeginsWithNoDigit, IsNumber, digits_in, number_at};
-ghost use Rattle.line_forms.specs.Numbers.{number_in};
+ghost use Rattle.line_forms.specs.Numbers.{IsNumber, digits_in, number_at, number_in};
 ghost use Rattle.line_forms.specs.inside.Narrow.{IsValueOf, below};
 
 use crate::form::FormOf;
@@ -97,20 +95,12 @@ impl<'a> FormOf<'a> for Number64 {
 
     ghost reads = { λ form. number_at (2 ^ 64) };
 
-    ghost says = { λ form. IsNumber (2 ^ 64) };
-
-    ghost ends = { λ form. BeginsWithNoDigit };
-
-    ghost valid = { λ form. Unit {0} };
-
     #[inline(always)]
     fn read(&self, text: &'a [u8]) -> Option<(u64, &'a [u8])> {
         let size = digits_before(text);
         let number = number_of(&text[..size])?;
         Some((number, &text[size..]))
     }
-
-    ghost law = { λ form valid. number_law (2 ^ 64) wide_64 };
 }
 
 /// A number of at most 32 bits.
@@ -126,18 +116,10 @@ impl<'a> FormOf<'a> for Number32 {
 
     ghost reads = { λ form. number_at (2 ^ 32) };
 
-    ghost says = { λ form. IsNumber (2 ^ 32) };
-
-    ghost ends = { λ form. BeginsWithNoDigit };
-
-    ghost valid = { λ form. Unit {0} };
-
     #[inline(always)]
     fn read(&self, text: &'a [u8]) -> Option<(u32, &'a [u8])> {
         let size = digits_before(text);
         let number = number_32_of(&text[..size])?;
         Some((number, &text[size..]))
     }
-
-    ghost law = { λ form valid. number_law (2 ^ 32) wide_32 };
 }
