@@ -23,12 +23,6 @@ use Rattle.line_forms.specs.Numbers.{BeginsWithNoDigit, IsNumber, ends_digits, n
 use Rattle.line_forms.specs.inside.Narrow.{below}
 
 -- ---- options
--- what is to be said of nothing, if nothing is returned
-pub MatchOption_none : {T : Type 0} (P : Type 0) (Q : T → Type 0) (result : Option T)
-    → result ≡ None → P → MatchOption result P Q
-MatchOption_none {T} P Q result none holds =
-    subst (λ (r : Option T). MatchOption r P Q) (sym none) holds
-
 pub is_none : {A : Type 0} (r : Option A) → ((a : A) → ¬ (r ≡ Some a)) → r ≡ None
 is_none None f = refl
 is_none (Some a) f = absurd (f a refl)
@@ -288,8 +282,5 @@ pub line_complete : {A : Type 0} {says : A → List ℕ → Type 0} {ends : List
 line_complete form feed v text is = ap ended (form.complete v text (10 ∷ []) is feed)
 
 -- ---- the bounds
-pub wide_32 : 2 ^ 32 ≤ 10 ^ 64
-wide_32 = omega arith
-
 pub wide_64 : 2 ^ 64 ≤ 10 ^ 64
 wide_64 = omega arith

@@ -1,36 +1,17 @@
 //! Forms that are made of others, and whole lines.
 
-ghost use Rattle.std.specs.Prelude.{◌≡◌, ◌∷◌, ◌++◌, ℕ, List, [], MatchOption};
+ghost use Rattle.std.specs.Prelude.{◌≡◌, MatchOption};
 ghost use Rattle.line_forms.specs.Forms.{after, after_read, is_end, said_by, then_read};
 
 use crate::form::FormOf;
 
-fn stripped<'a>(text: &'a [u8], word: &[u8]) -> Option<&'a [u8]>
-    ensures { MatchOption result ((rest : List ℕ) → ¬ (text.now ≡ word.now ++ rest))
-        (λ rest. text.now ≡ word.now ++ rest.now) }
-{
-    text.strip_prefix(word)
-}
-
-fn after_byte<'a>(text: &'a [u8], byte: u8) -> Option<&'a [u8]>
-    ensures { MatchOption result (after (byte ∷ []) text.now ≡ None)
-        (λ rest. after (byte ∷ []) text.now ≡ Some rest.now) }
-{
-    match text {
-        [first, rest @ ..] if byte == *first => Some(rest),
-        _ => None,
-    }
-}
-
-/// What follows the word with which the text begins. A word of one byte is compared at once.
+/// What follows the word with which the text begins.
+#[inline(always)]
 pub fn after_word<'a>(text: &'a [u8], word: &[u8]) -> Option<&'a [u8]>
     ensures { MatchOption result (after word.now text.now ≡ None)
         (λ rest. after word.now text.now ≡ Some rest.now) }
 {
-    match word {
-        [byte] => after_byte(text, *byte),
-        _ => stripped(text, word),
-    }
+    text.strip_prefix(word)
 }
 
 /// A form after a word. It says what the form says.
