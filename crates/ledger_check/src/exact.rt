@@ -37,7 +37,9 @@ struct AnyColumn;
 impl<'a> FormOf<'a> for AnyColumn {
     type Value = &'a [u8];
 
-    ghost use Rattle.std.specs.Prelude.{List, ℕ};
+    ghost use Rattle.std.specs.Prelude.{List, true, ℕ};
+    ghost use Rattle.line_forms.specs.FormLaws.{column_law};
+    ghost use Rattle.line_forms.specs.Columns.{BeginsAfterColumn, IsColumn};
     ghost use Rattle.ledger_check.specs.FullChecks.{any_column};
 
     ghost Said = { List ℕ };
@@ -46,10 +48,18 @@ impl<'a> FormOf<'a> for AnyColumn {
 
     ghost reads = { λ form. any_column };
 
+    ghost says = { λ form. IsColumn (λ column. true) };
+
+    ghost ends = { λ form. BeginsAfterColumn };
+
+    ghost valid = { λ form. Unit {0} };
+
     fn read(&self, text: &'a [u8]) -> Option<(&'a [u8], &'a [u8])> {
         let size = column_before(text);
         Some((&text[..size], &text[size..]))
     }
+
+    ghost law = { λ form valid. column_law (λ column. true) };
 }
 
 fn front_of(line: &[u8]) -> Option<Front<'_>>

@@ -282,5 +282,8 @@ pub line_complete : {A : Type 0} {says : A → List ℕ → Type 0} {ends : List
 line_complete form feed v text is = ap ended (form.complete v text (10 ∷ []) is feed)
 
 -- ---- the bounds
+pub wide_32 : 2 ^ 32 ≤ 10 ^ 64
+wide_32 = omega arith
+
 pub wide_64 : 2 ^ 64 ≤ 10 ^ 64
 wide_64 = omega arith

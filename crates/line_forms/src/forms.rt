@@ -1,7 +1,9 @@
 //! Forms that are made of others, and whole lines.
 
 ghost use Rattle.std.specs.Prelude.{◌≡◌, MatchOption};
-ghost use Rattle.line_forms.specs.Forms.{after, after_read, is_end, said_by, then_read};
+ghost use Rattle.line_forms.specs.Forms.{IsAfter, IsFirst, IsThen, after, after_read};
+ghost use Rattle.line_forms.specs.Forms.{is_end, said_by, then_read};
+ghost use Rattle.line_forms.specs.FormLaws.{after_law, then_law};
 
 use crate::form::FormOf;
 
@@ -27,11 +29,19 @@ impl<'a, 'w, F: FormOf<'a> + Drop> FormOf<'a> for After<'w, F> {
 
     ghost reads = { λ form. after_read form.0.now (F.reads form.1) };
 
+    ghost says = { λ form. IsAfter form.0.now (F.says form.1) };
+
+    ghost ends = { λ form. F.ends form.1 };
+
+    ghost valid = { λ form. F.valid form.1 };
+
     #[inline(always)]
     fn read(&self, text: &'a [u8]) -> Option<(F::Value, &'a [u8])> {
         let rest = after_word(text, self.0)?;
         self.1.read(rest)
     }
+
+    ghost law = { λ form valid. after_law form.0.now (F.law form.1 valid) };
 }
 
 /// One form after another.
@@ -47,12 +57,21 @@ impl<'a, A: FormOf<'a> + Drop, B: FormOf<'a> + Drop> FormOf<'a> for Then<A, B> {
 
     ghost reads = { λ form. then_read (A.reads form.0) (B.reads form.1) };
 
+    ghost says = { λ form. IsThen (A.says form.0) (B.says form.1) };
+
+    ghost ends = { λ form. B.ends form.1 };
+
+    ghost valid = { λ form. A.valid form.0 × B.valid form.1
+        × IsFirst (A.ends form.0) (B.says form.1) };
+
     #[inline(always)]
     fn read(&self, text: &'a [u8]) -> Option<((A::Value, B::Value), &'a [u8])> {
         let (first, rest) = self.0.read(text)?;
         let (second, rest) = self.1.read(rest)?;
         Some(((first, second), rest))
     }
+
+    ghost law = { λ form valid. then_law (A.law form.0 valid.0) (B.law form.1 valid.1) valid.2 };
 }
 
 /// What a whole line says, with its line feed.

@@ -3,7 +3,9 @@
 ghost use Rattle.std.specs.Prelude.{◌≡◌, ◌<◌, ◌≤◌, ◌^◌, ℕ, length, true, MatchOption};
 ghost use Rattle.std.specs.Str.{all_ascii_digits};
 ghost use Rattle.std.specs.Str.Parse.{digits_value};
-ghost use Rattle.line_forms.specs.Numbers.{digits_in, number_at, number_in};
+ghost use Rattle.line_forms.specs.FormLaws.{number_law, wide_32, wide_64};
+ghost use Rattle.line_forms.specs.Numbers.{BeginsWithNoDigit, IsNumber, digits_in, number_at};
+ghost use Rattle.line_forms.specs.Numbers.{number_in};
 ghost use Rattle.line_forms.specs.inside.Narrow.{below};
 
 use crate::form::FormOf;
@@ -90,12 +92,20 @@ impl<'a> FormOf<'a> for Number64 {
 
     ghost reads = { λ form. number_at (2 ^ 64) };
 
+    ghost says = { λ form. IsNumber (2 ^ 64) };
+
+    ghost ends = { λ form. BeginsWithNoDigit };
+
+    ghost valid = { λ form. Unit {0} };
+
     #[inline(always)]
     fn read(&self, text: &'a [u8]) -> Option<(u64, &'a [u8])> {
         let size = digits_before(text);
         let number = number_of(&text[..size])?;
         Some((number, &text[size..]))
     }
+
+    ghost law = { λ form valid. number_law (2 ^ 64) wide_64 };
 }
 
 /// A number of at most 32 bits.
@@ -111,10 +121,18 @@ impl<'a> FormOf<'a> for Number32 {
 
     ghost reads = { λ form. number_at (2 ^ 32) };
 
+    ghost says = { λ form. IsNumber (2 ^ 32) };
+
+    ghost ends = { λ form. BeginsWithNoDigit };
+
+    ghost valid = { λ form. Unit {0} };
+
     #[inline(always)]
     fn read(&self, text: &'a [u8]) -> Option<(u32, &'a [u8])> {
         let size = digits_before(text);
         let number = number_32_of(&text[..size])?;
         Some((number, &text[size..]))
     }
+
+    ghost law = { λ form valid. number_law (2 ^ 32) wide_32 };
 }

@@ -85,7 +85,9 @@ impl<'a, 'w> FormOf<'a> for Counts<'w> {
     type Value = Totals;
 
     ghost use Rattle.histories.specs.Sums.{Sums, sums_of};
+    ghost use Rattle.line_forms.specs.Numbers.{BeginsWithNoDigit};
     ghost use Rattle.report_texts.specs.Forms.{counts_read};
+    ghost use Rattle.report_texts.specs.FormLaws.{IsCountsText, counts_law};
 
     ghost Said = { Sums };
 
@@ -93,11 +95,19 @@ impl<'a, 'w> FormOf<'a> for Counts<'w> {
 
     ghost reads = { λ form. counts_read form.0.now };
 
+    ghost says = { λ form. IsCountsText form.0.now };
+
+    ghost ends = { λ form. BeginsWithNoDigit };
+
+    ghost valid = { λ form. Unit {0} };
+
     fn read(&self, text: &'a [u8]) -> Option<(Totals, &'a [u8])> {
         let (counts, rest) = counted(text, self.0)?;
         let totals = totals_by(counts)?;
         Some((totals, rest))
     }
+
+    ghost law = { λ form valid. counts_law form.0.now };
 }
 
 /// The sums in the line `totals taps 6 paid 3 ..`.
@@ -155,12 +165,19 @@ impl<'a> FormOf<'a> for TokenDigits {
 
     ghost use Rattle.tap_views.specs.declared.token.Token.{Token as AToken};
     ghost use Rattle.report_texts.specs.Forms.{token_read};
+    ghost use Rattle.report_texts.specs.FormLaws.{IsTokenDigits, token_law};
 
     ghost Said = { AToken };
 
     ghost said = { λ token. token };
 
     ghost reads = { λ form. token_read };
+
+    ghost says = { λ form. IsTokenDigits };
+
+    ghost ends = { λ form rest. Unit {0} };
+
+    ghost valid = { λ form. Unit {0} };
 
     fn read(&self, text: &'a [u8]) -> Option<(Token, &'a [u8])> {
         if text.len() < 32 {
@@ -169,6 +186,8 @@ impl<'a> FormOf<'a> for TokenDigits {
         let token = token_in(&text[..32])?;
         Some((token, &text[32..]))
     }
+
+    ghost law = { λ form valid. token_law };
 }
 
 /// The token and its sums in the line `token 000000000000000000000000000000a1 taps 4 paid 2 ..`.
