@@ -1,8 +1,9 @@
 -- The line of a ledger: twelve fields with a comma between each two, and a line feed.
 use Rattle.std.specs.Prelude.{◌^◌, ℕ, List, Option, codes, option_map}
+use Rattle.line_forms.specs.Columns.{column_where}
 use Rattle.line_forms.specs.Forms.{Reader, after_read, said_by, then_read}
 use Rattle.line_forms.specs.Numbers.{number_at}
-use Rattle.ledger_fields.specs.Fields.{field_at}
+use Rattle.ledger_fields.specs.Fields.{fits}
 use Rattle.ledger_fields.specs.Rows.{Row}
 use Rattle.ledger_fields.specs.declared.field.Field.{Field}
 use Rattle.ledger_fields.specs.declared.field.Field.TheVariants.{LaterMoment, Moment, PastMoment, Reason, Ride, Token}
@@ -11,7 +12,7 @@ use Rattle.ledger_fields.specs.declared.form.RowFields.{RowFields}
 
 -- a comma, and a field
 abbrev pub next_field : Field → Reader (List ℕ)
-next_field field = after_read (codes ",") (field_at field)
+next_field field = after_read (codes ",") (column_where (fits field))
 
 -- a comma, and a number below a bound
 abbrev pub next_number : ℕ → Reader ℕ
@@ -27,7 +28,7 @@ LineFields =
 -- THE form of a ledger's line, before its line feed
 abbrev pub line_fields : Reader LineFields
 line_fields =
-    then_read (field_at Token) (then_read (next_number (2 ^ 64)) (then_read (next_field Moment)
+    then_read (column_where (fits Token)) (then_read (next_number (2 ^ 64)) (then_read (next_field Moment)
     (then_read (next_number (2 ^ 32)) (then_read (next_field Word) (then_read (next_field Word)
     (then_read (next_number (2 ^ 32)) (then_read (next_field PastMoment)
     (then_read (next_field LaterMoment) (then_read (next_field Ride)

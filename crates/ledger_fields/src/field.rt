@@ -1,26 +1,23 @@
 //! The fields of a ledger's line that are not plain numbers.
 
-ghost use Rattle.std.specs.Prelude.{◌≡◌, ◌≤◌, IfSome, length};
-ghost use Rattle.std.specs.List.{list_all, prefix_len};
-ghost use Rattle.ledger_fields.specs.Fields.{is_token_byte, is_word_byte, moment_size, size_in};
-ghost use Rattle.ledger_fields.specs.Fields.{word_size};
-ghost use Rattle.ledger_fields.specs.declared.field.Field.TheVariants.{Ride, Token};
+ghost use Rattle.std.specs.Prelude.{◌≡◌, ◌<◌, IfSome};
+ghost use Rattle.std.specs.List.{list_all};
+ghost use Rattle.ledger_fields.specs.Fields.{IsFront, fits, is_token_byte, is_word, is_word_byte};
+ghost use Rattle.ledger_fields.specs.declared.field.Field.TheVariants.{Ride};
 
-use crate::moment::is_moment;
+use crate::moment::{MOMENT_BYTES, is_moment};
+use line_forms::column::{column_before, ends_column};
 use line_forms::form::FormOf;
-use line_forms::number::{digits_before, number_32_of};
-
-/// How many digits a token has.
-const TOKEN_BYTES: usize = 32;
-
-/// How many bytes the text of a moment has.
-const MOMENT_BYTES: usize = 24;
+use line_forms::number::number_32_of;
 
 /// The first year after those of the moments of taps.
 const TAP_YEAR_LIMIT: u64 = 2_100;
 
 /// The first year after those that a moment's text can have.
 const YEAR_LIMIT: u64 = 10_000;
+
+/// How many digits a token has.
+const TOKEN_BYTES: usize = 32;
 
 /// How many bytes a word has at most.
 const MAX_WORD_BYTES: usize = 16;
@@ -59,6 +56,32 @@ fn is_word_byte(mark: u8, byte: u8) -> bool
     (97 <= byte && byte <= 122) || (byte == 45 || byte == mark)
 }
 
+fn is_word(most: usize, mark: u8, text: &[u8]) -> bool
+    ensures { result ≡ is_word most mark text.now }
+{
+    text.len() <= most && text.iter().all(|byte| is_word_byte(mark, *byte))
+}
+
+/// The size of the word at the front of the text, if a column of it is there.
+#[inline(always)]
+fn word_front(most: usize, mark: u8, text: &[u8]) -> Option<usize>
+    requires { 44 < mark }
+    ensures { IfSome result (IsFront (is_word most mark) text.now) }
+{
+    let mut size = 0;
+    for byte in text {
+        if !is_word_byte(mark, *byte) {
+            return if ends_column(*byte) && size <= most {
+                Some(size)
+            } else {
+                None
+            };
+        }
+        size += 1;
+    }
+    None
+}
+
 /// Each of the 32 bytes is tested, with no branch: so they are tested at once.
 fn are_token_bytes(text: &[u8]) -> bool
     ensures { result ≡ list_all is_token_byte text.now }
@@ -70,75 +93,50 @@ fn are_token_bytes(text: &[u8]) -> bool
     are_so
 }
 
-fn token_size(text: &[u8]) -> Option<usize>
-    ensures value { result ≡ size_in Token text.now }
-    ensures within { IfSome result (λ size. size ≤ length text.now) }
-{
-    if TOKEN_BYTES <= text.len() && are_token_bytes(&text[..TOKEN_BYTES]) {
-        Some(TOKEN_BYTES)
-    } else {
-        None
-    }
-}
-
-fn moment_size(text: &[u8], year_limit: u64) -> Option<usize>
-    ensures value { result ≡ moment_size year_limit text.now }
-    ensures within { IfSome result (λ size. size ≤ length text.now) }
-{
-    if MOMENT_BYTES <= text.len() && is_moment(&text[..MOMENT_BYTES], year_limit) {
-        Some(MOMENT_BYTES)
-    } else {
-        None
-    }
-}
-
-fn word_before(text: &[u8], mark: u8) -> usize
-    ensures value { result ≡ prefix_len (is_word_byte mark) text.now }
-    ensures within { result ≤ length text.now }
-{
-    let mut size = 0;
-    for byte in text {
-        if !is_word_byte(mark, *byte) {
-            return size;
+impl Field {
+    #[inline(always)]
+    fn fits(self, text: &[u8]) -> bool
+        ensures { result ≡ fits self text.now }
+    {
+        match self {
+            Field::Token => text.len() == TOKEN_BYTES && are_token_bytes(text),
+            Field::Moment => is_moment(text, TAP_YEAR_LIMIT),
+            Field::PastMoment => text.is_empty() || is_moment(text, TAP_YEAR_LIMIT),
+            Field::LaterMoment => text.is_empty() || is_moment(text, YEAR_LIMIT),
+            Field::Word => is_word(MAX_WORD_BYTES, b'-', text),
+            Field::Reason => is_word(MAX_REASON_BYTES, b':', text),
+            Field::Ride => text.is_empty() || number_32_of(text).is_some(),
         }
-        size += 1;
-    }
-    size
-}
-
-fn word_size(text: &[u8], most: usize, mark: u8) -> Option<usize>
-    ensures value { result ≡ word_size most mark text.now }
-    ensures within { IfSome result (λ size. size ≤ length text.now) }
-{
-    let size = word_before(text, mark);
-    if size <= most { Some(size) } else { None }
-}
-
-fn ride_size(text: &[u8]) -> Option<usize>
-    ensures value { result ≡ size_in Ride text.now }
-    ensures within { IfSome result (λ size. size ≤ length text.now) }
-{
-    let size = digits_before(text);
-    if size == 0 || number_32_of(&text[..size]).is_some() {
-        Some(size)
-    } else {
-        None
     }
 }
 
 impl Field {
-    fn size_in(self, text: &[u8]) -> Option<usize>
-        ensures value { result ≡ size_in self text.now }
-        ensures within { IfSome result (λ size. size ≤ length text.now) }
+    /// This size, if a column of the field is at the front of the text, and has it.
+    #[inline(always)]
+    fn sized(self, size: usize, text: &[u8]) -> Option<usize>
+        requires { ¬ (self ≡ Ride) }
+        ensures { IfSome result (IsFront (fits self) text.now) }
+    {
+        if size < text.len() && ends_column(text[size]) && self.fits(&text[..size]) {
+            Some(size)
+        } else {
+            None
+        }
+    }
+
+    /// The size of the column at the front of the text, where it is found at once that it fits.
+    #[inline(always)]
+    fn front(self, text: &[u8]) -> Option<usize>
+        ensures { IfSome result (IsFront (fits self) text.now) }
     {
         match self {
-            Field::Token => token_size(text),
-            Field::Moment => moment_size(text, TAP_YEAR_LIMIT),
-            Field::PastMoment => Some(moment_size(text, TAP_YEAR_LIMIT).unwrap_or(0)),
-            Field::LaterMoment => Some(moment_size(text, YEAR_LIMIT).unwrap_or(0)),
-            Field::Word => word_size(text, MAX_WORD_BYTES, b'-'),
-            Field::Reason => word_size(text, MAX_REASON_BYTES, b':'),
-            Field::Ride => ride_size(text),
+            Field::Token => self.sized(TOKEN_BYTES, text),
+            Field::Moment | Field::PastMoment | Field::LaterMoment => {
+                self.sized(MOMENT_BYTES, text)
+            }
+            Field::Word => word_front(MAX_WORD_BYTES, b'-', text),
+            Field::Reason => word_front(MAX_REASON_BYTES, b':', text),
+            Field::Ride => None,
         }
     }
 }
@@ -147,17 +145,35 @@ impl<'a> FormOf<'a> for Field {
     type Value = &'a [u8];
 
     ghost use Rattle.std.specs.Prelude.{List, ℕ};
-    ghost use Rattle.ledger_fields.specs.Fields.{field_at};
+    ghost use Rattle.line_forms.specs.FormLaws.{column_law};
+    ghost use Rattle.line_forms.specs.Columns.{BeginsAfterColumn, IsColumn, column_where};
+    ghost use Rattle.ledger_fields.specs.Fields.{fits};
 
     ghost Said = { List ℕ };
 
     ghost said = { λ text. text.now };
 
-    ghost reads = { λ field. field_at field };
+    ghost reads = { λ field. column_where (fits field) };
+
+    ghost says = { λ field. IsColumn (fits field) };
+
+    ghost ends = { λ field. BeginsAfterColumn };
+
+    ghost valid = { λ field. Unit {0} };
 
     #[inline(always)]
     fn read(&self, text: &'a [u8]) -> Option<(&'a [u8], &'a [u8])> {
-        let size = self.size_in(text)?;
-        Some((&text[..size], &text[size..]))
+        if let Some(size) = self.front(text) {
+            return Some((&text[..size], &text[size..]));
+        }
+        let size = column_before(text);
+        let column = &text[..size];
+        if self.fits(column) {
+            Some((column, &text[size..]))
+        } else {
+            None
+        }
     }
+
+    ghost law = { λ field valid. column_law (fits field) };
 }
