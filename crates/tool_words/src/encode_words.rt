@@ -11,10 +11,10 @@ ghost use Rattle.tool_words.specs.Columns.{tides, unit_in, value_of};
 ghost use Rattle.tool_words.specs.Tasks.{request_of, condition_of, text_in, texts_of};
 ghost use Rattle.tool_words.specs.inside.Columns.{export_by};
 
-use crate::reading::{INPUT_TWICE, has_value, inputs_in, value_in};
+use crate::reading::{INPUT_TWICE, has_value, inputs_in};
 use crate::task::{RowsWords, Task};
 use clap::ArgMatches;
-use program_manners::{flag_in, names_in};
+use program_manners::{flag_in, names_in, value_in};
 use std::alloc::{AllocError, Global};
 use tap_rows::{Columns, Condition, Fold, Separator, Unit};
 
