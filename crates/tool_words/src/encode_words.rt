@@ -96,10 +96,12 @@ fn conditions_in<'a>(
 fn value_of<'a>(column: &str, pairs: &[Condition<'a>]) -> Option<&'a str>
     ensures { text_in result ≡ value_of column.now (map condition_of pairs.now) }
 {
-    match pairs.iter().find(|pair| pair.column == column) {
-        Some(pair) => Some(pair.value),
-        None => None,
+    for pair in pairs {
+        if pair.column == column {
+            return Some(pair.value);
+        }
     }
+    None
 }
 
 fn columns_among<'a>(pairs: &[Condition<'a>]) -> Option<Export<'a>>

@@ -1,6 +1,6 @@
 use Rattle.std.proofs.Common.{◌<◌, [], arith, ap, inl, inr, length}
 use Rattle.std.proofs.lemmas.Result.{IfErr-weaker}
-use Rattle.fare_program.specs.inside.Causes.{IsOfOutput, IsRightOfUploads}
+use Rattle.fare_program.specs.inside.Fault.{IsOfOutput, IsRightOfUploads}
 use Rattle.fare_program.specs.inside.Options.{request_of}
 use Rattle.fare_program.proofs.Causes.{early}
 use Rattle.fare_program.proofs.Ends.{gives_by}
