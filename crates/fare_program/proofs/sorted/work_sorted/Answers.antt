@@ -6,7 +6,7 @@ use Rattle.fare_program.specs.Parts.{IsPartText}
 use Rattle.fare_program.specs.Program.{IsTokenIn}
 use Rattle.fare_program.specs.Settling.{ShowsSettled}
 use Rattle.fare_program.specs.inside.Options.{request_of}
-use Rattle.fare_program.proofs.Ends.{gives_given}
+use Rattle.fare_program.proofs.Ends.{gives_by}
 use Rattle.fare_program.proofs.sorted.work_sorted.Goals as goal
 
 abbrev name_in : Bor (List ℕ) → List ℕ
@@ -33,7 +33,7 @@ returns-in-Some-clause-ends g c =
     let opened = ap (map g.D.File.Placed.bytes) c.deref-in-Some.ensures.value
     ∙ (rw c.deref.ensures.value at c.in-Ok.ensures.opened) in
     let named = ap (option_map name_in) c.in-Some.is in
-    gives_given _ _ _ _ _ _ c.charge_part.result
+    gives_by c.charge_part.result
     (λ given. not_true (request_of c.args.options.now).ledger
     (λ ledger. given.0 (ap is_some named, ledger)))
     (λ text success is. (is.0, λ files are. rw named (is.1 files (opened ∙ are))))
@@ -45,7 +45,7 @@ returns-clause-ends g c =
     let opened = ap (map g.D.File.Placed.bytes) c.deref-in-None.ensures.value
     ∙ (rw c.deref.ensures.value at c.in-Ok.ensures.opened) in
     let named = ap (option_map name_in) c.in-None.is in
-    gives_given _ _ _ _ _ _ c.charge_sorted.result
+    gives_by c.charge_sorted.result
     (λ given ledger none. rw opened
     (given.1 (c.requires.sorted, ledger, no_token request.token c.args.token none c.requires.token)))
     (λ text success is. (
