@@ -10,9 +10,9 @@
 #               users, the index of all contracts, the example, what others do with a ledger (sql,
 #               viewer, audit), and the HTTP front, into DESTDIR/PREFIX; PREFIX is /usr/local if not
 #               given. tests/installed tries it
-# make test     everything that must pass: what the documents say of the sources, the share of
-#               comments, the index of contracts (out/contracts), no lemma proved once more, what must
-#               not compile, the proofs, the tests, the mutants in must-fail/, the stored runs, and
+# make test     everything that must pass: the layout, what the documents say of the sources, the share
+#               of comments, the index of contracts (out/contracts), no lemma proved once more, what
+#               must not compile, the proofs, the tests, the mutants in must-fail/, the stored runs, and
 #               then the cases of the built program and the settled week
 # make wrong    all mutants, those in wrong/ too: the proof of the function that it changes must reject
 #               each. Some crates alone: make wrong CRATES="tap_views fare_table"
@@ -67,6 +67,7 @@ install:
 #
 # The last line of the output is the verdict of rt ci: the cases are silent if all is well.
 test:
+	@scripts/check_layout
 	@scripts/check_documents
 	@scripts/comment_share
 	@tests/comment_share

@@ -59,11 +59,14 @@ module _ (tables : TableNames) (loaded loaded' loaded'' : Option (List Loaded))
   first_is_right text why fault is_loaded wrong is = by fault is
     where
       refuses : is_memory (next.Table why) ≡ false → RefusesTable tables loaded loaded'' tables.first
-      refuses some = inl (refl, record {
-        text = text;
-        is_loaded = is_loaded;
-        wrong = no_table text why (wrong (not_memory why some));
-      })
+      refuses some = inl (
+        refl,
+        record {
+          text = text;
+          is_loaded = is_loaded;
+          wrong = no_table text why (wrong (not_memory why some));
+        },
+      )
 
       by : (fault : TablesFault) → IsFirstReported tables.first why fault
           → IsTablesFault tables loaded loaded'' refused fault

@@ -69,9 +69,7 @@ pub(crate) fn explain_below<R: Threads + Sync, F: Placed, W: Write>(
             return Err(BillFault::Changed);
         }
         *left -= number;
-        write_by_workers(
-            rt, text, table, clock, explainer, slots, &taker.taps, out,
-        )?;
+        write_by_workers(rt, text, table, clock, explainer, slots, &taker.taps, out)?;
     }
     Err(BillFault::Changed)
 }

@@ -109,7 +109,13 @@ pub(crate) fn take_step<F: Placed>(
         return Ok(());
     }
     let before = taps.len();
-    take_runs(readers, files, window, front.limit(files.len(), below), taps)?;
+    take_runs(
+        readers,
+        files,
+        window,
+        front.limit(files.len(), below),
+        taps,
+    )?;
     // proof: the reader of the least token has a tap that is not after the limit
     if taps.len() == before {
         return Err(SortedFault::Unread);

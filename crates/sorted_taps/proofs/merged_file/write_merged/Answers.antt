@@ -40,9 +40,11 @@ loop-init g c =
       may_wait = may_wait_none waiting none;
       taps = [];
       put = subst (λ l. HasPut old old [] l) (sym none) (put_none old);
-      taken = λ all are.
-          (c.in_ok-merge.merge.readers.items, c.in_ok-merge.ensures.started all are,
-          taken_none all c.in_ok-merge.merge.readers.items);
+      taken = λ all are. (
+        c.in_ok-merge.merge.readers.items,
+        c.in_ok-merge.ensures.started all are,
+        taken_none all c.in_ok-merge.merge.readers.items,
+      );
     }
 
 pub returns-in_err-run-clause-started : goal.returns-in_err-run-clause-started
