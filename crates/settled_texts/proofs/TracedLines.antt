@@ -1,10 +1,9 @@
 -- Columns behind the lines of a text.
 use Rattle.std.proofs.Common.{◌≡◌, ◌∙◌, ℕ, ◌+◌, ◌<◌, ◌==◌, false, List, [], ◌∷◌, ◌++◌, Option, refl}
-use Rattle.std.proofs.Common.{sym, ap, subst, drop, take, get_or, add-one, append_assoc, append-nil}
-use Rattle.std.proofs.Common.{drop-cons}
+use Rattle.std.proofs.Common.{sym, ap, subst, drop, take, get_or, append_assoc, append-nil, length}
 use Rattle.std.specs.Prelude.{codes}
 use Rattle.std.specs.Io.KnownBytes.{Appends}
-use Rattle.std.proofs.lemmas.List.{map-append, take-append-drop, take_more}
+use Rattle.std.proofs.lemmas.List.{map-append, take_more}
 use Rattle.tariffs.specs.Fares.{Fares}
 use Rattle.tap_views.specs.declared.encoder.TapFields.{TapFields}
 use Rattle.fare_texts.specs.LedgerLines.{head_text}
@@ -16,6 +15,7 @@ use Rattle.settled_texts.specs.ExplainedTaps.{Explains, HaveLines}
 use Rattle.settled_texts.specs.Traces.{taps_of_trace}
 use Rattle.settled_texts.specs.declared.trace.TracedTap.{TracedTap}
 use Rattle.settled_texts.specs.inside.Puts.{Puts}
+use Rattle.settled_texts.proofs.Joined.{around}
 use Rattle.settled_texts.proofs.TapsExplained.{explained_lines, lines_front}
 
 pub no_columns : (text : List ℕ) → with_columns text [] ≡ text
@@ -61,14 +61,6 @@ goes_longer a b old new more gone = record {
   whole = append-nil (old ++ more)
       ∙ ap (λ (t : List ℕ). t ++ more) (sym (append-nil old) ∙ gone.whole)
       ∙ append_assoc gone.front new more;
-  written = gone.written;
-}
-
-pub gone_begins : (a b : Option (List ℕ)) (old new : List ℕ) → GoesOut a old b new [] → Begins a b old
-gone_begins a b old new gone = record {
-  front = gone.front;
-  rest = new;
-  whole = sym (append-nil old) ∙ gone.whole;
   written = gone.written;
 }
 
@@ -135,8 +127,5 @@ pub taps_at : (trace : List TracedTap) (i : ℕ) (d : TracedTap) → i < length 
     → taps_of_trace (take i trace)
     ++ ((get_or trace i d).tap ∷ [] ++ taps_of_trace (drop (i + 1) trace)) ≡ taps_of_trace trace
 taps_at trace i d within =
-    let at : drop i trace ≡ get_or trace i d ∷ drop (i + 1) trace =
-    rw (add-one) (drop-cons trace i d within) in
-    ap (λ (ts : List TapFields). taps_of_trace (take i trace) ++ ts) (sym (ap taps_of_trace at))
-    ∙ sym (map-append tap_in (take i trace) (drop i trace))
-    ∙ ap taps_of_trace (take-append-drop i trace)
+    sym (map-append tap_in (take i trace) (get_or trace i d ∷ drop (i + 1) trace))
+    ∙ ap taps_of_trace (around trace i d within)

@@ -18,7 +18,7 @@ ghost use Rattle.class_names.specs.Names.{class_by};
 ghost use Rattle.settled_texts.specs.Traces.{taps_of_trace};
 
 use crate::columns::put_lines;
-use crate::lines::explain_taps;
+use crate::lines::explain_tap;
 use crate::trace::{TracedTap, trace_of};
 use class_names::ClassNames;
 use fare_texts::{Explainer, LINE_ROOM_BYTES, PIECE_BYTES, PrintFault, write_out};
@@ -26,7 +26,6 @@ use histories::laws::plain_history;
 use settlement::least_token;
 use std::alloc::{AllocError, Global};
 use std::io::Write;
-use std::slice;
 use tap_views::laws::unique_parse_each;
 use tap_views::{NoMemory, TapFields};
 use tariffs::{Clock, FareTable};
@@ -99,8 +98,9 @@ impl Room {
             self.new.lines.items rest.now)) }
     {
         self.line.clear();
-        explain_taps(&mut self.line, table, clock, explainer, slice::from_ref(tap))?;
-        put_lines(&mut self.lines, self.line.as_bytes(), names, left)
+        explain_tap(&mut self.line, table, clock, explainer, tap)?;
+        let rest = put_lines(&mut self.lines, self.line.as_bytes(), names, left)?;
+        Ok(rest)
     }
 }
 

@@ -16,9 +16,8 @@ ghost use Rattle.sorted_bills.specs.declared.fault.BillFault.TheVariants.{Write 
 use crate::fault::BillFault;
 use crate::lines_below::explain_below;
 use crate::token_part::{StartedPart, begin_part, end_part};
-use fare_texts::{Explainer, head_with_room, pass_on};
+use fare_texts::{Explainer, LINE_ROOM_BYTES, head_with_room, pass_on};
 use placed_files::Placed;
-use settled_texts::STRIDE_ROOM_BYTES;
 use settlement::least_token;
 use sorted_taps::{FileSpan, WINDOW_BYTES, have_stamps, stamps_of};
 use std::alloc::Global;
@@ -72,7 +71,7 @@ pub fn write_part_ledger<R: Threads + Sync, F: Placed, W: Write>(
     let stamps = stamps_of(alloc, files)?;
     let mut window = vec![in alloc; 0u8; WINDOW_BYTES]?;
     let clock = table.clock(alloc)?;
-    let mut text = head_with_room(alloc, STRIDE_ROOM_BYTES)?;
+    let mut text = head_with_room(alloc, LINE_ROOM_BYTES)?;
     let started = begin_part(alloc, files, from, &mut window)?;
     let StartedPart {
         positions,

@@ -9,10 +9,10 @@ use Rattle.class_names.specs.Names.{class_by}
 use Rattle.settled_texts.specs.Columns.{columns_by, with_columns}
 use Rattle.settled_texts.specs.ExplainedTaps.{Explains}
 use Rattle.settled_texts.specs.Traces.{taps_of_trace}
-use Rattle.settled_texts.proofs.Joined.{may_next}
+use Rattle.settled_texts.proofs.Joined.{gone_begins, may_next}
 use Rattle.settled_texts.proofs.TapsExplained.{explained_lines, explains_as, explains_none}
 use Rattle.settled_texts.proofs.TapsExplained.{explains_then}
-use Rattle.settled_texts.proofs.TracedLines.{GoesWith, goes_all, goes_put, gone_begins, taps_at}
+use Rattle.settled_texts.proofs.TracedLines.{GoesWith, goes_all, goes_put, taps_at}
 use Rattle.settled_texts.proofs.TracedLines.{taps_more, traced_started}
 use Rattle.settled_texts.proofs.traced_ledger.write_lines.Goals as goal
 
