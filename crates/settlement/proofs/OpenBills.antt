@@ -21,22 +21,14 @@ use Rattle.histories.proofs.SumsLemmas.{sums-append, sums-taps}
 use Rattle.histories.specs.declared.entry.Entry.{Entry}
 use Rattle.histories.proofs.SumsByToken.{by_token_joined, one_token_list, below_same, none_of}
 use Rattle.tap_views.specs.TokenOrder.{AreBelow, IsUpTo}
-use Rattle.settlement.specs.Posted.{posted, posted_after, token_of_tap, unposted}
+use Rattle.settlement.specs.Posted.{posted, token_of_tap, unposted}
 use Rattle.settlement.specs.Bills.{IsBillOf}
 use Rattle.settlement.specs.Replays.{HasPosted}
 use Rattle.settlement.specs.declared.bill.Bill.{Bill}
-use Rattle.settlement.proofs.Concats.{posted_append}
-use Rattle.settlement.proofs.TokenRuns.{posted_length, up_apart}
+use Rattle.settlement.proofs.TokenRuns.{posted_length, posted_next, up_apart}
 use Rattle.tap_views.proofs.TokenLemmas.{less_apart, token_cmp-total, token_eq-sym}
 use Rattle.settlement.specs.declared.open_bill.OpenBill.{OpenBill}
 use Rattle.settlement.specs.OpenBills.{IsOpenBill}
-
--- one tap posted behind others
-pub posted_next : (fares : Fares) (taps : List TapFields) (tap : TapFields)
-    → posted fares (taps ++ tap ∷ [])
-    ≡ posted fares taps ++ answered fares (posted fares taps) (unposted tap) ∷ []
-unfolding posted_after
-posted_next fares taps tap = posted_append fares [] taps (tap ∷ [])
 
 module _ (fares : Fares) (taps : List TapFields) (bill : OpenBill)
     (is : IsOpenBill fares taps bill) where

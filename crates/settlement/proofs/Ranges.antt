@@ -120,7 +120,3 @@ posted_below fares taps others below =
     (map token_of (posted fares taps))
     (subst (λ tokens. AreBelow tokens (map token_of_tap others))
     (sym (tokens_posted fares [] taps)) below)))
-
-pub none_posted : (fares : Fares) → posted fares [] ≡ []
-unfolding posted_after
-none_posted fares = refl

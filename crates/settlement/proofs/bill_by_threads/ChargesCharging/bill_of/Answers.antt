@@ -56,7 +56,7 @@ add-requires-clause-bill g c =
     let all = length-flat_map-take (λ (p : List TapFields). p) parts i part
     c.loop-pieces-test.true in
     let here = ap length c.pieces-item.is in
-    let few = c.requires.2.2.1 in
+    let few = c.requires.3 in
     (before.order, before.is_open, omega (arith, done, more, all, here, few))
 
 pub loop-pieces-preserved : goal.loop-pieces-preserved
@@ -88,7 +88,7 @@ into_bill-requires g c =
     let done = c.loop-pieces.invariant in
     let long = length_permutation (flat (take i c.args.parts.now)) done.order done.canonical.moved in
     let all = flat_take i c.args.parts.now in
-    let few = c.requires.2.2.1 in
+    let few = c.requires.3 in
     (c.args.self.now.table.now, done.order, done.is_open, omega (arith, long, all, few))
 
 pub returns : goal.returns
@@ -98,7 +98,7 @@ returns g c =
     let done = c.loop-pieces.invariant in
     let long = length_permutation (flat (take i parts)) done.order done.canonical.moved in
     let all = flat_take i parts in
-    let few = c.requires.2.2.1 in
+    let few = c.requires.3 in
     record {
       order = done.order;
       canonical = subst (λ (ps : List (List TapFields)). IsCanonical (flat ps) done.order)
