@@ -3,7 +3,7 @@ use Rattle.std.proofs.Common.{◌≡◌, ◌∙◌, ℕ, ◌+◌, ◌<◌, ◌==
 use Rattle.std.proofs.Common.{sym, ap, subst, drop, take, get_or, append_assoc, append-nil, length}
 use Rattle.std.specs.Prelude.{codes}
 use Rattle.std.specs.Io.KnownBytes.{Appends}
-use Rattle.std.proofs.lemmas.List.{map-append, take_more}
+use Rattle.std.proofs.lemmas.List.{map-append, take-append-drop, take_more}
 use Rattle.tariffs.specs.Fares.{Fares}
 use Rattle.tap_views.specs.declared.encoder.TapFields.{TapFields}
 use Rattle.fare_texts.specs.LedgerLines.{head_text}
@@ -93,26 +93,29 @@ goes_all classes trace left a b c waited waits lines gone written =
     (goes_last a b c waited (waits ++ []) (with_columns (lines ++ []) (columns_by classes trace))
     (gone []) (subst (Appends b c) (sym (append-nil waits)) written))
 
--- what a write that failed left, if more taps follow those that were explained
-pub traced_started : (classes : ℕ → List ℕ → List ℕ) (trace left : List TracedTap) (fares : Fares)
-    (old mid : Explainer) (done more : List TapFields) (a b c : Option (List ℕ))
-    (waited waits : List ℕ) → done ++ more ≡ taps_of_trace trace
-    → Explains fares old done mid (GoesWith classes trace a waited b waits left)
-    → Begins b c waits
-    → HaveLines fares old (taps_of_trace trace)
-    (λ lines. Begins a c (waited ++ with_columns lines (columns_by classes trace)))
-traced_started classes trace left fares old mid done more a b c waited waits whole is started =
-    lines_front fares old done more (taps_of_trace trace)
-    (GoesWith classes trace a waited b waits left)
-    (λ lines. Begins a c (waited ++ with_columns lines (columns_by classes trace))) whole
-    (explained_lines fares old mid done (GoesWith classes trace a waited b waits left) is)
-    (λ l m gone. goes_then a b c waited (waits ++ with_columns m (columns_by classes left))
-    (with_columns (l ++ m) (columns_by classes trace)) (gone m)
-    (begins_front b c waits (with_columns m (columns_by classes left)) started))
-
 -- ---- the taps of a trace
 abbrev tap_in : TracedTap → TapFields
 tap_in traced = traced.tap
+
+-- what a write that failed left, after the lines of some taps
+pub traced_started : (classes : ℕ → List ℕ → List ℕ) (trace left : List TracedTap) (fares : Fares)
+    (old mid : Explainer) (i : ℕ) (a b c : Option (List ℕ)) (waited waits : List ℕ)
+    → Explains fares old (taps_of_trace (take i trace)) mid
+    (GoesWith classes trace a waited b waits left)
+    → Begins b c waits
+    → HaveLines fares old (taps_of_trace trace)
+    (λ lines. Begins a c (waited ++ with_columns lines (columns_by classes trace)))
+traced_started classes trace left fares old mid i a b c waited waits is started =
+    lines_front fares old (taps_of_trace (take i trace)) (taps_of_trace (drop i trace))
+    (taps_of_trace trace) (GoesWith classes trace a waited b waits left)
+    (λ lines. Begins a c (waited ++ with_columns lines (columns_by classes trace)))
+    (sym (map-append tap_in (take i trace) (drop i trace))
+    ∙ ap taps_of_trace (take-append-drop i trace))
+    (explained_lines fares old mid (taps_of_trace (take i trace))
+    (GoesWith classes trace a waited b waits left) is)
+    (λ l m gone. goes_then a b c waited (waits ++ with_columns m (columns_by classes left))
+    (with_columns (l ++ m) (columns_by classes trace)) (gone m)
+    (begins_front b c waits (with_columns m (columns_by classes left)) started))
 
 -- one more
 pub taps_more : (trace : List TracedTap) (i : ℕ) (d : TracedTap) → i < length trace

@@ -1,6 +1,6 @@
 -- Each round explains a tap more.
 use Rattle.std.proofs.Common.{◌+◌, ◌++◌, List, [], ◌∷◌, arith, drop, string_bytes, subst, sym}
-use Rattle.std.proofs.lemmas.List.{take_all, take_more}
+use Rattle.std.proofs.lemmas.List.{take-append-drop, take_all, take_more}
 use Rattle.std.proofs.lemmas.Result.{err_from_is_err_and}
 use Rattle.fare_texts.specs.WrittenOut.{GoesOut}
 use Rattle.fare_texts.proofs.Beginnings.{goes_grown, goes_nothing, goes_passed, goes_then_on}
@@ -17,7 +17,7 @@ loop-tap-init g c =
     (goes_nothing (g.W.Write.contents c.args.out.now) (string_bytes c.args.text.now))
 
 pub explain_tap-requires-clause-may : goal.explain_tap-requires-clause-may
-explain_tap-requires-clause-may g c κs within =
+explain_tap-requires-clause-may g c =
     may_next (_ ∷ []) (drop (c.loop-tap.tap-index + 1) c.args.taps.now)
     (around c.args.taps.now c.loop-tap.tap-index _ c.loop-tap-test.true) c.loop-tap.invariant
     c.requires.may
@@ -46,15 +46,13 @@ returns-clause-explained g c =
 pub returns-in_err-pass_piece-clause-started : goal.returns-in_err-pass_piece-clause-started
 returns-in_err-pass_piece-clause-started g c =
     let p = err_from_is_err_and c.from_residual.result c.from_residual.ensures.1 in
-    rw p.1 (lines_front _ _ _ _ _ _ _
-    (around c.args.taps.now c.loop-tap.tap-index _ c.loop-tap-test.true)
+    rw p.1 (lines_front _ _ _ _ _ _ _ (take-append-drop c.loop-tap.tap-index c.args.taps.now)
     (explained_lines _ _ _ _ _ c.loop-tap.invariant)
     (λ l m gone. goes_then_on _ _ _ _ _ l m gone c.in_err-pass_piece.ensures.started))
 
 pub returns-in_default-clause-started : goal.returns-in_default-clause-started
 returns-in_default-clause-started g c =
-    lines_front _ _ _ _ _ _ _
-    (around c.args.taps.now c.loop-tap.tap-index _ c.loop-tap-test.true)
+    lines_front _ _ _ _ _ _ _ (take-append-drop c.loop-tap.tap-index c.args.taps.now)
     (explained_lines _ _ _ _ _ c.loop-tap.invariant)
     (λ l m gone. goes_then_on _ _ _ _ _ l m gone
     (gone_begins _ _ _ _ c.in_ok-pass_piece.ensures.gone))

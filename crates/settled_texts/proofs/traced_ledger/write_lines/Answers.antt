@@ -1,12 +1,10 @@
 -- Each round explains a tap more.
-use Rattle.std.proofs.Common.{◌∙◌, ◌+◌, ◌++◌, List, [], ◌∷◌, ap, append-nil, arith, drop, refl, subst}
-use Rattle.std.proofs.Common.{take}
+use Rattle.std.proofs.Common.{◌+◌, List, [], ◌∷◌, ap, arith, drop, refl, subst}
 use Rattle.std.proofs.lemmas.List.{take_all}
 use Rattle.std.proofs.lemmas.Result.{err_from_is_err_and}
 use Rattle.tap_views.specs.declared.encoder.TapFields.{TapFields}
 use Rattle.fare_texts.proofs.Beginnings.{goes_after}
 use Rattle.class_names.specs.Names.{class_by}
-use Rattle.settled_texts.specs.Columns.{columns_by, with_columns}
 use Rattle.settled_texts.specs.ExplainedTaps.{Explains}
 use Rattle.settled_texts.specs.Traces.{taps_of_trace}
 use Rattle.settled_texts.proofs.Joined.{gone_begins, may_next}
@@ -22,7 +20,7 @@ loop-traced-init g c =
     (λ rest. goes_after (g.W.Write.contents c.args.out.now) c.args.room.now.lines.items _ _ refl)
 
 pub put-requires-clause-may : goal.put-requires-clause-may
-put-requires-clause-may g c κs within =
+put-requires-clause-may g c =
     let trace = c.args.trace.now in
     let i = c.loop-traced.traced-index in
     may_next (_ ∷ []) (taps_of_trace (drop (i + 1) trace))
@@ -48,27 +46,24 @@ returns-clause-ok g c =
     (ap taps_of_trace (take_all c.loop-traced.traced-index trace
     (omega (arith, c.loop-traced-test.false))))
     (explains_as _ _ _ _ _ _ c.loop-traced.invariant
-    (λ l gone. goes_all _ _ _ _ _ _ _ _ l gone c.in_ok-write_out.ensures.ok)))
+    (λ l gone. goes_all _ _ _ _ _ _ _ _ l gone
+    (rw c.deref.ensures.value at c.in_ok-write_out.ensures.ok))))
 
 -- ---- what a write that failed left
 pub returns-in_err-pass_piece-clause-started : goal.returns-in_err-pass_piece-clause-started
 returns-in_err-pass_piece-clause-started g c =
     let p = err_from_is_err_and c.from_residual.result c.from_residual.ensures.1 in
-    rw p.1 (traced_started _ _ _ _ _ _ _ _ _ _ _ _ _
-    (taps_at c.args.trace.now c.loop-traced.traced-index _ c.loop-traced-test.true)
+    rw p.1 (traced_started _ _ _ _ _ _ c.loop-traced.traced-index _ _ _ _ _
     c.loop-traced.invariant c.in_err-pass_piece.ensures.started)
 
 pub returns-in_default-clause-started : goal.returns-in_default-clause-started
 returns-in_default-clause-started g c =
-    traced_started _ _ _ _ _ _ _ _ _ _ _ _ _
-    (taps_at c.args.trace.now c.loop-traced.traced-index _ c.loop-traced-test.true)
-    c.loop-traced.invariant (gone_begins _ _ _ _ c.in_ok-pass_piece.ensures.gone)
+    traced_started _ _ _ _ _ _ c.loop-traced.traced-index _ _ _ _ _ c.loop-traced.invariant
+    (gone_begins _ _ _ _ c.in_ok-pass_piece.ensures.gone)
 
 pub returns-in_err-write_out-clause-started : goal.returns-in_err-write_out-clause-started
 returns-in_err-write_out-clause-started g c =
     let p = err_from_is_err_and c.from_residual-in_err-write_out.result
     c.from_residual-in_err-write_out.ensures.1 in
-    rw p.1 (traced_started _ _ _ _ _ _ _ [] _ _ _ _ _
-    (append-nil _ ∙ ap taps_of_trace (take_all c.loop-traced.traced-index c.args.trace.now
-    (omega (arith, c.loop-traced-test.false))))
-    c.loop-traced.invariant c.in_err-write_out.ensures.started)
+    rw p.1 (traced_started _ _ _ _ _ _ c.loop-traced.traced-index _ _ _ _ _
+    c.loop-traced.invariant (rw c.deref.ensures.value at c.in_err-write_out.ensures.started))
