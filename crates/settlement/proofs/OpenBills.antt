@@ -1,5 +1,5 @@
 -- Bills to which taps are added one by one.
-use Rattle.std.proofs.Common.{◌≡◌, ◌≢◌, ◌==◌, ℕ, ◌+◌, ◌<◌, true, false, List, [], ◌∷◌, ◌++◌, length}
+use Rattle.std.proofs.Common.{◌≡◌, ◌≢◌, ◌==◌, ℕ, ◌+◌, true, false, List, [], ◌∷◌, ◌++◌, length}
 use Rattle.std.proofs.Common.{map, refl, sym, ap, subst, ◌∙◌, arith, All, append-nil, append_assoc}
 use Rattle.std.proofs.Common.{get_or, length-append}
 use Rattle.std.specs.declared.cmp.Ordering.TheVariants.{Less}

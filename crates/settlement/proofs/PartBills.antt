@@ -1,11 +1,11 @@
 -- Bills of parts that are ranges of tokens, and of runs of such parts.
-use Rattle.std.proofs.Common.{◌≡◌, ℕ, suc, ◌+◌, ◌*◌, ◌/◌, ◌%◌, ◌<◌, ◌≤◌, ◌^◌, List, ◌∷◌, ◌++◌, [], All}
+use Rattle.std.proofs.Common.{◌≡◌, ℕ, suc, ◌+◌, ◌<◌, ◌≤◌, List, ◌∷◌, ◌++◌, [], All}
 use Rattle.std.proofs.Common.{length, map, flat_map, take, drop, get_or, sym, ap, subst, ◌∙◌}
-use Rattle.std.proofs.Common.{arith, length-append, min}
+use Rattle.std.proofs.Common.{arith, length-append}
 use Rattle.std.specs.List.{AllZip}
-use Rattle.std.proofs.lemmas.List.{drop-take, get_or_default, get_or-take, get_or-drop}
+use Rattle.std.proofs.lemmas.List.{get_or_default, get_or-take, get_or-drop}
 use Rattle.std.proofs.lemmas.List.{flat_map_more, length-take, length-drop}
-use Rattle.std.proofs.lemmas.List.{take-append-drop, take-take, take_all, take_more}
+use Rattle.std.proofs.lemmas.List.{take-append-drop, take_more}
 use Rattle.std.proofs.lemmas.List.Concat.{flat_map-append}
 use Rattle.std.proofs.lemmas.List.Elements.{All-append, All-nil, All-weaker}
 use Rattle.std.proofs.lemmas.List.Sorted.{All-permutation, IsPermutation-append, length_permutation}
@@ -20,7 +20,7 @@ use Rattle.histories.specs.SumsByKey.{token_of}
 use Rattle.histories.specs.declared.entry.Entry.{Entry}
 use Rattle.settlement.specs.Bills.{HaveBillRoom, IsBillOf}
 use Rattle.settlement.specs.Nondecreasing.{TapsNondecreasingFrom, last_token}
-use Rattle.settlement.specs.Posted.{HasName, posted, posted_after, token_of_tap}
+use Rattle.settlement.specs.Posted.{HasName, posted, token_of_tap}
 use Rattle.settlement.specs.declared.bill.Bill.{Bill}
 use Rattle.settlement.specs.inside.Billing.{AreFewInRanges, AreRangesFrom, IsBillOfTaps, IsSoundTap}
 use Rattle.settlement.proofs.Nondecreasing.{canonical_nondecreasing, nondecreasing_append}
