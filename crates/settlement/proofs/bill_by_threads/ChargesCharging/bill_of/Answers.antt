@@ -11,7 +11,7 @@ use Rattle.settlement.specs.Nondecreasing.{last_token}
 use Rattle.settlement.proofs.Nondecreasing.{last_append}
 use Rattle.settlement.proofs.PartBills.{flat, flat_more, flat_take, next_up, no_order}
 use Rattle.settlement.proofs.PartBills.{ranges_joined, sound_before, sound_here}
-use Rattle.settlement.proofs.bill_by_threads.bill_of.Goals as goal
+use Rattle.settlement.proofs.bill_by_threads.ChargesCharging.bill_of.Goals as goal
 
 abbrev least : Token
 least = record { high = 0; low = 0 }
@@ -20,13 +20,13 @@ pub loop-pieces-init : goal.loop-pieces-init
 loop-pieces-init g c = record {
   order = [];
   canonical = no_order;
-  is_open = c.new-bill.ensures.bill c.args.table.now;
+  is_open = c.new-bill.ensures.bill c.args.self.now.table.now;
   token = c.new-bill.ensures.token ∙ c.least_token.ensures;
 }
 
 pub add-requires-clause-early : goal.add-requires-clause-early
 add-requires-clause-early g c =
-    let (bounds, start, are) = c.requires.ranges in
+    let (bounds, start, are, few) = c.requires in
     let part = c.pieces-item.result in
     All-permutation (λ (tap : TapFields). tap.moment < moment_limit) part c.in_ok-taps.taps.now
     c.in_ok-taps.ensures.moved
@@ -35,7 +35,7 @@ add-requires-clause-early g c =
 
 pub add-requires-clause-nondecreasing : goal.add-requires-clause-nondecreasing
 add-requires-clause-nondecreasing g c =
-    let (bounds, start, are) = c.requires.ranges in
+    let (bounds, start, are, few) = c.requires in
     let parts = c.args.parts.now in
     let i = c.loop-pieces.pieces-index in
     let part = c.pieces-item.result in
@@ -56,12 +56,12 @@ add-requires-clause-bill g c =
     let all = length-flat_map-take (λ (p : List TapFields). p) parts i part
     c.loop-pieces-test.true in
     let here = ap length c.pieces-item.is in
-    let few = c.requires.few in
+    let few = c.requires.3 in
     (before.order, before.is_open, omega (arith, done, more, all, here, few))
 
 pub loop-pieces-preserved : goal.loop-pieces-preserved
 loop-pieces-preserved g c =
-    let (bounds, start, are) = c.requires.ranges in
+    let (bounds, start, are, few) = c.requires in
     let parts = c.args.parts.now in
     let i = c.loop-pieces.pieces-index in
     let inside = c.loop-pieces-test.true in
@@ -88,8 +88,8 @@ into_bill-requires g c =
     let done = c.loop-pieces.invariant in
     let long = length_permutation (flat (take i c.args.parts.now)) done.order done.canonical.moved in
     let all = flat_take i c.args.parts.now in
-    let few = c.requires.few in
-    (c.args.table.now, done.order, done.is_open, omega (arith, long, all, few))
+    let few = c.requires.3 in
+    (c.args.self.now.table.now, done.order, done.is_open, omega (arith, long, all, few))
 
 pub returns : goal.returns
 returns g c =
@@ -98,11 +98,11 @@ returns g c =
     let done = c.loop-pieces.invariant in
     let long = length_permutation (flat (take i parts)) done.order done.canonical.moved in
     let all = flat_take i parts in
-    let few = c.requires.few in
+    let few = c.requires.3 in
     record {
       order = done.order;
       canonical = subst (λ (ps : List (List TapFields)). IsCanonical (flat ps) done.order)
           (take_all i parts (omega (arith, c.loop-pieces-test.false))) done.canonical;
-      billed = c.in_ok-bill.ensures c.args.table.now done.order done.is_open;
+      billed = c.in_ok-bill.ensures c.args.self.now.table.now done.order done.is_open;
       few = omega (arith, long, all, few);
     }
