@@ -1,6 +1,5 @@
 //! What is requested of sorted files, which are read in pieces and merged.
-ghost use Rattle.std.specs.Prelude.{◌≡◌, ◌++◌, ◌∷◌, [], Option, None, Some, IfErr, IfOk, OnOk};
-ghost use Rattle.std.specs.Prelude.{false, map, true};
+ghost use Rattle.std.specs.Prelude.{◌≡◌, Option, None, Some, IfErr, IfOk, false, map, true};
 ghost use Rattle.std.specs.Option.{option_and_then};
 ghost use Rattle.fare_program.specs.Causes.{IsRightOfSorted};
 ghost use Rattle.fare_program.specs.Parts.{ShowsSorted};
@@ -15,6 +14,7 @@ use crate::bill::write_billed;
 use crate::fault::{Fault, ended};
 use crate::options::Options;
 use crate::part::charge_part;
+use crate::program::push;
 use crate::remarks::note_taps;
 use crate::settled_token::write_text;
 use crate::sorted_fault::UnopenedFile;
@@ -29,14 +29,7 @@ use std::io::Write;
 use std::marker::Sync;
 use std::random::RandomSource;
 use std::thread::Threads;
-use tap_views::{NoMemory, Token};
-
-fn push<F: Drop>(files: &mut Vec<F>, file: F) -> Result<(), NoMemory>
-    ensures { OnOk result (files.new.items ≡ files.old.items ++ file ∷ []) }
-{
-    files.push(file)?;
-    Ok(())
-}
+use tap_views::Token;
 
 fn open_files<'a, D: Disk>(
     alloc: Global,

@@ -195,13 +195,7 @@ pub own_in_order : (token : Token) (files : List (List ℕ)) (own list : List Ta
     → AreSettledTapsOf files token list
 own_in_order token files own list numbers are canonical =
     let of = file_taps files are.lists are.sorted in
-    own_settled files token own list (map Posted numbers)
-    (record {
-      taps = of.taps;
-      of_uploads = of.each;
-      are = are.are ∙ ap (only token) (sym of.fields);
-      ended = own_ends (Some token) files own numbers are;
-    })
+    own_settled files token own list of.taps of.each (are.are ∙ ap (only token) (sym of.fields))
     (subst (λ (ts : List TapFields). All HasTokenBytes ts) (sym of.fields)
     (All-weaker HasName HasTokenBytes (λ tap name. has_token_bytes tap name.named)
     (all_of are.lists) are.named)) canonical

@@ -10,9 +10,9 @@ ghost use Rattle.sorted_bills.specs.inside.Taken.{IsReady};
 
 use crate::fault::BillFault;
 use crate::taker::{TAKEN_TAPS, Taker};
-use fare_texts::{Explainer, head_with_room, pass_on};
+use fare_texts::{Explainer, LINE_ROOM_BYTES, head_with_room, pass_on};
 use placed_files::Placed;
-use settled_texts::{STRIDE_ROOM_BYTES, WorkerSlot, write_by_workers};
+use settled_texts::{WorkerSlot, write_by_workers};
 use std::alloc::Global;
 use std::io::Write;
 use std::marker::Sync;
@@ -57,7 +57,7 @@ pub(crate) fn write_lines<R: Threads + Sync, F: Placed, W: Write>(
     ensures fault { IfErr result (λ fault. (all : List (List ℕ)) → IsBillFault all fault) }
 {
     let clock = table.clock(alloc)?;
-    let mut text = head_with_room(alloc, STRIDE_ROOM_BYTES)?;
+    let mut text = head_with_room(alloc, LINE_ROOM_BYTES)?;
     let mut explainer = Explainer::of(from);
     let most = round_taps(slots.len());
     for _ in 0..u64::MAX {

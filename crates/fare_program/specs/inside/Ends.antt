@@ -34,9 +34,7 @@ GivesIf Given Right out out' (Err fault) =
 -- The same where nothing need be given.
 abbrev pub Gives : (List ℕ → Bool → Type 0) → Option (List ℕ) → Option (List ℕ)
     → Result Bool Fault → Type 0
-Gives Right out out' (Ok success) = (text : List ℕ) × Right text success × Appends out out' text
-Gives Right out out' (Err fault) =
-    Stops (λ text. (success : Bool) × Right text success) out out' fault
+Gives = GivesIf (Unit {0})
 
 -- what is right of files of which this is known
 abbrev pub IfKnown : List (Option (List ℕ)) → (List (List ℕ) → List ℕ → Type 0) → List ℕ → Type 0

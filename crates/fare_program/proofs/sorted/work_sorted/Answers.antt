@@ -4,7 +4,7 @@ use Rattle.std.specs.Prelude.{MatchOption, is_some}
 use Rattle.fare_program.specs.Parts.{IsPartText}
 use Rattle.fare_program.specs.Settling.{ShowsSettled}
 use Rattle.fare_program.specs.inside.Options.{request_of}
-use Rattle.fare_program.proofs.Ends.{gives_given, gives_if}
+use Rattle.fare_program.proofs.Ends.{gives_by}
 use Rattle.fare_program.proofs.sorted.work_sorted.Goals as goal
 
 abbrev name_in : Bor (List ℕ) → List ℕ
@@ -25,7 +25,7 @@ returns-in-Some-clause-ends g c =
     let opened = ap (map g.D.File.Placed.bytes) c.deref-in-Some.ensures.value
     ∙ (rw c.deref.ensures.value at c.in-Ok.ensures.opened) in
     let named = ap (option_map name_in) c.in-Some.is in
-    gives_given _ _ _ _ _ _ c.charge_part.result
+    gives_by c.charge_part.result
     (λ given. not_true (request_of c.args.options.now).ledger
     (λ ledger. given (ap is_some named, ledger)))
     (λ text success is. (is.0, λ files are. rw named (is.1 files (opened ∙ are))))
@@ -37,7 +37,7 @@ returns-clause-ends g c =
     let opened = ap (map g.D.File.Placed.bytes) c.deref-in-None.ensures.value
     ∙ (rw c.deref.ensures.value at c.in-Ok.ensures.opened) in
     let named = ap (option_map name_in) c.in-None.is in
-    gives_if _ _ _ _ _ c.charge_sorted.result
+    gives_by c.charge_sorted.result (λ given. tt)
     (λ text success is. (
       is.0,
       λ files are. subst (λ (tokens : Option (List ℕ)). MatchOption tokens
