@@ -1,4 +1,4 @@
-use Rattle.std.proofs.Common.{◌≡◌, ◌∙◌, ◌==◌, ℕ, List, [], ◌∷◌, ◌++◌, ap, sym, append_assoc, true}
+use Rattle.std.proofs.Common.{◌≡◌, ◌∙◌, ◌==◌, ℕ, List, [], ◌∷◌, ◌++◌, ap, sym, append_assoc}
 use Rattle.std.proofs.Common.{false}
 use Rattle.std.proofs.lemmas.Bool.{eqb-true}
 use Rattle.settled_texts.specs.Columns.{columns_by, with_columns}

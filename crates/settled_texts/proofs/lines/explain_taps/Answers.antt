@@ -22,17 +22,9 @@ explain_tap-requires-clause-may c =
 
 pub loop-tap-preserved : goal.loop-tap-preserved
 loop-tap-preserved c =
-    let taps = c.args.taps.now in
-    let i = c.loop-tap.tap-index in
     let text = string_bytes c.args.text.now in
     subst (λ (ts : List TapFields). Explains c.args.table.now c.args.explainer.now ts
-    c.explain_tap.new.explainer
-    (λ lines. string_bytes c.explain_tap.new.text ≡ text ++ lines))
-    (sym (take_more taps i _ c.loop-tap-test.true))
-    (explains_then c.args.table.now c.args.explainer.now c.loop-tap.explainer
-    c.explain_tap.new.explainer (take i taps) (_ ∷ [])
-    (λ lines. string_bytes c.loop-tap.text ≡ text ++ lines)
-    (λ lines. string_bytes c.explain_tap.new.text ≡ string_bytes c.loop-tap.text ++ lines)
-    (λ lines. string_bytes c.explain_tap.new.text ≡ text ++ lines) c.loop-tap.invariant
-    c.in_ok-explain_tap.ensures
+    c.explain_tap.new.explainer (λ lines. string_bytes c.explain_tap.new.text ≡ text ++ lines))
+    (sym (take_more c.args.taps.now c.loop-tap.tap-index _ c.loop-tap-test.true))
+    (explains_then _ _ _ _ _ _ _ _ _ c.loop-tap.invariant c.in_ok-explain_tap.ensures
     (λ l m before grown. grown ∙ ap (λ t. t ++ m) before ∙ append_assoc text l m))

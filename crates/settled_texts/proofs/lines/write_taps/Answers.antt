@@ -1,5 +1,5 @@
 -- Each round explains a tap more.
-use Rattle.std.proofs.Common.{◌+◌, ◌++◌, List, [], ◌∷◌, arith, drop, string_bytes, subst, sym}
+use Rattle.std.proofs.Common.{◌+◌, List, [], ◌∷◌, arith, drop, string_bytes, subst, sym}
 use Rattle.std.proofs.lemmas.List.{take-append-drop, take_all, take_more}
 use Rattle.std.proofs.lemmas.Result.{err_from_is_err_and}
 use Rattle.fare_texts.specs.WrittenOut.{GoesOut}

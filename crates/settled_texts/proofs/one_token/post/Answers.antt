@@ -1,5 +1,6 @@
-use Rattle.std.proofs.Common.{◌≡◌, ◌+◌, List, [], ◌∷◌, ◌++◌, take, refl, ap, sym}
+use Rattle.std.proofs.Common.{◌≡◌, ◌+◌, List, [], ◌∷◌, ◌++◌, get_or, take, refl, ap, sym}
 use Rattle.std.proofs.Common.{subst, ◌∙◌}
+use Rattle.tap_views.specs.declared.encoder.TapFields.{TapFields}
 use Rattle.histories.specs.Entry.{own}
 use Rattle.histories.specs.declared.entry.Entry.{Entry}
 use Rattle.histories.specs.Plain.{answered}
@@ -24,9 +25,11 @@ loop-tap-preserved c =
     let inv = c.loop-tap.invariant in
     let done = posted fares (take i taps) in
     let entry = c.next.result in
-    let is : entry ≡ answered fares done (unposted _) = c.next.ensures.entry done inv.holds in
+    let none : TapFields = record { token = []; validator = 0; moment = 0 } in
+    let is : entry ≡ answered fares done (unposted (get_or taps i none)) =
+    c.next.ensures.entry done inv.holds in
     let more : posted fares (take (i + 1) taps) ≡ done ++ entry ∷ [] =
-    posted_more fares taps i _ c.loop-tap-test.true
+    posted_more fares taps i none c.loop-tap-test.true
     ∙ ap (λ (e : Entry). done ++ e ∷ []) (sym is) in
     record {
       token = c.next.ensures.token ∙ inv.token;

@@ -1,12 +1,15 @@
 -- Each round explains a tap more.
-use Rattle.std.proofs.Common.{◌+◌, List, [], ◌∷◌, ap, arith, drop, refl, subst}
+use Rattle.std.proofs.Common.{◌+◌, ◌++◌, ℕ, List, [], ◌∷◌, arith, drop, refl, subst}
+use Rattle.std.specs.Io.KnownBytes.{Appends}
 use Rattle.std.proofs.lemmas.List.{take_all}
 use Rattle.std.proofs.lemmas.Result.{err_from_is_err_and}
 use Rattle.tap_views.specs.declared.encoder.TapFields.{TapFields}
 use Rattle.fare_texts.proofs.Beginnings.{goes_after}
 use Rattle.class_names.specs.Names.{class_by}
-use Rattle.settled_texts.specs.ExplainedTaps.{Explains}
+use Rattle.settled_texts.specs.Columns.{columns_by, with_columns}
+use Rattle.settled_texts.specs.ExplainedTaps.{Explains, HaveLines}
 use Rattle.settled_texts.specs.Traces.{taps_of_trace}
+use Rattle.settled_texts.specs.declared.trace.TracedTap.{TracedTap}
 use Rattle.settled_texts.proofs.Joined.{gone_begins, may_next}
 use Rattle.settled_texts.proofs.TapsExplained.{explained_lines, explains_as, explains_none}
 use Rattle.settled_texts.proofs.TapsExplained.{explains_then}
@@ -41,11 +44,14 @@ loop-traced-preserved g c =
 pub returns-clause-ok : goal.returns-clause-ok
 returns-clause-ok g c =
     let trace = c.args.trace.now in
-    explained_lines _ _ _ _ _ (subst (λ (ts : List TapFields). Explains c.args.table.now
-    c.args.explainer.now ts c.loop-traced.explainer _)
-    (ap taps_of_trace (take_all c.loop-traced.traced-index trace
-    (omega (arith, c.loop-traced-test.false))))
-    (explains_as _ _ _ _ _ _ c.loop-traced.invariant
+    let said : List ℕ → Type 0 = λ lines. Appends (g.W.Write.contents c.args.out.now)
+    (g.W.Write.contents c.write_out.new.out)
+    (c.args.room.now.lines.items ++ with_columns lines (columns_by (class_by c.args.names.now) trace))
+    in
+    subst (λ (ts : List TracedTap). HaveLines c.args.table.now c.args.explainer.now
+    (taps_of_trace ts) said)
+    (take_all c.loop-traced.traced-index trace (omega (arith, c.loop-traced-test.false)))
+    (explained_lines _ _ _ _ said (explains_as _ _ _ _ _ said c.loop-traced.invariant
     (λ l gone. goes_all _ _ _ _ _ _ _ _ l gone
     (rw c.deref.ensures.value at c.in_ok-write_out.ensures.ok))))
 

@@ -1,13 +1,11 @@
 -- The head line has its columns, and behind it are the lines with theirs.
-use Rattle.std.proofs.Common.{◌∙◌, ℕ, List, [], arith, subst, sym}
+use Rattle.std.proofs.Common.{◌∙◌, [], arith, subst}
 use Rattle.std.specs.Io.KnownBytes.{Appends}
 use Rattle.std.proofs.lemmas.List.{length-map}
 use Rattle.std.proofs.lemmas.Result.{err_from_is_err_and}
 use Rattle.fare_texts.specs.WrittenOut.{Begins}
 use Rattle.fare_texts.proofs.PieceWriting.{consumed_first}
 use Rattle.settlement.proofs.Nondecreasing.{canonical_nondecreasing}
-use Rattle.class_names.specs.Names.{class_by}
-use Rattle.settled_texts.specs.Columns.{columns_by, head_columns, with_columns}
 use Rattle.settled_texts.specs.Traces.{taps_of_trace}
 use Rattle.settled_texts.specs.declared.trace.TracedTap.{TracedTap}
 use Rattle.settled_texts.proofs.Rows.{ledger_of}

@@ -1,5 +1,5 @@
 -- The head line has its columns.
-use Rattle.std.proofs.Common.{◌≡◌, ◌∙◌, ℕ, List, [], ◌∷◌, ◌++◌, ap, sym}
+use Rattle.std.proofs.Common.{◌∙◌, ℕ, List, ◌++◌, ap, sym}
 use Rattle.std.specs.Prelude.{codes}
 use Rattle.settled_texts.specs.Columns.{with_columns}
 use Rattle.settled_texts.proofs.TracedLines.{head_on}
