@@ -2,6 +2,7 @@
 use Rattle.std.proofs.Common.{◌≡◌, List, [], ◌∷◌, ◌++◌, Option, Some, None, Bool, true, false, refl}
 use Rattle.std.proofs.Common.{sym, ap, subst, ◌∙◌, All, flat_map, map}
 use Rattle.std.specs.List.{AllByRecursion}
+use Rattle.std.specs.Prelude.{option_to_list}
 use Rattle.std.specs.Ordering.{is_lt, ordering_reverse}
 use Rattle.std.specs.declared.cmp.Ordering.{Ordering}
 use Rattle.std.specs.declared.cmp.Ordering.TheVariants.{Less, Equal, Greater}
@@ -16,10 +17,6 @@ use Rattle.ledger_changes.specs.Rows.{key_cmp}
 use Rattle.ledger_changes.proofs.Keys.{key_cmp_total, same_key}
 use Rattle.ledger_changes.proofs.Listed.{kept}
 use Rattle.ledger_changes.proofs.Sorted.{AreNondecreasing}
-
-abbrev rows_in : Option Row → List Row
-rows_in None = []
-rows_in (Some row) = row ∷ []
 
 -- ---- keys
 abbrev pub Le : Key → Key → Type 0
@@ -88,8 +85,8 @@ uses_all pair (later ∷ pairs) olds news = (
 
 -- ---- one pair more
 pub record IsFirst (b a : Option Row) (pair : Pair) (olds news : List Row) : Type 0 where
-  pub old : row_of pair.key pair.before ≡ rows_in b
-  pub new : row_of pair.key pair.after ≡ rows_in a
+  pub old : row_of pair.key pair.before ≡ option_to_list b
+  pub new : row_of pair.key pair.after ≡ option_to_list a
   pub some : IsSomeLine pair.before pair.after
   pub olds_up : AllByRecursion (λ row. Le pair.key row.key) olds
   pub news_up : AllByRecursion (λ row. Le pair.key row.key) news
@@ -98,12 +95,12 @@ pub record IsFirst (b a : Option Row) (pair : Pair) (olds news : List Row) : Typ
 
 pub paired_more : (b a : Option Row) (pair : Pair) (olds news : List Row) (pairs : List Pair)
     → IsFirst b a pair olds news → AreSideBySide olds news pairs
-    → AreSideBySide (rows_in b ++ olds) (rows_in a ++ news) (pair ∷ pairs)
+    → AreSideBySide (option_to_list b ++ olds) (option_to_list a ++ news) (pair ∷ pairs)
 paired_more b a pair olds news pairs first is = record {
   olds = ap (λ (rows : List Row). rows ++ befores pairs) first.old
-      ∙ ap (λ (rows : List Row). rows_in b ++ rows) is.olds;
+      ∙ ap (λ (rows : List Row). option_to_list b ++ rows) is.olds;
   news = ap (λ (rows : List Row). rows ++ afters pairs) first.new
-      ∙ ap (λ (rows : List Row). rows_in a ++ rows) is.news;
+      ∙ ap (λ (rows : List Row). option_to_list a ++ rows) is.news;
   some = (first.some, is.some);
   sorted = (up_all pair.key pairs is.some (rw is.olds first.olds_up) (rw is.news first.news_up), is.sorted);
   tight = (

@@ -1,9 +1,9 @@
 -- The order of keys is total, and keys that tie are the same.
 use Rattle.std.proofs.Common.{◌≡◌, ℕ, List, refl, sym, ap, ◌∙◌, true, false, ◌&&◌, ◌==◌, eqb-true}
-use Rattle.std.specs.Cmp.{IsTotalOrder}
+use Rattle.std.specs.Cmp.{Equal-is, IsTotalOrder}
 use Rattle.std.specs.Cmp.Lexicographic.{on_texts}
 use Rattle.std.specs.FinMap.{IsAntisymmetric, nat_cmp-IsAntisymmetric, slice_cmp-IsAntisymmetric}
-use Rattle.std.specs.Ordering.{is_eq, is_lt, nat_cmp, ordering_then, ordering_reverse}
+use Rattle.std.specs.Ordering.{is_lt, nat_cmp, ordering_then, ordering_reverse}
 use Rattle.std.specs.declared.cmp.Ordering.{Ordering}
 use Rattle.std.specs.declared.cmp.Ordering.TheVariants.{Less, Equal, Greater}
 use Rattle.std.proofs.lemmas.Cmp.{nat_cmp_total, on_total, then_total}
@@ -46,12 +46,8 @@ same_key a b not back = by_order (key_cmp a b) refl
 -- ---- charges
 
 pub tied : (a b : List ℕ) → is_same_text a b ≡ true → a ≡ b
-tied a b e = by_order (text_cmp a b) refl e
-  where
-    by_order : (r : Ordering) → text_cmp a b ≡ r → is_eq r ≡ true → a ≡ b
-    by_order Less is e = absurd (let h : false ≡ true = e in cc)
-    by_order Equal is e = slice_cmp-IsAntisymmetric nat_cmp-IsAntisymmetric a b is
-    by_order Greater is e = absurd (let h : false ≡ true = e in cc)
+tied a b e =
+    slice_cmp-IsAntisymmetric nat_cmp-IsAntisymmetric a b ((Equal-is (text_cmp a b)).0 e)
 
 pub same_charge : (a b : Charge) → is_same_charge a b ≡ true → a ≡ b
 same_charge a b e =
