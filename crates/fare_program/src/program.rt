@@ -3,7 +3,7 @@ ghost use Rattle.std.specs.Prelude.{◌≡◌, ◌++◌, ◌∷◌, [], List, Op
 ghost use Rattle.std.specs.Prelude.{codes, map, string_bytes};
 ghost use Rattle.std.specs.Option.{option_and_then, option_copied};
 ghost use Rattle.fare_program.specs.Causes.{IsFileFault, IsRightFault, names_reported};
-ghost use Rattle.fare_program.specs.Ends.{AreOfBytes, Ends, did_over};
+ghost use Rattle.fare_program.specs.Ends.{Ends, IsPartLedger, did_over};
 ghost use Rattle.fare_program.specs.inside.Ends.{Gives, GivesIf};
 ghost use Rattle.fare_program.specs.Fault.{fault_text};
 ghost use Rattle.fare_program.specs.FilesLoaded.{LoadsFiles, names_to_load};
@@ -211,7 +211,7 @@ fn work_by<'a, R: Threads + Wait + RandomSource + Sync, D: Disk + Sync, S: Sourc
     requires named { (request_of options.now).table ≡ Some (names_of words.now) }
     requires loaded { (before : Option (List Loaded)) × LoadsTables (names_of words.now) before
         (S.loaded source.old) (map (λ t. t.items) tables.texts.items) tables.fares }
-    ensures ends { GivesIf (AreOfBytes (request_of options.now) (D.bytes_under disk.now))
+    ensures ends { GivesIf (¬ IsPartLedger (request_of options.now))
         (DoesBy (request_of options.now) (D.bytes_under disk.now) (D.origin disk.now)
         (map (λ t. t.items) tables.texts.items) tables.fares token (S.loaded source.old)
         (S.loaded source.new)) (W.contents out.old) (W.contents out.new) result }
@@ -251,7 +251,7 @@ fn work<'a, R: Threads + Wait + RandomSource + Sync, D: Disk + Sync, S: Source, 
     requires range { option_and_then range_fault (request_of options.now).tokens ≡ None }
     requires dates { option_and_then wrong_word (request_of options.now).table ≡ None }
     requires token { IsTokenIn (request_of options.now).token token }
-    ensures ends { GivesIf (AreOfBytes (request_of options.now) (D.bytes_under disk.now))
+    ensures ends { GivesIf (¬ IsPartLedger (request_of options.now))
         (Does (request_of options.now) (D.bytes_under disk.now) (D.origin disk.now)
         (S.loaded source.old) (S.loaded source.new)) (W.contents out.old) (W.contents out.new)
         result }

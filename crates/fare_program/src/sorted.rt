@@ -4,7 +4,7 @@ ghost use Rattle.std.specs.Option.{option_and_then};
 ghost use Rattle.fare_program.specs.Causes.{IsRightOfSorted};
 ghost use Rattle.fare_program.specs.Parts.{ShowsSorted};
 ghost use Rattle.fare_program.specs.TokenRanges.{range_fault};
-ghost use Rattle.fare_program.specs.Ends.{AreOfBytes};
+ghost use Rattle.fare_program.specs.Ends.{IsPartLedger};
 ghost use Rattle.fare_program.specs.Program.{IsTokenIn};
 ghost use Rattle.fare_program.specs.inside.Ends.{GivesKnown, GivesSettled};
 ghost use Rattle.fare_program.specs.inside.Options.{request_of};
@@ -165,7 +165,7 @@ pub(crate) fn work_sorted<'a, R: Threads + RandomSource + Sync, D: Disk, W: Writ
     requires word { option_and_then range_fault (request_of options.now).tokens ≡ None }
     requires token { IsTokenIn (request_of options.now).token token }
     requires sorted { (request_of options.now).sorted ≡ true }
-    ensures ends { GivesKnown (AreOfBytes (request_of options.now) (D.bytes_under disk.now))
+    ensures ends { GivesKnown (¬ IsPartLedger (request_of options.now))
         (map (D.bytes_under disk.now) (request_of options.now).files) (λ files text.
         ShowsSorted (request_of options.now) table.now files token text true) (W.contents out.old)
         (W.contents out.new) result }

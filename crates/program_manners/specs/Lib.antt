@@ -1,3 +1,4 @@
+pub mod FileLists
 pub mod LineWritten
 pub mod Lines
 pub mod Loads

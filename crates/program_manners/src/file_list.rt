@@ -1,4 +1,6 @@
 //! The names of files that a text lists.
+ghost use Rattle.std.specs.Prelude.{◌≡◌, ◌≢◌, ◌⊎◌, ◌++◌, ◌∷◌, [], IfOk, IsUtf8, OnOk, map};
+ghost use Rattle.program_manners.specs.FileLists.{AreNamesOf, Lacks, end_byte};
 
 use memchr::memchr;
 use std::alloc::{AllocError, AllocFailed, Global};
@@ -14,7 +16,9 @@ pub enum NameEnd {
 }
 
 impl NameEnd {
-    fn byte(self) -> u8 {
+    fn byte(self) -> u8
+        ensures { result ≡ end_byte self }
+    {
         match self {
             NameEnd::LineFeed => b'\n',
             NameEnd::Nul => 0,
@@ -71,7 +75,22 @@ impl<T: Drop> From<AllocFailed<T>> for ListFault {
     }
 }
 
-fn name_of(bytes: &[u8]) -> Result<&str, WrongName> {
+/// What is before and after the first such byte; if there is none, all of the text and nothing.
+fn split_name(text: &[u8], end: u8) -> (&[u8], &[u8])
+    ensures first { Lacks end result.0.now }
+    ensures whole { (text.now ≡ result.0.now ++ end ∷ result.1.now)
+        ⊎ ((text.now ≡ result.0.now) × (result.1.now ≡ [])) }
+{
+    match memchr(end, text) {
+        Some(at) => (&text[..at], &text[at + 1..]),
+        None => (text, &[]),
+    }
+}
+
+fn name_of(bytes: &[u8]) -> Result<&str, WrongName>
+    ensures name { IfOk result (λ name. name.now ≡ bytes.now) }
+    ensures right { OnOk result ((bytes.now ≢ []) × Lacks 0 bytes.now × IsUtf8 bytes.now) }
+{
     if bytes.is_empty() {
         return Err(WrongName::Empty);
     }
@@ -90,17 +109,22 @@ pub fn names_of_list<'a>(
     alloc: Global,
     text: &'a [u8],
     end: NameEnd,
-) -> Result<Vec<&'a str>, ListFault> {
+) -> Result<Vec<&'a str>, ListFault>
+    ensures { IfOk result (λ names. AreNamesOf (end_byte end) text.entry.now
+        (map (λ n. n.now) names.items)) }
+{
     if text.is_empty() {
         return Err(ListFault::NoNames);
     }
-    let end = end.byte();
     let mut names = Vec::new(alloc);
-    for piece in text.split_inclusive(|byte| *byte == end) {
-        match name_of(piece.strip_suffix(&[end]).unwrap_or(piece)) {
+    let mut rest = text;
+    while !rest.is_empty() {
+        let (piece, trailing) = split_name(rest, end.byte());
+        match name_of(piece) {
             Ok(name) => names.push(name)?,
             Err(wrong) => return Err(ListFault::Name(names.len() + 1, wrong)),
         }
+        rest = trailing;
     }
     Ok(names)
 }
