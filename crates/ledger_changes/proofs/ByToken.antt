@@ -13,9 +13,10 @@ use Rattle.std.specs.declared.cmp.Ordering.TheVariants.{Less, Equal, Greater}
 use Rattle.std.proofs.lemmas.Cmp.{tied_itself}
 use Rattle.std.proofs.lemmas.List.Elements.{All-filter, All-from_recursion, filter-append}
 use Rattle.std.proofs.lemmas.List.Elements.{recursion_from_All}
+use Rattle.std.proofs.lemmas.List.Sorted.{ranks_by}
 use Rattle.std.proofs.lemmas.List.Sums.{sum_by-append}
 use Rattle.tap_views.proofs.Lists.{each-append, each-weaker}
-use Rattle.tap_views.proofs.Orderings.{first_not_less}
+use Rattle.tap_views.proofs.Orderings.{first_not_less, less_of}
 use Rattle.ledger_changes.specs.Changes.{AreCorrections, Pair, is_changed}
 use Rattle.ledger_fields.specs.Rows.{Row}
 use Rattle.ledger_changes.specs.Rows.{AreInOrder, is_same_text, text_cmp}
@@ -63,17 +64,13 @@ above_of t x not other = by_order (text_cmp x t) refl not
 -- below a token, and not above another: below that
 below_up : (a b x : List ℕ) → text_cmp a b ≡ Less → is_lt (text_cmp x b) ≡ false
     → text_cmp a x ≡ Less
-below_up a b x less not = by_order (text_cmp b x) refl
+below_up a b x less not = by (is_lt (text_cmp a x)) refl
   where
-    by_order : (r : Ordering) → text_cmp b x ≡ r → text_cmp a x ≡ Less
-    by_order Less is = text_total.trans a b x less is
-    by_order Equal is =
-        text_total.antisymm a x
-        ∙ ap ordering_reverse (sym (text_total.congr b x a is)
-        ∙ text_total.antisymm b a ∙ ap ordering_reverse less)
-    by_order Greater is =
-        absurd (let h : true ≡ false =
-        sym (ap is_lt (text_total.antisymm x b ∙ ap ordering_reverse is)) ∙ not in cc)
+    by : (r : Bool) → is_lt (text_cmp a x) ≡ r → text_cmp a x ≡ Less
+    by true is = less_of (text_cmp a x) is
+    by false is =
+        absurd (let h : true ≡ false = sym (ap is_lt less)
+        ∙ (ranks_by text_total (λ (text : List ℕ). text)).chain a x b is not in cc)
 
 -- ---- corrections in order
 abbrev pub Ascends : List Pair → Type 0
@@ -144,9 +141,8 @@ none_of_run : (s t : List ℕ) (run : List Pair) → text_cmp t s ≡ Less
     → AllByRecursion (λ change. t ≡ change.key.token) run → of_token s run ≡ []
 none_of_run s t [] less all = refl
 none_of_run s t (change ∷ run) less all =
-    ap (λ (b : Bool). cond b (change ∷ of_token s run) (of_token s run))
-    (subst (λ (x : List ℕ). is_same_text s x ≡ false) all.0 (more_same t s less))
-    ∙ none_of_run s t run less all.1
+    rw (subst (λ (x : List ℕ). is_same_text s x ≡ false) all.0 (more_same t s less))
+    (none_of_run s t run less all.1)
 
 -- behind a run of a lower token a token has the corrections that it has without the run
 past_run : (s t : List ℕ) (run rest : List Pair) → text_cmp t s ≡ Less
