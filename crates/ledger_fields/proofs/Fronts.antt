@@ -8,7 +8,8 @@ use Rattle.std.proofs.lemmas.List.{drop_more, take-append-drop}
 use Rattle.std.proofs.lemmas.List.Sums.{AllPass-from_list_all, list_all-from_AllPass}
 use Rattle.line_forms.specs.Columns.{BeginsAfterColumn, column_where, ends_column, is_column}
 use Rattle.line_forms.specs.FormLaws.{column_law}
-use Rattle.ledger_fields.specs.Fields.{IsFront, fits, is_token_byte, is_word_byte}
+use Rattle.ledger_fields.specs.Fields.{fits, is_token_byte, is_word_byte}
+use Rattle.ledger_fields.specs.inside.Fronts.{IsFront}
 use Rattle.ledger_fields.specs.Moments.{has_form, is_moment, is_of_form, moment_form}
 use Rattle.ledger_fields.specs.declared.field.Field.{Field}
 use Rattle.ledger_fields.specs.declared.field.Field.TheVariants.{LaterMoment, Moment, PastMoment, Reason, Ride, Token}

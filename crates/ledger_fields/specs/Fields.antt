@@ -1,7 +1,6 @@
 -- The fields of a ledger's line that are not plain numbers.
-use Rattle.std.specs.Prelude.{◌≡◌, ◌≤◌, ◌==◌, ◌&&◌, ◌||◌, ◌^◌, ℕ, Bool, List, Some, drop, is_some, length, nat_le, take}
+use Rattle.std.specs.Prelude.{◌==◌, ◌&&◌, ◌||◌, ◌^◌, ℕ, Bool, List, is_some, length, nat_le}
 use Rattle.std.specs.List.{list_all}
-use Rattle.line_forms.specs.Columns.{column_where}
 use Rattle.line_forms.specs.Numbers.{number_in}
 use Rattle.ledger_fields.specs.Moments.{is_moment}
 use Rattle.ledger_fields.specs.declared.field.Field.{Field}
@@ -29,8 +28,3 @@ fits LaterMoment text = (length text == 0) || is_moment 10000 text
 fits Word text = is_word 16 45 text
 fits Reason text = is_word 32 58 text
 fits Ride text = (length text == 0) || is_some (number_in (2 ^ 32) text)
-
--- the column at the front of the text passes the test, and has so many bytes
-abbrev pub IsFront : (List ℕ → Bool) → List ℕ → ℕ → Type 0
-IsFront test text size = (size ≤ length text)
-    × (column_where test text ≡ Some (take size text, drop size text))

@@ -2,3 +2,4 @@ pub mod Fields
 pub mod Lines
 pub mod Moments
 pub mod Rows
+pub mod inside

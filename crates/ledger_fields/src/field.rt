@@ -2,7 +2,8 @@
 
 ghost use Rattle.std.specs.Prelude.{◌≡◌, ◌<◌, IfSome};
 ghost use Rattle.std.specs.List.{list_all};
-ghost use Rattle.ledger_fields.specs.Fields.{IsFront, fits, is_token_byte, is_word, is_word_byte};
+ghost use Rattle.ledger_fields.specs.Fields.{fits, is_token_byte, is_word, is_word_byte};
+ghost use Rattle.ledger_fields.specs.inside.Fronts.{IsFront};
 ghost use Rattle.ledger_fields.specs.declared.field.Field.TheVariants.{Ride};
 
 use crate::moment::{MOMENT_BYTES, is_moment};

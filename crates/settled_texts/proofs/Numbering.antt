@@ -13,7 +13,7 @@ use Rattle.tap_views.specs.declared.encoder.TapFields.{TapFields}
 use Rattle.settled_texts.specs.Traces.{valid_fields, is_whole, numbered, traced_from}
 use Rattle.settled_texts.specs.declared.trace.TracedTap.{TracedTap}
 
--- taps behind others go on with the place behind these
+-- taps behind others go on with the position after these
 pub numbered_append : (upload position : ℕ) (xs ys : List TapFields)
     → numbered upload position (xs ++ ys)
     ≡ numbered upload position xs ++ numbered upload (position + length xs) ys
@@ -33,10 +33,10 @@ pub numbered_more : (upload : ℕ) (list : List TapFields) (i : ℕ) (other : Ta
 numbered_more upload list i other within =
     let before = numbered upload 1 (take i list) in
     let long = length-take i list in
-    let place : 1 + length (take i list) ≡ i + 1 = omega (arith, long, within) in
+    let position : 1 + length (take i list) ≡ i + 1 = omega (arith, long, within) in
     ap (numbered upload 1) (take_more list i other within)
     ∙ numbered_append upload 1 (take i list) (get_or list i other ∷ [])
-    ∙ ap (λ (p : ℕ). before ++ numbered upload p (get_or list i other ∷ [])) place
+    ∙ ap (λ (p : ℕ). before ++ numbered upload p (get_or list i other ∷ [])) position
 
 -- all taps fall to one part
 pub all_at : (taps : List Tap) → taps_at (λ _. 0) 0 taps ≡ taps

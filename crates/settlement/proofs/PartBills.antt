@@ -183,8 +183,8 @@ module _ (parts : List (List TapFields)) (n : ℕ) (few : AreFewInRanges parts) 
       sym (flat_map-append (λ (part : List TapFields). part) (take n parts) (drop n parts))
       ∙ ap flat (take-append-drop n parts)
 
-  pub few_behind : AreFewInRanges (drop n parts)
-  few_behind =
+  pub few_after : AreFewInRanges (drop n parts)
+  few_after =
       let (bounds, start, are, fit) = few in
       let long = length-append (flat (take n parts)) (flat (drop n parts)) in
       let all = ap length whole in

@@ -87,9 +87,9 @@ all_left taps (list ∷ lists) (run ∷ runs) same each =
       λ j d low. All-append (IsNotBefore (get_or taps j d)) left rest (not j d low) (nots j d low),
     )
 
-behind_front : (front left : List TapFields) (taps : List Tap)
+after_front : (front left : List TapFields) (taps : List Tap)
     → front ++ left ≡ map fields_of taps → map fields_of (drop (length front) taps) ≡ left
-behind_front front left taps same =
+after_front front left taps same =
     sym (drop-map fields_of (length front) taps) ∙ ap (drop (length front)) (sym same)
     ∙ drop-append_seam front left
 
@@ -117,7 +117,7 @@ goes_on files lists started new taps sorted is taken =
     let (order, canonical) = canonical_order (drop (length front) others) in
     let rest = map fields_of order in
     let of_rest : IsCanonical left rest = subst (λ l. IsCanonical l rest)
-    (behind_front front left others same) canonical in (
+    (after_front front left others same) canonical in (
       rest,
       record {
         moved = IsPermutation-trans (all_of lists) (front ++ left) (taps ++ rest) moved

@@ -1,6 +1,6 @@
 use Rattle.std.proofs.Common.{rules, subst, sym}
 use Rattle.settlement.specs.inside.Billing.{AreFewInRanges}
-use Rattle.settlement.proofs.PartBills.{bills_joined, bills_room, few_before, few_behind}
+use Rattle.settlement.proofs.PartBills.{bills_joined, bills_room, few_before, few_after}
 use Rattle.settlement.proofs.bill_by_threads.+bills.Goals as goal
 
 pub join-bill-requires-after_bounds : goal.join-bill-requires-after_bounds
@@ -10,7 +10,7 @@ join-bill-requires-after_bounds g t c κs within =
     (few_before c.args.parts.now c.min.result c.requires) in
     let back : AreFewInRanges c.split_at.result.1.now =
     subst AreFewInRanges (sym c.split_at.ensures.back)
-    (few_behind c.args.parts.now c.min.result c.requires) in
+    (few_after c.args.parts.now c.min.result c.requires) in
     search rules
 
 pub append-requires : goal.append-requires
