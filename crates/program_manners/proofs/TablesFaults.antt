@@ -27,13 +27,11 @@ two_ways : {A : Type 0} (r : Result A TableFault) (a : A) (fault : TableFault) �
     → r ≡ Err fault → ⊥
 two_ways r a fault one other = cc
 
--- a fault that is not of memory
 pub not_memory : (fault : TableFault) → is_memory (next.Table fault) ≡ false
     → fault ≢ table.NoMemory
 not_memory fault some same =
     true≢false (sym (ap (λ (f : TableFault). is_memory (next.Table f)) same) ∙ some)
 
--- a text that has a fault means no table
 pub no_table : (text : List ℕ) (fault : TableFault) → (IsUtf8 text → meaning_in text ≡ Err fault)
     → (fares : Fares) → IsUtf8 text → ¬ Means text fares
 no_table text fault wrong fares utf8 means =
@@ -50,7 +48,6 @@ module _ (tables : TableNames) (loaded loaded' loaded'' : Option (List Loaded))
     subst (λ (n : List ℕ). Refuses refused (Some n) file.fault) (sym named) is,
   )
 
-  -- the text of the first table is no table
   pub first_is_right : (text : List ℕ) (why : TableFault) (fault : TablesFault)
       → LoadsOne loaded loaded'' (Some tables.first) text
       → (why ≢ table.NoMemory → IsUtf8 text → meaning_in text ≡ Err why)
