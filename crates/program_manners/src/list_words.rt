@@ -43,8 +43,7 @@ impl<'a> ListWords<'a> {
         Ok(Some(ListWords { name, end }))
     }
 
-    /// What words that clap does not read say of a list: nothing. An error is an allocation
-    /// failure.
+    /// What words that clap does not read say of a list: nothing. Memory may be refused.
     pub fn unread(error: &Error) -> Result<Option<ListWords<'a>>, ListFault> {
         match error.kind() {
             ErrorKind::OutOfMemory => Err(ListFault::NoMemory),

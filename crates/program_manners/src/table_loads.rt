@@ -88,7 +88,6 @@ fn of_next<'a>(word: &'a str, name: &'a str, fault: NextFault) -> TablesFault<'a
     }
 }
 
-/// By the file's name if there are several tables.
 fn of_first<'a>(name: &'a str, is_alone: bool, fault: TableFault) -> TablesFault<'a>
     ensures { IsFirstReported name.entry.now fault result }
 {
