@@ -44,8 +44,9 @@ pub gives_by : {Given Given' : Type 0} {A B : List ℕ → Bool → Type 0} {out
     → GivesIf Given A out out' r → GivesIf Given' B out out' r
 gives_by (Ok success) given same (text, right, written) =
     (text, same text success right, written)
-gives_by (Err fault) given same stops =
-    stops_by _ _ _ _ fault
+gives_by {Given} {Given'} {A} {B} {out} {out'} (Err fault) given same stops =
+    stops_by (λ text. Given → (success : Bool) × A text success)
+    (λ text. Given' → (success : Bool) × B text success) out out' fault
     (λ text right more. let it = right (given more) in (it.0, same text it.0 it.1)) stops
 
 -- a text that was printed, by what is known of each end of it

@@ -1,9 +1,10 @@
 //! The command line.
-ghost use Rattle.std.specs.Prelude.{◌≡◌, ◌≤◌, IfOk, map, string_bytes};
+ghost use Rattle.std.specs.Prelude.{◌≡◌, ◌≤◌, ◌∷◌, [], IfOk, codes, map, string_bytes};
 ghost use Rattle.clap.specs.Words.{FailsBy, app_of, fault_of, found_of, matches_of, rows_of};
 ghost use Rattle.clap.specs.Words.{rule_of};
 ghost use Rattle.fare_program.specs.Options.{form_of, program, request_by, request_in, text_rules};
 ghost use Rattle.fare_program.specs.Options.{with_rules};
+ghost use Rattle.program_manners.specs.Words.{list_option, null_flag, option_rule, positional_rule};
 ghost use Rattle.fare_program.specs.inside.Options.{request_of};
 
 use crate::options::Options;
@@ -142,8 +143,8 @@ fn command<'a>(alloc: Global) -> Result<Command<'a>, AllocError>
     with_texts(alloc, command)
 }
 
-/// The command line with the options of the ledger, of the explained statement and of a part, the
-/// list of files and the files.
+/// The command line with the options of the ledger, of the explained statement and of a part, and
+/// with what names files.
 fn with_texts<'a>(alloc: Global, command: Command<'a>) -> Result<Command<'a>, AllocError>
     ensures { IfOk result (λ more. app_of more ≡ with_rules (app_of command.entry) text_rules) }
 {
@@ -153,6 +154,14 @@ fn with_texts<'a>(alloc: Global, command: Command<'a>) -> Result<Command<'a>, Al
     let command = with_arg(command, hidden(flag_arg(alloc, "traced", TRACED_HELP)))?;
     let tokens = option_arg(alloc, "tokens", "RANGE", TOKENS_HELP);
     let command = with_arg(command, hidden(tokens))?;
+    with_files(alloc, command)
+}
+
+fn with_files<'a>(alloc: Global, command: Command<'a>) -> Result<Command<'a>, AllocError>
+    ensures { IfOk result (λ more. app_of more ≡ with_rules (app_of command.entry)
+        (option_rule (codes "made-by") ∷ option_rule (codes "format") ∷ list_option ∷ null_flag
+        ∷ positional_rule (codes "FILE") ArgAction.Append ∷ [])) }
+{
     let command = with_arg(command, option_arg(alloc, "made-by", "FILE", MADE_BY_HELP))?;
     let command = with_arg(command, option_arg(alloc, "format", "FORM", FORMAT_HELP))?;
     let file = positional_arg(alloc, "FILE", ArgAction::Append, FILE_HELP);
