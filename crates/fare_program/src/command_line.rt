@@ -1,10 +1,9 @@
 //! The command line.
-ghost use Rattle.std.specs.Prelude.{◌≡◌, ◌≤◌, ◌∷◌, [], IfOk, codes, map, string_bytes};
+ghost use Rattle.std.specs.Prelude.{◌≡◌, ◌≤◌, IfOk, map, string_bytes};
 ghost use Rattle.clap.specs.Words.{FailsBy, app_of, fault_of, found_of, matches_of, rows_of};
 ghost use Rattle.clap.specs.Words.{rule_of};
 ghost use Rattle.fare_program.specs.Options.{form_of, program, request_by, request_in, text_rules};
 ghost use Rattle.fare_program.specs.Options.{with_rules};
-ghost use Rattle.program_manners.specs.Words.{list_option, null_flag, option_rule, positional_rule};
 ghost use Rattle.fare_program.specs.inside.Options.{request_of};
 
 use crate::options::Options;
@@ -143,29 +142,28 @@ fn command<'a>(alloc: Global) -> Result<Command<'a>, AllocError>
     with_texts(alloc, command)
 }
 
-/// The command line with the options of the ledger, of the explained statement and of a part, and
-/// with what names files.
+/// The command line with the options of the ledger, of the explained statement and of a part, the
+/// list of files and the files.
 fn with_texts<'a>(alloc: Global, command: Command<'a>) -> Result<Command<'a>, AllocError>
     ensures { IfOk result (λ more. app_of more ≡ with_rules (app_of command.entry) text_rules) }
 {
-    let command = with_arg(command, flag_arg(alloc, "ledger", LEDGER_HELP))?;
-    let command = with_arg(command, flag_arg(alloc, "explain", EXPLAIN_HELP))?;
-    let command = with_arg(command, hidden(flag_arg(alloc, "json", JSON_HELP)))?;
-    let command = with_arg(command, hidden(flag_arg(alloc, "traced", TRACED_HELP)))?;
+    let ledger = flag_arg(alloc, "ledger", LEDGER_HELP);
+    let explain = flag_arg(alloc, "explain", EXPLAIN_HELP);
+    let json = flag_arg(alloc, "json", JSON_HELP);
+    let traced = flag_arg(alloc, "traced", TRACED_HELP);
     let tokens = option_arg(alloc, "tokens", "RANGE", TOKENS_HELP);
-    let command = with_arg(command, hidden(tokens))?;
-    with_files(alloc, command)
-}
-
-fn with_files<'a>(alloc: Global, command: Command<'a>) -> Result<Command<'a>, AllocError>
-    ensures { IfOk result (λ more. app_of more ≡ with_rules (app_of command.entry)
-        (option_rule (codes "made-by") ∷ option_rule (codes "format") ∷ list_option ∷ null_flag
-        ∷ positional_rule (codes "FILE") ArgAction.Append ∷ [])) }
-{
-    let command = with_arg(command, option_arg(alloc, "made-by", "FILE", MADE_BY_HELP))?;
-    let command = with_arg(command, option_arg(alloc, "format", "FORM", FORMAT_HELP))?;
+    let made_by = option_arg(alloc, "made-by", "FILE", MADE_BY_HELP);
+    let format = option_arg(alloc, "format", "FORM", FORMAT_HELP);
     let file = positional_arg(alloc, "FILE", ArgAction::Append, FILE_HELP);
-    with_arg(add_list_args(alloc, command)?, file)
+    let command = command
+        .arg(ledger)?
+        .arg(explain)?
+        .arg(hidden(json))?
+        .arg(hidden(traced))?
+        .arg(hidden(tokens))?
+        .arg(made_by)?
+        .arg(format)?;
+    add_list_args(alloc, command)?.arg(file)
 }
 
 /// The words read by clap.
