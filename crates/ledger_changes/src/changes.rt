@@ -144,7 +144,7 @@ fn push_changes(
         if piece.len() >= PIECE_BYTES {
             return Ok(None);
         }
-        let (has_old, has_new) = next_sides(old.row(), new.row());
+        let (has_old, has_new) = next_sides(&old.row, &new.row);
         let before = old.row_if(alloc, has_old)?;
         let after = new.row_if(alloc, has_new)?;
         let Some(pair) = LinePair::of_rows(before, after) else {

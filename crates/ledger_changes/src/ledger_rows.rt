@@ -26,7 +26,7 @@ pub(crate) struct LedgerRows {
     /// Room for a line.
     line: Vec<u8>,
     /// The row at which it is; none at the end.
-    row: Option<LedgerRow>,
+    pub(crate) row: Option<LedgerRow>,
 }
 
 /// Whether the row belongs before the one before it.
@@ -72,12 +72,6 @@ fn read_row(
 }
 
 impl LedgerRows {
-    pub(crate) fn row(&self) -> &Option<LedgerRow>
-        ensures { result.now ≡ self.now.row }
-    {
-        &self.row
-    }
-
     /// Nothing is read yet.
     pub(crate) fn new(alloc: Global, from: Lines, bill: Bill) -> LedgerRows
         ensures from { result.from ≡ from }

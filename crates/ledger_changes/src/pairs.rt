@@ -3,7 +3,7 @@
 ghost use Rattle.std.specs.Prelude.{◌≡◌, option_map, option_to_list};
 ghost use Rattle.ledger_changes.specs.Changes.{agree};
 ghost use Rattle.ledger_changes.specs.inside.Pairs.{next_sides, pairs_of};
-ghost use Rattle.ledger_changes.specs.inside.Views.{charge_of, pair_of, row_in};
+ghost use Rattle.ledger_changes.specs.inside.Views.{pair_of, row_in};
 
 use crate::row::{LedgerRow, LineCharge, LineKey};
 use std::cmp::Ordering;
@@ -29,16 +29,6 @@ pub(crate) fn next_sides(old: &Option<LedgerRow>, new: &Option<LedgerRow>) -> (b
             Ordering::Equal => (true, true),
             Ordering::Greater => (false, true),
         },
-    }
-}
-
-fn agree(before: &Option<LineCharge>, after: &Option<LineCharge>) -> bool
-    ensures { result ≡ agree (option_map charge_of before.now) (option_map charge_of after.now) }
-{
-    match (before, after) {
-        (None, None) => true,
-        (Some(before), Some(after)) => before.is_like(after),
-        _ => false,
     }
 }
 
@@ -70,6 +60,10 @@ impl LinePair {
     pub(crate) fn agrees(&self) -> bool
         ensures { result ≡ agree (pair_of self.now).before (pair_of self.now).after }
     {
-        agree(&self.before, &self.after)
+        match (&self.before, &self.after) {
+            (None, None) => true,
+            (Some(before), Some(after)) => before.is_like(after),
+            _ => false,
+        }
     }
 }

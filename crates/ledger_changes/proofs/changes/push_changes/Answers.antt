@@ -7,11 +7,9 @@ use Rattle.recorded_lines.proofs.Reading.{follows_on, follows_self}
 use Rattle.ledger_changes.specs.Changes.{is_changed}
 use Rattle.ledger_changes.specs.Given.{IsWalked}
 use Rattle.ledger_changes.specs.Tokens.{lines_of_changes, sums_line}
-use Rattle.ledger_changes.specs.inside.Pairs.{next_sides}
 use Rattle.ledger_changes.specs.declared.pairs.LinePair.{LinePair}
-use Rattle.ledger_changes.specs.declared.row.LedgerRow.{LedgerRow}
 use Rattle.ledger_changes.specs.inside.Readings.{rows_at}
-use Rattle.ledger_changes.specs.inside.Views.{pair_of, row_in, sum_in}
+use Rattle.ledger_changes.specs.inside.Views.{pair_of, sum_in}
 use Rattle.ledger_changes.specs.declared.fault.Bill.TheVariants.{New, Old}
 use Rattle.ledger_changes.proofs.Walking.{can_be_read, moved, moved_end, moved_next, stops}
 use Rattle.ledger_changes.proofs.changes.push_changes.Goals as goal
@@ -86,11 +84,8 @@ returns-in_default-clause-given c = (
       (c.in_ok-before.ensures.ended o, c.in_ok-after.ensures.ended n),
   λ text w o n can_o can_n. moved_end (c.loop.invariant.walked text w o n (c.row_if.ensures.follows.back o can_o)
       (c.row_if-in-loop.ensures.follows.back n can_n))
-      (moved c.loop.old c.loop.new o n (c.next_sides-has_old.ensures
-      ∙ ap (λ (row : Option LedgerRow). next_sides (row_in row) (row_in c.row-in-loop.result.now))
-      c.row.ensures
-      ∙ ap (λ (row : Option LedgerRow). next_sides (row_in c.loop.old.row) (row_in row))
-      c.row-in-loop.ensures) c.in_ok-before.ensures.row c.in_ok-after.ensures.row
+      (moved c.loop.old c.loop.new o n c.next_sides-has_old.ensures c.in_ok-before.ensures.row
+      c.in_ok-after.ensures.row
       (c.in_ok-before.ensures.moved o can_o) (c.in_ok-after.ensures.moved n can_n))
       (sym (ap (λ (pair : Option LinePair). option_to_list (option_map pair_of pair)) c.in_default.is)
       ∙ c.of_rows.ensures)
@@ -109,11 +104,8 @@ loop-preserved c = record {
       (c.in_ok-before.ensures.ended o, c.in_ok-after.ensures.ended n);
   walked = λ text w o n can_o can_n. moved_next (c.loop.invariant.walked text w o n (c.row_if.ensures.follows.back o can_o)
       (c.row_if-in-loop.ensures.follows.back n can_n))
-      (moved c.loop.old c.loop.new o n (c.next_sides-has_old.ensures
-      ∙ ap (λ (row : Option LedgerRow). next_sides (row_in row) (row_in c.row-in-loop.result.now))
-      c.row.ensures
-      ∙ ap (λ (row : Option LedgerRow). next_sides (row_in c.loop.old.row) (row_in row))
-      c.row-in-loop.ensures) c.in_ok-before.ensures.row c.in_ok-after.ensures.row
+      (moved c.loop.old c.loop.new o n c.next_sides-has_old.ensures c.in_ok-before.ensures.row
+      c.in_ok-after.ensures.row
       (c.in_ok-before.ensures.moved o can_o) (c.in_ok-after.ensures.moved n can_n))
       (sym (ap (λ (pair : Option LinePair). option_to_list (option_map pair_of pair)) c.in-Some.is)
       ∙ c.of_rows.ensures)
