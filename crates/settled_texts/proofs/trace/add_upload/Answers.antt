@@ -1,51 +1,35 @@
-use Rattle.std.proofs.Common.{[], ◌∷◌, ◌++◌, ◌∙◌, map, length, ap, sym, refl, append-nil, arith, length-append, is_some}
-use Rattle.std.proofs.lemmas.List.{length-map, map-append}
+-- The only part has all taps.
+use Rattle.std.proofs.Common.{◌∙◌, ◌++◌, ◌<◌, [], List, ap, arith, get_or, is_some, length, map, sym}
+use Rattle.std.proofs.lemmas.List.{get_or-map, length-map}
 use Rattle.tap_views.specs.Encoding.{fields_of}
 use Rattle.tap_views.specs.Files.{taps_of_batches}
-use Rattle.tap_views.proofs.ParseLemmas.{read_end, read_on, taps_more}
-use Rattle.settled_texts.proofs.Numbering.{not_back, numbered_on}
+use Rattle.tap_views.specs.declared.encoder.TapFields.{TapFields}
+use Rattle.tap_parts.specs.Parts.{taps_at}
+use Rattle.settlement.proofs.Files.{taps_in}
+use Rattle.settled_texts.specs.Traces.{numbered}
+use Rattle.settled_texts.proofs.Numbering.{all_at, not_back}
 use Rattle.settled_texts.proofs.trace.add_upload.Goals as goal
-
-pub loop-batch-init : goal.loop-batch-init
-loop-batch-init c = record {
-  may = tt;
-  ends = tt;
-  read = c.valid_batches-valid.ensures;
-  added = sym (append-nil c.args.taps.now.items);
-  count = refl;
-}
-
-pub loop-batch-preserved : goal.loop-batch-preserved
-loop-batch-preserved c =
-    let before = c.loop-batch.invariant in
-    let done = c.loop-batch.yielded in
-    let batch = c.in-Some.batch in
-    record {
-      may = tt;
-      ends = tt;
-      read = read_on _ _ _ _ _ before.read c.in-Some.ensures.steps;
-      added = numbered_on c.args.upload 1 c.loop-batch.position c.args.taps.now.items
-          c.loop-batch.taps.items c.add_batch.new.taps.items (map fields_of (taps_of_batches done))
-          (map fields_of batch) (map fields_of (taps_of_batches (done ++ batch ∷ []))) before.added
-          (omega (arith, before.count, length-map (taps_of_batches done) fields_of))
-          c.in_ok-position.ensures.added
-          (sym (map-append fields_of (taps_of_batches done) batch)
-          ∙ ap (map fields_of) (sym (taps_more done batch)));
-      count = omega (
-        arith,
-        before.count,
-        ap length (taps_more done batch),
-        length-append (taps_of_batches done) batch,
-        c.in_ok-position.ensures.next,
-      );
-    }
 
 pub returns : goal.returns
 returns c =
-    let end = c.loop-batch.invariant in
-    let read = read_end _ _ _ _ _ end.read c.in_default.ensures.steps c.fault.ensures in (
-      record { batches = c.loop-batch.yielded; fault = c.fault.result },
-      read,
-      end.added,
-      not_back (is_some c.fault.result) c.is_none.result c.is_none.ensures,
+    let one = c.in_ok-added.ensures in
+    let taps = taps_of_batches one.batches in
+    let lists = c.in_ok-lists.lists.items in
+    let long = ap length c.in_ok-lists.ensures in
+    let all = length-map lists taps_in in
+    let number = c.in_ok-parts.ensures.number in
+    let same = one.added.number in
+    let within : 0 < length lists = omega (arith, long, all, number, same) in (
+      record { batches = one.batches; fault = c.in_ok-added.added.fault },
+      one.read,
+      c.in_ok-add_numbered.ensures
+          ∙ ap (λ (ts : List TapFields). c.args.taps.now.items ++ numbered c.args.upload 1 ts)
+          (c.deref.ensures.value ∙ ap taps_in c.index.ensures
+          ∙ sym (get_or-map taps_in lists 0 _ [] within)
+          ∙ ap (λ (ls : List (List TapFields)). get_or ls 0 []) c.in_ok-lists.ensures
+          ∙ one.added.each 0 (omega (arith, number))
+          ∙ ap (λ (ts : List TapFields). ts ++ map fields_of (taps_at (λ _. 0) 0 taps))
+          (c.in_ok-parts.ensures.empty 0 (omega arith))
+          ∙ ap (map fields_of) (all_at taps)),
+      not_back (is_some c.in_ok-added.added.fault) c.is_none.result c.is_none.ensures,
     )
