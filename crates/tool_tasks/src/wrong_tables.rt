@@ -5,6 +5,7 @@ use std::fmt;
 use tap_rows::{Column, DevicesFault, Reason, RowsFault, WrongDevice};
 
 /// What is wrong with a tap table, from the line on.
+#[derive(Clone, Copy, Debug)]
 pub(crate) struct WrongTapTable(pub(crate) RowsFault);
 
 fn column_text(column: Column) -> &'static str {
@@ -69,6 +70,7 @@ impl fmt::Display for WrongRows<'_> {
 }
 
 /// What is wrong with a device table, from the row on.
+#[derive(Clone, Copy, Debug)]
 pub(crate) struct WrongDevices(pub(crate) DevicesFault);
 
 fn device_text(wrong: WrongDevice) -> &'static str {

@@ -8,8 +8,8 @@ returns-in-Ok g c = inl (subst (λ (ws : List (Bor (List ℕ))). IsDone (decode_
     (g.W.Inputs.run c.args.world.now) (g.W.Inputs.run c.decode.new.world) c.in-Ok.status)
     c.deref.ensures.value c.in-Ok.ensures)
 
-pub returns-in-Err : goal.returns-in-Err
-returns-in-Err g c = inr (record {
+pub returns : goal.returns
+returns g c = inr (record {
   why = c.in-Err.halt.0;
   before = _;
   halted = subst (λ (ws : List (Bor (List ℕ))). IsHalted (decode_rule (map (λ w. w.now) ws))

@@ -36,8 +36,8 @@ returns-in-Err-NoMemory g c =
     (g.W.Inputs.run c.args.world.now) _ _ (load_of word c.in-Ok.table.items ∷ []) NoMemory
     c.in-Ok.ensures.loaded refl
 
-pub returns-in-Err-encode : goal.returns-in-Err-encode
-returns-in-Err-encode g c =
+pub returns : goal.returns
+returns g c =
     let word = c.args.word.now in let table = c.in-Ok.table.items in
     let fault = c.in-Err-encode.fault in
     halted_by (EncodesTable word) (IsNoTapTable word) (word ∷ []) (g.W.Inputs.run c.args.world.now) _

@@ -1,4 +1,4 @@
-use Rattle.std.proofs.Common.{◌≡◌, ◌∙◌, List, arith, if◌then◌else◌, map, refl, string_bytes, subst, true, ℕ}
+use Rattle.std.proofs.Common.{◌≡◌, ◌∙◌, List, arith, if◌then◌else◌, map, refl, string_bytes, subst, sym, true, ℕ}
 use Rattle.frame.proofs.Giving.{known_whole}
 use Rattle.frame.proofs.Outcomes.{halted_loading}
 use Rattle.frame.specs.declared.outside.Outside.TheVariants.{NoMemory}
@@ -42,8 +42,8 @@ returns-in-Ok-note_of g c = λ start all.
     (subst (λ (es : List UploadEnd). c.status_of.result ≡ (if are_posted es then 0 else 3))
     (c.deref-4.ensures.value ∙ sym same) c.status_of.ensures))
 
-pub returns-in-Err-note_of : goal.returns-in-Err-note_of
-returns-in-Err-note_of g c = λ start all.
+pub returns : goal.returns
+returns g c = λ start all.
     let request = sorting_of c.args.words.now in
     halted_loading (Sorts request) (λ loads. ⊥) (names_of request) start _ _ all.loads NoMemory all.all
     c.discard.ensures
