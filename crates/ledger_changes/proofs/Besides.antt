@@ -1,10 +1,12 @@
 -- Two bills side by side: the pairs are those of both lists, in order, as long as both have one.
-use Rattle.std.proofs.Common.{◌≡◌, List, [], ◌∷◌, ◌++◌, Option, Some, None, Bool, true, false, refl}
+use Rattle.std.proofs.Common.{◌≡◌, List, [], ◌∷◌, ◌++◌, Option, Some, None, true, false, refl}
 use Rattle.std.proofs.Common.{sym, ap, subst, ◌∙◌, All, flat_map, map}
 use Rattle.std.specs.List.{AllByRecursion}
+use Rattle.std.specs.Prelude.{option_to_list}
 use Rattle.std.specs.Ordering.{is_lt, ordering_reverse}
 use Rattle.std.specs.declared.cmp.Ordering.{Ordering}
 use Rattle.std.specs.declared.cmp.Ordering.TheVariants.{Less, Equal, Greater}
+use Rattle.std.proofs.lemmas.Cmp.{tied_itself}
 use Rattle.std.proofs.lemmas.List.Sorted.{ranks_by}
 use Rattle.tap_views.proofs.Lists.{each-weaker}
 use Rattle.ledger_changes.specs.Changes.{AreCorrections, AreSideBySide, IsSameOrListed, IsSomeLine}
@@ -13,13 +15,9 @@ use Rattle.ledger_changes.specs.Changes.{afters, befores, beside, both_rows, cha
 use Rattle.ledger_changes.specs.Changes.{only_new, only_old, pairs_by, pairs_with, row_of}
 use Rattle.ledger_fields.specs.Rows.{Charge, Key, Row}
 use Rattle.ledger_changes.specs.Rows.{key_cmp}
-use Rattle.ledger_changes.proofs.Keys.{key_cmp_total, same_key}
+use Rattle.ledger_changes.proofs.Keys.{key_cmp_exact, key_cmp_total}
 use Rattle.ledger_changes.proofs.Listed.{kept}
 use Rattle.ledger_changes.proofs.Sorted.{AreNondecreasing}
-
-abbrev rows_in : Option Row → List Row
-rows_in None = []
-rows_in (Some row) = row ∷ []
 
 -- ---- keys
 abbrev pub Le : Key → Key → Type 0
@@ -88,8 +86,8 @@ uses_all pair (later ∷ pairs) olds news = (
 
 -- ---- one pair more
 pub record IsFirst (b a : Option Row) (pair : Pair) (olds news : List Row) : Type 0 where
-  pub old : row_of pair.key pair.before ≡ rows_in b
-  pub new : row_of pair.key pair.after ≡ rows_in a
+  pub old : row_of pair.key pair.before ≡ option_to_list b
+  pub new : row_of pair.key pair.after ≡ option_to_list a
   pub some : IsSomeLine pair.before pair.after
   pub olds_up : AllByRecursion (λ row. Le pair.key row.key) olds
   pub news_up : AllByRecursion (λ row. Le pair.key row.key) news
@@ -98,12 +96,12 @@ pub record IsFirst (b a : Option Row) (pair : Pair) (olds news : List Row) : Typ
 
 pub paired_more : (b a : Option Row) (pair : Pair) (olds news : List Row) (pairs : List Pair)
     → IsFirst b a pair olds news → AreSideBySide olds news pairs
-    → AreSideBySide (rows_in b ++ olds) (rows_in a ++ news) (pair ∷ pairs)
+    → AreSideBySide (option_to_list b ++ olds) (option_to_list a ++ news) (pair ∷ pairs)
 paired_more b a pair olds news pairs first is = record {
   olds = ap (λ (rows : List Row). rows ++ befores pairs) first.old
-      ∙ ap (λ (rows : List Row). rows_in b ++ rows) is.olds;
+      ∙ ap (λ (rows : List Row). option_to_list b ++ rows) is.olds;
   news = ap (λ (rows : List Row). rows ++ afters pairs) first.new
-      ∙ ap (λ (rows : List Row). rows_in a ++ rows) is.news;
+      ∙ ap (λ (rows : List Row). option_to_list a ++ rows) is.news;
   some = (first.some, is.some);
   sorted = (up_all pair.key pairs is.some (rw is.olds first.olds_up) (rw is.news first.news_up), is.sorted);
   tight = (
@@ -131,18 +129,9 @@ past_first : (key : Key) (row : Row) (rows : List Row) → key_cmp key row.key �
     → AreNondecreasing (row ∷ rows)
     → AllByRecursion (λ later. Lt key later.key) (row ∷ rows)
 past_first key row rows less up = (
-  lt_le key row.key row.key less (le_same row.key),
+  lt_le key row.key row.key less (ap is_lt (tied_itself key_cmp_total row.key)),
   each-weaker _ _ rows (λ later up. lt_le key row.key later.key less up) up.0,
 )
-  where
-    le_same : (k : Key) → Le k k
-    le_same k = one_of (is_lt (key_cmp k k)) refl
-      where
-        one_of : (b : Bool) → is_lt (key_cmp k k) ≡ b → b ≡ false
-        one_of false is = refl
-        one_of true is =
-            let order = ranks_by key_cmp_total (λ (k : Key). k) in
-            sym is ∙ order.one_way k k is
 
 ups : (key : Key) (rows : List Row) → AllByRecursion (λ later. Lt key later.key) rows
     → AllByRecursion (λ later. Le key later.key) rows
@@ -191,10 +180,6 @@ first_both old new olds news same up also = record {
 greater_less : (a b : Key) → key_cmp a b ≡ Greater → key_cmp b a ≡ Less
 greater_less a b e = key_cmp_total.antisymm b a ∙ ap ordering_reverse e
 
-equal_same : (a b : Key) → key_cmp a b ≡ Equal → a ≡ b
-equal_same a b e =
-    same_key a b (ap is_lt e) (ap is_lt (key_cmp_total.antisymm b a ∙ ap ordering_reverse e))
-
 -- ---- all pairs
 paired_news : (news : List Row) → AreNondecreasing news → AreSideBySide [] news (map only_new news)
 paired_news [] up = record { olds = refl; news = refl; some = tt; sorted = tt; tight = tt }
@@ -224,7 +209,7 @@ paired_with old olds (new ∷ news) up also more =
         (more (new ∷ news) also)
     by_order Equal e rest =
         paired_more (Some old) (Some new) (both_rows old new) olds news (beside olds news)
-        (first_both old new olds news (equal_same old.key new.key e) up also)
+        (first_both old new olds news (key_cmp_exact old.key new.key e) up also)
         (more news also.1)
     by_order Greater e rest =
         paired_more None (Some new) (only_new new) (old ∷ olds) news

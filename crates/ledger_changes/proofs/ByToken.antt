@@ -7,16 +7,19 @@ use Rattle.std.specs.Cmp.{IsTotalOrder}
 use Rattle.std.specs.Cmp.Lexicographic.{on_texts}
 use Rattle.std.specs.List.{AllByRecursion}
 use Rattle.std.specs.List.Sorted.{IsStrictlySortedBy}
-use Rattle.std.specs.Ordering.{is_eq, is_lt, ordering_reverse, ordering_then}
+use Rattle.std.specs.Ordering.{is_eq, is_lt, ordering_reverse}
 use Rattle.std.specs.declared.cmp.Ordering.{Ordering}
 use Rattle.std.specs.declared.cmp.Ordering.TheVariants.{Less, Equal, Greater}
 use Rattle.std.proofs.lemmas.Cmp.{tied_itself}
-use Rattle.std.proofs.lemmas.List.Elements.{filter-append}
+use Rattle.std.proofs.lemmas.List.Elements.{All-filter, All-from_recursion, filter-append}
+use Rattle.std.proofs.lemmas.List.Elements.{recursion_from_All}
+use Rattle.std.proofs.lemmas.List.Sorted.{ranks_by}
 use Rattle.std.proofs.lemmas.List.Sums.{sum_by-append}
 use Rattle.tap_views.proofs.Lists.{each-append, each-weaker}
+use Rattle.tap_views.proofs.Orderings.{first_not_less, less_of}
 use Rattle.ledger_changes.specs.Changes.{AreCorrections, Pair, is_changed}
-use Rattle.ledger_fields.specs.Rows.{Key, Row}
-use Rattle.ledger_changes.specs.Rows.{AreInOrder, is_same_text, key_cmp, text_cmp}
+use Rattle.ledger_fields.specs.Rows.{Row}
+use Rattle.ledger_changes.specs.Rows.{AreInOrder, is_same_text, text_cmp}
 use Rattle.ledger_changes.specs.Texts.{cents_of, is_removed}
 use Rattle.ledger_changes.specs.Tokens.{Sums, is_added, is_kept, is_of_token, of_token, sums_of}
 use Rattle.ledger_changes.specs.Tokens.{token_line, tokens_lines, TokenSum, add_changes, add_sums}
@@ -61,60 +64,35 @@ above_of t x not other = by_order (text_cmp x t) refl not
 -- below a token, and not above another: below that
 below_up : (a b x : List ℕ) → text_cmp a b ≡ Less → is_lt (text_cmp x b) ≡ false
     → text_cmp a x ≡ Less
-below_up a b x less not = by_order (text_cmp b x) refl
+below_up a b x less not = by (is_lt (text_cmp a x)) refl
   where
-    by_order : (r : Ordering) → text_cmp b x ≡ r → text_cmp a x ≡ Less
-    by_order Less is = text_total.trans a b x less is
-    by_order Equal is =
-        text_total.antisymm a x
-        ∙ ap ordering_reverse (sym (text_total.congr b x a is)
-        ∙ text_total.antisymm b a ∙ ap ordering_reverse less)
-    by_order Greater is =
-        absurd (let h : true ≡ false =
-        sym (ap is_lt (text_total.antisymm x b ∙ ap ordering_reverse is)) ∙ not in cc)
+    by : (r : Bool) → is_lt (text_cmp a x) ≡ r → text_cmp a x ≡ Less
+    by true is = less_of (text_cmp a x) is
+    by false is =
+        absurd (let h : true ≡ false = sym (ap is_lt less)
+        ∙ (ranks_by text_total (λ (text : List ℕ). text)).chain a x b is not in cc)
 
 -- ---- corrections in order
 abbrev pub Ascends : List Pair → Type 0
 Ascends [] = ⊤
 Ascends (change ∷ changes) = AllByRecursion (NotBelow change.key.token) changes × Ascends changes
 
-key_not_below : (key : Key) (later : Pair) → is_lt (key_cmp later.key key) ≡ false
-    → NotBelow key.token later
-key_not_below key later not =
-    by_order (text_cmp later.key.token key.token) refl not
-  where
-    rest : Ordering
-    rest = ordering_then (text_cmp later.key.moment key.moment)
-        (Rattle.std.specs.Ordering.nat_cmp later.key.validator key.validator)
-
-    by_order : (r : Ordering) → text_cmp later.key.token key.token ≡ r
-        → is_lt (ordering_then r rest) ≡ false → is_lt (text_cmp later.key.token key.token) ≡ false
-    by_order Less is not = absurd (let h : true ≡ false = not in cc)
-    by_order Equal is not = ap is_lt is
-    by_order Greater is not = ap is_lt is
-
 increases : (changes : List Pair) → AreInOrder (λ change. change.key) changes
     → Ascends (filter is_changed changes)
 increases [] up = tt
 increases (change ∷ changes) up = by_test (is_changed change) (increases changes up.1)
   where
-    kept : (changes : List Pair)
-        → AllByRecursion (λ later. is_lt (key_cmp later.key change.key) ≡ false) changes
-        → AllByRecursion (NotBelow change.key.token) (filter is_changed changes)
-    kept [] all = tt
-    kept (later ∷ changes) all =
-        one (is_changed later) (key_not_below change.key later all.0) (kept changes all.1)
-      where
-        one : (b : Bool) → NotBelow change.key.token later
-            → AllByRecursion (NotBelow change.key.token) (filter is_changed changes)
-            → AllByRecursion (NotBelow change.key.token)
-            (cond b (later ∷ filter is_changed changes) (filter is_changed changes))
-        one true first more = (first, more)
-        one false first more = more
+    below : Pair → Type 0
+    below = NotBelow change.key.token
+
+    kept : AllByRecursion below (filter is_changed changes)
+    kept = recursion_from_All below (filter is_changed changes)
+        (All-filter is_changed below changes (All-from_recursion below changes
+        (each-weaker _ below changes (λ later not. first_not_less _ _ not) up.0)))
 
     by_test : (b : Bool) → Ascends (filter is_changed changes)
         → Ascends (cond b (change ∷ filter is_changed changes) (filter is_changed changes))
-    by_test true more = (kept changes up.0, more)
+    by_test true more = (kept, more)
     by_test false more = more
 
 pub corrections_ascend : (old new : List Row) (changes : List Pair) → AreCorrections old new changes
@@ -163,9 +141,8 @@ none_of_run : (s t : List ℕ) (run : List Pair) → text_cmp t s ≡ Less
     → AllByRecursion (λ change. t ≡ change.key.token) run → of_token s run ≡ []
 none_of_run s t [] less all = refl
 none_of_run s t (change ∷ run) less all =
-    ap (λ (b : Bool). cond b (change ∷ of_token s run) (of_token s run))
-    (subst (λ (x : List ℕ). is_same_text s x ≡ false) all.0 (more_same t s less))
-    ∙ none_of_run s t run less all.1
+    rw (subst (λ (x : List ℕ). is_same_text s x ≡ false) all.0 (more_same t s less))
+    (none_of_run s t run less all.1)
 
 -- behind a run of a lower token a token has the corrections that it has without the run
 past_run : (s t : List ℕ) (run rest : List Pair) → text_cmp t s ≡ Less

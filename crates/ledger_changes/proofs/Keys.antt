@@ -1,11 +1,9 @@
 -- The order of keys is total, and keys that tie are the same.
-use Rattle.std.proofs.Common.{◌≡◌, ℕ, List, refl, sym, ap, ◌∙◌, true, false, ◌&&◌, ◌==◌, eqb-true}
-use Rattle.std.specs.Cmp.{IsTotalOrder}
+use Rattle.std.proofs.Common.{◌≡◌, ℕ, List, true, ◌&&◌, ◌==◌, eqb-true}
+use Rattle.std.specs.Cmp.{Equal-is, IsTotalOrder}
 use Rattle.std.specs.Cmp.Lexicographic.{on_texts}
 use Rattle.std.specs.FinMap.{IsAntisymmetric, nat_cmp-IsAntisymmetric, slice_cmp-IsAntisymmetric}
-use Rattle.std.specs.Ordering.{is_eq, is_lt, nat_cmp, ordering_then, ordering_reverse}
-use Rattle.std.specs.declared.cmp.Ordering.{Ordering}
-use Rattle.std.specs.declared.cmp.Ordering.TheVariants.{Less, Equal, Greater}
+use Rattle.std.specs.Ordering.{nat_cmp, ordering_then}
 use Rattle.std.proofs.lemmas.Cmp.{nat_cmp_total, on_total, then_total}
 use Rattle.std.proofs.lemmas.Bool.{and_parts}
 use Rattle.ledger_fields.specs.Rows.{Charge, Key}
@@ -18,7 +16,7 @@ key_cmp_total =
     (then_total (on_texts (λ (k : Key). k.moment))
     (on_total (λ (k : Key). k.validator) nat_cmp_total))
 
-key_cmp_exact : IsAntisymmetric key_cmp
+pub key_cmp_exact : IsAntisymmetric key_cmp
 key_cmp_exact a b e =
     let tokens = text_cmp a.token b.token in
     let moments = text_cmp a.moment b.moment in
@@ -32,26 +30,11 @@ key_cmp_exact a b e =
     (then_equal moments validators more) in
     λ i. record { token = token i; moment = moment i; validator = validator i }
 
--- keys of which neither is before the other are the same
-pub same_key : (a b : Key) → is_lt (key_cmp a b) ≡ false → is_lt (key_cmp b a) ≡ false → a ≡ b
-same_key a b not back = by_order (key_cmp a b) refl
-  where
-    by_order : (r : Ordering) → key_cmp a b ≡ r → a ≡ b
-    by_order Less e = absurd (let t : true ≡ false = sym (ap is_lt e) ∙ not in cc)
-    by_order Equal e = key_cmp_exact a b e
-    by_order Greater e =
-        absurd (let t : true ≡ false = sym (ap is_lt (key_cmp_total.antisymm b a
-        ∙ ap ordering_reverse e)) ∙ back in cc)
-
 -- ---- charges
 
 pub tied : (a b : List ℕ) → is_same_text a b ≡ true → a ≡ b
-tied a b e = by_order (text_cmp a b) refl e
-  where
-    by_order : (r : Ordering) → text_cmp a b ≡ r → is_eq r ≡ true → a ≡ b
-    by_order Less is e = absurd (let h : false ≡ true = e in cc)
-    by_order Equal is e = slice_cmp-IsAntisymmetric nat_cmp-IsAntisymmetric a b is
-    by_order Greater is e = absurd (let h : false ≡ true = e in cc)
+tied a b e =
+    slice_cmp-IsAntisymmetric nat_cmp-IsAntisymmetric a b ((Equal-is (text_cmp a b)).0 e)
 
 pub same_charge : (a b : Charge) → is_same_charge a b ≡ true → a ≡ b
 same_charge a b e =

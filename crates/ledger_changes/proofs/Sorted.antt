@@ -1,5 +1,5 @@
 -- Rows in the order of their keys.
-use Rattle.std.proofs.Common.{◌≡◌, List, [], ◌∷◌, false}
+use Rattle.std.proofs.Common.{◌≡◌, List, ◌∷◌, false}
 use Rattle.std.specs.Ordering.{is_lt}
 use Rattle.std.proofs.lemmas.List.Sorted.{ranks_by}
 use Rattle.tap_views.proofs.Lists.{each-weaker}

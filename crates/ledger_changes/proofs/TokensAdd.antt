@@ -67,13 +67,6 @@ sum_of_both f g h each (t ∷ tokens) =
     let both = sum_by-cons h t tokens in
     omega (arith, here, rest, one, two, both)
 
-sum_of_none : (tokens : List (List ℕ)) → sum_by (λ (t : List ℕ). 0) tokens ≡ 0
-sum_of_none [] = refl
-sum_of_none (t ∷ tokens) =
-    let rest = sum_of_none tokens in
-    let sum = sum_by-cons (λ (t : List ℕ). 0) t tokens in
-    omega (arith, rest, sum)
-
 module _ (f : Pair → ℕ) where
   pub of_one : List Pair → List ℕ → ℕ
   of_one changes t = sum_by f (of_token t changes)
@@ -92,7 +85,9 @@ module _ (f : Pair → ℕ) where
       → (changes : List Pair) → AllByRecursion (Listed tokens) changes
       → sum_by (of_one changes) tokens ≡ sum_by f changes
   unfolding of_one
-  sums_by_token tokens increasing [] all = sum_of_none tokens
+  sums_by_token tokens increasing [] all =
+      let zero : List ℕ → ℕ = λ t. 0 in
+      let twice = sum_of_both zero zero zero (λ t. refl) tokens in omega (arith, twice)
   sums_by_token tokens increasing (change ∷ changes) all =
       let both = sum_of_both (share change.key.token (f change)) (of_one changes)
       (of_one (change ∷ changes)) (one_more change changes) tokens in
@@ -106,15 +101,11 @@ weight_is : (key : Key) (side : Option Charge)
 weight_is key None = refl
 weight_is key (Some charge) = refl
 
-sum_same : (f g : Pair → ℕ) → ((p : Pair) → f p ≡ g p) → (changes : List Pair)
-    → sum_by f changes ≡ sum_by g changes
-sum_same f g each [] = refl
-sum_same f g each (change ∷ changes) =
-    let here = each change in
-    let rest = sum_same f g each changes in
-    let one = sum_by-cons f change changes in
-    let two = sum_by-cons g change changes in
-    omega (arith, here, rest, one, two)
+weights : (side : Pair → Option Charge) (changes : List Pair)
+    → sum_by (λ change. weight_of (λ key charge. charge.cents) change.key (side change)) changes
+    ≡ sum_by (λ change. cents_of (side change)) changes
+weights side changes =
+    ap (λ (f : Pair → ℕ). sum_by f changes) (λ i change. weight_is change.key (side change) i)
 
 pub tokens_add : (old new : List Row) (changes : List Pair) (tokens : List (List ℕ))
     → AreCorrections old new changes → AreTokensOf changes tokens
@@ -125,10 +116,6 @@ tokens_add old new changes tokens are by =
     let before = sums_by_token (λ change. cents_of change.before) tokens by.increasing changes
     by.all in
     let up = adds_up old new changes are (λ key charge. charge.cents) in
-    let weight_after = sum_same
-    (λ change. weight_of (λ key charge. charge.cents) change.key change.after)
-    (λ change. cents_of change.after) (λ change. weight_is change.key change.after) changes in
-    let weight_before = sum_same
-    (λ change. weight_of (λ key charge. charge.cents) change.key change.before)
-    (λ change. cents_of change.before) (λ change. weight_is change.key change.before) changes in
+    let weight_after = weights (λ change. change.after) changes in
+    let weight_before = weights (λ change. change.before) changes in
     omega (arith, after, before, up, weight_after, weight_before)

@@ -3,6 +3,7 @@ use Rattle.std.proofs.Common.{◌≡◌, ◌+◌, ℕ, Bool, true, false, List, 
 use Rattle.std.proofs.Common.{Some, None, Ok, Err}
 use Rattle.std.proofs.Common.{refl, subst, sym, ap, ◌∙◌, arith, append-nil, append_assoc, filter}
 use Rattle.std.proofs.Common.{drop, if◌then◌else◌, length-append, option_map, inl, inr, ◌⊎◌}
+use Rattle.std.specs.Prelude.{option_to_list}
 use Rattle.std.specs.declared.cmp.Ordering.{Ordering}
 use Rattle.std.specs.declared.cmp.Ordering.TheVariants.{Less, Equal, Greater}
 use Rattle.std.proofs.lemmas.List.Elements.{filter-append}
@@ -55,10 +56,6 @@ plain_lines [] = refl
 plain_lines (change ∷ changes) = simp (append_assoc, plain_lines changes)
 
 -- ---- the next pair
-abbrev rows_in : Option Row → List Row
-rows_in None = []
-rows_in (Some row) = row ∷ []
-
 -- the row, if it is taken
 abbrev taken_if : Bool → Option Row → Option Row
 taken_if true row = row
@@ -70,9 +67,9 @@ Heads None rows = rows ≡ []
 Heads (Some row) rows = (more : List Row) × (rows ≡ row ∷ more)
 
 abbrev StepsAt : Option Row → Option Row → Bool × Bool → Type 0
-StepsAt o n sides = (olds news : List Row) → Heads o (rows_in (taken_if sides.0 o) ++ olds)
-    → Heads n (rows_in (taken_if sides.1 n) ++ news)
-    → beside (rows_in (taken_if sides.0 o) ++ olds) (rows_in (taken_if sides.1 n) ++ news)
+StepsAt o n sides = (olds news : List Row) → Heads o (option_to_list (taken_if sides.0 o) ++ olds)
+    → Heads n (option_to_list (taken_if sides.1 n) ++ news)
+    → beside (option_to_list (taken_if sides.0 o) ++ olds) (option_to_list (taken_if sides.1 n) ++ news)
     ≡ pairs_of (taken_if sides.0 o) (taken_if sides.1 n) ++ beside olds news
 
 by_order : (old new : Row) (order : Ordering) → key_cmp old.key new.key ≡ order
@@ -113,7 +110,7 @@ no_row : (row : Option Row) (said : Said) → HasRow row said → row ≡ None �
 no_row None said is none = is
 no_row (Some row) said is none = absurd (cc)
 
-with_ok : (row : Option Row) (rows : List Row) → with_row row (Ok rows) ≡ Ok (rows_in row ++ rows)
+with_ok : (row : Option Row) (rows : List Row) → with_row row (Ok rows) ≡ Ok (option_to_list row ++ rows)
 with_ok None rows = refl
 with_ok (Some row) rows = refl
 
@@ -123,7 +120,7 @@ with_err (Some row) wrong = refl
 
 changes_more : (b a : Option Row) (old' new' : Said)
     → ((olds news : List Row) → old' ≡ Ok olds → new' ≡ Ok news
-    → beside (rows_in b ++ olds) (rows_in a ++ news) ≡ pairs_of b a ++ beside olds news)
+    → beside (option_to_list b ++ olds) (option_to_list a ++ news) ≡ pairs_of b a ++ beside olds news)
     → changes_of_both (with_row b old') (with_row a new')
     ≡ option_map (λ more. filter is_changed (pairs_of b a) ++ more) (changes_of_both old' new')
 changes_more b a (Err wrong) new' each = rw (with_err b wrong)
@@ -180,9 +177,9 @@ moved old new o n {b = b} {a = a} {sides = sides} {old' = old'} {new' = new'} is
           ∙ ap (λ (s : Said). changes_of_both (with_row (row_in b) old') s) new_is
           ∙ changes_more (row_in b) (row_in a) old' new' (λ olds news right_old right_new.
           rw (b_is, a_is) (steps o_row n_row olds news
-          (rw b_is at (heads o_row (rows_at old o) (rows_in (row_in b) ++ olds) row_o
+          (rw b_is at (heads o_row (rows_at old o) (option_to_list (row_in b) ++ olds) row_o
           (old_is ∙ ap (with_row (row_in b)) right_old ∙ with_ok (row_in b) olds)))
-          (rw a_is at (heads n_row (rows_at new n) (rows_in (row_in a) ++ news) row_n
+          (rw a_is at (heads n_row (rows_at new n) (option_to_list (row_in a) ++ news) row_n
           (new_is ∙ ap (with_row (row_in a)) right_new ∙ with_ok (row_in a) news)))));
       wrong_old = λ wrong bad. wrong_with (row_in b) (rows_at old o) old' wrong old_is bad;
       wrong_new = λ wrong bad. wrong_with (row_in a) (rows_at new n) new' wrong new_is bad;

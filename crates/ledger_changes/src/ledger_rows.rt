@@ -131,33 +131,6 @@ impl LedgerRows {
         }
     }
 
-    /// Returns the row at which it was.
-    fn next_row(&mut self, alloc: Global) -> Result<Option<LedgerRow>, CorrectionsFault>
-        ensures follows { Follows self.old.from self.new.from }
-        ensures bill { self.new.bill ≡ self.old.bill }
-        ensures row { IfOk result (λ row. row ≡ self.old.row) }
-        ensures moved { IfOk result (λ row. (whole : List ℕ) → CanBe (calls_of self.new.from) whole
-            → rows_at self.old whole ≡ with_row (row_in row) (rows_at self.new whole)) }
-        ensures wrong { IfErr result (λ fault. (whole : List ℕ) → CanBe (calls_of self.new.from) whole
-            → IsWrongAs self.old.bill (calls_of self.new.from) (rows_at self.old whole) fault) }
-        ensures ended { IfOk result (λ row. HasEnded self.old → HasEnded self.new) }
-    {
-        if self.row.is_none() {
-            return Ok(None);
-        }
-        let Some(number) = self.number.checked_add(1) else {
-            return Err(CorrectionsFault::NoMemory);
-        };
-        let position = (self.bill, number);
-        match read_row(alloc, &mut self.from, &mut self.line, position, &self.row) {
-            Ok(next) => {
-                self.number = number;
-                Ok(mem::replace(&mut self.row, next))
-            }
-            Err(fault) => Err(fault),
-        }
-    }
-
     /// If it is to go on, the row at which it was; else none.
     pub(crate) fn row_if(
         &mut self,
@@ -173,10 +146,19 @@ impl LedgerRows {
             → IsWrongAs self.old.bill (calls_of self.new.from) (rows_at self.old whole) fault) }
         ensures ended { IfOk result (λ row. HasEnded self.old → HasEnded self.new) }
     {
-        if is_wanted {
-            self.next_row(alloc)
-        } else {
-            Ok(None)
+        if !is_wanted || self.row.is_none() {
+            return Ok(None);
+        }
+        let Some(number) = self.number.checked_add(1) else {
+            return Err(CorrectionsFault::NoMemory);
+        };
+        let position = (self.bill, number);
+        match read_row(alloc, &mut self.from, &mut self.line, position, &self.row) {
+            Ok(next) => {
+                self.number = number;
+                Ok(mem::replace(&mut self.row, next))
+            }
+            Err(fault) => Err(fault),
         }
     }
 }

@@ -33,20 +33,14 @@ fn is_only_before(before: &Option<LineCharge>, after: &Option<LineCharge>) -> bo
     ensures { result
         ≡ is_only_before (option_map charge_of before.now) (option_map charge_of after.now) }
 {
-    match (before, after) {
-        (Some(_), None) => true,
-        _ => false,
-    }
+    matches!((before, after), (Some(_), None))
 }
 
 fn is_in_both(before: &Option<LineCharge>, after: &Option<LineCharge>) -> bool
     ensures { result
         ≡ is_in_both (option_map charge_of before.now) (option_map charge_of after.now) }
 {
-    match (before, after) {
-        (Some(_), Some(_)) => true,
-        _ => false,
-    }
+    matches!((before, after), (Some(_), Some(_)))
 }
 
 impl TokenSums {

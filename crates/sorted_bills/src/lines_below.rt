@@ -1,6 +1,6 @@
 //! The lines of taps of merged files, in rounds.
 
-ghost use Rattle.std.specs.Prelude.{◌≡◌, ◌<◌, ℕ, List, IfErr, OnOk, length, map};
+ghost use Rattle.std.specs.Prelude.{◌≡◌, ◌<◌, ◌^◌, ℕ, List, IfErr, OnOk, length, map};
 ghost use Rattle.std.specs.Io.KnownBytes.{Appends};
 ghost use Rattle.fare_texts.specs.WrittenOut.{Begins};
 ghost use Rattle.sorted_taps.specs.declared.reader.TapReader.{TapReader as AReader};
@@ -44,7 +44,8 @@ pub(crate) fn write_lines<R: Threads + Sync, F: Placed, W: Write>(
     left: &mut u64,
     out: &mut W,
 ) -> Result<(), BillFault>
-    requires { IsReady (length files.now) taker.old }
+    requires ready { IsReady (length files.now) taker.old }
+    requires few { left.old < 2 ^ 64 }
     ensures ready { OnOk result (IsReady (length files.now) taker.new) }
     ensures whole { OnOk result (HasLines table.now (map F.bytes files.now)
         taker.old.merge.readers.items from taker.new.merge.readers.items

@@ -30,7 +30,7 @@ returns-in-Err-clause-ends g c =
     let unwritten = c.of_bill.ensures.write write in
     let (text, is, started) = c.in-Err.ensures.started unwritten in (
       text,
-      (
+      λ given. (
         true,
         (
           refl,

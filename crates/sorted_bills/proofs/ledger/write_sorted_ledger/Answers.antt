@@ -1,5 +1,5 @@
 -- All taps of the files are their settled taps, and their lines are the ledger.
-use Rattle.std.proofs.Common.{◌∙◌, ◌++◌, ◌^◌, ◌<◌, List, ap, map, refl, subst, sym, ℕ}
+use Rattle.std.proofs.Common.{◌≡◌, ◌∙◌, ◌++◌, ◌^◌, ◌<◌, List, ap, map, refl, subst, sym, ℕ}
 use Rattle.std.specs.Prelude.{sum}
 use Rattle.std.proofs.lemmas.Result.{err_from_is_err_and}
 use Rattle.tap_views.specs.UploadEnds.{ArePlainEnds}
@@ -12,14 +12,15 @@ use Rattle.settled_texts.proofs.Rows.{posted_nondecreasing}
 use Rattle.sorted_taps.specs.Merges.{AreAtEnd, AreStarted}
 use Rattle.sorted_taps.specs.declared.merge.Merge.{Merge}
 use Rattle.sorted_taps.specs.declared.reader.TapReader.{TapReader}
+use Rattle.sorted_bills.specs.declared.fault.BillFault.TheVariants.{NoMemory, Write}
 use Rattle.sorted_bills.specs.inside.Taken.{IsReady}
 use Rattle.sorted_bills.proofs.Counted.{too_many}
 use Rattle.sorted_bills.proofs.LedgerStarted.{ledger_started}
 use Rattle.sorted_bills.proofs.OwnTaps.{own_counted, own_ends}
 use Rattle.sorted_bills.proofs.ledger.write_sorted_ledger.Goals as goal
 
-pub write_lines-requires : goal.write_lines-requires
-write_lines-requires g c = subst (λ (n : ℕ). IsReady n c.in_ok-taker.taker)
+pub write_lines-requires-clause-ready : goal.write_lines-requires-clause-ready
+write_lines-requires-clause-ready g c κs within = subst (λ (n : ℕ). IsReady n c.in_ok-taker.taker)
     c.in_ok-merge.ensures.number c.in_ok-taker.ensures.ready
 
 pub returns-clause-ok : goal.returns-clause-ok
@@ -87,3 +88,53 @@ returns-in_err-write_lines-clause-sorted g c =
           (own_ends _ all _ _ (c.in_ok-own.ensures.own all are)),
       c.in_ok-ends.ensures.posted,
     ))
+
+-- ---- other faults
+pub returns-in_err-own-clause-sorted : goal.returns-in_err-own-clause-sorted
+returns-in_err-own-clause-sorted g c =
+    let p = err_from_is_err_and c.from_residual-in_err-own.result
+    c.from_residual-in_err-own.ensures.1 in
+    rw (p.1, p.2) (λ is_write all are. absurd (c.in_err-own.ensures.unwritten is_write))
+
+pub returns-in_err-left-clause-sorted : goal.returns-in_err-left-clause-sorted
+returns-in_err-left-clause-sorted g c =
+    let p = err_from_is_err_and c.from_residual-in_err-left.result
+    c.from_residual-in_err-left.ensures.1 in
+    let many = c.in_err-left.ensures.many in
+    rw (p.1, p.2, many.0) (λ is_write all are. absurd (cc))
+
+pub returns-in_err-ends-clause-sorted : goal.returns-in_err-ends-clause-sorted
+returns-in_err-ends-clause-sorted g c =
+    let p = err_from_is_err_and c.from_residual-in_err-ends.result
+    c.from_residual-in_err-ends.ensures.1 in
+    rw (p.1, p.2) (λ is_write all are. absurd (let wrong : NoMemory ≡ Write = is_write in cc))
+
+pub returns-in_err-taker-clause-sorted : goal.returns-in_err-taker-clause-sorted
+returns-in_err-taker-clause-sorted g c =
+    let p = err_from_is_err_and c.from_residual-in_err-taker.result
+    c.from_residual-in_err-taker.ensures.1 in
+    rw (p.1, p.2) (λ is_write all are. absurd (let wrong : NoMemory ≡ Write = is_write in cc))
+
+pub returns-in_err-write_lines-clause-fault : goal.returns-in_err-write_lines-clause-fault
+returns-in_err-write_lines-clause-fault g c =
+    let p = err_from_is_err_and c.from_residual-in_err-write_lines.result
+    c.from_residual-in_err-write_lines.ensures.1 in
+    rw (p.1, p.2) (λ all are. c.in_err-write_lines.ensures.fault all)
+
+pub returns-in_err-merge-clause-started : goal.returns-in_err-merge-clause-started
+returns-in_err-merge-clause-started g c =
+    let p = err_from_is_err_and c.from_residual-in_err-merge.result
+    c.from_residual-in_err-merge.ensures.1 in
+    rw (p.1) (λ is_write. absurd (p.2.unwritten is_write))
+
+pub returns-in_err-merge-clause-sorted : goal.returns-in_err-merge-clause-sorted
+returns-in_err-merge-clause-sorted g c =
+    let p = err_from_is_err_and c.from_residual-in_err-merge.result
+    c.from_residual-in_err-merge.ensures.1 in
+    rw (p.1) (λ is_write all are. absurd (p.2.unwritten is_write))
+
+pub returns-in_err-merge-clause-fault : goal.returns-in_err-merge-clause-fault
+returns-in_err-merge-clause-fault g c =
+    let p = err_from_is_err_and c.from_residual-in_err-merge.result
+    c.from_residual-in_err-merge.ensures.1 in
+    rw (p.1) (λ all are. p.2.says_nothing all)

@@ -22,9 +22,10 @@ loop-init g c =
     let fares = c.args.table.now in
     let out = g.W.Write.contents c.args.out.now in
     let none = c.of-explainer.ensures.none in
+    let few = c.requires.few in
     record {
-      ready = c.requires;
-      room = omega (arith, none);
+      ready = c.requires.ready;
+      room = omega (arith, none, few);
       done = [];
       taken = none_taken (map g.F.Placed.bytes c.args.files.now)
           c.args.taker.now.merge.readers.items;
@@ -112,8 +113,8 @@ returns-then-is_empty-clause-whole g c =
     }
 
 -- ---- a beginning was written
-pub returns-in-Err-pass_on-clause-started : goal.returns-in-Err-pass_on-clause-started
-returns-in-Err-pass_on-clause-started g c = λ is_write.
+pub returns-in-Err-clause-started : goal.returns-in-Err-clause-started
+returns-in-Err-clause-started g c = λ is_write.
     let inv = c.loop.invariant in (
       c.loop.taker.merge.readers.items,
       record {
@@ -124,7 +125,7 @@ returns-in-Err-pass_on-clause-started g c = λ is_write.
         are = inv.explained.are;
         holds = goes_then (g.W.Write.contents c.args.out.now) (g.W.Write.contents c.loop.out)
             (g.W.Write.contents c.pass_on.new.out) head_text (string_bytes c.loop.text) inv.lines
-            inv.gone c.in-Err-pass_on.ensures.started;
+            inv.gone c.in-Err.ensures.started;
       },
     )
 

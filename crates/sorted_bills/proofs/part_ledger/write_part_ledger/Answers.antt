@@ -42,3 +42,9 @@ returns-in_err-write_lines-clause-started g c =
     rw (p.1, p.2) (λ is_write.
     let (readers, has) = c.in_err-write_lines.ensures.started is_write in
     (has.taps, has.lines, has.are, has.holds))
+
+pub returns-in_err-write_lines-clause-fault : goal.returns-in_err-write_lines-clause-fault
+returns-in_err-write_lines-clause-fault g c =
+    let p = err_from_is_err_and c.from_residual-in_err-write_lines.result
+    c.from_residual-in_err-write_lines.ensures.1 in
+    rw (p.1, p.2) (λ all are. c.in_err-write_lines.ensures.fault all)

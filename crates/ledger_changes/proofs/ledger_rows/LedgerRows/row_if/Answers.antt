@@ -1,6 +1,6 @@
 use Rattle.recorded_lines.specs.Texts.{calls_of, left}
 use Rattle.ledger_changes.proofs.Readings.{wrong_rows}
-use Rattle.ledger_changes.proofs.ledger_rows.LedgerRows.next_row.Goals as goal
+use Rattle.ledger_changes.proofs.ledger_rows.LedgerRows.row_if.Goals as goal
 
 pub returns-in-Err-clause-wrong : goal.returns-in-Err-clause-wrong
 returns-in-Err-clause-wrong c = λ whole can.
