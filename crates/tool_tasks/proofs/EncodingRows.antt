@@ -138,7 +138,7 @@ pub prepared_so : (words : RowsWords) (is_there : Bool) (texts : Texts) (choice 
 prepared_so words is_there texts choice (Ok prepared) is_choice (named, upload) =
     (named, choice, is_choice, upload)
 prepared_so words is_there texts choice (Err halt) is_choice stops =
-    stops_weaker (λ wrong. inl (choice, is_choice, wrong)) halt.0 stops
+    stops_weaker (λ wrong. inl (choice, is_choice, wrong.0, wrong.1, wrong.2)) halt.0 stops
 
 -- ---- the names of the files
 is_named : (names : List (List ℕ)) (word : Option (List ℕ)) (file : Option NewFile)

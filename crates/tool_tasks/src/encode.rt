@@ -36,8 +36,10 @@ fn encode<'a, W: World + Counted>(
             };
             carry_out(&prepared, world)
         }
-        Err(RowsFault::NoMemory) => Err(Halt(Outside::NoMemory, Fault::NoMemory)),
-        Err(fault) => Err(Halt(Outside::Wrong, Fault::TapTable(word, fault))),
+        Err(fault) => match fault {
+            RowsFault::NoMemory => Err(Halt(Outside::NoMemory, Fault::NoMemory)),
+            _ => Err(Halt(Outside::Wrong, Fault::TapTable(word, fault))),
+        },
     }
 }
 

@@ -226,8 +226,10 @@ pub(crate) fn prepare<'a>(
         }
         Some(name) => match read_devices(alloc, seed, words.columns.separator, &texts.devices) {
             Ok(old) => prepare_by_devices(alloc, words, is_there, texts, name, old, more),
-            Err(DevicesFault::NoMemory) => Err(Halt(Outside::NoMemory, Fault::NoMemory)),
-            Err(fault) => Err(Halt(Outside::Wrong, Fault::Devices(name, fault))),
+            Err(fault) => match fault {
+                DevicesFault::NoMemory => Err(Halt(Outside::NoMemory, Fault::NoMemory)),
+                _ => Err(Halt(Outside::Wrong, Fault::Devices(name, fault))),
+            },
         },
     }
 }

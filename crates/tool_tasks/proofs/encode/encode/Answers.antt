@@ -29,8 +29,8 @@ returns-in-Ok-encode g c =
       success = refl;
     })
 
-pub returns-in-Err-NoMemory : goal.returns-in-Err-NoMemory
-returns-in-Err-NoMemory g c =
+pub returns-in-NoMemory : goal.returns-in-NoMemory
+returns-in-NoMemory g c =
     let word = c.args.word.now in
     halted_loading (EncodesTable word) (IsNoTapTable word) (word ∷ [])
     (g.W.Inputs.run c.args.world.now) _ _ (load_of word c.in-Ok.table.items ∷ []) NoMemory
@@ -46,7 +46,7 @@ returns g c =
         text = table;
         loaded = refl;
         fault = fault;
-        seen = c.in-Err-encode.not-NoMemory;
+        seen = c.in_default.not-NoMemory;
         wrong = subst (λ (t : List ℕ). IsRowsFault t fault) c.deref.ensures.value
             c.in-Err-encode.ensures.fault;
       },

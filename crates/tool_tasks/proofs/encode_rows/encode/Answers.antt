@@ -34,8 +34,8 @@ returns-in-Ok-prepare g c = λ started was.
       upload = upload;
     })
 
-pub returns-in-Err-prepare : goal.returns-in-Err-prepare
-returns-in-Err-prepare g c = λ started was.
+pub returns : goal.returns
+returns g c = λ started was.
     let words = c.args.words.now in let csvs = map (λ w. w.now) c.args.csvs.now in
     let is_there = c.args.is_there in let texts = texts_in c.in-Ok.texts in
     let names = names_of words csvs in let loads = loads_of words is_there texts in

@@ -34,8 +34,8 @@ returns-in-Ok-encode g c =
       ends = inl (c.in-Ok-encode.ensures started was);
     }
 
-pub returns-in-Err-encode : goal.returns-in-Err-encode
-returns-in-Err-encode g c =
+pub returns : goal.returns
+returns g c =
     let (started, tried, was) = c.in-Ok.ensures.loaded in
     record {
       is_there = c.in-Ok.is_there;
