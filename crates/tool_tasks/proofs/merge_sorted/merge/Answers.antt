@@ -67,7 +67,7 @@ returns-in-Err-Some g c =
     let words = c.deref.result.now in let halt = c.in-Err-Some.halt in
     let stops = subst (λ (ws : List (Bor (List ℕ))). Stops (IsUnsorted (map (λ w. w.now) ws)
     (map under (map (λ w. w.now) ws))) halt.0) c.deref.ensures.value
-    (rw c.in-Err-Some.field-0-is at c.in-Err-Some.ensures.stopped) in
+    c.in-Err-Some.ensures.stopped in
     halted_by (Merges request known) (λ loads. IsUnsorted request.uploads known) (names_of request)
     old _ _ [] halt.0 (sym (no_loads old))
     (subst (λ (r : Run). LeavesBy (IsUnsorted request.uploads known) (names_of request) halt.0 old r)

@@ -28,11 +28,11 @@ returns-in-Ok-note_of g c = λ start all.
     let texts = map (λ upload. upload.items) c.args.uploads.items in
     let sorted = c.in-Ok.ensures.sorted in
     let note = string_bytes c.in-Ok-note_of.note in
-    let same = c.deref-3.ensures.value in
+    let same = c.deref-in-Ok-note_of.ensures.value in
     carried (Sorts request) (λ loads. ⊥) (names_of request) start _ _ _ c.make_sorted.result
     (c.make_sorted.ensures start all.loads sorted.written.file all.all
     (known_whole _ _ sorted.written.file c.requires sorted.written.appended))
-    (sorts_so request start _ texts c.deref-3.result.now note sorted.written.file _ all
+    (sorts_so request start _ texts c.deref-in-Ok-note_of.result.now note sorted.written.file _ all
     (subst (ArePlainEnds texts) (sym same) c.in-Ok.ensures.ended) (record {
       order = sorted.order;
       settled = sorted.settled;
@@ -40,7 +40,7 @@ returns-in-Ok-note_of g c = λ start all.
     }) (subst (λ (es : List UploadEnd). are_posted es ≡ true → note ≡ []) (c.deref-2.ensures.value ∙ sym same)
     c.in-Ok-note_of.ensures)
     (subst (λ (es : List UploadEnd). c.status_of.result ≡ (if are_posted es then 0 else 3))
-    (c.deref-4.ensures.value ∙ sym same) c.status_of.ensures))
+    (c.deref-in-Ok-note_of-2.ensures.value ∙ sym same) c.status_of.ensures))
 
 pub returns : goal.returns
 returns g c = λ start all.
