@@ -6,33 +6,58 @@ use Rattle.world.specs.declared.faults.WriteFault.{WriteFault}
 use Rattle.frame.proofs.Giving.{part_self}
 use Rattle.frame.specs.Given.{Given, IsPart, gave}
 use Rattle.frame.specs.Outcome.{IsHalted, rule_of}
-use Rattle.frame.specs.Outsides.{IsStoppedIn, Leaves}
+use Rattle.frame.specs.Outsides.{IsStoppedIn, Leaves, LeavesBy, Stops}
 use Rattle.frame.specs.declared.outside.Outside.{Outside}
-use Rattle.frame.specs.declared.outside.Outside.TheVariants.{Unwritten}
+use Rattle.frame.specs.declared.outside.Outside.TheVariants.{NoMemory, Unmade, Unread, Untraced}
+use Rattle.frame.specs.declared.outside.Outside.TheVariants.{Unwritten, Wrong}
+
+-- what is said of a wrong file may say less
+pub leaves_weaker : {t u : Type 0} → (t → u) → (words : List (List ℕ)) (why : Outside)
+    (before after : Run) → LeavesBy t words why before after → LeavesBy u words why before after
+leaves_weaker f words (Unread why) before after leaves = leaves
+leaves_weaker f words (Unwritten why) before after leaves = leaves
+leaves_weaker f words (Unmade why is_partial) before after leaves = leaves
+leaves_weaker f words Wrong before after leaves = (f leaves.0, leaves.1)
+leaves_weaker f words Untraced before after leaves = leaves
+leaves_weaker f words NoMemory before after leaves = leaves
+
+pub stops_weaker : {t u : Type 0} → (t → u) → (why : Outside) → Stops t why → Stops u why
+stops_weaker f why stops = λ words run. leaves_weaker f words why run run (stops words run)
 
 -- ---- after loads
-pub gave_loads : (r : Run) (loads : List Load)
-    → with_loads r loads ≡ gave r (record { loads = loads; text = []; note = []; files = [] })
+abbrev pub loaded_of : List Load → Given
+loaded_of loads = record { loads = loads; text = []; note = []; files = [] }
+
+pub gave_loads : (r : Run) (loads : List Load) → with_loads r loads ≡ gave r (loaded_of loads)
 gave_loads r loads = rw (append-nil r.written, append-nil r.said, append-nil r.made) refl
 
-pub halted_loading : (right : Given → ℕ → Type 0) (words : List (List ℕ)) (start mid new : Run)
-    (loads : List Load) (why : Outside) → mid ≡ with_loads start loads → Leaves words why mid new
-    → IsHalted (rule_of right words) start new why
-halted_loading right words start mid new loads why is leaves = record {
-  part = record { loads = loads; text = []; note = []; files = [] };
-  partial = inl refl;
-  leaves = subst (λ r. Leaves words why r new) (is ∙ gave_loads start loads) leaves;
-}
+module _ (right : Given → ℕ → Type 0) (wrong : List Load → Type 0)
+    (words : List (List ℕ)) where
+  pub halted_by : (start mid new : Run) (loads : List Load) (why : Outside)
+      → mid ≡ with_loads start loads → LeavesBy (wrong loads) words why mid new
+      → IsHalted (rule_of right wrong words) start new why
+  halted_by start mid new loads why is leaves = record {
+    part = loaded_of loads;
+    partial = inl refl;
+    leaves = subst (λ r. LeavesBy (wrong loads) words why r new) (is ∙ gave_loads start loads)
+        leaves;
+  }
 
--- ---- what is right is whole
-pub halted_in : (right : Given → ℕ → Type 0) (words : List (List ℕ)) (start new : Run)
-    (whole : Given) (status : ℕ) (why : Outside) → right whole status
-    → IsStoppedIn words start new whole why → IsHalted (rule_of right words) start new why
-halted_in right words start new whole status why is s = record {
-  part = s.part;
-  partial = inr (whole, status, is, s.is_part);
-  leaves = s.leaves;
-}
+  pub halted_loading : (start mid new : Run) (loads : List Load) (why : Outside)
+      → mid ≡ with_loads start loads → Leaves words why mid new
+      → IsHalted (rule_of right wrong words) start new why
+  halted_loading start mid new loads why is leaves = halted_by start mid new loads why is
+      (leaves_weaker (λ none. absurd none) words why mid new leaves)
+
+  -- ---- what is right is whole
+  pub halted_in : (start new : Run) (whole : Given) (status : ℕ) (why : Outside)
+      → right whole status → IsStoppedIn words start new whole why
+      → IsHalted (rule_of right wrong words) start new why
+  halted_in start new whole status why is s = record {
+    part = s.part;
+    partial = inr (whole, status, is, s.is_part);
+    leaves = leaves_weaker (λ none. absurd none) words why (gave start s.part) new s.leaves;
+  }
 
 -- ---- one step after another
 abbrev pub IsGrowing : (Given → Given) → Type 0

@@ -1,26 +1,29 @@
 -- How a run ends.
 use Rattle.std.specs.Prelude.{◌≡◌, ◌⊎◌, ℕ, List}
-use Rattle.world.specs.Run.{Run, with_flushed}
+use Rattle.world.specs.Run.{Load, Run, with_flushed}
 use Rattle.frame.specs.Given.{Given, IsPart, gave, nothing}
-use Rattle.frame.specs.Outsides.{IsReported, Leaves}
+use Rattle.frame.specs.Outsides.{IsReported, LeavesBy}
 use Rattle.frame.specs.declared.outside.Outside.{Outside}
 
 -- What is asked for: what is right with this status, what may have been given of it when something
--- outside stops the run, and what this leaves of the run.
+-- stops the run, and what this leaves of the run after that.
 pub record Rule : Type 1 where
   pub Right : Given → ℕ → Type 0
   pub Partial : Given → Type 0
-  pub Leaves : Outside → Run → Run → Type 0
+  pub Leaves : Given → Outside → Run → Run → Type 0
 
 -- Only files were loaded; or this is a part of what is right.
 abbrev pub IsPartial : (Given → ℕ → Type 0) → Given → Type 0
 IsPartial Right part = (part ≡ record nothing { loads = part.loads })
     ⊎ ((whole : Given) × (status : ℕ) × Right whole status × IsPart part whole)
 
--- what is asked for is this, of files that these words name
-abbrev pub rule_of : (Given → ℕ → Type 0) → List (List ℕ) → Rule
-rule_of right words =
-    record { Right = right; Partial = IsPartial right; Leaves = Leaves words }
+-- What is asked for is this, of files that these words name. What was loaded is wrong if this holds.
+abbrev pub rule_of : (Given → ℕ → Type 0) → (List Load → Type 0) → List (List ℕ) → Rule
+rule_of right wrong words = record {
+  Right = right;
+  Partial = IsPartial right;
+  Leaves = λ part. LeavesBy (wrong part.loads) words;
+}
 
 -- All that is asked for was done, and nothing else.
 pub record IsDone (rule : Rule) (old new : Run) (status : ℕ) : Type 0 where
@@ -28,11 +31,11 @@ pub record IsDone (rule : Rule) (old new : Run) (status : ℕ) : Type 0 where
   pub right : rule.Right given status
   pub all : new ≡ with_flushed (gave old given)
 
--- Something outside stopped the run after a part of what is asked for.
+-- Something stopped the run after a part of what is asked for.
 pub record IsHalted (rule : Rule) (old new : Run) (why : Outside) : Type 0 where
   pub part : Given
   pub partial : rule.Partial part
-  pub leaves : rule.Leaves why (gave old part) new
+  pub leaves : rule.Leaves part why (gave old part) new
 
 -- It was reported, and the run failed.
 pub record IsStopped (rule : Rule) (old new : Run) (status : ℕ) : Type 0 where

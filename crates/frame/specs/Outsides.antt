@@ -1,4 +1,4 @@
--- What stops a run from outside, and what it leaves.
+-- What stops a run, and what it leaves.
 use Rattle.std.specs.Prelude.{◌≡◌, ℕ, Bool, true, false, Contains, List, MatchBool}
 use Rattle.world.specs.Loads.{IsRefused}
 use Rattle.world.specs.Run.{Run, with_cut}
@@ -8,16 +8,28 @@ use Rattle.world.specs.declared.faults.WriteFault.TheVariants.{Closed, Refused}
 use Rattle.frame.specs.Given.{Given, IsPart, gave}
 use Rattle.frame.specs.Names.{file_named}
 use Rattle.frame.specs.declared.outside.Outside.{Outside}
-use Rattle.frame.specs.declared.outside.Outside.TheVariants.{NoMemory, Unmade, Unread, Unwritten}
+use Rattle.frame.specs.declared.outside.Outside.TheVariants.{NoMemory, Unmade, Unread, Untraced}
+use Rattle.frame.specs.declared.outside.Outside.TheVariants.{Unwritten, Wrong}
 
--- What stopped a run leaves this of it: of one of these words the file was refused, or not made.
-abbrev pub Leaves : List (List ℕ) → Outside → Run → Run → Type 0
-Leaves words (Unread why) before after =
+-- What stopped a run leaves this of it: of one of these words the file was refused, or not made; or
+-- what a file holds is wrong, and this is true.
+abbrev pub LeavesBy : Type 0 → List (List ℕ) → Outside → Run → Run → Type 0
+LeavesBy truth words (Unread why) before after =
     (word : List ℕ) × Contains words word × IsRefused before after (file_named word) why
-Leaves words (Unwritten why) before after = after ≡ with_cut before why
-Leaves words (Unmade why is_partial) before after =
+LeavesBy truth words (Unwritten why) before after = after ≡ with_cut before why
+LeavesBy truth words (Unmade why is_partial) before after =
     (word : List ℕ) × Contains words word × IsUnmade before after word why
-Leaves words NoMemory before after = after ≡ before
+LeavesBy truth words Wrong before after = truth × (after ≡ before)
+LeavesBy truth words Untraced before after = after ≡ before
+LeavesBy truth words NoMemory before after = after ≡ before
+
+-- the same, and no file is wrong
+abbrev pub Leaves : List (List ℕ) → Outside → Run → Run → Type 0
+Leaves words why before after = LeavesBy ⊥ words why before after
+
+-- it left every run as it was: an allocation failed, or what is said of a wrong file is true
+abbrev pub Stops : Type 0 → Outside → Type 0
+Stops truth why = (words : List (List ℕ)) (run : Run) → LeavesBy truth words why run run
 
 -- A part of what was to be given was, and then this stopped the run.
 pub record IsStoppedIn (words : List (List ℕ)) (start new : Run) (whole : Given) (why : Outside)
@@ -37,10 +49,8 @@ is_closed Closed = true
 is_closed Refused = false
 
 abbrev pub is_quiet : Outside → Bool
-is_quiet (Unread why) = false
 is_quiet (Unwritten why) = is_closed why
-is_quiet (Unmade why is_partial) = false
-is_quiet NoMemory = false
+is_quiet _ = false
 
 -- It was reported, and nothing else was done; or the reader of the output is gone, and nothing was.
 abbrev pub IsReported : Outside → Run → Run → Type 0

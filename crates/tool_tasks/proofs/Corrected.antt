@@ -5,18 +5,15 @@ use Rattle.std.specs.Prelude.{Contains}
 use Rattle.frame.specs.declared.outside.Outside.{Outside}
 use Rattle.ledger_changes.specs.Given.{HasStarted, HasGiven, IsAllGiven, IsStarted, IsFaultOf}
 use Rattle.ledger_changes.specs.Given.{IsGivenAfter, new_calls, old_calls}
-use Rattle.ledger_changes.specs.Ledgers.{rows_of}
 use Rattle.ledger_changes.specs.Tokens.{corrections_of, head_of}
 use Rattle.ledger_changes.specs.declared.changes.Corrections.{Corrections}
 use Rattle.ledger_changes.specs.declared.fault.Bill.{Bill}
 use Rattle.ledger_changes.specs.declared.fault.Bill.TheVariants.{New, Old}
 use Rattle.ledger_changes.specs.declared.fault.CorrectionsFault.TheVariants.{Line, Unread, NoMemory}
-use Rattle.ledger_changes.specs.declared.fault.WrongLine.{WrongLine}
 use Rattle.ledger_changes.proofs.Walking.{started}
-use Rattle.recorded_lines.specs.Texts.{CanBe}
 use Rattle.world.specs.Run.{Calls, Run, with_written}
 use Rattle.tool_tasks.proofs.Streaming.{all_read}
-use Rattle.tool_tasks.specs.Corrections.{AreRead, Corrects, IsPart, of_bill}
+use Rattle.tool_tasks.specs.Corrections.{AreRead, Corrects, IsPart, IsWrongLedger}
 use Rattle.tool_tasks.specs.Streams.{HasFailed, LeavesOf}
 use Rattle.tool_tasks.specs.declared.corrections.Stopped.{Stopped}
 use Rattle.tool_tasks.specs.declared.corrections.Stopped.TheVariants.{Fault, Write}
@@ -69,12 +66,6 @@ given_head c is by_token same has = subst (λ (b : Bool). HasGiven c b (head_of 
 -- ---- what is noted
 module _ (request : CorrectionsRequest) (calls : List Calls) (old new : Calls)
     (read : AreRead request calls old new) where
-  first_wrong : (bill : Bill) (number : ℕ) (why : WrongLine)
-      → IsFaultOf (Line bill number why) old new → (whole : List ℕ)
-      → CanBe (of_bill old new bill) whole → rows_of whole ≡ Err (number, why)
-  first_wrong Old number why is = is
-  first_wrong New number why is = is
-
   has_failed : (bill : Bill) → IsFaultOf (Unread bill) old new
       → HasFailed (request.old ∷ request.new ∷ []) calls
   has_failed Old unread = (
@@ -98,46 +89,36 @@ module _ (request : CorrectionsRequest) (calls : List Calls) (old new : Calls)
   part_by text (inr has) = inr (old, new, read, has)
 
   left_by : (run run' : Run) (text : List ℕ) (why is : Outside) → is ≡ why
-      → LeavesOf (request.old ∷ request.new ∷ []) calls why (with_written run text) run'
-      → LeavesOf (request.old ∷ request.new ∷ []) calls is (with_written run text) run'
-  left_by run run' text why is same leaves = subst (λ w.
-      LeavesOf (request.old ∷ request.new ∷ []) calls w (with_written run text) run') (sym same) leaves
+      → (text ≡ []) ⊎ HasStarted request.is_by_token text old new
+      → LeavesOf (IsWrongLedger request calls) (request.old ∷ request.new ∷ []) calls why
+      (with_written run text) run' → (text' : List ℕ) × ((text' ≡ []) ⊎ IsPart request calls text')
+      × LeavesOf (IsWrongLedger request calls) (request.old ∷ request.new ∷ []) calls is
+      (with_written run text') run'
+  left_by run run' text why is same has leaves = (
+    text,
+    part_by text has,
+    subst (λ w. LeavesOf (IsWrongLedger request calls) (request.old ∷ request.new ∷ []) calls w
+        (with_written run text) run') (sym same) leaves,
+  )
 
   pub corrected : (run run' : Run) (written : Result ℕ Stopped) (result : Result Noted Halt)
-      → IsWritten request.is_by_token old new run run' written → IsNoted request written result
-      → IsStreamed (Corrects request) (IsPart request) (request.old ∷ request.new ∷ []) calls run
-      run' result
-  corrected run run' (Ok removed) (Ok noted) (text, is, all) (note, status) = (
+      → IsWritten request.is_by_token old new run run' written → IsNoted written result
+      → IsStreamed (Corrects request) (IsPart request) (IsWrongLedger request)
+      (request.old ∷ request.new ∷ []) calls run run' result
+  corrected run run' (Ok removed) (Ok noted) (text, is, all) note = (
     text,
     is,
     inr (old, new, read, all_started request.is_by_token old new text removed all),
-    (old, new, read, inl (removed, all, note, status)),
+    (old, new, read, removed, all, note),
   )
-  corrected run run' (Ok removed) (Err halt) (text, is, all) none = (
-    text,
-    inr (old, new, read, all_started request.is_by_token old new text removed all),
-    left_by run run' text _ halt.why none (inl is),
-  )
-  corrected run run' (Err (Fault (Line bill number why))) (Ok noted) (text, part, (same, first))
-      (note, status) = (
-        text,
-        same,
-        part_by text part,
-        (
-          old,
-          new,
-          read,
-          inr ((bill, number, why, first_wrong bill number why first, note, status), part_by text part),
-        ),
-      )
-  corrected run run' (Err (Fault (Line bill number why))) (Err halt) (text, part, (same, first)) none =
-      (text, part_by text part, left_by run run' text _ halt.why none (inl same))
-  corrected run run' (Err (Fault (Unread bill))) (Ok noted) w bad = absurd bad
-  corrected run run' (Err (Fault (Unread bill))) (Err halt) (text, part, (same, unread)) why =
-      (text, part_by text part, left_by run run' text _ halt.why why (has_failed bill unread, inl same))
-  corrected run run' (Err (Fault NoMemory)) (Ok noted) w bad = absurd bad
-  corrected run run' (Err (Fault NoMemory)) (Err halt) (text, part, (same, none)) why =
-      (text, part_by text part, left_by run run' text _ halt.why why (inl same))
-  corrected run run' (Err (Write fault)) (Ok noted) w bad = absurd bad
-  corrected run run' (Err (Write fault)) (Err halt) (text, part, cut) why =
-      (text, part_by text part, left_by run run' text _ halt.why why (inl cut))
+  corrected run run' (Ok removed) (Err halt) (text, is, all) none = left_by run run' text _ halt.0 none
+      (inr (all_started request.is_by_token old new text removed all)) (inl is)
+  corrected run run' (Err stopped) (Ok noted) w bad = absurd bad
+  corrected run run' (Err (Fault (Line bill number why))) (Err halt) (text, part, (same, first)) is =
+      left_by run run' text _ halt.0 is part ((old, new, read, bill, number, why, first), inl same)
+  corrected run run' (Err (Fault (Unread bill))) (Err halt) (text, part, (same, unread)) is =
+      left_by run run' text _ halt.0 is part (has_failed bill unread, inl same)
+  corrected run run' (Err (Fault NoMemory)) (Err halt) (text, part, (same, none)) is =
+      left_by run run' text _ halt.0 is part (inl same)
+  corrected run run' (Err (Write fault)) (Err halt) (text, part, cut) is =
+      left_by run run' text _ halt.0 is part (inl cut)

@@ -5,43 +5,48 @@ use Rattle.std.proofs.Common.{inl, inr, refl, subst, sym, take, take-append-drop
 use Rattle.std.specs.Prelude.{◌&&◌, None, is_none}
 use Rattle.std.proofs.lemmas.List.{map-append, take_more}
 use Rattle.std.proofs.lemmas.List.Concat.{flat_map-append}
-use Rattle.frame.specs.Given.{Adds, Given, IsPart, gave, load_of, with_loads, with_note, with_text}
+use Rattle.frame.specs.Given.{Adds, Given, gave, load_of, with_loads, with_note, with_text}
 use Rattle.frame.specs.Names.{file_named}
 use Rattle.frame.specs.Outcome.{IsHalted}
 use Rattle.frame.specs.Outsides.{IsStoppedIn, Leaves, StopsIn}
 use Rattle.frame.specs.declared.outside.Outside.{Outside}
 use Rattle.frame.specs.declared.outside.Outside.TheVariants.{NoMemory}
-use Rattle.frame.proofs.Giving.{gave_load, part_note, part_self, part_text, stopped_at}
+use Rattle.frame.proofs.Giving.{gave_load, gave_note, part_note, part_text, stopped_at}
 use Rattle.frame.proofs.Outcomes.{stopped_early}
 use Rattle.tap_rows.specs.Decoded.{IsDecoded}
 use Rattle.tap_rows.specs.TapTables.{head}
 use Rattle.tap_views.specs.declared.fault.LayoutFault.{LayoutFault}
-use Rattle.world.specs.Run.{Run, with_load}
-use Rattle.tool_tasks.specs.Decode.{Decoded, are_whole, decode_rule, decoding_of, layout_line, words_of}
+use Rattle.world.specs.Run.{Run, with_load, with_said}
+use Rattle.tool_tasks.specs.Decode.{Decoded, are_whole, decode_rule, decoding_of, words_of}
 use Rattle.tool_tasks.specs.inside.Decode.{StopsDecoding, with_decoded}
 
 -- ---- one more
 -- of the bytes that were loaded
 abbrev pub decoded_of : (word upload bytes rows : List ℕ) (fault : Option (ℕ × LayoutFault))
-    → bytes ≡ upload → IsDecoded bytes rows fault → Decoded
-decoded_of word upload bytes rows fault same is = record {
+    (note : List ℕ) → (fault ≡ None → note ≡ []) → bytes ≡ upload → IsDecoded bytes rows fault
+    → Decoded
+decoded_of word upload bytes rows fault note quiet same is = record {
   word = word;
   upload = upload;
   rows = rows;
   fault = fault;
   is_decoded = subst (λ (b : List ℕ). IsDecoded b rows fault) same is;
+  note = note;
+  quiet = quiet;
 }
+
+pub some_fault : {A P : Type 0} {o : Option A} {x : A} → o ≡ Some x → o ≡ None → P
+some_fault some none = absurd (cc)
 
 pub decoding_push : (decoded : List Decoded) (one : Decoded)
     → with_decoded (decoding_of decoded) one ≡ decoding_of (decoded ++ one ∷ [])
 decoding_push decoded one =
-    let line = λ (d : Decoded). layout_line d.word d.fault in
     rw (
       map-append (λ (d : Decoded). load_of d.word d.upload) decoded (one ∷ []),
       flat_map-append (λ (d : Decoded). d.rows) decoded (one ∷ []),
-      flat_map-append line decoded (one ∷ []),
+      flat_map-append (λ (d : Decoded). d.note) decoded (one ∷ []),
       append-nil one.rows,
-      append-nil (layout_line one.word one.fault),
+      append-nil one.note,
       append_assoc (head ++ 10 ∷ []) (flat_map (λ (d : Decoded). d.rows) decoded) one.rows,
     ) refl
 
@@ -88,8 +93,8 @@ pub stopped_loaded : (words : List (List ℕ)) (old new : Run) (one : Decoded)
     → StopsIn words old new (λ g. with_decoded g one) NoMemory
 stopped_loaded words old new one loaded start g is =
     stopped_early words start new (with_loads g (load_of one.word one.upload ∷ []))
-    (λ g. with_note (with_text g one.rows) (layout_line one.word one.fault)) NoMemory
-    (λ part g is_part. part_note part (with_text g one.rows) (layout_line one.word one.fault)
+    (λ g. with_note (with_text g one.rows) one.note) NoMemory
+    (λ part g is_part. part_note part (with_text g one.rows) one.note
     (part_text part g one.rows is_part))
     (stopped_at words start new new (with_loads g (load_of one.word one.upload ∷ [])) NoMemory
     (gave_load old new start g (file_named one.word) one.upload loaded is) refl)
@@ -102,8 +107,8 @@ pub stopped_rows : (words : List (List ℕ)) (old mid new : Run) (one : Decoded)
 stopped_rows words old mid new one piece why loaded rows stops start g is =
     let g' = with_loads g (load_of one.word one.upload ∷ []) in
     stopped_early words start new (with_text g' one.rows)
-    (λ g. with_note g (layout_line one.word one.fault)) why
-    (λ part g is_part. part_note part g (layout_line one.word one.fault) is_part)
+    (λ g. with_note g one.note) why
+    (λ part g is_part. part_note part g one.note is_part)
     (subst (λ t. IsStoppedIn words start new (with_text g' t) why) rows
     (stops start g' (gave_load old mid start g (file_named one.word) one.upload loaded is)))
 
@@ -117,43 +122,23 @@ gave_rows old mid new one piece loaded rows adds start g is =
     adds start g' (gave_load old mid start g (file_named one.word) one.upload loaded is)
     ∙ ap (λ t. gave start (with_text g' t)) rows
 
--- and an allocation failed for its line
-pub stopped_line : (words : List (List ℕ)) (old new : Run) (one : Decoded) → Adds old new
+-- and this was said of it
+pub gave_said : (old mid new : Run) (one : Decoded) → Adds old mid
     (λ g. with_text (with_loads g (load_of one.word one.upload ∷ [])) one.rows)
-    → StopsIn words old new (λ g. with_decoded g one) NoMemory
-stopped_line words old new one adds start g is =
-    let g' = with_text (with_loads g (load_of one.word one.upload ∷ [])) one.rows in
-    stopped_early words start new g' (λ g. with_note g (layout_line one.word one.fault)) NoMemory
-    (λ part g is_part. part_note part g (layout_line one.word one.fault) is_part)
-    (stopped_at words start new new g' NoMemory (adds start g is) refl)
+    → new ≡ with_said mid one.note → Adds old new (λ g. with_decoded g one)
+gave_said old mid new one adds said start g is =
+    gave_note mid new start (with_text (with_loads g (load_of one.word one.upload ∷ [])) one.rows)
+    one.note said (adds start g is)
 
--- and it has no line
-pub gave_whole : (old new : Run) (one : Decoded) → one.fault ≡ None → Adds old new
-    (λ g. with_text (with_loads g (load_of one.word one.upload ∷ [])) one.rows)
-    → Adds old new (λ g. with_decoded g one)
-gave_whole old new one none adds start g is =
-    let g' = with_text (with_loads g (load_of one.word one.upload ∷ [])) one.rows in
-    adds start g is ∙ ap (λ n. gave start (record g' { note = n })) (sym (append-nil g.note)
-    ∙ ap (λ f. g.note ++ layout_line one.word f) (sym none))
-
--- and its line was given
-pub gave_line : (old mid new : Run) (one : Decoded) (line : List ℕ) → Adds old mid
-    (λ g. with_text (with_loads g (load_of one.word one.upload ∷ [])) one.rows)
-    → line ≡ layout_line one.word one.fault → Adds mid new (λ g. with_note g line)
-    → Adds old new (λ g. with_decoded g one)
-gave_line old mid new one line adds is more start g was =
-    let g' = with_text (with_loads g (load_of one.word one.upload ∷ [])) one.rows in
-    more start g' (adds start g was) ∙ ap (λ n. gave start (with_note g' n)) is
-
--- nothing more was given
-pub halted_at : (words : List (List ℕ)) (start mid new : Run) (decoded : List Decoded)
+-- a part of what the first uploads are decoded to was given
+pub halted_part : (words : List (List ℕ)) (start new : Run) (decoded : List Decoded)
     (rest : List (List ℕ)) (why : Outside) → words ≡ words_of decoded ++ rest
-    → mid ≡ gave start (decoding_of decoded) → Leaves words why mid new
+    → IsStoppedIn words start new (decoding_of decoded) why
     → IsHalted (decode_rule words) start new why
-halted_at words start mid new decoded rest why named is leaves = record {
-  part = decoding_of decoded;
-  partial = record { decoded = decoded; rest = rest; named = named; is_part = part_self _ };
-  leaves = subst (λ r. Leaves words why r new) is leaves;
+halted_part words start new decoded rest why named s = record {
+  part = s.part;
+  partial = record { decoded = decoded; rest = rest; named = named; is_part = s.is_part };
+  leaves = s.leaves;
 }
 
 -- it came when one more was decoded
@@ -163,18 +148,13 @@ pub halted_one : (words : List (Bor (List ℕ))) (start mid new : Run) (n : ℕ)
     → StopsDecoding (map (λ w. w.now) words) (get_or words n d).now mid new why
     → IsHalted (decode_rule (map (λ w. w.now) words)) start new why
 halted_one words start mid new n d decoded why within are is (inl leaves) =
-    halted_at (map (λ w. w.now) words) start mid new decoded (map (λ w. w.now) (drop n words)) why
-    (words_rest words n decoded are) is leaves
+    halted_part (map (λ w. w.now) words) start new decoded (map (λ w. w.now) (drop n words)) why
+    (words_rest words n decoded are)
+    (stopped_at (map (λ w. w.now) words) start mid new (decoding_of decoded) why is leaves)
 halted_one words start mid new n d decoded why within are is (inr (one, word, stops)) =
-    let s = stops start (decoding_of decoded) is in
-    record {
-      part = s.part;
-      partial = record {
-        decoded = decoded ++ one ∷ [];
-        rest = map (λ w. w.now) (drop (n + 1) words);
-        named = words_rest words (n + 1) (decoded ++ one ∷ [])
-            (words_push words n d decoded one within are word);
-        is_part = subst (IsPart s.part) (decoding_push decoded one) s.is_part;
-      };
-      leaves = s.leaves;
-    }
+    halted_part (map (λ w. w.now) words) start new (decoded ++ one ∷ [])
+    (map (λ w. w.now) (drop (n + 1) words)) why
+    (words_rest words (n + 1) (decoded ++ one ∷ [])
+    (words_push words n d decoded one within are word))
+    (subst (λ (whole : Given). IsStoppedIn (map (λ w. w.now) words) start new whole why)
+    (decoding_push decoded one) (stops start (decoding_of decoded) is))

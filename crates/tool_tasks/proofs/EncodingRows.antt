@@ -1,6 +1,6 @@
 -- What `encode` of an agency's own CSVs has loaded, prepared and done.
 use Rattle.std.proofs.Common.{◌≡◌, ◌∙◌, ◌∷◌, ◌++◌, ◌<◌, ◌≤◌, ◌+◌, ℕ, Bool, Bor, List, [], None}
-use Rattle.std.proofs.Common.{Ok, Option, Some, ap, arith, drop, false, get_or, if◌then◌else◌, inl, inr}
+use Rattle.std.proofs.Common.{Ok, Option, Some, ap, arith, drop, false, get_or, if◌then◌else◌, inl}
 use Rattle.std.proofs.Common.{length, map, refl, subst, sym, take, true}
 use Rattle.jiff_tz.specs.PosixReader.{read_whole}
 use Rattle.jiff_tz.specs.Tzif.{tzif_view}
@@ -14,11 +14,12 @@ use Rattle.tap_rows.specs.declared.agency.summary.Summary.{Summary}
 use Rattle.std.proofs.Math.ListN.{drop_of_length-le, get_or-map}
 use Rattle.std.proofs.lemmas.List.{drop_more, length-map, map-append, take_more}
 use Rattle.std.proofs.lemmas.List.Elements.{Contains-append_right}
-use Rattle.std.specs.Prelude.{Contains, Err, IfOk, IsSome, Result, nat_lt, option_map, unwrap_or}
-use Rattle.frame.proofs.Outcomes.{halted_loading}
+use Rattle.std.specs.Prelude.{Contains, Err, IsSome, Result, option_map, unwrap_or}
+use Rattle.frame.proofs.Outcomes.{halted_loading, stops_weaker}
 use Rattle.frame.specs.Given.{Given}
 use Rattle.frame.specs.Names.{file_named}
 use Rattle.frame.specs.Outcome.{IsHalted, rule_of}
+use Rattle.frame.specs.Outsides.{Stops}
 use Rattle.frame.specs.declared.outside.Outside.{Outside}
 use Rattle.world.proofs.Laws.{more_loads}
 use Rattle.world.specs.Origins.{with_loads}
@@ -29,18 +30,18 @@ use Rattle.tap_rows.specs.declared.agency.choice.LocalClock.{LocalClock}
 use Rattle.tool_words.specs.declared.task.RowsWords.{RowsWords}
 use Rattle.tap_rows.specs.Numbering.{IsNumbered}
 use Rattle.tool_tasks.specs.EncodeRows.{AddsCsv, AddsCsvs, AreNumbered, Csv, Encoded, HasDevices}
-use Rattle.tool_tasks.specs.EncodeRows.{IsChoice, IsWrongTable, Texts, devices_word, files_made}
-use Rattle.tool_tasks.specs.EncodeRows.{later_loads, load_csv, loads_in, loads_of, names_of}
-use Rattle.tool_tasks.specs.EncodeRows.{nothing_encoded, rows_status, upload_text, word_in}
+use Rattle.tool_tasks.specs.EncodeRows.{IsChoice, IsWrongCsv, Texts, devices_word}
+use Rattle.tool_tasks.specs.EncodeRows.{later_loads, load_csv, loads_in, loads_of, names_of, word_in}
 use Rattle.tool_tasks.specs.EncodeTables.{IsClock, IsKey, IsZone, is_zone_name, zone_file}
 use Rattle.tool_tasks.specs.EncodeTables.{zone_loaded}
 use Rattle.tool_tasks.specs.declared.encode_loads.Csv.{Csv as HeldCsv}
 use Rattle.tool_tasks.specs.declared.prepared.NewFile.{NewFile}
 use Rattle.tool_tasks.specs.declared.prepared.Prepared.{Prepared}
+use Rattle.tool_tasks.specs.declared.stops.Halt.{Halt}
 use Rattle.tool_tasks.specs.inside.EncodeRows.{AreLoaded, AreOf, HasLoaded, IsMade, IsOf, IsTable}
-use Rattle.tool_tasks.specs.inside.EncodeRows.{IsWrongCsv, Prepares, PreparesCsvs, csv_of}
+use Rattle.tool_tasks.specs.inside.EncodeRows.{Prepares, PreparesCsvs, csv_of}
 use Rattle.tool_tasks.specs.inside.Loads.{IsNameIn, StopsLoading}
-use Rattle.tool_tasks.specs.inside.Prepared.{AreNamed, HasNoFiles, IsNamedIn, IsRefusal, whole_of}
+use Rattle.tool_tasks.specs.inside.Prepared.{AreNamed, IsNamedIn}
 
 -- ---- loads
 pub is_in : (names : List (List ℕ)) (o : Option (List ℕ)) → Contains names (unwrap_or o [])
@@ -109,11 +110,11 @@ all_loaded words is_there csvs devices texts started old new was loaded =
     ∙ ap (λ d. with_loads started (loads_in word d ++ later)) (sym loaded.1)
 
 -- it was stopped while files were loaded
-pub halted_more : (right : Given → ℕ → Type 0) (names : List (List ℕ)) (started old new : Run)
-    (first : List Load) (why : Outside) → old ≡ with_loads started first
-    → StopsLoading names why old new → IsHalted (rule_of right names) started new why
-halted_more right names started old new first why was (loads, leaves) =
-    halted_loading right names started (with_loads old loads) new (first ++ loads) why
+pub halted_more : (right : Given → ℕ → Type 0) (wrong : List Load → Type 0) (names : List (List ℕ))
+    (started old new : Run) (first : List Load) (why : Outside) → old ≡ with_loads started first
+    → StopsLoading names why old new → IsHalted (rule_of right wrong names) started new why
+halted_more right wrong names started old new first why was (loads, leaves) =
+    halted_loading right wrong names started (with_loads old loads) new (first ++ loads) why
     (ap (λ r. with_loads r loads) was ∙ more_loads started first loads) leaves
 
 -- ---- how rows are read
@@ -132,25 +133,12 @@ made_choice words is_there texts devices block clock choice made of_devices of_k
 }
 
 pub prepared_so : (words : RowsWords) (is_there : Bool) (texts : Texts) (choice : Choice)
-    (prepared : Prepared) → IsChoice words is_there texts choice
-    → PreparesCsvs words choice texts.csvs prepared → Prepares words is_there texts prepared
-prepared_so words is_there texts choice prepared is_choice prepares =
-    (prepares.0, inl (choice, is_choice, prepares.1))
-
-pub no_files_of : (words : RowsWords) (prepared : Prepared) → HasNoFiles prepared
-    → AreOf words prepared
-no_files_of words prepared none = record {
-  devices = subst (IsOf (word_in words.devices)) (sym none.first) tt;
-  upload = subst (IsOf (word_in words.out)) (sym none.upload) tt;
-  refused = subst (IsOf (word_in words.refused)) (sym none.held) tt;
-}
-
--- a table is wrong
-pub refused_table : (words : RowsWords) (is_there : Bool) (texts : Texts) (line : List ℕ)
-    (prepared : Prepared) → IsWrongTable words is_there texts line → IsRefusal line [] prepared
-    → Prepares words is_there texts prepared
-refused_table words is_there texts line prepared wrong refused =
-    (no_files_of words prepared refused.1, inr (line, wrong, refused.0))
+    (result : Result Prepared Halt) → IsChoice words is_there texts choice
+    → PreparesCsvs words choice texts.csvs result → Prepares words is_there texts result
+prepared_so words is_there texts choice (Ok prepared) is_choice (named, upload) =
+    (named, choice, is_choice, upload)
+prepared_so words is_there texts choice (Err halt) is_choice stops =
+    stops_weaker (λ wrong. inl (choice, is_choice, wrong.0, wrong.1, wrong.2)) halt.0 stops
 
 -- ---- the names of the files
 is_named : (names : List (List ℕ)) (word : Option (List ℕ)) (file : Option NewFile)
@@ -189,38 +177,31 @@ numbered_on choice csvs i csv now new final within is numbered rest =
     (subst (λ (c : HeldCsv). AreNumbered choice (csv_of c ∷ map csv_of (drop (i + 1) csvs)) now final)
     is (new, numbered, rest))
 
-pub added_on : (words : RowsWords) (is_many : Bool) (choice : Choice) (csvs : List HeldCsv) (i : ℕ)
-    (csv : HeldCsv) (now new final : Encoded) → i < length csvs → csv ≡ get_or csvs i csv
-    → AddsCsv words is_many choice (csv_of csv) now new
-    → AddsCsvs words is_many choice (map csv_of (drop (i + 1) csvs)) new final
-    → AddsCsvs words is_many choice (map csv_of (drop i csvs)) now final
-added_on words is_many choice csvs i csv now new final within is adds rest =
-    subst (λ (xs : List HeldCsv). AddsCsvs words is_many choice (map csv_of xs) now final)
+pub added_on : (words : RowsWords) (choice : Choice) (csvs : List HeldCsv) (i : ℕ) (csv : HeldCsv)
+    (now new final : Encoded) → i < length csvs → csv ≡ get_or csvs i csv
+    → AddsCsv words choice (csv_of csv) now new
+    → AddsCsvs words choice (map csv_of (drop (i + 1) csvs)) new final
+    → AddsCsvs words choice (map csv_of (drop i csvs)) now final
+added_on words choice csvs i csv now new final within is adds rest =
+    subst (λ (xs : List HeldCsv). AddsCsvs words choice (map csv_of xs) now final)
     (sym (drop_more csvs i csv within))
-    (subst (λ (c : HeldCsv).
-    AddsCsvs words is_many choice (csv_of c ∷ map csv_of (drop (i + 1) csvs)) now final)
+    (subst (λ (c : HeldCsv). AddsCsvs words choice (csv_of c ∷ map csv_of (drop (i + 1) csvs)) now final)
     is (new, adds, rest))
 
--- one of them says why there is no upload
-pub refused_csv : (words : RowsWords) (choice : Choice) (csvs : List HeldCsv) (i : ℕ)
-    (csv : HeldCsv) (prepared : Prepared) → i < length csvs → csv ≡ get_or csvs i csv
-    → IsWrongCsv words choice (csv_of csv) prepared
-    → PreparesCsvs words choice (map csv_of csvs) prepared
-refused_csv words choice csvs i csv prepared within is wrong = (
-  no_files_of words prepared wrong.3.1,
-  inr (
-    csv_of csv,
-    (
-      i,
-      subst (λ n. i < n) (sym (length-map csvs csv_of)) within,
-      get_or-map csv_of csvs i csv ∙ ap csv_of (sym is),
-    ),
-    wrong.0,
-    wrong.1,
-    wrong.2,
-    wrong.3.0,
+-- one of them is wrong
+pub wrong_csv : (words : RowsWords) (choice : Choice) (csvs : List HeldCsv) (i : ℕ) (csv : HeldCsv)
+    (why : Outside) → i < length csvs → csv ≡ get_or csvs i csv
+    → Stops (IsWrongCsv words choice csv.text.items) why
+    → Stops ((c : Csv) × Contains (map csv_of csvs) c × IsWrongCsv words choice c.1) why
+wrong_csv words choice csvs i csv why within is stops = stops_weaker (λ wrong. (
+  csv_of csv,
+  (
+    i,
+    subst (λ n. i < n) (sym (length-map csvs csv_of)) within,
+    get_or-map csv_of csvs i csv ∙ ap csv_of (sym is),
   ),
-)
+  wrong,
+)) why stops
 
 -- the first row that is refused
 pub first_refused : (choice : Choice) (text file refused : List ℕ) (summary : Summary) (number : ℕ)
@@ -250,30 +231,3 @@ table_zone name text table zones.UTC is none named read = absurd is
 table_zone name text table zones.Unknown is none named read = absurd is
 table_zone name text table (zones.Fixed offset) is none named read = absurd is
 table_zone name text table (zones.Posix rule) is none named read = absurd is
-
--- ---- all CSVs
--- five facts of a result
-pub all_five : {T E : Type 0} (r : Result T E) (A B C D F P : T → Type 0) → IfOk r A → IfOk r B
-    → IfOk r C → IfOk r D → IfOk r F → ((x : T) → A x → B x → C x → D x → F x → P x) → IfOk r P
-all_five (Ok x) A B C D F P a b c d f make = make x a b c d f
-all_five (Err e) A B C D F P a b c d f make = tt
-
-pub csvs_prepared : (words : RowsWords) (choice : Choice) (csvs : List Csv) (all : Encoded)
-    (prepared : Prepared)
-    → AddsCsvs words (nat_lt 1 (length csvs)) choice csvs nothing_encoded all
-    → AreOf words prepared
-    → (whole_of [] prepared).text ≡ upload_text (word_in words.out) all.upload
-    → (whole_of [] prepared).note ≡ all.note
-    → (whole_of [] prepared).files ≡ files_made words choice all
-    → prepared.status ≡ rows_status all → PreparesCsvs words choice csvs prepared
-csvs_prepared words choice csvs all prepared added named text note made status = (
-  named,
-  inl (record {
-    all = all;
-    encoded = added;
-    text = text;
-    note = note;
-    made = made;
-    status_is = status;
-  }),
-)

@@ -1,21 +1,19 @@
 -- Uploads that are sorted or merged: what was loaded, and what is made of them.
 use Rattle.std.proofs.Common.{◌≡◌, ◌∙◌, ◌++◌, ◌∷◌, ◌<◌, ◌+◌, [], Bor, ℕ, List, None, Option, Some}
 use Rattle.std.proofs.Common.{append-nil, append_assoc, ap, arith, get_or, if◌then◌else◌, length, map}
-use Rattle.std.proofs.Common.{refl, subst, sym, take, unwrap_or}
+use Rattle.std.proofs.Common.{refl, subst, sym, take, true, unwrap_or}
 use Rattle.std.proofs.lemmas.List.{map-append, take_more}
-use Rattle.std.specs.Prelude.{Contains, option_map, string_bytes}
-use Rattle.frame.specs.Given.{Given, file_of}
+use Rattle.std.specs.Prelude.{Contains, option_map}
 use Rattle.frame.specs.Names.{file_named}
 use Rattle.report_texts.specs.Report.{upload_lines}
 use Rattle.tap_views.specs.UploadEnds.{ArePlainEnds, are_posted}
 use Rattle.tap_views.specs.declared.upload_end.UploadEnd.{UploadEnd}
-use Rattle.world.specs.Run.{Load, Named, Run, with_load}
+use Rattle.world.specs.Run.{Load, Run, with_load}
 use Rattle.tool_words.specs.Request.{SortRequest}
-use Rattle.tool_tasks.specs.Sort.{IsSortedOf, Sorts, ends_files, files_of, names_of, refused_lines}
+use Rattle.tool_tasks.specs.Sort.{IsSortedOf, Sorts, ends_files, names_of}
 use Rattle.tool_tasks.specs.declared.prepared.NewFile.{NewFile}
-use Rattle.tool_tasks.specs.declared.prepared.Prepared.{Prepared}
-use Rattle.tool_tasks.specs.inside.Prepared.{AreNamed, IsNamedIn, files_in, given_of, known_file}
-use Rattle.tool_tasks.specs.inside.Sort.{IsOfEnds, LoadsAll}
+use Rattle.tool_tasks.specs.inside.Prepared.{IsNamedIn, files_in, known_file}
+use Rattle.tool_tasks.specs.inside.Sort.{LoadsAll, sorted_given}
 
 -- ---- uploads that were loaded before
 -- one more upload
@@ -49,67 +47,31 @@ loads_next words n d old mid new texts bytes within all is =
 
 -- ---- what is made
 -- what is given of uploads that ended so, with their file
-pub ends_given : (request : SortRequest) (ends : List UploadEnd) (note : List ℕ) (status : ℕ)
-    (p : Prepared) (loads : List Load) (file : List ℕ) (known : Option (List ℕ))
-    → IsOfEnds request ends note status p → known ≡ Some file
-    → given_of loads p (known_file request.out known) ≡ record {
+pub ends_given : (request : SortRequest) (ends : List UploadEnd) (loads : List Load)
+    (note text file : List ℕ) (first : Option NewFile) (known : Option (List ℕ)) → text ≡ []
+    → files_in first ≡ ends_files request.ends (upload_lines 0 ends) → known ≡ Some file
+    → record {
       loads = loads;
-      text = [];
+      text = text;
       note = note;
-      files = files_of request (upload_lines 0 ends) file;
-    }
-ends_given request ends note status p loads file known of is =
-    ap (λ (k : Option (List ℕ)). given_of loads p (known_file request.out k)) is
-    ∙ ap (λ (u : Option NewFile). record {
-      loads = loads;
-      text = p.text.items;
-      note = string_bytes p.note;
-      files = (files_in p.first ++ files_in u) ++ file_of request.out file ∷ [];
-    }) of.upload
-    ∙ ap (λ (fs : List Named). record {
-      loads = loads;
-      text = p.text.items;
-      note = string_bytes p.note;
-      files = fs ++ file_of request.out file ∷ [];
-    }) (append-nil (files_in p.first) ∙ of.first)
-    ∙ ap (λ (t : List ℕ). record {
-      loads = loads;
-      text = t;
-      note = string_bytes p.note;
-      files = files_of request (upload_lines 0 ends) file;
-    }) of.text
-    ∙ ap (λ (n : List ℕ). record {
-      loads = loads;
-      text = [];
-      note = n;
-      files = files_of request (upload_lines 0 ends) file;
-    }) of.note_is
+      files = (files_in first ++ []) ++ known_file request.out known;
+    } ≡ sorted_given request loads note ends file
+ends_given request ends loads note text file first known none is whole =
+    rw (none, whole, append-nil (files_in first), is) refl
 
-pub ends_named : (request : SortRequest) (ends : List UploadEnd) (note : List ℕ) (status : ℕ)
-    (p : Prepared) → IsOfEnds request ends note status p → AreNamed (names_of request) p
-ends_named request ends note status p of = record {
-  first = by p.first of.named;
-  upload = subst (IsNamedIn (names_of request)) (sym of.upload) tt;
-  held = subst (IsNamedIn (names_of request)) (sym of.held) tt;
-}
-  where
-    by : (file : Option NewFile) → option_map (λ f. f.name.now) file ≡ request.ends
-        → IsNamedIn (names_of request) file
-    by None is = tt
-    by (Some file) is = subst (λ (e : Option (List ℕ)). Contains
-        (request.out ∷ unwrap_or e request.out ∷ request.uploads) file.name.now) is
-        (1, omega arith, refl)
+pub first_named : (request : SortRequest) (file : Option NewFile)
+    → option_map (λ f. f.name.now) file ≡ request.ends → IsNamedIn (names_of request) file
+first_named request None is = tt
+first_named request (Some file) is = subst (λ (e : Option (List ℕ)). Contains
+    (request.out ∷ unwrap_or e request.out ∷ request.uploads) file.name.now) is (1, omega arith, refl)
 
 pub sorts_so : (request : SortRequest) (start mid : Run) (texts : List (List ℕ))
-    (ends : List UploadEnd) (file : List ℕ) (status : ℕ) (all : LoadsAll request.uploads start mid texts)
-    → ArePlainEnds texts ends → IsSortedOf texts file
-    → status ≡ (if are_posted ends then 0 else 3) → Sorts request (record {
-      loads = all.loads;
-      text = [];
-      note = refused_lines request.uploads ends;
-      files = files_of request (upload_lines 0 ends) file;
-    }) status
-sorts_so request start mid texts ends file status all plain sorted success = record {
+    (ends : List UploadEnd) (note file : List ℕ) (status : ℕ)
+    (all : LoadsAll request.uploads start mid texts) → ArePlainEnds texts ends
+    → IsSortedOf texts file → (are_posted ends ≡ true → note ≡ [])
+    → status ≡ (if are_posted ends then 0 else 3)
+    → Sorts request (sorted_given request all.loads note ends file) status
+sorts_so request start mid texts ends note file status all plain sorted quiet success = record {
   named = all.named;
   ends = ends;
   plain = subst (λ (ts : List (List ℕ)). ArePlainEnds ts ends) (sym all.bytes) plain;
@@ -117,6 +79,6 @@ sorts_so request start mid texts ends file status all plain sorted success = rec
   sorted = subst (λ (ts : List (List ℕ)). IsSortedOf ts file) (sym all.bytes) sorted;
   made = refl;
   text = refl;
-  note = refl;
+  note = quiet;
   success = success;
 }

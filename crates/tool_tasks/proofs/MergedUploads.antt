@@ -1,8 +1,7 @@
 -- Sorted uploads that are merged, and those that are refused.
 use Rattle.std.proofs.Common.{◌≡◌, ◌∙◌, ℕ, List, [], ◌∷◌, Option, Some, ap}
-use Rattle.std.proofs.Common.{inl, inr, length, map, refl, subst, suc, sym, zero}
+use Rattle.std.proofs.Common.{length, map, refl, subst, sym}
 use Rattle.std.specs.Prelude.{slice_get}
-use Rattle.program_manners.specs.Refusals.{IsOneOf}
 use Rattle.tap_views.specs.declared.upload_end.UploadEnd.{UploadEnd}
 use Rattle.tap_views.specs.declared.upload_end.UploadEnd.TheVariants.{Posted}
 use Rattle.sorted_taps.specs.Checked.{IsFirstFault}
@@ -10,13 +9,11 @@ use Rattle.sorted_taps.specs.Written.{IsMergedFile}
 use Rattle.sorted_taps.specs.declared.fault.SortedFault.{SortedFault}
 use Rattle.sorted_taps.specs.declared.fault.SortedFault.TheVariants as sorted
 use Rattle.tap_views.specs.declared.encoder.TapFields.{TapFields}
-use Rattle.tap_views.specs.declared.fault.LayoutFault.{LayoutFault}
 use Rattle.frame.proofs.Giving.{known_whole}
-use Rattle.tool_tasks.specs.MergeSorted.{IsMergeOf, IsRightFileFault}
-use Rattle.tool_tasks.specs.declared.fault.Fault.{Fault}
-use Rattle.tool_tasks.specs.declared.fault.Fault.TheVariants.{Layout, NoMemory, OutOfOrder}
-use Rattle.tool_tasks.specs.declared.fault.Fault.TheVariants.{TooManyOpen, Unread}
-use Rattle.tool_tasks.specs.inside.Sort.{IsFileFault, IsOpenFault, IsUnopened}
+use Rattle.frame.specs.Outsides.{Stops}
+use Rattle.frame.specs.declared.outside.Outside.{Outside}
+use Rattle.tool_tasks.specs.MergeSorted.{IsMergeOf, IsUnsorted}
+use Rattle.tool_tasks.specs.inside.Sort.{why_of}
 
 -- the ends of uploads by the numbers of their taps
 posted_lists : (lists : List (List TapFields))
@@ -38,51 +35,46 @@ merge_of uploads numbers ends empty written merged is = record {
   in_batches = merged.written.is_file;
 }
 
--- a word at a place is one of the words
-pub one_got : (words : List (List ℕ)) (position : ℕ) (word : List ℕ)
-    → slice_get words position ≡ Some word → IsOneOf word words
-one_got [] position word at = cc
-one_got (first ∷ words) zero word at = inl (sym cc)
-one_got (first ∷ words) (suc position) word at = inr (one_got words position word at)
-
--- the fault of a file that is named by its word is the right one
-pub right_file : (words : List (List ℕ)) (known : List (Option (List ℕ))) (index : ℕ)
-    (word : List ℕ) (fault : SortedFault) (said : Fault) → slice_get words index ≡ Some word
-    → ((files : List (List ℕ)) → known ≡ map (λ file. Some file) files
-    → IsFirstFault files (record { index = index; fault = fault }))
-    → IsFileFault word fault said → IsRightFileFault words known said
-right_file words known index word (sorted.OutOfOrder tap) (OutOfOrder named number) at first is =
-    record {
-      index = index;
-      named = at ∙ ap (λ (w : List ℕ). Some w) (sym is.0);
-      first = λ files all. subst (λ (n : ℕ). IsFirstFault files
-          (record { index = index; fault = sorted.OutOfOrder n })) (sym is.1) (first files all);
-    }
-right_file words known index word (sorted.Layout offset fault) (Layout named from wrong) at first
-    is =
-    record {
-      index = index;
-      named = at ∙ ap (λ (w : List ℕ). Some w) (sym is.0);
-      first = λ files all. subst (λ (f : LayoutFault). IsFirstFault files
-          (record { index = index; fault = sorted.Layout from f })) (sym is.2)
-          (subst (λ (n : ℕ). IsFirstFault files
-          (record { index = index; fault = sorted.Layout n fault })) (sym is.1)
-          (first files all));
-    }
-right_file words known index word sorted.Unread (Unread named) at first is =
-    subst (λ (w : List ℕ). IsOneOf w words) (sym is) (one_got words index word at)
-right_file words known index word sorted.NoMemory NoMemory at first is = tt
-right_file words known index word fault said at first is = absurd is
-
--- a file that was not opened is one of them
-pub right_unopened : (words : List (List ℕ)) (word : List ℕ) (said : Fault) → IsOneOf word words
-    → IsOpenFault word said → IsUnopened words said
-right_unopened words word (Unread named) one is =
-    subst (λ (w : List ℕ). IsOneOf w words) (sym is) one
-right_unopened words word (TooManyOpen named) one is =
-    subst (λ (w : List ℕ). IsOneOf w words) (sym is) one
-right_unopened words word NoMemory one is = tt
-right_unopened words word said one is = absurd is
+-- why the file at this place was refused
+pub stops_file : (words : List (List ℕ)) (known : List (Option (List ℕ))) (index : ℕ) (word : List ℕ)
+    (fault : SortedFault) (why : Outside) → slice_get words index ≡ Some word
+    → ((files : List (List ℕ)) → known ≡ map Some files
+    → IsFirstFault files (record { index = index; fault = fault })) → why ≡ why_of fault
+    → Stops (IsUnsorted words known) why
+stops_file words known index word fault why at first is =
+    subst (Stops (IsUnsorted words known)) (sym is) (by fault first)
+  where
+    by : (f : SortedFault) → ((files : List (List ℕ)) → known ≡ map Some files
+        → IsFirstFault files (record { index = index; fault = f }))
+        → Stops (IsUnsorted words known) (why_of f)
+    by (sorted.OutOfOrder tap) is_first = λ names run. (
+      (
+        word,
+        sorted.OutOfOrder tap,
+        tt,
+        record {
+          index = index;
+          named = at;
+          first = is_first;
+        },
+      ),
+      refl,
+    )
+    by (sorted.Layout offset wrong) is_first = λ names run. (
+      (
+        word,
+        sorted.Layout offset wrong,
+        tt,
+        record {
+          index = index;
+          named = at;
+          first = is_first;
+        },
+      ),
+      refl,
+    )
+    by sorted.Unread is_first = λ names run. refl
+    by sorted.NoMemory is_first = λ names run. refl
 
 -- the bytes of the file that was written
 pub whole_file : (uploads : List (List ℕ)) (numbers : List ℕ) (ends : List UploadEnd)

@@ -1,5 +1,5 @@
 -- Parts that are merged: what was read of them, and what is noted.
-use Rattle.std.proofs.Common.{◌≡◌, ◌∙◌, ◌+◌, ◌<◌, ◌++◌, ◌∷◌, [], Bor, Err, List, Ok, Option, Result, Some}
+use Rattle.std.proofs.Common.{◌≡◌, ◌∙◌, ◌⊎◌, ◌+◌, ◌<◌, ◌++◌, ◌∷◌, [], Bor, Err, List, Ok, Option, Result, Some}
 use Rattle.std.proofs.Common.{ap, append-nil, arith, get_or, inl, inr, length, map, refl, subst, suc, sym}
 use Rattle.std.proofs.Common.{take, zero, ℕ}
 use Rattle.std.specs.Prelude.{All, Contains, slice_get}
@@ -18,7 +18,7 @@ use Rattle.recorded_lines.specs.declared.text.Lines.{Lines}
 use Rattle.world.specs.Run.{Calls, Run, with_written}
 use Rattle.world.specs.Streams.{IsWhole}
 use Rattle.tool_tasks.proofs.Streaming.{all_read}
-use Rattle.tool_tasks.specs.Merge.{AreOf, IsPrefix, Merges}
+use Rattle.tool_tasks.specs.Merge.{AreOf, IsPrefix, IsWrongPart, Merges}
 use Rattle.tool_tasks.specs.Streams.{LeavesOf}
 use Rattle.tool_tasks.specs.declared.stops.Halt.{Halt}
 use Rattle.tool_tasks.specs.declared.streams.Noted.{Noted}
@@ -94,45 +94,34 @@ whole_started calls text whole merged = λ texts can all is.
 
 -- ---- what is noted
 module _ (words : List (List ℕ)) (calls : List Calls) (are : AreOf words calls) where
-  left_by : (run run' : Run) (text : List ℕ) (why is : Outside) → is ≡ why
-      → LeavesOf words calls why (with_written run text) run'
-      → LeavesOf words calls is (with_written run text) run'
-  left_by run run' text why is same leaves =
-      subst (λ w. LeavesOf words calls w (with_written run text) run') (sym same) leaves
+  left_by : (run run' : Run) (text : List ℕ) (why is : Outside) → is ≡ why → HasStarted calls text
+      → LeavesOf (IsWrongPart words calls) words calls why (with_written run text) run'
+      → (text' : List ℕ) × ((text' ≡ []) ⊎ IsPrefix words calls text')
+      × LeavesOf (IsWrongPart words calls) words calls is (with_written run text') run'
+  left_by run run' text why is same has leaves = (
+    text,
+    inr (are, has),
+    subst (λ w. LeavesOf (IsWrongPart words calls) words calls w (with_written run text) run')
+        (sym same) leaves,
+  )
 
   pub merged : (run run' : Run) (done : Result Unit MergeFault) (result : Result Noted Halt)
-      → MergesAs calls run run' done → IsNoted words done result
-      → IsStreamed (Merges words) (IsPrefix words) words calls run run' result
-  merged run run' (Ok done) (Ok noted) (whole, text, is, wrote) (note, status) = (
-    text,
-    wrote,
-    inr (are, whole_started calls text whole is),
-    (are, inl (whole, is, note, status)),
-  )
+      → MergesAs calls run run' done → IsNoted done result
+      → IsStreamed (Merges words) (IsPrefix words) (IsWrongPart words) words calls run run' result
+  merged run run' (Ok done) (Ok noted) (whole, text, is, wrote) note =
+      (text, wrote, inr (are, whole_started calls text whole is), (are, whole, is, note))
   merged run run' (Ok done) (Err halt) m bad = absurd bad
-  merged run run' (Err (Line part number why)) (Ok noted) (text, started, same, said)
-      (word, at, note, status) = (
-        text,
-        same,
-        inr (are, started),
-        (are, inr (part, number, why, word, said, at, note, status)),
-      )
-  merged run run' (Err (Line part number why)) (Err halt) (text, started, same, said) none =
-      (text, inr (are, started), left_by run run' text _ halt.why none (inl same))
-  merged run run' (Err (Unread part)) (Ok noted) m bad = absurd bad
-  merged run run' (Err (Unread part)) (Err halt) (text, started, same, said) why =
+  merged run run' (Err fault) (Ok noted) m bad = absurd bad
+  merged run run' (Err (Line part number why)) (Err halt) (text, has, same, said) is =
+      left_by run run' text _ halt.0 is has ((are, part, number, why, said), inl same)
+  merged run run' (Err (Unread part)) (Err halt) (text, has, same, said) is =
       let (c, at, unread) = said (read_by calls) (can_be_read calls) in
-      let (name, has, named, in_calls) = named_at words calls part c are at in (
-        text,
-        inr (are, started),
-        left_by run run' text _ halt.why why (
-          (name, has, c, in_calls, unread ∙ ap (λ (n : Option (List ℕ)). n ∷ []) named),
-          inl same,
-        ),
+      let (name, in_words, named, in_calls) = named_at words calls part c are at in
+      left_by run run' text _ halt.0 is has (
+        (name, in_words, c, in_calls, unread ∙ ap (λ (n : Option (List ℕ)). n ∷ []) named),
+        inl same,
       )
-  merged run run' (Err (Write fault)) (Ok noted) m bad = absurd bad
-  merged run run' (Err (Write fault)) (Err halt) (text, started, cut, said) why =
-      (text, inr (are, started), left_by run run' text _ halt.why why (inl cut))
-  merged run run' (Err NoMemory) (Ok noted) m bad = absurd bad
-  merged run run' (Err NoMemory) (Err halt) (text, started, same, said) why =
-      (text, inr (are, started), left_by run run' text _ halt.why why (inl same))
+  merged run run' (Err (Write fault)) (Err halt) (text, has, cut, said) is =
+      left_by run run' text _ halt.0 is has (inl cut)
+  merged run run' (Err NoMemory) (Err halt) (text, has, same, said) is =
+      left_by run run' text _ halt.0 is has (inl same)

@@ -4,18 +4,18 @@ use Rattle.std.proofs.Common.{inl, inr, refl, subst, sym, ℕ}
 use Rattle.std.specs.Prelude.{Contains}
 use Rattle.std.proofs.lemmas.List.Elements.{Contains-append_left}
 use Rattle.frame.specs.Given.{gave}
-use Rattle.frame.specs.Outcome.{Ends}
+use Rattle.frame.specs.Outcome.{IsHalted}
 use Rattle.frame.specs.declared.outside.Outside.{Outside}
-use Rattle.frame.specs.declared.outside.Outside.TheVariants.{NoMemory, Unmade, Unread, Unwritten}
+use Rattle.frame.specs.declared.outside.Outside.TheVariants.{NoMemory, Unmade, Unread, Untraced}
+use Rattle.frame.specs.declared.outside.Outside.TheVariants.{Unwritten, Wrong}
 use Rattle.part_texts.proofs.Written.{written_none}
 use Rattle.recorded_lines.specs.Texts.{CanBe}
 use Rattle.world.specs.Run.{Calls, Run, with_cut, with_flushed, with_said, with_written}
 use Rattle.world.specs.declared.faults.WriteFault.{WriteFault}
-use Rattle.tool_tasks.proofs.Preparing.{does_end}
 use Rattle.tool_tasks.specs.Streams.{IsKept, LeavesOf, stream_rule, written_of}
 use Rattle.tool_tasks.specs.declared.stops.Halt.{Halt}
 use Rattle.tool_tasks.specs.declared.streams.Noted.{Noted}
-use Rattle.tool_tasks.specs.inside.Does.{Does, IsEndedAs}
+use Rattle.tool_tasks.specs.inside.Does.{Does}
 use Rattle.tool_tasks.specs.inside.Streams.{IsFinished, IsStreamed, IsUnopened, IsUnopenedIn}
 
 pub all_read : (calls : Calls) (whole : List ℕ) → calls.run.loads ≡ calls.reading ∷ []
@@ -31,26 +31,29 @@ kept_twice b m a (inl same) (inr more) = inr (more ∙ ap with_flushed same)
 kept_twice b m a (inr same) (inl more) = inr (more ∙ same)
 kept_twice b m a (inr same) (inr more) = inr (more ∙ ap with_flushed same)
 
-leaves_kept : (words : List (List ℕ)) (calls : List Calls) (why : Outside) (b m a : Run)
-    → LeavesOf words calls why b m → IsKept m a → LeavesOf words calls why b a
-leaves_kept words calls (Unread why) b m a (failed, kept) more = (failed, kept_twice b m a kept more)
-leaves_kept words calls (Unwritten why) b m a kept more = kept_twice (with_cut b why) m a kept more
-leaves_kept words calls (Unmade why is_partial) b m a bad more = absurd bad
-leaves_kept words calls NoMemory b m a kept more = kept_twice b m a kept more
-
 cut_kept : (b m a : Run) (fault : WriteFault) → IsKept b m → a ≡ with_cut m fault
     → IsKept (with_cut b fault) a
 cut_kept b m a fault (inl same) cut = inl (cut ∙ ap (λ r. with_cut r fault) same)
 cut_kept b m a fault (inr same) cut = inr (cut ∙ ap (λ r. with_cut r fault) same)
 
-leaves_cut : (words : List (List ℕ)) (calls : List Calls) (why : Outside) (b m a : Run)
-    (fault : WriteFault) → LeavesOf words calls why b m → a ≡ with_cut m fault
-    → IsKept (with_cut b fault) a
-leaves_cut words calls (Unread why) b m a fault (failed, kept) cut = cut_kept b m a fault kept cut
-leaves_cut words calls (Unwritten why) b m a fault kept cut =
-    cut_kept (with_cut b why) m a fault kept cut
-leaves_cut words calls (Unmade why is_partial) b m a fault bad cut = absurd bad
-leaves_cut words calls NoMemory b m a fault kept cut = cut_kept b m a fault kept cut
+module _ (truth : Type 0) (words : List (List ℕ)) (calls : List Calls) where
+  leaves_kept : (why : Outside) (b m a : Run) → LeavesOf truth words calls why b m → IsKept m a
+      → LeavesOf truth words calls why b a
+  leaves_kept (Unread why) b m a (failed, kept) more = (failed, kept_twice b m a kept more)
+  leaves_kept (Unwritten why) b m a kept more = kept_twice (with_cut b why) m a kept more
+  leaves_kept (Unmade why is_partial) b m a bad more = absurd bad
+  leaves_kept Wrong b m a (is, kept) more = (is, kept_twice b m a kept more)
+  leaves_kept Untraced b m a bad more = absurd bad
+  leaves_kept NoMemory b m a kept more = kept_twice b m a kept more
+
+  leaves_cut : (why : Outside) (b m a : Run) (fault : WriteFault)
+      → LeavesOf truth words calls why b m → a ≡ with_cut m fault → IsKept (with_cut b fault) a
+  leaves_cut (Unread why) b m a fault (failed, kept) cut = cut_kept b m a fault kept cut
+  leaves_cut (Unwritten why) b m a fault kept cut = cut_kept (with_cut b why) m a fault kept cut
+  leaves_cut (Unmade why is_partial) b m a fault bad cut = absurd bad
+  leaves_cut Wrong b m a fault (is, kept) cut = cut_kept b m a fault kept cut
+  leaves_cut Untraced b m a fault bad cut = absurd bad
+  leaves_cut NoMemory b m a fault kept cut = cut_kept b m a fault kept cut
 
 -- ---- what was given
 gave_part : (r : Run) (text : List ℕ) → with_written r text ≡ gave r (written_of text [])
@@ -61,70 +64,46 @@ gave_noted : (r : Run) (text note : List ℕ)
     ≡ with_flushed (gave r (written_of text note))
 gave_noted r text note = rw (append-nil r.loads, append-nil r.made) refl
 
-module _ (Whole : List Calls → List ℕ → List ℕ → ℕ → Type 0) (Part : List Calls → List ℕ → Type 0)
-    (words : List (List ℕ)) (before after calls : List Calls) (all : after ≡ before ++ calls) where
+module _ (Whole : List Calls → List ℕ → List ℕ → Type 0) (Part : List Calls → List ℕ → Type 0)
+    (truth : List Calls → Type 0) (words : List (List ℕ)) (before after calls : List Calls)
+    (all : after ≡ before ++ calls) where
   partial_by : (text : List ℕ) → (text ≡ []) ⊎ Part calls text
       → (text ≡ []) ⊎ ((c : List Calls) × (after ≡ before ++ c) × Part c text)
   partial_by text (inl none) = inl none
   partial_by text (inr part) = inr (calls, all, part)
 
-  does : (old mid new : Run) (streamed : Result Noted Halt) (result : Result ℕ Halt)
-      → IsStreamed Whole Part words calls old mid streamed → IsFinished streamed mid new result
-      → Does (stream_rule Whole Part words before after) old new result
-  does old mid new (Ok noted) (Ok status) (text, is, part, whole) (same, end) = record {
-    given = written_of text noted.note.items;
-    right = (
-      calls,
-      all,
-      text,
-      noted.note.items,
-      refl,
-      subst (Whole calls text noted.note.items) (sym same) whole,
-    );
-    all = end ∙ ap (λ r. with_said (with_flushed r) noted.note.items) is
-        ∙ gave_noted old text noted.note.items;
-  }
-  does old mid new (Ok noted) (Err halt) (text, is, part, whole) (fault, why, cut) = record {
+  halted : (old new : Run) (text : List ℕ) (first why : Outside) → (text ≡ []) ⊎ Part calls text
+      → why ≡ first → LeavesOf (truth calls) words calls first (with_written old text) new
+      → IsHalted (stream_rule Whole Part truth words before after) old new why
+  halted old new text first why part is leaves = record {
     part = written_of text [];
     partial = (text, refl, partial_by text part);
     leaves = (
       calls,
       all,
-      subst (λ w. LeavesOf words calls w (gave old (written_of text [])) new) (sym why)
-          (inl (cut ∙ ap (λ r. with_cut r fault) (is ∙ gave_part old text))),
-    );
-  }
-  does old mid new (Err first) (Ok status) s bad = absurd bad
-  does old mid new (Err first) (Err halt) (text, part, leaves) (inl (why, kept)) = record {
-    part = written_of text [];
-    partial = (text, refl, partial_by text part);
-    leaves = (
-      calls,
-      all,
-      subst (λ w. LeavesOf words calls w (gave old (written_of text [])) new) (sym why)
-          (subst (λ r. LeavesOf words calls first.why r new) (gave_part old text)
-          (leaves_kept words calls first.why (with_written old text) mid new leaves kept)),
-    );
-  }
-  does old mid new (Err first) (Err halt) (text, part, leaves) (inr (fault, why, cut)) = record {
-    part = written_of text [];
-    partial = (text, refl, partial_by text part);
-    leaves = (
-      calls,
-      all,
-      subst (λ w. LeavesOf words calls w (gave old (written_of text [])) new) (sym why)
-          (subst (λ r. IsKept (with_cut r fault) new) (gave_part old text)
-          (leaves_cut words calls first.why (with_written old text) mid new fault leaves cut)),
+      subst (λ r. LeavesOf (truth calls) words calls why r new) (gave_part old text)
+          (subst (λ w. LeavesOf (truth calls) words calls w (with_written old text) new) (sym is) leaves),
     );
   }
 
-  pub stream_ends : (old mid end new : Run) (streamed : Result Noted Halt) (done : Result ℕ Halt)
-      (status : ℕ) → IsStreamed Whole Part words calls old mid streamed
-      → IsFinished streamed mid end done → IsEndedAs done end new status
-      → Ends (stream_rule Whole Part words before after) old new status
-  stream_ends old mid end new streamed done status is finished ended =
-      does_end (stream_rule Whole Part words before after) old end new done status
-      (does old mid end streamed done is finished) ended
+  pub streamed : (old mid new : Run) (done : Result Noted Halt) (result : Result ℕ Halt)
+      → IsStreamed Whole Part truth words calls old mid done → IsFinished done mid new result
+      → Does (stream_rule Whole Part truth words before after) old new result
+  streamed old mid new (Ok noted) (Ok status) (text, is, part, whole) (zero, end) = record {
+    given = written_of text noted.0.items;
+    right = (calls, all, text, noted.0.items, refl, whole, zero);
+    all = end ∙ ap (λ r. with_said (with_flushed r) noted.0.items) is
+        ∙ gave_noted old text noted.0.items;
+  }
+  streamed old mid new (Ok noted) (Err halt) (text, is, part, whole) (fault, why, cut) =
+      halted old new text (Unwritten fault) halt.0 part why (inl (cut ∙ ap (λ r. with_cut r fault) is))
+  streamed old mid new (Err first) (Ok status) s bad = absurd bad
+  streamed old mid new (Err first) (Err halt) (text, part, leaves) (inl (why, kept)) =
+      halted old new text first.0 halt.0 part why (leaves_kept (truth calls) words calls first.0
+      (with_written old text) mid new leaves kept)
+  streamed old mid new (Err first) (Err halt) (text, part, leaves) (inr (fault, why, cut)) =
+      halted old new text (Unwritten fault) halt.0 part why (leaves_cut (truth calls) words calls
+      first.0 (with_written old text) mid new fault leaves cut)
 
 -- ---- files that were not opened
 pub unopened_in : (words : List (List ℕ)) (word : List ℕ) (calls : Calls) (why : Outside)
@@ -133,12 +112,17 @@ unopened_in words word calls (Unread why) has unread =
     (word, has, calls, (0, omega arith, refl), unread)
 unopened_in words word calls (Unwritten why) has bad = absurd bad
 unopened_in words word calls (Unmade why is_partial) has bad = absurd bad
+unopened_in words word calls Wrong has bad = absurd bad
+unopened_in words word calls Untraced has bad = absurd bad
 unopened_in words word calls NoMemory has none = tt
 
-pub unopened_leaves : (words : List (List ℕ)) (calls more : List Calls) (why : Outside) (run : Run)
-    → IsUnopenedIn words calls why → LeavesOf words (calls ++ more) why (with_written run []) run
-unopened_leaves words calls more (Unread why) run (word, has, failed, in_calls, unread) =
+pub unopened_leaves : (truth : Type 0) (words : List (List ℕ)) (calls more : List Calls)
+    (why : Outside) (run : Run) → IsUnopenedIn words calls why
+    → LeavesOf truth words (calls ++ more) why (with_written run []) run
+unopened_leaves truth words calls more (Unread why) run (word, has, failed, in_calls, unread) =
     ((word, has, failed, Contains-append_left calls more failed in_calls, unread), inl (written_none run))
-unopened_leaves words calls more (Unwritten why) run bad = absurd bad
-unopened_leaves words calls more (Unmade why is_partial) run bad = absurd bad
-unopened_leaves words calls more NoMemory run none = inl (written_none run)
+unopened_leaves truth words calls more (Unwritten why) run bad = absurd bad
+unopened_leaves truth words calls more (Unmade why is_partial) run bad = absurd bad
+unopened_leaves truth words calls more Wrong run bad = absurd bad
+unopened_leaves truth words calls more Untraced run bad = absurd bad
+unopened_leaves truth words calls more NoMemory run none = inl (written_none run)

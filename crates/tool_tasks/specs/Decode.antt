@@ -1,39 +1,36 @@
 -- What `decode` does: of the words of its uploads.
-use Rattle.std.specs.Prelude.{◌≡◌, ℕ, Bool, true, List, [], ◌∷◌, ◌++◌, ◌&&◌, codes, Option}
-use Rattle.std.specs.Prelude.{None, Some, flat_map, if◌then◌else◌, is_none, map}
+use Rattle.std.specs.Prelude.{◌≡◌, ℕ, Bool, true, List, [], ◌∷◌, ◌++◌, ◌&&◌, Option, None}
+use Rattle.std.specs.Prelude.{flat_map, if◌then◌else◌, is_none, map}
 use Rattle.frame.specs.Given.{Given, IsPart, load_of}
 use Rattle.frame.specs.Outcome.{Rule}
 use Rattle.frame.specs.Outsides.{Leaves}
 use Rattle.tap_rows.specs.Decoded.{IsDecoded}
 use Rattle.tap_rows.specs.TapTables.{head}
 use Rattle.tap_views.specs.declared.fault.LayoutFault.{LayoutFault}
-use Rattle.tool_tasks.specs.Fault.{layout_text}
 
 -- An upload that was loaded, with the word that names it, and what it is decoded to: the rows of
--- its taps before its first layout fault, and this fault with its offset, if there is one.
+-- its taps before its first layout fault, this fault with its offset, if there is one, and what is
+-- noted of it.
 pub record Decoded : Type 0 where
   pub word : List ℕ
   pub upload : List ℕ
   pub rows : List ℕ
   pub fault : Option (ℕ × LayoutFault)
   pub is_decoded : IsDecoded upload rows fault
+  pub note : List ℕ
+  pub quiet : fault ≡ None → note ≡ []
 
 -- the words of uploads
 abbrev pub words_of : List Decoded → List (List ℕ)
 words_of decoded = map (λ one. one.word) decoded
 
--- the line that reports an upload's layout fault, with its line feed; nothing if it has none
-abbrev pub layout_line : List ℕ → Option (ℕ × LayoutFault) → List ℕ
-layout_line word None = []
-layout_line word (Some (offset, fault)) = layout_text word offset fault ++ codes "\n"
-
--- The uploads were loaded, in their order, the text is their tap table, with a header line and the
--- rows of each, and each layout fault is noted.
+-- The uploads were loaded, in their order, and the text is their tap table, with a header line and
+-- the rows of each.
 abbrev pub decoding_of : List Decoded → Given
 decoding_of decoded = record {
   loads = map (λ one. load_of one.word one.upload) decoded;
   text = (head ++ 10 ∷ []) ++ flat_map (λ one. one.rows) decoded;
-  note = flat_map (λ one. layout_line one.word one.fault) decoded;
+  note = flat_map (λ one. one.note) decoded;
   files = [];
 }
 
@@ -61,5 +58,5 @@ abbrev pub decode_rule : List (List ℕ) → Rule
 decode_rule words = record {
   Right = IsTapTableOf words;
   Partial = IsPartlyDecoded words;
-  Leaves = Leaves words;
+  Leaves = λ part. Leaves words;
 }

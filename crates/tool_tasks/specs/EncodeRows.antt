@@ -1,8 +1,8 @@
 -- What `encode` of an agency's own CSVs does: of the words of their files, and of the words that say
 -- how they are read.
-use Rattle.std.specs.Prelude.{◌≡◌, ◌⊎◌, ⊤, ◌+◌, ◌==◌, ◌||◌, ℕ, Bool, Contains, Err, List, [], ◌∷◌}
-use Rattle.std.specs.Prelude.{◌++◌, Option, None, Some, IfSome, if◌then◌else◌, codes, decimal, false}
-use Rattle.std.specs.Prelude.{length, map, nat_lt, not, option_map, slice_get, true, unwrap_or}
+use Rattle.std.specs.Prelude.{◌≡◌, ◌≢◌, ◌⊎◌, ◌+◌, ◌==◌, ◌||◌, ℕ, Bool, Contains, Err, List, []}
+use Rattle.std.specs.Prelude.{◌∷◌, ◌++◌, Option, None, Some, if◌then◌else◌, codes, decimal, false}
+use Rattle.std.specs.Prelude.{map, not, option_map, true, unwrap_or}
 use Rattle.std.specs.Borrow.{Bor}
 use Rattle.frame.specs.Given.{Given, file_of, load_of}
 use Rattle.frame.specs.Names.{file_named}
@@ -14,23 +14,15 @@ use Rattle.tap_rows.specs.Keys.{key_of}
 use Rattle.tap_rows.specs.Numbering.{IsNumbered, device_table_text}
 use Rattle.tap_rows.specs.declared.agency.choice.Choice.{Choice}
 use Rattle.tap_rows.specs.declared.agency.choice.Columns.{Columns}
-use Rattle.tap_rows.specs.declared.agency.choice.Condition.{Condition}
 use Rattle.tap_rows.specs.declared.agency.choice.Separator.{Separator}
 use Rattle.tap_rows.specs.declared.agency.fault.Wanted.{Wanted}
-use Rattle.tap_rows.specs.declared.agency.fault.Wanted.TheVariants as wanted
 use Rattle.tap_rows.specs.declared.agency.key.WrongKey.{WrongKey}
+use Rattle.tap_rows.specs.declared.agency.reading.Reason.{Reason}
 use Rattle.tap_rows.specs.declared.agency.summary.Summary.{Summary}
+use Rattle.tap_rows.specs.declared.devices.fault.DevicesFault.{DevicesFault}
 use Rattle.tap_rows.specs.declared.devices.fault.DevicesFault.TheVariants as devices
-use Rattle.tool_tasks.specs.Encode.{Refuses}
 use Rattle.tool_tasks.specs.EncodeTables.{IsClock, IsKey, IsNoZone, zone_file, zone_loaded}
-use Rattle.tool_tasks.specs.Fault.{key_line, wrong_line}
-use Rattle.tool_tasks.specs.Names.{called}
 use Rattle.tool_tasks.specs.Uploads.{IsMomentOrDash}
-use Rattle.tool_tasks.specs.WrongTables.{devices_text, rows_text}
-use Rattle.tool_tasks.specs.declared.wrong_tables.WrongDevices.{WrongDevices}
-use Rattle.tool_tasks.specs.declared.wrong_tables.WrongDevices.TheVariants as wrong_devices
-use Rattle.tool_tasks.specs.declared.wrong_tables.WrongRows.{WrongRows}
-use Rattle.tool_tasks.specs.declared.wrong_tables.WrongRows.TheVariants as wrong_rows
 use Rattle.tool_words.specs.declared.task.RowsWords.{RowsWords}
 use Rattle.world.specs.Run.{Load, Named, Run, with_unread}
 
@@ -138,11 +130,6 @@ pub record IsSummaryLine (summary : Summary) (line : List ℕ) : Type 0 where
   pub is_last : IsMomentOrDash (option_map (λ span. span.last) summary.span) last
   pub shown : line ≡ rows_counts summary ++ (first ++ (codes " last " ++ last))
 
--- what follows the line: with several CSVs it ends with what its own is called
-abbrev pub line_end : Bool → List ℕ → List ℕ
-line_end false word = codes "\n"
-line_end true word = codes " " ++ (called word ++ codes "\n")
-
 -- what CSVs are encoded as
 pub record Encoded : Type 0 where
   pub upload : List ℕ
@@ -171,24 +158,24 @@ with_csv old upload rows note summary = record {
 }
 
 -- What one more CSV adds is the upload of exactly its rows that are kept, its refused rows and its
--- line. If the refused rows have no file, there are none.
-pub record AddsCsv (words : RowsWords) (is_many : Bool) (choice : Choice) (csv : Csv)
-    (old new : Encoded) : Type 0 where
-  pub upload : List ℕ
-  pub rows : List ℕ
-  pub summary : Summary
-  pub encoded : IsRowsEncoded choice csv.1 upload rows summary
-  pub whole : word_in words.refused ≡ None → summary.first_refused ≡ None
-  pub line : List ℕ
-  pub is_line : IsSummaryLine summary line
-  pub new_is : new ≡ with_csv old upload rows (line ++ line_end is_many csv.0) summary
+-- line, of which the end is only shown. If the refused rows have no file, there are none.
+pub record AddsCsv (words : RowsWords) (choice : Choice) (csv : Csv) (old new : Encoded) : Type 0
+  where
+    pub upload : List ℕ
+    pub rows : List ℕ
+    pub summary : Summary
+    pub encoded : IsRowsEncoded choice csv.1 upload rows summary
+    pub whole : word_in words.refused ≡ None → summary.first_refused ≡ None
+    pub line : List ℕ
+    pub is_line : IsSummaryLine summary line
+    pub end : List ℕ
+    pub new_is : new ≡ with_csv old upload rows (line ++ end) summary
 
 -- CSVs one after the other
-abbrev pub AddsCsvs : RowsWords → Bool → Choice → List Csv → Encoded → Encoded → Type 0
-AddsCsvs words is_many choice [] old new = new ≡ old
-AddsCsvs words is_many choice (csv ∷ csvs) old new =
-    (mid : Encoded) × AddsCsv words is_many choice csv old mid
-    × AddsCsvs words is_many choice csvs mid new
+abbrev pub AddsCsvs : RowsWords → Choice → List Csv → Encoded → Encoded → Type 0
+AddsCsvs words choice [] old new = new ≡ old
+AddsCsvs words choice (csv ∷ csvs) old new =
+    (mid : Encoded) × AddsCsv words choice csv old mid × AddsCsvs words choice csvs mid new
 
 -- the status: whether a row is a tap, and none is refused
 abbrev pub rows_status : Encoded → ℕ
@@ -227,77 +214,46 @@ files_made words choice all = (device_files words.makes_devices (word_in words.d
 pub record IsRowsUpload (words : RowsWords) (choice : Choice) (csvs : List Csv) (given : Given)
     (status : ℕ) : Type 0 where
   pub all : Encoded
-  pub encoded : AddsCsvs words (nat_lt 1 (length csvs)) choice csvs nothing_encoded all
+  pub encoded : AddsCsvs words choice csvs nothing_encoded all
   pub text : given.text ≡ upload_text (word_in words.out) all.upload
   pub note : given.note ≡ all.note
   pub made : given.files ≡ files_made words choice all
   pub status_is : status ≡ rows_status all
 
 -- ---- a wrong file
--- the name is that of the column of the condition at this position
-abbrev pub IsConditionName : List Condition → ℕ → List ℕ → Type 0
-IsConditionName conditions position name =
-    IfSome (slice_get conditions position) (λ condition. name ≡ condition.column.now)
+-- What is wrong with the text of a CSV, of which no upload is written: its head, or its first row that
+-- is refused if the refused rows have no file.
+abbrev pub IsWrongCsv : RowsWords → Choice → List ℕ → Type 0
+IsWrongCsv words choice text =
+    ((column : Wanted) × IsWanting choice (first_record choice.columns.now.separator text) column)
+    ⊎ ((word_in words.refused ≡ None) × (number : ℕ) × (why : Reason)
+    × IsFirstRefused choice text number why)
 
--- the name is that of the column that is wanted
-abbrev pub IsColumnName : Columns → Wanted → List ℕ → Type 0
-IsColumnName columns wanted.Token name = name ≡ columns.token.now
-IsColumnName columns wanted.Validator name = name ≡ columns.validator.now
-IsColumnName columns wanted.Moment name = name ≡ columns.moment.now
-IsColumnName columns (wanted.Only position) name =
-    IsConditionName columns.only.items position name
-IsColumnName columns (wanted.Without position) name =
-    IsConditionName columns.without.items position name
-IsColumnName columns wanted.Count name = IfSome columns.count (λ count. name ≡ count.now)
-
--- What is wrong with the text, of which no upload is written: its head, or its first row that is
--- refused if the refused rows have no file. Nothing is promised of a quote that nothing closes.
-abbrev pub IsWrongRows : RowsWords → Choice → List ℕ → WrongRows → Type 0
-IsWrongRows words choice text (wrong_rows.Column name) =
-    (column : Wanted) × IsColumnName words.columns column name.now
-    × IsWanting choice (first_record choice.columns.now.separator text) column
-IsWrongRows words choice text (wrong_rows.Row number why) =
-    (word_in words.refused ≡ None) × IsFirstRefused choice text number why
-IsWrongRows words choice text (wrong_rows.Quote number) = ⊤
-
--- what is wrong with a device table beside rows with this separator
-abbrev pub IsWrongDevices : Separator → List ℕ → WrongDevices → Type 0
-IsWrongDevices separator text wrong_devices.Head = IsDevicesFault separator text devices.Head
-IsWrongDevices separator text (wrong_devices.Row number why) =
-    IsDevicesFault separator text (devices.Row number why)
-
--- the line says that the words name a device table that is there and is none, a key whose file is
--- none, or a zone that is none
-abbrev pub IsWrongTable : RowsWords → Bool → Texts → List ℕ → Type 0
-IsWrongTable words is_there texts line =
-    ((name : List ℕ) × (word_in words.devices ≡ Some name) × (is_there ≡ true)
-    × (wrong : WrongDevices) × IsWrongDevices words.columns.separator texts.devices wrong
-    × (line ≡ wrong_line name (devices_text wrong)))
-    ⊎ (((name : List ℕ) × (word_in words.key ≡ Some name) × (wrong : WrongKey)
-    × (key_of texts.key ≡ Err wrong) × (line ≡ key_line name wrong))
-    ⊎ ((name : List ℕ) × (word_in words.zone ≡ Some name) × IsNoZone name texts.zone line))
+-- What is wrong: a CSV that is read as the words say, a device table that is there and is none, a key
+-- whose file is none, or a zone that is none.
+abbrev pub IsWrongText : RowsWords → Bool → Texts → Type 0
+IsWrongText words is_there texts = ((choice : Choice) × IsChoice words is_there texts choice
+    × (csv : Csv) × Contains texts.csvs csv × IsWrongCsv words choice csv.1)
+    ⊎ (((is_there ≡ true) × (fault : DevicesFault) × (fault ≢ devices.NoMemory)
+    × IsDevicesFault words.columns.separator texts.devices fault)
+    ⊎ (((wrong : WrongKey) × (key_of texts.key ≡ Err wrong))
+    ⊎ ((name : List ℕ) × (word_in words.zone ≡ Some name) × IsNoZone name texts.zone)))
 
 -- ---- THE rule
--- it is the upload of the rows; or one of the CSVs is wrong: its line is noted, with more after it
-abbrev pub IsRowsAnswer : RowsWords → Choice → List Csv → Given → ℕ → Type 0
-IsRowsAnswer words choice csvs given status = IsRowsUpload words choice csvs given status
-    ⊎ ((csv : Csv) × Contains csvs csv × (wrong : WrongRows) × IsWrongRows words choice csv.1 wrong
-    × (more : List ℕ) × Refuses (wrong_line csv.0 (rows_text wrong)) more given status)
-
--- the rows are read as the words say, and this is the answer; or a table is wrong, and its line noted
-abbrev pub AnswersTexts : RowsWords → Bool → Texts → Given → ℕ → Type 0
-AnswersTexts words is_there texts given status =
-    ((choice : Choice) × IsChoice words is_there texts choice
-    × IsRowsAnswer words choice texts.csvs given status)
-    ⊎ ((line : List ℕ) × IsWrongTable words is_there texts line × Refuses line [] given status)
-
--- what the words name was read to its end, in order, and this is the answer
+-- what the words name was read to its end, in order, and this is the upload of its rows
 pub record EncodesRows (words : RowsWords) (csvs : List (List ℕ)) (is_there : Bool) (given : Given)
     (status : ℕ) : Type 0 where
   pub texts : Texts
   pub loaded : given.loads ≡ loads_of words is_there texts
   pub named : map (λ csv. csv.0) texts.csvs ≡ csvs
-  pub answered : AnswersTexts words is_there texts (record given { loads = [] }) status
+  pub choice : Choice
+  pub is_choice : IsChoice words is_there texts choice
+  pub upload : IsRowsUpload words choice texts.csvs (record given { loads = [] }) status
+
+-- it was read to its end, in order, and is wrong
+abbrev pub LoadsWrong : RowsWords → List (List ℕ) → Bool → List Load → Type 0
+LoadsWrong words csvs is_there loads = (texts : Texts) × (loads ≡ loads_of words is_there texts)
+    × (map (λ csv. csv.0) texts.csvs ≡ csvs) × IsWrongText words is_there texts
 
 -- A device table that is made may be missing: then its load was refused before anything else.
 abbrev pub HasTried : RowsWords → Bool → Run → Run → Type 0
@@ -306,7 +262,8 @@ HasTried words false old new = (words.makes_devices ≡ true) × (name : List �
     × (word_in words.devices ≡ Some name) × (new ≡ with_unread old (file_named name))
 
 abbrev pub rows_rule : RowsWords → List (List ℕ) → Bool → Rule
-rows_rule words csvs is_there = rule_of (EncodesRows words csvs is_there) (names_of words csvs)
+rows_rule words csvs is_there = rule_of (EncodesRows words csvs is_there)
+    (LoadsWrong words csvs is_there) (names_of words csvs)
 
 -- THE rule of `encode` of an agency's own CSVs
 pub record EndsRows (words : RowsWords) (csvs : List (List ℕ)) (old new : Run) (status : ℕ)

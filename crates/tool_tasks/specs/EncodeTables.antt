@@ -14,7 +14,6 @@ use Rattle.jiff_tz.specs.declared.timezone.TimeZone.TheVariants as zones
 use Rattle.tap_rows.specs.Keys.{key_of}
 use Rattle.tap_rows.specs.declared.agency.choice.Fold.{Fold}
 use Rattle.tap_rows.specs.declared.agency.choice.LocalClock.{LocalClock}
-use Rattle.tool_tasks.specs.Fault.{no_zone_line, zone_file_line}
 
 -- the key that the text of a file has, if it has a word, and its block
 abbrev pub IsKey : Option (List ℕ) → List ℕ → Option (List ℕ) → Type 0
@@ -54,9 +53,7 @@ IsClock None fold text None = Unit {0}
 IsClock (Some word) fold text (Some clock) = (clock.fold ≡ fold) × IsZone word text clock.zone
 IsClock word fold text clock = ⊥
 
--- the line says why the word has no zone: it is neither a rule nor a name, or its file is none
-abbrev pub IsNoZone : (word text line : List ℕ) → Type 0
-IsNoZone word text line = (read_whole word ≡ None)
-    × (((is_zone_name word ≡ false) × (line ≡ no_zone_line word))
-    ⊎ ((is_zone_name word ≡ true) × ((fault : TzifFault) × IsParseFailure (TzifError fault) text)
-    × (line ≡ zone_file_line word)))
+-- the word has no zone: it is neither a rule nor a name, or its file is none
+abbrev pub IsNoZone : (word text : List ℕ) → Type 0
+IsNoZone word text = (read_whole word ≡ None) × ((is_zone_name word ≡ false)
+    ⊎ ((is_zone_name word ≡ true) × (fault : TzifFault) × IsParseFailure (TzifError fault) text))

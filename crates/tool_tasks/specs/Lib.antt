@@ -3,14 +3,10 @@ pub mod Decode
 pub mod Encode
 pub mod EncodeRows
 pub mod EncodeTables
-pub mod Fault
 pub mod ValidPrefix
-pub mod Layout
 pub mod Merge
 pub mod MergeSorted
-pub mod Names
 pub mod Sort
 pub mod Streams
 pub mod Uploads
-pub mod WrongTables
 pub mod inside

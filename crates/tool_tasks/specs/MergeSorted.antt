@@ -1,5 +1,5 @@
 -- What `sort --merge` does, by what is known of the uploads' bytes.
-use Rattle.std.specs.Prelude.{◌≡◌, ◌⊎◌, ⊤, ℕ, List, [], Option, Some}
+use Rattle.std.specs.Prelude.{◌≡◌, ⊤, ℕ, List, [], Option, Some}
 use Rattle.std.specs.Prelude.{flat_map, length, map}
 use Rattle.frame.specs.Given.{Given}
 use Rattle.frame.specs.Outcome.{Rule, rule_of}
@@ -9,16 +9,11 @@ use Rattle.tap_views.specs.declared.upload_end.UploadEnd.TheVariants.{Posted}
 use Rattle.sorted_taps.specs.Checked.{IsFirstUnsorted}
 use Rattle.sorted_taps.specs.Merges.{AreSortedFiles}
 use Rattle.sorted_taps.specs.Written.{IsInBatchesOf512}
+use Rattle.sorted_taps.specs.declared.fault.SortedFault.{SortedFault}
 use Rattle.sorted_taps.specs.declared.fault.SortedFault.TheVariants as sorted
 use Rattle.tap_parts.specs.Canonical.{IsCanonical}
 use Rattle.tap_views.specs.declared.encoder.TapFields.{TapFields}
-use Rattle.program_manners.specs.Refusals.{IsOneOf}
-use Rattle.tool_tasks.specs.Fault.{fault_text}
-use Rattle.tool_tasks.specs.Encode.{Refuses}
 use Rattle.tool_tasks.specs.Sort.{files_of, names_of}
-use Rattle.tool_tasks.specs.declared.fault.Fault.{Fault}
-use Rattle.tool_tasks.specs.declared.fault.Fault.TheVariants.{Layout, NoMemory, OutOfOrder}
-use Rattle.tool_tasks.specs.declared.fault.Fault.TheVariants.{SomeChanged, TooManyOpen, Unread}
 use Rattle.tool_words.specs.Request.{SortRequest}
 
 -- Each upload is sorted, and ended with all its taps. The file has exactly these, in canonical
@@ -33,9 +28,10 @@ pub record IsMergeOf (uploads : List (List ℕ)) (ends : List UploadEnd) (file :
   pub in_batches : IsInBatchesOf512 file merged
 
 -- The file of the lines of the uploads' ends is made, if it has a name, and then that of their taps.
--- If the uploads' bytes are known, these are the right files.
+-- If the uploads' bytes are known, these are the right files. No file is loaded.
 pub record Merges (request : SortRequest) (known : List (Option (List ℕ))) (given : Given)
     (status : ℕ) : Type 0 where
+  pub unloaded : given.loads ≡ []
   pub ends : List UploadEnd
   pub file : List ℕ
   pub whole : (uploads : List (List ℕ)) → known ≡ map Some uploads → IsMergeOf uploads ends file
@@ -44,26 +40,18 @@ pub record Merges (request : SortRequest) (known : List (Option (List ℕ))) (gi
   pub note : given.note ≡ []
   pub success : status ≡ 0
 
--- The fault is the right one of files under these words, of which this is known: the first that is
--- not sorted, or one that could not be opened or read. Any may have changed after it was checked,
--- and memory may be refused at any time.
-abbrev pub IsRightFileFault : List (List ℕ) → List (Option (List ℕ)) → Fault → Type 0
-IsRightFileFault words known (Unread word) = IsOneOf word.now words
-IsRightFileFault words known (TooManyOpen word) = IsOneOf word.now words
-IsRightFileFault words known (OutOfOrder word tap) =
-    IsFirstUnsorted words known word.now (sorted.OutOfOrder tap)
-IsRightFileFault words known (Layout word offset fault) =
-    IsFirstUnsorted words known word.now (sorted.Layout offset fault)
-IsRightFileFault words known SomeChanged = ⊤
-IsRightFileFault words known NoMemory = ⊤
-IsRightFileFault words known fault = ⊥
+-- a fault that bytes show, and no failed read
+abbrev pub IsOfBytes : SortedFault → Type 0
+IsOfBytes (sorted.OutOfOrder tap) = ⊤
+IsOfBytes (sorted.Layout offset fault) = ⊤
+IsOfBytes fault = ⊥
 
--- no file is loaded; all is merged, or the fault of an upload is noted
-abbrev pub MergesOrRefuses : SortRequest → List (Option (List ℕ)) → Given → ℕ → Type 0
-MergesOrRefuses request known given status = (given.loads ≡ [])
-    × (Merges request known given status ⊎ ((fault : Fault)
-    × IsRightFileFault request.uploads known fault × Refuses (fault_text fault) [] given status))
+-- of files under these words, of which this is known, this is the first that is not sorted, and why
+abbrev pub IsUnsorted : List (List ℕ) → List (Option (List ℕ)) → Type 0
+IsUnsorted words known = (word : List ℕ) × (fault : SortedFault) × IsOfBytes fault
+    × IsFirstUnsorted words known word fault
 
 -- THE rule of `sort --merge`
 abbrev pub merge_sorted_rule : SortRequest → List (Option (List ℕ)) → Rule
-merge_sorted_rule request known = rule_of (MergesOrRefuses request known) (names_of request)
+merge_sorted_rule request known =
+    rule_of (Merges request known) (λ loads. IsUnsorted request.uploads known) (names_of request)

@@ -1,15 +1,13 @@
 -- What `sort` does.
 use Rattle.std.specs.Prelude.{◌≡◌, ℕ, List, [], ◌∷◌, ◌++◌, Option, None, Some}
-use Rattle.std.specs.Prelude.{codes, if◌then◌else◌, map, unwrap_or}
+use Rattle.std.specs.Prelude.{if◌then◌else◌, map, true, unwrap_or}
 use Rattle.frame.specs.Given.{Given, file_of}
 use Rattle.report_texts.specs.Report.{upload_lines}
 use Rattle.tap_views.specs.UploadEnds.{ArePlainEnds, are_posted}
 use Rattle.tap_views.specs.declared.upload_end.UploadEnd.{UploadEnd}
-use Rattle.tap_views.specs.declared.upload_end.UploadEnd.TheVariants.{Refused}
 use Rattle.settlement.specs.SettledTaps.{AreSettledTaps}
 use Rattle.sorted_taps.specs.Written.{IsInBatchesOf512}
 use Rattle.tap_views.specs.declared.encoder.TapFields.{TapFields}
-use Rattle.tool_tasks.specs.Fault.{layout_text}
 use Rattle.frame.specs.Names.{file_named}
 use Rattle.frame.specs.Outcome.{Rule, rule_of}
 use Rattle.tool_words.specs.Request.{SortRequest}
@@ -35,19 +33,8 @@ ends_files (Some name) lines = file_of name lines ∷ []
 abbrev pub files_of : SortRequest → List ℕ → List ℕ → List Named
 files_of request lines file = ends_files request.ends lines ++ file_of request.out file ∷ []
 
--- the line that reports an upload's layout fault, with its line feed; nothing if it has none
-abbrev pub refused_line : List ℕ → UploadEnd → List ℕ
-refused_line word (Refused taps offset fault) = layout_text word offset fault ++ codes "\n"
-refused_line word end = []
-
--- the lines of the layout faults of uploads, in their order
-abbrev pub refused_lines : List (List ℕ) → List UploadEnd → List ℕ
-refused_lines words [] = []
-refused_lines [] (end ∷ ends) = []
-refused_lines (word ∷ words) (end ∷ ends) = refused_line word end ++ refused_lines words ends
-
 -- The uploads were loaded. The file of the lines of their ends is made, if it has a name, and then the
--- file of exactly their valid taps. Each layout fault is noted.
+-- file of exactly their valid taps. Nothing is noted if there is no layout fault.
 pub record Sorts (request : SortRequest) (given : Given) (status : ℕ) : Type 0 where
   pub named : map (λ load. load.name) given.loads ≡ map file_named request.uploads
   pub ends : List UploadEnd
@@ -56,9 +43,9 @@ pub record Sorts (request : SortRequest) (given : Given) (status : ℕ) : Type 0
   pub sorted : IsSortedOf (map (λ load. load.bytes) given.loads) file
   pub made : given.files ≡ files_of request (upload_lines 0 ends) file
   pub text : given.text ≡ []
-  pub note : given.note ≡ refused_lines request.uploads ends
+  pub note : are_posted ends ≡ true → given.note ≡ []
   pub success : status ≡ (if are_posted ends then 0 else 3)
 
 -- THE rule of `sort`
 abbrev pub sort_rule : SortRequest → Rule
-sort_rule request = rule_of (Sorts request) (names_of request)
+sort_rule request = rule_of (Sorts request) (λ loads. ⊥) (names_of request)

@@ -23,4 +23,4 @@ pub record HasValidPrefix (request : ValidPrefixRequest) (given : Given) (status
 -- THE rule of `uploads --good-part`
 abbrev pub valid_prefix_rule : ValidPrefixRequest → Rule
 valid_prefix_rule request =
-    rule_of (HasValidPrefix request) (request.upload ∷ request.out ∷ [])
+    rule_of (HasValidPrefix request) (λ loads. ⊥) (request.upload ∷ request.out ∷ [])

@@ -3,19 +3,19 @@ ghost use Rattle.std.specs.Prelude.{◌≡◌, ◌++◌, ◌∷◌, [], List, If
 ghost use Rattle.frame.specs.Outcome.{Ends};
 ghost use Rattle.ledger_changes.specs.Given.{IsUnbegun, new_calls, old_calls};
 ghost use Rattle.recorded_lines.specs.Texts.{Follows, IsFresh, calls_of};
-ghost use Rattle.tool_tasks.specs.Corrections.{Corrects, IsPart, corrections_rule, of_bill};
-ghost use Rattle.tool_tasks.specs.Corrections.{removed_note, wrong_note, wrong_text};
-ghost use Rattle.tool_tasks.specs.inside.Corrections.{IsNoted, IsWritten};
+ghost use Rattle.tool_tasks.specs.Corrections.{Corrects, IsPart, IsRemovedNote, IsWrongLedger};
+ghost use Rattle.tool_tasks.specs.Corrections.{corrections_rule};
+ghost use Rattle.tool_tasks.specs.inside.Corrections.{IsNoted, IsWritten, why_of};
 ghost use Rattle.tool_tasks.specs.inside.Streams.{IsStreamed};
 ghost use Rattle.tool_words.specs.Tasks.{corrections_of};
 ghost use Rattle.world.specs.Run.{Calls};
 
 use crate::fault::Fault;
 use crate::names::Name;
-use crate::stops::{Halt, ended, line_of};
+use crate::stops::{Halt, stopped};
 use crate::streams::{Noted, Streams, finish, open};
 use frame::Outside;
-use ledger_changes::{Bill, Corrections, CorrectionsFault, WrongLine, corrections_head};
+use ledger_changes::{Bill, Corrections, CorrectionsFault, corrections_head};
 use recorded_lines::Lines;
 use std::alloc::{AllocError, Global};
 use tool_words::CorrectionsWords;
@@ -28,9 +28,7 @@ enum Stopped {
     Write(WriteFault),
 }
 
-fn word_of<'a>(words: &CorrectionsWords<'a>, bill: Bill) -> &'a str
-    ensures { result.now ≡ of_bill words.now.old.now words.now.new.now bill }
-{
+fn word_of<'a>(words: &CorrectionsWords<'a>, bill: Bill) -> &'a str {
     match bill {
         Bill::Old => words.old,
         Bill::New => words.new,
@@ -77,44 +75,43 @@ fn write_all<W: World>(
     Err(Stopped::Fault(CorrectionsFault::NoMemory))
 }
 
-/// Nothing, if no line is removed.
+/// Nothing, if no line is removed; else the line ends with their number.
 fn removed_line(
     alloc: Global,
     words: &CorrectionsWords<'_>,
     removed: u64,
 ) -> Result<Vec<u8>, AllocError>
-    ensures { IfOk result (λ line. line.items ≡ removed_note (corrections_of words.now) removed) }
+    ensures { IfOk result (λ line. IsRemovedNote removed line.items) }
 {
     if removed == 0 {
         return Ok(Vec::new(alloc));
     }
     let (old, new) = (Name(words.old), Name(words.new));
-    let line = format!(in alloc; "warning: {new}: missing lines of {old}: {removed}\n")?;
+    let mut line = format!(in alloc; "warning: {new}: missing lines of {old}: ")?;
+    write!(line, "{removed}\n")?;
     Ok(line.into_bytes())
 }
 
-fn wrong_text(why: WrongLine) -> &'static str
-    ensures { result.now ≡ wrong_text why }
+/// What stopped the corrections.
+fn halt_of<'a>(words: &CorrectionsWords<'a>, stopped: Stopped) -> Halt<'a>
+    ensures { result.0 ≡ why_of stopped }
 {
-    match why {
-        WrongLine::Form => "no such line stands there",
-        WrongLine::Order => "out of order; is the ledger settled?",
+    match stopped {
+        Stopped::Write(why) => Halt(Outside::Unwritten(why), Fault::from(why)),
+        Stopped::Fault(CorrectionsFault::Line(bill, number, why)) => {
+            Halt(
+                Outside::Wrong,
+                Fault::Ledger(word_of(words, bill), number, why),
+            )
+        }
+        Stopped::Fault(CorrectionsFault::Unread(bill)) => {
+            Halt(
+                Outside::Unread(LoadFault::Unread),
+                Fault::Unread(word_of(words, bill)),
+            )
+        }
+        Stopped::Fault(CorrectionsFault::NoMemory) => Halt(Outside::NoMemory, Fault::NoMemory),
     }
-}
-
-fn wrong_line(
-    alloc: Global,
-    words: &CorrectionsWords<'_>,
-    bill: Bill,
-    number: u64,
-    why: WrongLine,
-) -> Result<Vec<u8>, AllocError>
-    ensures { IfOk result (λ line.
-        line.items ≡ wrong_note (corrections_of words.now) bill number why) }
-{
-    let (name, why) = (Name(word_of(words, bill)), wrong_text(why));
-    let line = format!(in alloc; "fault: {name} line {number}: {why}\n")?;
-    Ok(line.into_bytes())
 }
 
 /// What is noted of what was written.
@@ -123,41 +120,14 @@ fn noted<'a>(
     words: &CorrectionsWords<'a>,
     written: Result<u64, Stopped>,
 ) -> Result<Noted, Halt<'a>>
-    ensures { IsNoted (corrections_of words.now) written result }
+    ensures { IsNoted written result }
 {
     match written {
         Ok(removed) => match removed_line(alloc, words, removed) {
-            Ok(note) => Ok(Noted { note, status: 0 }),
-            Err(AllocError) => Err(Halt {
-                why: Outside::NoMemory,
-                line: Fault::NoMemory,
-            }),
+            Ok(note) => Ok(Noted(note)),
+            Err(AllocError) => Err(Halt(Outside::NoMemory, Fault::NoMemory)),
         },
-        Err(stopped) => match stopped {
-            Stopped::Write(why) => Err(Halt {
-                why: Outside::Unwritten(why),
-                line: line_of(Outside::Unwritten(why), "", Fault::Write),
-            }),
-            Stopped::Fault(fault) => match fault {
-                CorrectionsFault::Line(bill, number, why) => {
-                    match wrong_line(alloc, words, bill, number, why) {
-                        Ok(note) => Ok(Noted { note, status: 1 }),
-                        Err(AllocError) => Err(Halt {
-                            why: Outside::NoMemory,
-                            line: Fault::NoMemory,
-                        }),
-                    }
-                }
-                CorrectionsFault::Unread(bill) => Err(Halt {
-                    why: Outside::Unread(LoadFault::Unread),
-                    line: Fault::Unread(word_of(words, bill)),
-                }),
-                CorrectionsFault::NoMemory => Err(Halt {
-                    why: Outside::NoMemory,
-                    line: Fault::NoMemory,
-                }),
-            },
-        },
+        Err(stopped) => Err(halt_of(words, stopped)),
     }
 }
 
@@ -194,8 +164,8 @@ fn correct<'a, F: Streams, W: World>(
 ) -> Result<Noted, Halt<'a>>
     ensures { (calls : List Calls) × (F.readings files.new ≡ F.readings files.old ++ calls)
         × IsStreamed (Corrects (corrections_of words.now)) (IsPart (corrections_of words.now))
-        (words.now.old.now ∷ words.now.new.now ∷ []) calls (W.run world.old) (W.run world.new)
-        result }
+        (IsWrongLedger (corrections_of words.now)) (words.now.old.now ∷ words.now.new.now ∷ [])
+        calls (W.run world.old) (W.run world.new) result }
 {
     let old = match open(files, words.old) {
         Ok(lines) => lines,
@@ -226,6 +196,8 @@ pub fn corrections_over<F: Streams, W: World>(
         (F.readings files.new)) (W.run world.old) (W.run world.new) result }
 {
     let streamed = correct(alloc, words, files, world);
-    let done = finish(streamed, world);
-    ended(done, world)
+    match finish(streamed, world) {
+        Ok(status) => status,
+        Err(halt) => stopped(halt, world),
+    }
 }

@@ -1,21 +1,22 @@
 //! `decode`.
-ghost use Rattle.std.specs.Prelude.{◌≡◌, ◌&&◌, ◌++◌, ℕ, Contains, IfErr, IfOk, List, codes};
-ghost use Rattle.std.specs.Prelude.{if◌then◌else◌, is_none, map, string_bytes};
+ghost use Rattle.std.specs.Prelude.{◌≡◌, ◌&&◌, ℕ, Contains, IfErr, IfOk, List};
+ghost use Rattle.std.specs.Prelude.{if◌then◌else◌, is_none, map};
 ghost use Rattle.frame.specs.Given.{Adds};
 ghost use Rattle.frame.specs.Outcome.{Ends};
 ghost use Rattle.tool_tasks.specs.Decode.{Decoded, decode_rule};
-ghost use Rattle.tool_tasks.specs.Fault.{layout_text};
 ghost use Rattle.tool_tasks.specs.inside.Decode.{StopsDecoding, with_decoded};
 ghost use Rattle.tool_tasks.specs.inside.Does.{Does};
 
 use crate::counted::Counted;
 use crate::fault::Fault;
 use crate::loads::load;
-use crate::stops::{Halt, ended, line_of};
-use frame::{Outside, say, write};
-use std::alloc::{AllocError, Global};
-use tap_views::LayoutFault;
+use crate::stops::{Halt, line_of, stopped};
+use frame::{Outside, write};
+use std::alloc::Global;
 use world::World;
+
+/// The header line of a tap table.
+const HEAD: &[u8] = b"token,validator,moment\n";
 
 fn status_of(succeeded: bool) -> u8
     ensures { result ≡ (if succeeded then 0 else 1) }
@@ -29,26 +30,14 @@ fn both(first: bool, second: bool) -> bool
     first && second
 }
 
-fn layout_note(
-    alloc: Global,
-    word: &str,
-    offset: u64,
-    fault: LayoutFault,
-) -> Result<String, AllocError>
-    ensures { IfOk result (λ note.
-        string_bytes note ≡ layout_text word.now offset fault ++ codes "\n") }
-{
-    format!(in alloc; "{}\n", Fault::Layout(word, offset, fault))
-}
-
-/// Writes the rows of the upload before its first layout fault, and notes this. Gives whether there
-/// is none.
+/// Writes the rows of the upload before its first layout fault, and reports this. Gives whether
+/// there is none.
 fn decode_one<'a, W: World>(alloc: Global, word: &'a str, world: &mut W) -> Result<bool, Halt<'a>>
     ensures decoded { IfOk result (λ is_whole. (one : Decoded) × (one.word ≡ word.entry.now)
         × (is_none one.fault ≡ is_whole)
         × Adds (W.run world.old) (W.run world.new) (λ g. with_decoded g one)) }
     ensures stopped { (words : List (List ℕ)) → Contains words word.entry.now → IfErr result
-        (λ halt. StopsDecoding words word.entry.now (W.run world.old) (W.run world.new) halt.why) }
+        (λ halt. StopsDecoding words word.entry.now (W.run world.old) (W.run world.new) halt.0) }
 {
     let upload = match load(world, word) {
         Ok(upload) => upload,
@@ -56,29 +45,17 @@ fn decode_one<'a, W: World>(alloc: Global, word: &'a str, world: &mut W) -> Resu
     };
     let mut rows = Vec::new(alloc);
     let Ok(fault) = tap_rows::decode(&upload, &mut rows) else {
-        return Err(Halt {
-            why: Outside::NoMemory,
-            line: Fault::NoMemory,
-        });
+        return Err(Halt(Outside::NoMemory, Fault::NoMemory));
     };
     if let Err(why) = write(&rows, world) {
-        return Err(Halt {
-            why,
-            line: line_of(why, word, Fault::Write),
-        });
+        return Err(Halt(why, line_of(why, word, Fault::Write)));
     }
     match fault {
         None => Ok(true),
-        Some((offset, fault)) => match layout_note(alloc, word, offset, fault) {
-            Ok(note) => {
-                say(note.as_bytes(), world);
-                Ok(false)
-            }
-            Err(AllocError) => Err(Halt {
-                why: Outside::NoMemory,
-                line: Fault::NoMemory,
-            }),
-        },
+        Some((offset, fault)) => {
+            let _ = world.report_line(Fault::Layout(word, offset, fault));
+            Ok(false)
+        }
     }
 }
 
@@ -90,18 +67,8 @@ fn decode<'a, W: World + Counted>(
     ensures { Does (decode_rule (map (λ w. w.now) words.now)) (W.run world.old) (W.run world.new)
         result }
 {
-    let mut head = Vec::new(alloc);
-    let Ok(()) = tap_rows::push_head(&mut head) else {
-        return Err(Halt {
-            why: Outside::NoMemory,
-            line: Fault::NoMemory,
-        });
-    };
-    if let Err(why) = write(&head, world) {
-        return Err(Halt {
-            why,
-            line: line_of(why, "", Fault::Write),
-        });
+    if let Err(why) = write(HEAD, world) {
+        return Err(Halt(why, line_of(why, "", Fault::Write)));
     }
     let mut succeeded = true;
     for number in 0..words.len() {
@@ -113,13 +80,7 @@ fn decode<'a, W: World + Counted>(
     }
     match world.flush() {
         Ok(()) => Ok(status_of(succeeded)),
-        Err(why) => {
-            let why = Outside::Unwritten(why);
-            Err(Halt {
-                why,
-                line: line_of(why, "", Fault::Write),
-            })
-        }
+        Err(why) => Err(Halt(Outside::Unwritten(why), Fault::from(why))),
     }
 }
 
@@ -130,6 +91,8 @@ pub fn decode_over<W: World + Counted>(alloc: Global, words: Vec<&str>, world: &
     ensures { Ends (decode_rule (map (λ w. w.now) words.entry.items)) (W.run world.old)
         (W.run world.new) result }
 {
-    let done = decode(alloc, &words, world);
-    ended(done, world)
+    match decode(alloc, &words, world) {
+        Ok(status) => status,
+        Err(halt) => stopped(halt, world),
+    }
 }

@@ -1,25 +1,25 @@
 //! What `encode` makes of an agency's own CSVs, once they are loaded and it is known how they are read.
-ghost use Rattle.std.specs.Prelude.{◌≡◌, ◌++◌, [], ℕ, IfOk, IfSome, List, None, OnOk, map, option_map};
+ghost use Rattle.std.specs.Prelude.{◌≡◌, ◌++◌, [], ℕ, IfErr, IfOk, List, OnOk, map, option_map};
 ghost use Rattle.std.specs.Prelude.{string_bytes};
+ghost use Rattle.frame.specs.Outsides.{Stops};
 ghost use Rattle.tap_rows.specs.Devices.{devices_of};
-ghost use Rattle.tool_tasks.specs.EncodeRows.{AddsCsv, IsColumnName, IsConditionName};
-ghost use Rattle.tool_tasks.specs.EncodeRows.{IsSummaryLine, device_files, files_made, line_end};
+ghost use Rattle.tool_tasks.specs.EncodeRows.{AddsCsv, IsSummaryLine, IsWrongCsv, device_files};
+ghost use Rattle.tool_tasks.specs.EncodeRows.{files_made};
 ghost use Rattle.tool_tasks.specs.EncodeRows.{nothing_encoded};
 ghost use Rattle.tool_tasks.specs.EncodeRows.{refused_files, rows_status, upload_files};
 ghost use Rattle.tool_tasks.specs.EncodeRows.{upload_text, with_csv, word_in};
-ghost use Rattle.tool_tasks.specs.Fault.{wrong_line};
-ghost use Rattle.tool_tasks.specs.WrongTables.{rows_text};
-ghost use Rattle.tool_tasks.specs.inside.EncodeRows.{AreOf, IsWrongCsv, PreparesCsvs, csv_of};
-ghost use Rattle.tool_tasks.specs.inside.EncodeRows.{encoded_of};
-ghost use Rattle.tool_tasks.specs.inside.Prepared.{IsRefusal, files_in, whole_of};
+ghost use Rattle.tool_tasks.specs.inside.EncodeRows.{AreOf, PreparesCsvs, csv_of, encoded_of};
+ghost use Rattle.tool_tasks.specs.inside.Prepared.{files_in, whole_of};
 
 use crate::encode_loads::Csv;
 use crate::fault::Fault;
 use crate::names::Name;
-use crate::prepared::{NewFile, Prepared, refusal};
+use crate::prepared::{NewFile, Prepared};
 use crate::quotes::open_quote;
+use crate::stops::Halt;
 use crate::uploads::push_moment;
 use crate::wrong_tables::WrongRows;
+use frame::Outside;
 use std::alloc::{AllocError, Global};
 use tap_rows::{
     AgencyFault, Choice, Columns, Condition, EncodedRows, Summary, Wanted, device_text, encode_rows,
@@ -27,9 +27,7 @@ use tap_rows::{
 use tool_words::RowsWords;
 
 /// The name of the column of the condition at this position.
-fn condition_name<'a>(conditions: &[Condition<'a>], position: usize) -> &'a str
-    ensures { IsConditionName conditions.now position result.now }
-{
+fn condition_name<'a>(conditions: &[Condition<'a>], position: usize) -> &'a str {
     match conditions.get(position) {
         Some(condition) => condition.column,
         None => "",
@@ -37,9 +35,7 @@ fn condition_name<'a>(conditions: &[Condition<'a>], position: usize) -> &'a str
 }
 
 /// The name of a column.
-fn name_of<'a>(columns: &Columns<'a>, wanted: Wanted) -> &'a str
-    ensures { IsColumnName columns.now wanted result.now }
-{
+fn name_of<'a>(columns: &Columns<'a>, wanted: Wanted) -> &'a str {
     match wanted {
         Wanted::Token => columns.token,
         Wanted::Validator => columns.validator,
@@ -68,16 +64,13 @@ fn summary_line(alloc: Global, summary: &Summary) -> Result<String, AllocError>
     Ok(line)
 }
 
-/// Ends the line; with several CSVs it says first what its own is called.
-fn push_end(note: &mut String, is_many: bool, word: &str) -> Result<(), AllocError>
-    ensures { OnOk result (string_bytes note.new
-        ≡ string_bytes note.old ++ line_end is_many word.now) }
-{
+/// The end of a line; with several CSVs it says first what its own is called.
+fn line_end(alloc: Global, is_many: bool, word: &str) -> Result<String, AllocError> {
     if is_many {
         let name = Name(word);
-        write!(note, " {name}\n")
+        format!(in alloc; " {name}\n")
     } else {
-        note.push_str("\n")
+        format!(in alloc; "\n")
     }
 }
 
@@ -113,62 +106,58 @@ impl Encoded {
         csv: &EncodedRows,
     ) -> Result<(), AllocError>
         ensures { OnOk result ((line : List ℕ) × IsSummaryLine csv.now.summary line
-            × (encoded_of self.new ≡ with_csv (encoded_of self.old) csv.now.upload.items
-            csv.now.refused.items (line ++ line_end is_many word.now) csv.now.summary)) }
+            × (end : List ℕ) × (encoded_of self.new ≡ with_csv (encoded_of self.old)
+            csv.now.upload.items csv.now.refused.items (line ++ end) csv.now.summary)) }
     {
         let line = summary_line(alloc, &csv.summary)?;
         self.upload.extend_from_slice(&csv.upload)?;
         self.rows.extend_from_slice(&csv.refused)?;
         self.note.push_str(&line)?;
-        push_end(&mut self.note, is_many, word)?;
+        self.note.push_str(&line_end(alloc, is_many, word)?)?;
         self.has_taps |= csv.summary.taps != 0;
         self.has_refused |= csv.summary.refused != 0;
         Ok(())
     }
 }
 
-/// The lines of a quote that nothing closes.
-fn open_quote_refusal<'a>(alloc: Global, word: &str, line: u64) -> Result<Prepared<'a>, AllocError>
-    ensures { IfOk result (λ prepared. (more : List ℕ)
-        × IsRefusal (wrong_line word.now (rows_text (WrongRows.Quote line))) more prepared) }
-{
-    let name = Name(word);
-    let more = format!(in alloc; "\nfault: cannot read {name}")?;
-    refusal(alloc, Fault::Rows(word, WrongRows::Quote(line)), &more)
-}
-
-/// Encodes one more CSV, or says why it is not.
+/// Encodes one more CSV. What else there is to say of a wrong one goes to `more`.
 fn encode_csv<'a>(
     alloc: Global,
     words: &RowsWords<'a>,
     is_many: bool,
     choice: &Choice<'_>,
     csv: &Csv<'a>,
+    more: &mut String,
     all: &mut Encoded,
-) -> Result<Option<Prepared<'a>>, AllocError>
-    ensures added { IfOk result (λ refused. refused ≡ None → AddsCsv words.now is_many choice.now
-        (csv_of csv.now) (encoded_of all.old) (encoded_of all.new)) }
-    ensures refused { IfOk result (λ refused. IfSome refused
-        (IsWrongCsv words.now choice.now (csv_of csv.now))) }
+) -> Result<(), Halt<'a>>
+    ensures added { OnOk result (AddsCsv words.now choice.now (csv_of csv.now)
+        (encoded_of all.old) (encoded_of all.new)) }
+    ensures stopped { IfErr result
+        (λ halt. Stops (IsWrongCsv words.now choice.now csv.now.text.items) halt.0) }
 {
+    more.clear();
     if let Some(line) = open_quote(&csv.text, words.columns.separator.byte) {
-        return Ok(Some(open_quote_refusal(alloc, csv.word, line)?));
+        let name = Name(csv.word);
+        write!(more, "\nfault: cannot read {name}")?;
+        return Err(Halt(
+            Outside::Untraced,
+            Fault::Rows(csv.word, WrongRows::Quote(line)),
+        ));
     }
-    let mut note = String::new(alloc);
-    match encode_rows(alloc, choice, &csv.text, &mut note) {
-        Err(AgencyFault::NoMemory) => Err(AllocError),
+    match encode_rows(alloc, choice, &csv.text, more) {
+        Err(AgencyFault::NoMemory) => Err(Halt(Outside::NoMemory, Fault::NoMemory)),
         Err(AgencyFault::Column(wanted)) => {
             let wrong = WrongRows::Column(name_of(&words.columns, wanted));
-            Ok(Some(refusal(alloc, Fault::Rows(csv.word, wrong), &note)?))
+            Err(Halt(Outside::Wrong, Fault::Rows(csv.word, wrong)))
         }
         Ok(encoded) => match (words.refused, encoded.summary.first_refused) {
             (None, Some((number, reason))) => {
                 let wrong = WrongRows::Row(number, reason);
-                Ok(Some(refusal(alloc, Fault::Rows(csv.word, wrong), &note)?))
+                Err(Halt(Outside::Wrong, Fault::Rows(csv.word, wrong)))
             }
             _ => {
                 all.add(alloc, is_many, csv.word, &encoded)?;
-                Ok(None)
+                Ok(())
             }
         },
     }
@@ -287,24 +276,28 @@ fn prepare_encoded<'a>(
     })
 }
 
-/// What is written, made and noted of CSVs.
+/// What is written, made and noted of CSVs. What else there is to say of a wrong one goes to `more`.
 pub(crate) fn prepare_csvs<'a>(
     alloc: Global,
     words: &RowsWords<'a>,
     is_there: bool,
     choice: &Choice<'_>,
     csvs: &[Csv<'a>],
-) -> Result<Prepared<'a>, AllocError>
-    ensures { IfOk result (PreparesCsvs words.now choice.now (map csv_of csvs.now)) }
+    more: &mut String,
+) -> Result<Prepared<'a>, Halt<'a>>
+    ensures { PreparesCsvs words.now choice.now (map csv_of csvs.now) result }
 {
     let is_many = csvs.len() > 1;
     let mut all = Encoded::new(alloc);
     for number in 0..csvs.len() {
         let csv = &csvs[number];
-        match encode_csv(alloc, words, is_many, choice, csv, &mut all)? {
-            Some(refused) => return Ok(refused),
-            None => {}
+        match encode_csv(alloc, words, is_many, choice, csv, more, &mut all) {
+            Ok(()) => {}
+            Err(halt) => return Err(halt),
         }
     }
-    prepare_encoded(alloc, words, is_there, choice, all)
+    match prepare_encoded(alloc, words, is_there, choice, all) {
+        Ok(prepared) => Ok(prepared),
+        Err(AllocError) => Err(Halt(Outside::NoMemory, Fault::NoMemory)),
+    }
 }

@@ -49,17 +49,14 @@ pub(crate) fn load_devices<'a, W: World>(
         × HasTried words.now found.0 (W.run world.old) started × (W.run world.new
         ≡ with_loads started (loads_in (devices_word words.now found.0) found.1.items))) }
     ensures stopped { (names : List (List ℕ)) → IsNameIn names (word_in words.now.devices)
-        → IfErr result (λ halt. Leaves names halt.why (W.run world.old) (W.run world.new)) }
+        → IfErr result (λ halt. Leaves names halt.0 (W.run world.old) (W.run world.new)) }
 {
     match words.devices {
         None => Ok((true, Vec::new(alloc))),
         Some(name) => match load_word(world, name) {
             Ok(text) => Ok((true, text)),
             Err(LoadFault::Unread) if words.makes_devices => Ok((false, Vec::new(alloc))),
-            Err(why) => Err(Halt {
-                why: Outside::Unread(why),
-                line: Fault::of_load(name, why),
-            }),
+            Err(why) => Err(Halt(Outside::Unread(why), Fault::of_load(name, why))),
         },
     }
 }
@@ -158,7 +155,7 @@ fn load_csvs<'a, W: Counted>(
         (map csv_of csvs.items) (W.run world.old) (W.run world.new)) }
     ensures stopped { (names : List (List ℕ)) → ((word : List ℕ)
         → Contains (map (λ w. w.now) words.now) word → Contains names word) → IfErr result
-        (λ halt. StopsLoading names halt.why (W.run world.old) (W.run world.new)) }
+        (λ halt. StopsLoading names halt.0 (W.run world.old) (W.run world.new)) }
 {
     let mut csvs = Vec::new(alloc);
     for number in 0..words.len() {
@@ -168,10 +165,7 @@ fn load_csvs<'a, W: Counted>(
             Err(halt) => return Err(halt),
         };
         if let Err(AllocError) = push(&mut csvs, word, text) {
-            return Err(Halt {
-                why: Outside::NoMemory,
-                line: Fault::NoMemory,
-            });
+            return Err(Halt(Outside::NoMemory, Fault::NoMemory));
         }
     }
     Ok(csvs)
@@ -188,34 +182,28 @@ pub(crate) fn load_later<'a, W: World + Counted>(
     ensures loaded { IfOk result (λ texts. HasLoaded words.now (map (λ w. w.now) csvs.now)
         devices.items (texts_in texts) (W.run world.old) (W.run world.new)) }
     ensures stopped { IfErr result (λ halt. StopsLoading
-        (names_of words.now (map (λ w. w.now) csvs.now)) halt.why (W.run world.old)
+        (names_of words.now (map (λ w. w.now) csvs.now)) halt.0 (W.run world.old)
         (W.run world.new)) }
 {
     let path = match zone_loaded(alloc, words.zone) {
         Ok(path) => path,
         Err(AllocError) => {
-            return Err(Halt {
-                why: Outside::NoMemory,
-                line: Fault::NoMemory,
-            });
+            return Err(Halt(Outside::NoMemory, Fault::NoMemory));
         }
     };
     let key = match load_named(alloc, words.key, world) {
         Ok(key) => key,
         Err(why) => {
-            return Err(Halt {
-                why: Outside::Unread(why),
-                line: Fault::of_load(words.key.unwrap_or(""), why),
-            });
+            return Err(Halt(
+                Outside::Unread(why),
+                Fault::of_load(words.key.unwrap_or(""), why),
+            ));
         }
     };
     let zone = match load_named(alloc, name_in(&path), world) {
         Ok(zone) => zone,
         Err(why) => {
-            return Err(Halt {
-                why: Outside::Unread(why),
-                line: zone_line(words.zone, why),
-            });
+            return Err(Halt(Outside::Unread(why), zone_line(words.zone, why)));
         }
     };
     match load_csvs(alloc, csvs, world) {

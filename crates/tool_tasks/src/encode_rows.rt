@@ -1,5 +1,6 @@
 //! `encode` of an agency's own CSVs.
 ghost use Rattle.std.specs.Prelude.{◌≡◌, map};
+ghost use Rattle.frame.specs.Outsides.{IsReported};
 ghost use Rattle.tool_tasks.specs.EncodeRows.{EndsRows, devices_word, loads_in, rows_rule};
 ghost use Rattle.tool_tasks.specs.inside.Does.{Does};
 ghost use Rattle.world.specs.Origins.{with_loads};
@@ -8,11 +9,10 @@ ghost use Rattle.world.specs.Run.{Run};
 use crate::counted::Counted;
 use crate::encode_loads::{load_devices, load_later};
 use crate::encode_tables::prepare;
-use crate::fault::Fault;
 use crate::prepared::carry_out;
-use crate::stops::{Halt, ended};
+use crate::stops::{Halt, stopped};
 use frame::{Outside, report};
-use std::alloc::{AllocError, Global};
+use std::alloc::Global;
 use std::hash::RandomState;
 use tool_words::RowsWords;
 use world::World;
@@ -25,6 +25,7 @@ fn encode<'a, W: World + Counted>(
     csvs: &[&'a str],
     is_there: bool,
     devices: Vec<u8>,
+    more: &mut String,
     world: &mut W,
 ) -> Result<u8, Halt<'a>>
     ensures { (started : Run) → W.run world.old
@@ -32,15 +33,27 @@ fn encode<'a, W: World + Counted>(
         → Does (rows_rule words.now (map (λ w. w.now) csvs.now) is_there) started
         (W.run world.new) result }
 {
-    match load_later(alloc, words, csvs, devices, world) {
+    let texts = match load_later(alloc, words, csvs, devices, world) {
+        Ok(texts) => texts,
+        Err(halt) => return Err(halt),
+    };
+    match prepare(alloc, seed, words, is_there, &texts, more) {
+        Ok(prepared) => carry_out(&prepared, world),
         Err(halt) => Err(halt),
-        Ok(texts) => match prepare(alloc, seed, words, is_there, &texts) {
-            Err(AllocError) => Err(Halt {
-                why: Outside::NoMemory,
-                line: Fault::NoMemory,
-            }),
-            Ok(prepared) => carry_out(&prepared, world),
-        },
+    }
+}
+
+/// Reports what stopped an encoding, with more to say of a wrong file, and gives the status.
+fn stopped_by<W: World>(halt: Halt<'_>, more: &str, world: &mut W) -> u8
+    ensures reported { IsReported halt.entry.0 (W.run world.old) (W.run world.new) }
+    ensures failed { result ≡ 1 }
+{
+    match halt.0 {
+        Outside::Wrong | Outside::Untraced => {
+            report(halt.0, format_args!("{}{more}", halt.1), world);
+            1
+        }
+        _ => stopped(halt, world),
     }
 }
 
@@ -62,13 +75,15 @@ pub fn encode_rows_over<W: World + Counted>(
         result }
 {
     match load_devices(alloc, words, world) {
-        Err(halt) => {
-            report(halt.why, halt.line, world);
-            1
-        }
+        Err(halt) => stopped(halt, world),
         Ok((is_there, devices)) => {
-            let done = encode(alloc, seed, words, csvs, is_there, devices, world);
-            ended(done, world)
+            let mut more = String::new(alloc);
+            match encode(
+                alloc, seed, words, csvs, is_there, devices, &mut more, world,
+            ) {
+                Ok(status) => status,
+                Err(halt) => stopped_by(halt, &more, world),
+            }
         }
     }
 }

@@ -1,23 +1,19 @@
 //! How `encode` reads an agency's own CSVs: the devices, the key and the zone of what it loaded.
-ghost use Rattle.std.specs.Prelude.{◌≡◌, [], ℕ, IfOk, List, None, OnOk, Some, map, option_map};
+ghost use Rattle.std.specs.Prelude.{◌≡◌, None, OnOk, Some, map, option_map};
 ghost use Rattle.jiff_tz.specs.PosixReader.{read_whole};
-ghost use Rattle.tap_rows.specs.Devices.{IsDevicesFault, devices_of};
-ghost use Rattle.tap_rows.specs.declared.agency.choice.Separator.{Separator};
+ghost use Rattle.tap_rows.specs.Devices.{devices_of};
 ghost use Rattle.tool_tasks.specs.EncodeRows.{AreNumbered, AreOldDevices, AreUsedDevices, HasDevices};
-ghost use Rattle.tool_tasks.specs.EncodeRows.{IsWrongDevices, word_in};
+ghost use Rattle.tool_tasks.specs.EncodeRows.{word_in};
 ghost use Rattle.tool_tasks.specs.EncodeTables.{IsKey};
-ghost use Rattle.tool_tasks.specs.Fault.{wrong_line};
-ghost use Rattle.tool_tasks.specs.WrongTables.{devices_text};
-ghost use Rattle.tool_tasks.specs.declared.wrong_tables.WrongDevices.{WrongDevices as AWrong};
 ghost use Rattle.tool_tasks.specs.inside.EncodeRows.{IsMade, IsTableClock, Prepares, csv_of};
 ghost use Rattle.tool_tasks.specs.inside.EncodeRows.{texts_in};
-ghost use Rattle.tool_tasks.specs.inside.Prepared.{IsRefusal};
 
 use crate::encode_csvs::prepare_csvs;
 use crate::encode_loads::{Csv, Texts, is_zone_name, rule_of};
 use crate::fault::Fault;
-use crate::prepared::{Prepared, refusal};
-use crate::wrong_tables::WrongDevices;
+use crate::prepared::Prepared;
+use crate::stops::Halt;
+use frame::Outside;
 use jiff_core::Error;
 use jiff_tz::{TimeZone, Tzif};
 use std::alloc::{AllocError, Global};
@@ -59,29 +55,30 @@ fn prepare_by_zone_file<'a>(
     words: &RowsWords<'a>,
     is_there: bool,
     texts: &Texts<'a>,
-    name: &str,
+    name: &'a str,
     devices: Option<&DeviceTable>,
     key: Option<&TokenKey>,
-) -> Result<Prepared<'a>, AllocError>
+    more: &mut String,
+) -> Result<Prepared<'a>, Halt<'a>>
     requires named { word_in words.now.zone ≡ Some name.now }
     requires no_rule { read_whole name.now ≡ None }
     requires devices { HasDevices words.now is_there (texts_in texts.now)
         (option_map (λ d. devices_of d.now) devices) }
     requires key { IsKey (word_in words.now.key) (texts_in texts.now).key
         (option_map (λ k. k.now.block) key) }
-    ensures { IfOk result (Prepares words.now is_there (texts_in texts.now)) }
+    ensures { Prepares words.now is_there (texts_in texts.now) result }
 {
     if !is_zone_name(name) {
-        return refusal(alloc, Fault::Zone(name), "");
+        return Err(Halt(Outside::Wrong, Fault::Zone(name)));
     }
     match Tzif::parse(alloc, None, &texts.zone) {
         Ok(table) => {
             let clock = clock_of(&table, words.fold);
             let choice = choice(words, devices, key, Some(clock));
-            prepare_csvs(alloc, words, is_there, &choice, &texts.csvs)
+            prepare_csvs(alloc, words, is_there, &choice, &texts.csvs, more)
         }
-        Err(Error::Tzif(_)) => refusal(alloc, Fault::ZoneFile(name), ""),
-        Err(_) => Err(AllocError),
+        Err(Error::Tzif(_)) => Err(Halt(Outside::Wrong, Fault::ZoneFile(name))),
+        Err(_) => Err(Halt(Outside::NoMemory, Fault::NoMemory)),
     }
 }
 
@@ -93,20 +90,21 @@ fn prepare_by_zone<'a, 'c>(
     texts: &Texts<'a>,
     devices: Option<&'c DeviceTable>,
     key: Option<&'c TokenKey>,
-) -> Result<Prepared<'a>, AllocError>
+    more: &mut String,
+) -> Result<Prepared<'a>, Halt<'a>>
     requires devices { HasDevices words.now is_there (texts_in texts.now)
         (option_map (λ d. devices_of d.now) devices) }
     requires key { IsKey (word_in words.now.key) (texts_in texts.now).key
         (option_map (λ k. k.now.block) key) }
-    ensures { IfOk result (Prepares words.now is_there (texts_in texts.now)) }
+    ensures { Prepares words.now is_there (texts_in texts.now) result }
 {
     match words.zone {
         None => {
             let choice = choice(words, devices, key, None);
-            prepare_csvs(alloc, words, is_there, &choice, &texts.csvs)
+            prepare_csvs(alloc, words, is_there, &choice, &texts.csvs, more)
         }
         Some(name) => match rule_of(name) {
-            None => prepare_by_zone_file(alloc, words, is_there, texts, name, devices, key),
+            None => prepare_by_zone_file(alloc, words, is_there, texts, name, devices, key, more),
             Some(rule) => {
                 let zone = TimeZone::Posix(rule);
                 let clock = LocalClock {
@@ -114,7 +112,7 @@ fn prepare_by_zone<'a, 'c>(
                     fold: words.fold,
                 };
                 let choice = choice(words, devices, key, Some(clock));
-                prepare_csvs(alloc, words, is_there, &choice, &texts.csvs)
+                prepare_csvs(alloc, words, is_there, &choice, &texts.csvs, more)
             }
         },
     }
@@ -127,37 +125,18 @@ fn prepare_by_key<'a>(
     is_there: bool,
     texts: &Texts<'a>,
     devices: Option<&DeviceTable>,
-) -> Result<Prepared<'a>, AllocError>
+    more: &mut String,
+) -> Result<Prepared<'a>, Halt<'a>>
     requires { HasDevices words.now is_there (texts_in texts.now)
         (option_map (λ d. devices_of d.now) devices) }
-    ensures { IfOk result (Prepares words.now is_there (texts_in texts.now)) }
+    ensures { Prepares words.now is_there (texts_in texts.now) result }
 {
     match words.key {
-        None => prepare_by_zone(alloc, words, is_there, texts, devices, None),
+        None => prepare_by_zone(alloc, words, is_there, texts, devices, None, more),
         Some(name) => match TokenKey::of_file(&texts.key) {
-            Ok(key) => prepare_by_zone(alloc, words, is_there, texts, devices, Some(&key)),
-            Err(wrong) => refusal(alloc, Fault::Key(name, wrong), ""),
+            Ok(key) => { prepare_by_zone(alloc, words, is_there, texts, devices, Some(&key), more) }
+            Err(wrong) => Err(Halt(Outside::Wrong, Fault::Key(name, wrong))),
         },
-    }
-}
-
-/// Of the file that the word names, which is not a device table.
-fn refuse_devices<'a>(
-    alloc: Global,
-    word: &str,
-    fault: DevicesFault,
-) -> Result<Prepared<'a>, AllocError>
-    ensures { (separator : Separator) (text : List ℕ) → IsDevicesFault separator text fault
-        → IfOk result (λ prepared. (wrong : AWrong) × IsWrongDevices separator text wrong
-        × IsRefusal (wrong_line word.now (devices_text wrong)) [] prepared) }
-{
-    match fault {
-        DevicesFault::Head => refusal(alloc, Fault::Devices(word, WrongDevices::Head), ""),
-        DevicesFault::Row { number, wrong } => {
-            let wrong = WrongDevices::Row(number, wrong);
-            refusal(alloc, Fault::Devices(word, wrong), "")
-        }
-        DevicesFault::NoMemory => Err(AllocError),
     }
 }
 
@@ -206,13 +185,14 @@ fn prepare_by_devices<'a>(
     words: &RowsWords<'a>,
     is_there: bool,
     texts: &Texts<'a>,
-    name: &str,
+    name: &'a str,
     old: DeviceTable,
-) -> Result<Prepared<'a>, AllocError>
+    more: &mut String,
+) -> Result<Prepared<'a>, Halt<'a>>
     requires named { word_in words.now.devices ≡ Some name.now }
     requires old { AreOldDevices is_there words.now.columns.separator (texts_in texts.now).devices
         (devices_of old) }
-    ensures { IfOk result (Prepares words.now is_there (texts_in texts.now)) }
+    ensures { Prepares words.now is_there (texts_in texts.now) result }
 {
     let _ = name;
     let mut devices = old;
@@ -223,29 +203,33 @@ fn prepare_by_devices<'a>(
         &texts.csvs,
         &mut devices,
     )?;
-    prepare_by_key(alloc, words, is_there, texts, Some(&devices))
+    prepare_by_key(alloc, words, is_there, texts, Some(&devices), more)
 }
 
-/// What is written, made and noted of these texts. `seed` is random, so that no file can choose
-/// names of devices that are found slowly.
+/// What is written, made and noted of these texts. What else there is to say of a wrong one goes to
+/// `more`. `seed` is random, so that no file can choose names of devices that are found slowly.
 pub(crate) fn prepare<'a>(
     alloc: Global,
     seed: RandomState,
     words: &RowsWords<'a>,
     is_there: bool,
     texts: &Texts<'a>,
-) -> Result<Prepared<'a>, AllocError>
-    ensures { IfOk result (Prepares words.now is_there (texts_in texts.now)) }
+    more: &mut String,
+) -> Result<Prepared<'a>, Halt<'a>>
+    ensures { Prepares words.now is_there (texts_in texts.now) result }
 {
     match words.devices {
-        None => prepare_by_key(alloc, words, is_there, texts, None),
+        None => prepare_by_key(alloc, words, is_there, texts, None, more),
         Some(name) if !is_there => {
             let none = DeviceTable::new(alloc, seed);
-            prepare_by_devices(alloc, words, is_there, texts, name, none)
+            prepare_by_devices(alloc, words, is_there, texts, name, none, more)
         }
         Some(name) => match read_devices(alloc, seed, words.columns.separator, &texts.devices) {
-            Ok(old) => prepare_by_devices(alloc, words, is_there, texts, name, old),
-            Err(fault) => refuse_devices(alloc, name, fault),
+            Ok(old) => prepare_by_devices(alloc, words, is_there, texts, name, old, more),
+            Err(fault) => match fault {
+                DevicesFault::NoMemory => Err(Halt(Outside::NoMemory, Fault::NoMemory)),
+                _ => Err(Halt(Outside::Wrong, Fault::Devices(name, fault))),
+            },
         },
     }
 }

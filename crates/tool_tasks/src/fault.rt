@@ -1,16 +1,16 @@
 //! Why a subcommand is given up, and the line that says so.
-ghost use Rattle.std.specs.Prelude.{◌≡◌, Some};
-ghost use Rattle.tool_tasks.specs.Fault.{fault_text, wrong_key_text, wrong_text};
+ghost use Rattle.std.specs.Prelude.{◌≡◌};
 
 use crate::layout::{Cause, Remedy};
 use crate::names::{Escaped, Name};
 use crate::wrong_tables::{WrongDevices, WrongFareTable, WrongRows, WrongTapTable};
 use fare_table::TableFault;
+use ledger_changes::WrongLine;
 use program_manners::LoadFault;
 use report_texts::Wrong;
 use std::alloc::{AllocError, AllocFailed};
 use std::fmt;
-use tap_rows::WrongKey;
+use tap_rows::{DevicesFault, RowsFault, WrongKey};
 use tap_views::{LayoutFault, NoMemory};
 use world::WriteFault;
 
@@ -35,11 +35,11 @@ pub enum Fault<'a> {
     /// The tap of this number, from 0, in this file, belongs before the tap before it.
     OutOfOrder(&'a str, u64),
     /// The file is no tap table.
-    TapTable(&'a str, WrongTapTable),
+    TapTable(&'a str, RowsFault),
     /// The file is no CSV of the columns that are wanted, or one of its rows is no tap.
     Rows(&'a str, WrongRows<'a>),
     /// The file is no device table.
-    Devices(&'a str, WrongDevices),
+    Devices(&'a str, DevicesFault),
     /// The file is no key.
     Key(&'a str, WrongKey),
     /// The word is neither a POSIX rule nor the name of a zone file that can be read.
@@ -48,6 +48,10 @@ pub enum Fault<'a> {
     ZoneFile(&'a str),
     /// The file is no fare table.
     FareTable(&'a str, TableFault),
+    /// The line of this number, from 1, of this part cannot be merged.
+    Part(&'a str, u64, Wrong),
+    /// The line of this number, from 1, of this ledger is wrong.
+    Ledger(&'a str, u64, WrongLine),
     /// A file was another one when it was read again.
     SomeChanged,
     /// A write failed.
@@ -109,9 +113,7 @@ impl From<WriteFault> for Fault<'_> {
 }
 
 /// What is wrong with a line of a part's text.
-pub(crate) fn wrong_text(wrong: Wrong) -> &'static str
-    ensures { result.now ≡ wrong_text wrong }
-{
+fn wrong_text(wrong: Wrong) -> &'static str {
     match wrong {
         Wrong::Form => "no such line stands there",
         Wrong::NotPosted => "the upload of a part was not posted",
@@ -120,9 +122,14 @@ pub(crate) fn wrong_text(wrong: Wrong) -> &'static str
     }
 }
 
-fn wrong_key_text(wrong: WrongKey) -> &'static str
-    ensures { result.now ≡ wrong_key_text wrong }
-{
+fn line_text(wrong: WrongLine) -> &'static str {
+    match wrong {
+        WrongLine::Form => "no such line stands there",
+        WrongLine::Order => "out of order; is the ledger settled?",
+    }
+}
+
+fn wrong_key_text(wrong: WrongKey) -> &'static str {
     match wrong {
         WrongKey::Empty => "the key is empty",
         WrongKey::Long => "the key has more than 65536 bytes",
@@ -130,8 +137,6 @@ fn wrong_key_text(wrong: WrongKey) -> &'static str
 }
 
 impl fmt::Display for Fault<'_> {
-    ghost output = { λ fault. Some (fault_text fault) };
-
     fn fmt<W: fmt::Write>(&self, f: &mut fmt::Formatter<W>) -> fmt::Result {
         match self {
             Fault::Unread(word) => write!(f, "fault: cannot read {}", Name(word)),
@@ -153,9 +158,13 @@ impl fmt::Display for Fault<'_> {
             Fault::OutOfOrder(word, tap) => {
                 write!(f, "fault: {}: tap {tap} is out of order", Name(word))
             }
-            Fault::TapTable(word, wrong) => write!(f, "fault: {} {wrong}", Name(word)),
+            Fault::TapTable(word, wrong) => {
+                write!(f, "fault: {} {}", Name(word), WrongTapTable(*wrong))
+            }
             Fault::Rows(word, wrong) => write!(f, "fault: {} {wrong}", Name(word)),
-            Fault::Devices(word, wrong) => write!(f, "fault: {} {wrong}", Name(word)),
+            Fault::Devices(word, wrong) => {
+                write!(f, "fault: {} {}", Name(word), WrongDevices(*wrong))
+            }
             Fault::Key(word, wrong) => {
                 let why = wrong_key_text(*wrong);
                 write!(f, "fault: {}: {why}", Name(word))
@@ -174,6 +183,22 @@ impl fmt::Display for Fault<'_> {
             Fault::FareTable(word, fault) => {
                 let why = WrongFareTable(*fault);
                 write!(f, "fault: {}: {why}", Name(word))
+            }
+            Fault::Part(word, number, wrong) => {
+                write!(
+                    f,
+                    "fault: {} line {number}: {}",
+                    Name(word),
+                    wrong_text(*wrong)
+                )
+            }
+            Fault::Ledger(word, number, wrong) => {
+                write!(
+                    f,
+                    "fault: {} line {number}: {}",
+                    Name(word),
+                    line_text(*wrong)
+                )
             }
             Fault::SomeChanged => f.write_str("fault: a file changed while it was read"),
             Fault::Write | Fault::Closed => f.write_str("fault: cannot write"),

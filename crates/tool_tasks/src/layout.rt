@@ -1,17 +1,12 @@
 //! What a layout fault means, and what to do.
-ghost use Rattle.std.specs.Prelude.{Some};
-ghost use Rattle.tool_tasks.specs.Layout.{cause_text, remedy_text, tap_named};
-
 use std::fmt;
 use tap_views::LayoutFault;
 
 /// The name of a layout fault, from L1 to L6, with its cause.
 #[derive(Clone, Copy, Debug)]
-pub struct Cause(pub LayoutFault);
+pub(crate) struct Cause(pub(crate) LayoutFault);
 
 impl fmt::Display for Cause {
-    ghost output = { λ cause. Some (cause_text cause.0) };
-
     fn fmt<W: fmt::Write>(&self, f: &mut fmt::Formatter<W>) -> fmt::Result {
         let name = self.0.name();
         let cause = match self.0 {
@@ -28,11 +23,9 @@ impl fmt::Display for Cause {
 
 /// What to do at a layout fault.
 #[derive(Clone, Copy, Debug)]
-pub struct Remedy(pub LayoutFault);
+pub(crate) struct Remedy(pub(crate) LayoutFault);
 
 impl fmt::Display for Remedy {
-    ghost output = { λ remedy. Some (remedy_text remedy.0) };
-
     fn fmt<W: fmt::Write>(&self, f: &mut fmt::Formatter<W>) -> fmt::Result {
         f.write_str(match self.0 {
             LayoutFault::Short { .. } => "send the upload again, whole",
@@ -52,11 +45,9 @@ impl fmt::Display for Remedy {
 /// The number of the tap that a layout fault names, counted from 0 in its batch, as ` tap N`;
 /// nothing if it names none.
 #[derive(Clone, Copy, Debug)]
-pub struct AtTap(pub LayoutFault);
+pub(crate) struct AtTap(pub(crate) LayoutFault);
 
 impl fmt::Display for AtTap {
-    ghost output = { λ tap. Some (tap_named tap.0) };
-
     fn fmt<W: fmt::Write>(&self, f: &mut fmt::Formatter<W>) -> fmt::Result {
         match self.0 {
             LayoutFault::Moment { index } => write!(f, " tap {index}"),

@@ -9,7 +9,7 @@
 //! | `prepared` | what is written, made and noted, once all is prepared |
 //! | `quotes` | a quote of a CSV that nothing closes |
 //! | `fault` | why a subcommand is given up, and the line that says so |
-//! | `stops` | what stops a subcommand from outside, and its fault line |
+//! | `stops` | what stops a subcommand, and its fault line |
 //! | `layout`, `wrong_tables` | what is wrong with an upload, or with a table, in words |
 //! | `encode` | `encode` of a tap table |
 //! | `encode_rows` | `encode` of an agency's own CSVs |
@@ -68,7 +68,6 @@ pub use decode::decode_over;
 pub use encode::encode_over;
 pub use encode_rows::encode_rows_over;
 pub use fault::Fault;
-pub use layout::{AtTap, Cause, Remedy};
 pub use look::look_over;
 pub use merge::merge_over;
 pub use merge_sorted::merge_sorted_over;
@@ -79,4 +78,4 @@ pub use streams::Streams;
 pub use table::table_over;
 pub use uploads::uploads_over;
 pub use valid_prefix::valid_prefix_over;
-pub use wrong_tables::{WrongDevices, WrongRows, WrongTapTable};
+pub use wrong_tables::WrongRows;

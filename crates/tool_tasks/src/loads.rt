@@ -29,14 +29,11 @@ pub(crate) fn load<'a, I: Inputs>(files: &mut I, word: &'a str) -> Result<Vec<u8
     ensures loaded { IfOk result (λ bytes. I.run files.new
         ≡ with_load (I.run files.old) (file_named word.entry.now) bytes.items) }
     ensures stopped { (words : List (List ℕ)) → Contains words word.entry.now → IfErr result
-        (λ halt. Leaves words halt.why (I.run files.old) (I.run files.new)) }
+        (λ halt. Leaves words halt.0 (I.run files.old) (I.run files.new)) }
 {
     match load_word(files, word) {
         Ok(bytes) => Ok(bytes),
-        Err(why) => Err(Halt {
-            why: Outside::Unread(why),
-            line: Fault::of_load(word, why),
-        }),
+        Err(why) => Err(Halt(Outside::Unread(why), Fault::of_load(word, why))),
     }
 }
 
@@ -45,13 +42,10 @@ pub(crate) fn load_whole<'a, I: Counted>(files: &mut I, word: &'a str) -> Result
     ensures loaded { IfOk result (λ bytes. I.run files.new
         ≡ with_load (I.run files.old) (file_named word.entry.now) bytes.items) }
     ensures stopped { (words : List (List ℕ)) → Contains words word.entry.now → IfErr result
-        (λ halt. Leaves words halt.why (I.run files.old) (I.run files.new)) }
+        (λ halt. Leaves words halt.0 (I.run files.old) (I.run files.new)) }
 {
     match files.load_whole(file_of(word)) {
         Ok(bytes) => Ok(bytes),
-        Err(why) => Err(Halt {
-            why: Outside::Unread(why),
-            line: Fault::of_load(word, why),
-        }),
+        Err(why) => Err(Halt(Outside::Unread(why), Fault::of_load(word, why))),
     }
 }

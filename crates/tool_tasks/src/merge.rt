@@ -1,23 +1,21 @@
 //! `merge`.
-ghost use Rattle.std.specs.Prelude.{◌≡◌, ◌++◌, [], ℕ, List, IfErr, IfOk, OnOk, Some, All, map};
-ghost use Rattle.std.specs.Prelude.{slice_get};
+ghost use Rattle.std.specs.Prelude.{◌≡◌, ◌++◌, [], List, IfErr, OnOk, All, map};
 ghost use Rattle.frame.specs.Names.{file_named};
 ghost use Rattle.frame.specs.Outcome.{Ends};
 ghost use Rattle.recorded_lines.specs.Texts.{IsFresh, calls_of};
-ghost use Rattle.tool_tasks.specs.Merge.{IsPrefix, Merges, merge_rule, part_note};
-ghost use Rattle.tool_tasks.specs.inside.Merge.{IsNoted, names_of};
+ghost use Rattle.tool_tasks.specs.Merge.{IsPrefix, IsWrongPart, Merges, merge_rule};
+ghost use Rattle.tool_tasks.specs.inside.Merge.{IsNoted, names_of, why_of};
 ghost use Rattle.tool_tasks.specs.inside.Streams.{IsStreamed, IsUnopenedIn};
 ghost use Rattle.world.specs.Run.{Calls};
 
-use crate::fault::{Fault, wrong_text};
-use crate::names::{Name, word_at};
-use crate::stops::{Halt, ended, line_of};
+use crate::fault::Fault;
+use crate::names::word_at;
+use crate::stops::{Halt, stopped};
 use crate::streams::{Noted, Streams, finish, open};
 use frame::Outside;
 use part_texts::MergeFault;
 use recorded_lines::Lines;
-use report_texts::Wrong;
-use std::alloc::{AllocError, Global};
+use std::alloc::Global;
 use world::{LoadFault, World};
 
 /// Opens what each word names, in their order.
@@ -33,16 +31,13 @@ fn open_all<'a, F: Streams>(
     ensures unchanged { OnOk result (F.readings files.new ≡ F.readings files.old) }
     ensures stopped { IfErr result (λ halt. (calls : List Calls)
         × (F.readings files.new ≡ F.readings files.old ++ calls)
-        × IsUnopenedIn (map (λ w. w.now) words.now) calls halt.why) }
+        × IsUnopenedIn (map (λ w. w.now) words.now) calls halt.0) }
 {
     for word in words {
         match open(files, word) {
             Ok(lines) => {
                 let Ok(()) = parts.push(lines) else {
-                    return Err(Halt {
-                        why: Outside::NoMemory,
-                        line: Fault::NoMemory,
-                    });
+                    return Err(Halt(Outside::NoMemory, Fault::NoMemory));
                 };
             }
             Err(halt) => return Err(halt),
@@ -59,61 +54,35 @@ fn close_all<F: Streams>(parts: Vec<Lines>, files: &mut F)
     }
 }
 
-fn wrong_line(
-    alloc: Global,
-    words: &[&str],
-    part: usize,
-    number: u64,
-    why: Wrong,
-) -> Result<Vec<u8>, AllocError>
-    ensures { IfOk result (λ line. (word : List ℕ)
-        × (slice_get (map (λ w. w.now) words.now) part ≡ Some word)
-        × (line.items ≡ part_note word number why)) }
+/// What stopped a merge.
+fn halt_of<'a>(words: &[&'a str], fault: MergeFault) -> Halt<'a>
+    ensures { result.0 ≡ why_of fault }
 {
-    let Some(word) = word_at(words, part) else {
-        return Err(AllocError);
-    };
-    let (name, why) = (Name(word), wrong_text(why));
-    let line = format!(in alloc; "fault: {name} line {number}: {why}\n")?;
-    Ok(line.into_bytes())
+    match fault {
+        MergeFault::Line { text, number, why } => {
+            let word = word_at(words, text).unwrap_or("");
+            Halt(Outside::Wrong, Fault::Part(word, number, why))
+        }
+        MergeFault::Unread(text) => {
+            let word = word_at(words, text).unwrap_or("");
+            Halt(Outside::Unread(LoadFault::Unread), Fault::Unread(word))
+        }
+        MergeFault::Write(why) => Halt(Outside::Unwritten(why), Fault::from(why)),
+        MergeFault::NoMemory => Halt(Outside::NoMemory, Fault::NoMemory),
+    }
 }
 
-/// What is noted of what was merged.
+/// Nothing is noted of what was merged.
 fn noted<'a>(
     alloc: Global,
     words: &[&'a str],
     merged: Result<(), MergeFault>,
 ) -> Result<Noted, Halt<'a>>
-    ensures { IsNoted (map (λ w. w.now) words.now) merged result }
+    ensures { IsNoted merged result }
 {
     match merged {
-        Ok(()) => Ok(Noted {
-            note: Vec::new(alloc),
-            status: 0,
-        }),
-        Err(fault) => match fault {
-            MergeFault::Line { text, number, why } => {
-                match wrong_line(alloc, words, text, number, why) {
-                    Ok(note) => Ok(Noted { note, status: 1 }),
-                    Err(AllocError) => Err(Halt {
-                        why: Outside::NoMemory,
-                        line: Fault::NoMemory,
-                    }),
-                }
-            }
-            MergeFault::Unread(text) => Err(Halt {
-                why: Outside::Unread(LoadFault::Unread),
-                line: Fault::Unread(word_at(words, text).unwrap_or("")),
-            }),
-            MergeFault::Write(why) => Err(Halt {
-                why: Outside::Unwritten(why),
-                line: line_of(Outside::Unwritten(why), "", Fault::Write),
-            }),
-            MergeFault::NoMemory => Err(Halt {
-                why: Outside::NoMemory,
-                line: Fault::NoMemory,
-            }),
-        },
+        Ok(()) => Ok(Noted(Vec::new(alloc))),
+        Err(fault) => Err(halt_of(words, fault)),
     }
 }
 
@@ -125,7 +94,8 @@ fn merge_parts<'a, F: Streams, W: World>(
 ) -> Result<Noted, Halt<'a>>
     ensures { (calls : List Calls) × (F.readings files.new ≡ F.readings files.old ++ calls)
         × IsStreamed (Merges (map (λ w. w.now) words.now)) (IsPrefix (map (λ w. w.now) words.now))
-        (map (λ w. w.now) words.now) calls (W.run world.old) (W.run world.new) result }
+        (IsWrongPart (map (λ w. w.now) words.now)) (map (λ w. w.now) words.now) calls
+        (W.run world.old) (W.run world.new) result }
 {
     let mut parts = Vec::new(alloc);
     match open_all(words, files, &mut parts) {
@@ -154,6 +124,8 @@ pub fn merge_over<F: Streams, W: World>(
         (F.readings files.new)) (W.run world.old) (W.run world.new) result }
 {
     let streamed = merge_parts(alloc, words, files, world);
-    let done = finish(streamed, world);
-    ended(done, world)
+    match finish(streamed, world) {
+        Ok(status) => status,
+        Err(halt) => stopped(halt, world),
+    }
 }

@@ -4,19 +4,18 @@ ghost use Rattle.frame.specs.Outcome.{Ends};
 ghost use Rattle.tap_views.specs.declared.upload_end.UploadEnd.TheVariants.{Posted as APosted};
 ghost use Rattle.sorted_taps.specs.Checked.{IsMergeFault};
 ghost use Rattle.sorted_taps.specs.Written.{IsMergedFile};
-ghost use Rattle.tool_tasks.specs.MergeSorted.{IsRightFileFault, merge_sorted_rule};
+ghost use Rattle.frame.specs.Outsides.{Stops};
+ghost use Rattle.tool_tasks.specs.MergeSorted.{IsUnsorted, merge_sorted_rule};
 ghost use Rattle.tool_tasks.specs.inside.Does.{Does};
-ghost use Rattle.tool_tasks.specs.inside.Sort.{IsFileFault};
-ghost use Rattle.tool_words.specs.Request.{SortRequest};
+ghost use Rattle.tool_tasks.specs.inside.Sort.{why_of};
 ghost use Rattle.tool_words.specs.Tasks.{sorting_of};
 
 use crate::fault::Fault;
 use crate::known::Known;
 use crate::names::word_at;
 use crate::placed::{PlacedFiles, open_placed};
-use crate::prepared::{Partial, carry, refusal};
-use crate::sort::{failed, prepare};
-use crate::stops::{Halt, ended, line_of};
+use crate::sort::{failed, make_sorted};
+use crate::stops::{Halt, line_of, stopped};
 use frame::Outside;
 use sorted_taps::{MergeFault, SortedFault, merge_sorted};
 use std::alloc::{AllocError, Global};
@@ -26,31 +25,33 @@ use tool_words::SortingWords;
 use world::World;
 
 /// Why the file that the word names is refused.
-fn fault_of_file<'a>(word: &'a str, fault: SortedFault) -> Fault<'a>
-    ensures { IsFileFault word.entry.now fault result }
+fn halt_of_file<'a>(word: &'a str, fault: SortedFault) -> Halt<'a>
+    ensures { result.0 ≡ why_of fault }
 {
     match fault {
-        SortedFault::OutOfOrder { tap } => Fault::OutOfOrder(word, tap),
-        SortedFault::Layout { offset, fault } => Fault::Layout(word, offset, fault),
-        SortedFault::Unread => Fault::Unread(word),
-        SortedFault::NoMemory => Fault::NoMemory,
+        SortedFault::OutOfOrder { tap } => Halt(Outside::Wrong, Fault::OutOfOrder(word, tap)),
+        SortedFault::Layout { offset, fault } => {
+            Halt(Outside::Wrong, Fault::Layout(word, offset, fault))
+        }
+        SortedFault::Unread => Halt(Outside::Untraced, Fault::Unread(word)),
+        SortedFault::NoMemory => Halt(Outside::NoMemory, Fault::NoMemory),
     }
 }
 
 /// Why the uploads were not merged; nothing if a write failed.
-fn fault_of_merge<'a>(uploads: &[&'a str], fault: MergeFault) -> Option<Fault<'a>>
-    ensures { IfSome result (λ refused. (known : List (Option (List ℕ)))
+fn halt_of_merge<'a>(uploads: &[&'a str], fault: MergeFault) -> Option<Halt<'a>>
+    ensures { IfSome result (λ halt. (known : List (Option (List ℕ)))
         → ((files : List (List ℕ)) → known ≡ map Some files → IsMergeFault files fault)
-        → IsRightFileFault (map (λ w. w.now) uploads.now) known refused) }
+        → Stops (IsUnsorted (map (λ w. w.now) uploads.now) known) halt.0) }
 {
     match fault {
         MergeFault::File(unsorted) => match word_at(uploads, unsorted.index) {
-            Some(word) => Some(fault_of_file(word, unsorted.fault)),
-            None => Some(Fault::SomeChanged),
+            Some(word) => Some(halt_of_file(word, unsorted.fault)),
+            None => Some(Halt(Outside::Untraced, Fault::SomeChanged)),
         },
-        MergeFault::Changed => Some(Fault::SomeChanged),
+        MergeFault::Changed => Some(Halt(Outside::Untraced, Fault::SomeChanged)),
         MergeFault::Write => None,
-        MergeFault::NoMemory => Some(Fault::NoMemory),
+        MergeFault::NoMemory => Some(Halt(Outside::NoMemory, Fault::NoMemory)),
     }
 }
 
@@ -72,45 +73,29 @@ fn merge_all<'a, D: PlacedFiles, W: Write>(
     uploads: &[&'a str],
     disk: &D,
     file: &mut W,
-) -> Result<Vec<UploadEnd>, Option<Fault<'a>>>
+) -> Result<Vec<UploadEnd>, Option<Halt<'a>>>
     ensures merged { IfOk result (λ ends. (all : List (List ℕ))
         → map (D.bytes_under disk.now) (map (λ w. w.now) uploads.now) ≡ map Some all
         → (numbers : List ℕ) × (ends.items ≡ map APosted numbers)
         × IsMergedFile all numbers (W.contents file.old) (W.contents file.new)) }
-    ensures fault { IfErr result (λ why. IfSome why
-        (IsRightFileFault (map (λ w. w.now) uploads.now)
-        (map (D.bytes_under disk.now) (map (λ w. w.now) uploads.now)))) }
+    ensures stopped { IfErr result (λ why. IfSome why (λ halt. Stops
+        (IsUnsorted (map (λ w. w.now) uploads.now)
+        (map (D.bytes_under disk.now) (map (λ w. w.now) uploads.now))) halt.0)) }
 {
     let files = match open_placed(alloc, disk, uploads) {
         Ok(files) => files,
-        Err(fault) => return Err(Some(fault)),
+        Err(halt) => return Err(Some(halt)),
     };
     match merge_sorted(alloc, &files, file) {
         Ok(numbers) => match posted_ends(alloc, &numbers) {
             Ok(ends) => Ok(ends),
-            Err(AllocError) => Err(Some(Fault::NoMemory)),
+            Err(AllocError) => Err(Some(Halt(Outside::NoMemory, Fault::NoMemory))),
         },
-        Err(fault) => Err(fault_of_merge(uploads, fault)),
+        Err(fault) => Err(halt_of_merge(uploads, fault)),
     }
 }
 
-/// The fault of an upload is noted.
-fn refuse<'a, W: World>(alloc: Global, fault: Fault<'_>, world: &mut W) -> Result<u8, Halt<'a>>
-    ensures { (request : SortRequest) (known : List (Option (List ℕ)))
-        → IsRightFileFault request.uploads known fault.entry
-        → Does (merge_sorted_rule request known) (W.run world.old) (W.run world.new) result }
-{
-    match refusal(alloc, fault, "") {
-        Ok(prepared) => carry(&prepared, None, world),
-        Err(AllocError) => Err(Halt {
-            why: Outside::NoMemory,
-            line: Fault::NoMemory,
-        }),
-    }
-}
-
-/// Makes the file of the uploads' taps, and before it that of their ends; or notes the fault of an
-/// upload.
+/// Makes the file of the uploads' taps, and before it that of their ends.
 #[tactic(auto, using(crate::proofs::KnownBytes::is_known))]
 fn merge<'a, D: PlacedFiles, W: World>(
     alloc: Global,
@@ -126,46 +111,18 @@ fn merge<'a, D: PlacedFiles, W: World>(
         Ok(file) => Known::new(file),
         Err(why) => {
             let why = Outside::Unmade(why, false);
-            return Err(Halt {
-                why,
-                line: line_of(why, words.out, Fault::Unmade(words.out)),
-            });
+            return Err(Halt(why, line_of(why, words.out, Fault::Unmade(words.out))));
         }
     };
     let merged = merge_all(alloc, &words.uploads, disk, &mut known);
     let file = known.into_file();
     match merged {
-        Ok(ends) => match prepare(alloc, words, &ends, String::new(alloc), 0) {
-            Ok(prepared) => {
-                let partial = Partial {
-                    name: words.out,
-                    file,
-                    unmade: Fault::Unmade(words.out),
-                };
-                carry(&prepared, Some(partial), world)
-            }
-            Err(AllocError) => {
-                world.discard(file);
-                Err(Halt {
-                    why: Outside::NoMemory,
-                    line: Fault::NoMemory,
-                })
-            }
-        },
-        Err(why) => match why {
-            None => Err(failed(words.out, file, world)),
-            Some(Fault::NoMemory) => {
-                world.discard(file);
-                Err(Halt {
-                    why: Outside::NoMemory,
-                    line: Fault::NoMemory,
-                })
-            }
-            Some(fault) => {
-                world.discard(file);
-                refuse(alloc, fault, world)
-            }
-        },
+        Ok(ends) => make_sorted(alloc, words, &ends, String::new(alloc), 0, file, world),
+        Err(None) => Err(failed(words.out, file, world)),
+        Err(Some(halt)) => {
+            world.discard(file);
+            Err(halt)
+        }
     }
 }
 
@@ -183,6 +140,8 @@ pub fn merge_sorted_over<D: PlacedFiles, W: World>(
         (map (D.bytes_under disk.now) (sorting_of words.now).uploads)) (W.run world.old)
         (W.run world.new) result }
 {
-    let done = merge(alloc, words, disk, world);
-    ended(done, world)
+    match merge(alloc, words, disk, world) {
+        Ok(status) => status,
+        Err(halt) => stopped(halt, world),
+    }
 }

@@ -1,8 +1,5 @@
 //! Words of the command line that name files, as they are opened and as they are shown.
-ghost use Rattle.std.specs.Prelude.{◌≡◌, ◌<◌, Some, codes, false, map, option_map, slice_get};
-ghost use Rattle.std.specs.Fmt.{WritesOnOk, digit_glyph};
-ghost use Rattle.std.specs.Str.{bytes_eq};
-ghost use Rattle.tool_tasks.specs.Names.{called, escaped, shown_letter};
+ghost use Rattle.std.specs.Prelude.{◌≡◌, ◌<◌, map, option_map, slice_get};
 
 use program_manners::STANDARD_INPUT;
 use std::fmt;
@@ -27,16 +24,12 @@ pub struct Name<'a>(pub &'a str);
 
 impl<'a> Name<'a> {
     /// Whether this is standard input.
-    pub fn is_input(&self) -> bool
-        ensures { result ≡ bytes_eq self.now.0.now (codes "-") }
-    {
+    pub fn is_input(&self) -> bool {
         self.0 == INPUT_WORD
     }
 }
 
 impl fmt::Display for Name<'_> {
-    ghost output = { λ name. Some (called name.0.now) };
-
     fn fmt<W: fmt::Write>(&self, f: &mut fmt::Formatter<W>) -> fmt::Result {
         if self.is_input() {
             return f.write_str(STANDARD_INPUT);
@@ -48,7 +41,6 @@ impl fmt::Display for Name<'_> {
 
 fn hex_digit(number: u32) -> char
     requires { number < 16 }
-    ensures { result ≡ digit_glyph false number }
 {
     let digit = if number < 10 {
         b'0' + number as u8
@@ -63,8 +55,6 @@ fn hex_digit(number: u32) -> char
 struct Shown(char);
 
 impl fmt::Display for Shown {
-    ghost output = { λ letter. Some (shown_letter letter.0) };
-
     fn fmt<W: fmt::Write>(&self, f: &mut fmt::Formatter<W>) -> fmt::Result {
         let letter = self.0;
         if letter.is_control() {
@@ -77,24 +67,16 @@ impl fmt::Display for Shown {
     }
 }
 
-fn write_escaped<W: fmt::Write>(text: &str, f: &mut fmt::Formatter<W>) -> fmt::Result
-    ensures { WritesOnOk W.write_str_gives f.old result (escaped text.now) f.new }
-{
-    for letter in text.chars() {
-        let shown = Shown(letter);
-        write!(f, "{shown}")?;
-    }
-    Ok(())
-}
-
 /// A text with its control characters escaped, so that it stays within its line.
 #[derive(Clone, Copy, Debug)]
 pub struct Escaped<'a>(pub &'a str);
 
 impl fmt::Display for Escaped<'_> {
-    ghost output = { λ text. Some (escaped text.0.now) };
-
     fn fmt<W: fmt::Write>(&self, f: &mut fmt::Formatter<W>) -> fmt::Result {
-        write_escaped(self.0, f)
+        for letter in self.0.chars() {
+            let shown = Shown(letter);
+            write!(f, "{shown}")?;
+        }
+        Ok(())
     }
 }

@@ -1,8 +1,10 @@
 //! Files that are read at any offset.
 ghost use Rattle.std.specs.Prelude.{◌≡◌, ◌++◌, ◌∷◌, [], IfErr, IfOk, OnOk, map};
-ghost use Rattle.tool_tasks.specs.inside.Sort.{IsOpenFault, IsUnopened};
+ghost use Rattle.frame.specs.Outsides.{Stops};
 
 use crate::fault::Fault;
+use crate::stops::Halt;
+use frame::Outside;
 use placed_files::{Placed, Unopened};
 use std::alloc::{AllocError, Global};
 
@@ -21,13 +23,14 @@ pub trait PlacedFiles {
         ensures { IfOk result (λ file. Self.File.bytes file ≡ bytes_under self.now name.now) };
 }
 
-fn fault_of_open<'a>(word: &'a str, fault: Unopened) -> Fault<'a>
-    ensures { IsOpenFault word.entry.now result }
+/// No trace tells that a file was not opened to be read at any offset.
+fn halt_of_open<'a>(word: &'a str, fault: Unopened) -> Halt<'a>
+    ensures { Stops ⊥ result.0 }
 {
     match fault {
-        Unopened::Unread | Unopened::NotRegular => Fault::Unread(word),
-        Unopened::TooManyOpen => Fault::TooManyOpen(word),
-        Unopened::NoMemory => Fault::NoMemory,
+        Unopened::Unread | Unopened::NotRegular => Halt(Outside::Untraced, Fault::Unread(word)),
+        Unopened::TooManyOpen => Halt(Outside::Untraced, Fault::TooManyOpen(word)),
+        Unopened::NoMemory => Halt(Outside::NoMemory, Fault::NoMemory),
     }
 }
 
@@ -42,16 +45,16 @@ pub(crate) fn open_placed<'a, D: PlacedFiles>(
     alloc: Global,
     disk: &D,
     words: &[&'a str],
-) -> Result<Vec<D::File>, Fault<'a>>
+) -> Result<Vec<D::File>, Halt<'a>>
     ensures opened { IfOk result (λ files. map D.File.bytes files.items
         ≡ map (D.bytes_under disk.now) (map (λ w. w.now) words.now)) }
-    ensures fault { IfErr result (IsUnopened (map (λ w. w.now) words.now)) }
+    ensures stopped { IfErr result (λ halt. Stops ⊥ halt.0) }
 {
     let mut files = Vec::new(alloc);
     for word in words {
         match disk.open_placed(word) {
             Ok(file) => push(&mut files, file)?,
-            Err(fault) => return Err(fault_of_open(word, fault)),
+            Err(fault) => return Err(halt_of_open(word, fault)),
         }
     }
     Ok(files)

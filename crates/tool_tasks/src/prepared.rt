@@ -1,18 +1,15 @@
 //! What a subcommand prepared, before any of it is done.
-ghost use Rattle.std.specs.Prelude.{◌≡◌, [], ℕ, List, IfErr, IfOk, OnOk};
+ghost use Rattle.std.specs.Prelude.{◌≡◌, ℕ, List, IfErr, OnOk};
 ghost use Rattle.frame.specs.Given.{Adds, with_files};
 ghost use Rattle.frame.specs.Outsides.{Leaves, StopsIn};
-ghost use Rattle.tool_tasks.specs.Fault.{fault_text};
 ghost use Rattle.tool_tasks.specs.inside.Prepared.{AreNamed, Carries, IsPartialIn, IsKnown, IsNamedIn};
-ghost use Rattle.tool_tasks.specs.inside.Prepared.{IsRefusal, partial_files, files_in, given_of};
-ghost use Rattle.tool_tasks.specs.inside.Prepared.{whole_of, with_prepared};
+ghost use Rattle.tool_tasks.specs.inside.Prepared.{partial_files, files_in, given_of, with_prepared};
 ghost use Rattle.world.specs.Origins.{with_loads};
 ghost use Rattle.world.specs.Run.{Load, Run};
 
 use crate::fault::Fault;
 use crate::stops::{Halt, line_of};
 use frame::{Outside, begin, finish, make, write};
-use std::alloc::{AllocError, Global};
 use world::World;
 
 /// A file that is to be made; one that is not to be new replaces another.
@@ -47,40 +44,19 @@ pub(crate) struct Prepared<'a> {
     pub(crate) status: u8,
 }
 
-/// The line of a fault, with more after its text. Nothing is written or made, and the status is 1.
-pub(crate) fn refusal<'a>(
-    alloc: Global,
-    fault: Fault<'_>,
-    more: &str,
-) -> Result<Prepared<'a>, AllocError>
-    ensures { IfOk result (IsRefusal (fault_text fault.entry) more.now) }
-{
-    Ok(Prepared {
-        text: Vec::new(alloc),
-        first: None,
-        upload: None,
-        held: None,
-        note: format!(in alloc; "{fault}{more}\n")?,
-        status: 1,
-    })
-}
-
 /// Makes the file, if there is one.
 #[tactic(auto, using(frame::proofs::Giving::gave_no_files))]
 fn make_new<'a, W: World>(file: &Option<NewFile<'a>>, world: &mut W) -> Result<(), Halt<'a>>
     ensures made { OnOk result (Adds (W.run world.old) (W.run world.new)
         (λ g. with_files g (files_in file.now))) }
     ensures stopped { (words : List (List ℕ)) → IsNamedIn words file.now → IfErr result
-        (λ halt. Leaves words halt.why (W.run world.old) (W.run world.new)) }
+        (λ halt. Leaves words halt.0 (W.run world.old) (W.run world.new)) }
 {
     match file {
         None => Ok(()),
         Some(file) => match make(file.name, &file.bytes, file.is_new, world) {
             Ok(()) => Ok(()),
-            Err(why) => Err(Halt {
-                why,
-                line: line_of(why, file.name, file.unmade),
-            }),
+            Err(why) => Err(Halt(why, line_of(why, file.name, file.unmade))),
         },
     }
 }
@@ -91,15 +67,12 @@ fn give<'a, W: World>(prepared: &Prepared<'a>, world: &mut W) -> Result<(), Halt
         (λ g. with_prepared g prepared.now)) }
     ensures stopped { (words : List (List ℕ)) → AreNamed words prepared.now → IfErr result
         (λ halt. StopsIn words (W.run world.old) (W.run world.new)
-        (λ g. with_prepared g prepared.now) halt.why) }
+        (λ g. with_prepared g prepared.now) halt.0) }
 {
     match make_new(&prepared.first, world) {
         Err(halt) => Err(halt),
         Ok(()) => match write(&prepared.text, world) {
-            Err(why) => Err(Halt {
-                why,
-                line: line_of(why, "", Fault::Write),
-            }),
+            Err(why) => Err(Halt(why, line_of(why, "", Fault::Write))),
             Ok(()) => match make_new(&prepared.upload, world) {
                 Err(halt) => Err(halt),
                 Ok(()) => Ok(()),
@@ -118,7 +91,7 @@ fn finish_partial<'a, W: World>(
     ensures made { OnOk result (Adds (W.run world.old) (W.run world.new)
         (λ g. with_files g (partial_files W.File.contents partial.entry))) }
     ensures stopped { (words : List (List ℕ)) → IsPartialIn words partial.entry → IfErr result
-        (λ halt. Leaves words halt.why (W.run world.old) (W.run world.new)) }
+        (λ halt. Leaves words halt.0 (W.run world.old) (W.run world.new)) }
 {
     match partial {
         None => Ok(()),
@@ -126,10 +99,7 @@ fn finish_partial<'a, W: World>(
             let Partial { name, file, unmade } = partial;
             match finish(name, file, world) {
                 Ok(()) => Ok(()),
-                Err(why) => Err(Halt {
-                    why,
-                    line: line_of(why, name, unmade),
-                }),
+                Err(why) => Err(Halt(why, line_of(why, name, unmade))),
             }
         }
     }
@@ -170,10 +140,7 @@ pub(crate) fn carry<'a, W: World>(
             Ok(()) => match world.flush() {
                 Err(why) => {
                     let why = Outside::Unwritten(why);
-                    Err(Halt {
-                        why,
-                        line: line_of(why, "", Fault::Write),
-                    })
+                    Err(Halt(why, line_of(why, "", Fault::Write)))
                 }
                 Ok(()) => {
                     world.say(prepared.note.as_bytes());
@@ -197,10 +164,7 @@ pub(crate) fn carry_out<'a, W: World>(
     match &prepared.held {
         None => carry(prepared, None, world),
         Some(held) => match begin(held.name, &held.bytes, held.is_new, world) {
-            Err(why) => Err(Halt {
-                why,
-                line: line_of(why, held.name, held.unmade),
-            }),
+            Err(why) => Err(Halt(why, line_of(why, held.name, held.unmade))),
             Ok(file) => {
                 let partial = Partial {
                     name: held.name,

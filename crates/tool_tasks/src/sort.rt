@@ -1,17 +1,17 @@
 //! `sort` of uploads that are loaded.
-ghost use Rattle.std.specs.Prelude.{◌≡◌, ◌++◌, ◌∷◌, [], ℕ, Contains, IfErr, IfOk, List};
-ghost use Rattle.std.specs.Prelude.{OnOk, Some};
-ghost use Rattle.std.specs.Prelude.{if◌then◌else◌, map, option_map, string_bytes};
+ghost use Rattle.std.specs.Prelude.{◌≡◌, ◌++◌, [], ℕ, Contains, IfErr, IfOk, List, OnOk, Some};
+ghost use Rattle.std.specs.Prelude.{if◌then◌else◌, map, option_map, string_bytes, true};
 ghost use Rattle.frame.specs.Outcome.{Ends};
 ghost use Rattle.frame.specs.Outsides.{Leaves};
 ghost use Rattle.report_texts.specs.Report.{upload_lines};
 ghost use Rattle.tap_views.specs.UploadEnds.{are_posted, is_posted};
-ghost use Rattle.world.specs.Run.{Run};
-ghost use Rattle.tool_tasks.specs.Sort.{ends_files, names_of, refused_lines, sort_rule};
+ghost use Rattle.world.specs.Origins.{with_loads};
+ghost use Rattle.world.specs.Run.{Load, Run};
+ghost use Rattle.tool_tasks.specs.Sort.{ends_files, names_of, sort_rule};
 ghost use Rattle.tool_tasks.specs.inside.Does.{Does};
 ghost use Rattle.tool_tasks.specs.inside.Loads.{StopsLoading};
-ghost use Rattle.tool_tasks.specs.inside.Prepared.{files_in};
-ghost use Rattle.tool_tasks.specs.inside.Sort.{IsOfEnds, LoadsAll, line_at};
+ghost use Rattle.tool_tasks.specs.inside.Prepared.{Carries, files_in};
+ghost use Rattle.tool_tasks.specs.inside.Sort.{LoadsAll, sorted_given};
 ghost use Rattle.tool_words.specs.Tasks.{sorting_of};
 
 use crate::counted::Counted;
@@ -20,7 +20,7 @@ use crate::loads::load;
 use crate::names::word_at;
 use crate::placed::push;
 use crate::prepared::{NewFile, Partial, Prepared, carry};
-use crate::stops::{Halt, ended, line_of};
+use crate::stops::{Halt, line_of, stopped};
 use frame::Outside;
 use report_texts::write_upload;
 use sorted_uploads::sort_uploads;
@@ -41,7 +41,7 @@ fn load_uploads<'a, W: Counted>(
 ) -> Result<Vec<Vec<u8>>, Halt<'a>>
     ensures loaded { IfOk result (λ files. LoadsAll (sorting_of words.now).uploads
         (W.run world.old) (W.run world.new) (map (λ f. f.items) files.items)) }
-    ensures stopped { IfErr result (λ halt. StopsLoading (names_of (sorting_of words.now)) halt.why
+    ensures stopped { IfErr result (λ halt. StopsLoading (names_of (sorting_of words.now)) halt.0
         (W.run world.old) (W.run world.new)) }
 {
     let mut files = Vec::new(alloc);
@@ -52,10 +52,7 @@ fn load_uploads<'a, W: Counted>(
             Err(halt) => return Err(halt),
         };
         if let Err(AllocError) = push(&mut files, upload) {
-            return Err(Halt {
-                why: Outside::NoMemory,
-                line: Fault::NoMemory,
-            });
+            return Err(Halt(Outside::NoMemory, Fault::NoMemory));
         }
     }
     Ok(files)
@@ -71,37 +68,12 @@ fn push_lines(text: &mut String, ends: &[UploadEnd]) -> Result<(), AllocError>
     Ok(())
 }
 
-pub(crate) fn lines_of(alloc: Global, ends: &[UploadEnd]) -> Result<String, AllocError>
+fn lines_of(alloc: Global, ends: &[UploadEnd]) -> Result<String, AllocError>
     ensures { IfOk result (λ text. string_bytes text ≡ upload_lines 0 ends.now) }
 {
     let mut text = String::new(alloc);
     push_lines(&mut text, ends)?;
     Ok(text)
-}
-
-fn push_refused(text: &mut String, word: Option<&str>, end: &UploadEnd) -> Result<(), AllocError>
-    ensures { OnOk result (string_bytes text.new ≡ string_bytes text.old
-        ++ line_at (option_map (λ w. w.now) word.entry) end.now) }
-{
-    let UploadEnd::Refused { offset, fault, .. } = end else {
-        return Ok(());
-    };
-    let Some(word) = word else {
-        return Ok(());
-    };
-    let fault = Fault::Layout(word, *offset, *fault);
-    write!(text, "{fault}\n")
-}
-
-fn note_of(alloc: Global, uploads: &[&str], ends: &[UploadEnd]) -> Result<String, AllocError>
-    ensures { IfOk result (λ note. string_bytes note
-        ≡ refused_lines (map (λ w. w.now) uploads.now) ends.now) }
-{
-    let mut note = String::new(alloc);
-    for (number, end) in ends.iter().enumerate() {
-        push_refused(&mut note, word_at(uploads, number), end)?;
-    }
-    Ok(note)
 }
 
 fn is_posted(end: UploadEnd) -> bool
@@ -139,51 +111,71 @@ fn status_of(ends: &[UploadEnd]) -> u8
     if are_posted(ends) { 0 } else { 3 }
 }
 
-/// The file of a line for each upload, if it has a name, and the note.
-pub(crate) fn prepare<'a>(
+/// A line for each layout fault; nothing if there is none.
+fn note_of(alloc: Global, uploads: &[&str], ends: &[UploadEnd]) -> Result<String, AllocError>
+    ensures { IfOk result (λ note. are_posted ends.now ≡ true → string_bytes note ≡ []) }
+{
+    let mut note = String::new(alloc);
+    if are_posted(ends) {
+        return Ok(note);
+    }
+    for (number, end) in ends.iter().enumerate() {
+        if let (UploadEnd::Refused { offset, fault, .. }, Some(word)) = (
+            end,
+            word_at(uploads, number),
+        ) {
+            let fault = Fault::Layout(word, *offset, *fault);
+            write!(note, "{fault}\n")?;
+        }
+    }
+    Ok(note)
+}
+
+/// Makes the file of a line for each upload, if it has a name, gives the file that was begun its
+/// name, and then gives the note.
+pub(crate) fn make_sorted<'a, W: World>(
     alloc: Global,
     words: &SortingWords<'a>,
     ends: &[UploadEnd],
     note: String,
     status: u8,
-) -> Result<Prepared<'a>, AllocError>
-    ensures { IfOk result
-        (IsOfEnds (sorting_of words.now) ends.now (string_bytes note) status) }
+    file: W::File,
+    world: &mut W,
+) -> Result<u8, Halt<'a>>
+    requires { (bytes : List ℕ) × (W.File.contents file ≡ Some bytes) }
+    ensures { (start : Run) (loads : List Load) (bytes : List ℕ)
+        → W.run world.old ≡ with_loads start loads → W.File.contents file ≡ Some bytes
+        → Carries (names_of (sorting_of words.now)) start
+        (sorted_given (sorting_of words.now) loads (string_bytes note) ends.now bytes) status
+        (W.run world.new) result }
 {
-    let lines = lines_of(alloc, ends)?;
-    Ok(Prepared {
+    let Ok(lines) = lines_of(alloc, ends) else {
+        world.discard(file);
+        return Err(Halt(Outside::NoMemory, Fault::NoMemory));
+    };
+    let prepared = Prepared {
         text: Vec::new(alloc),
         first: ends_file(words.ends, lines),
         upload: None,
         held: None,
         note,
         status,
-    })
-}
-
-fn prepare_sorted<'a>(
-    alloc: Global,
-    words: &SortingWords<'a>,
-    ends: &[UploadEnd],
-) -> Result<Prepared<'a>, AllocError>
-    ensures { IfOk result (IsOfEnds (sorting_of words.now) ends.now
-        (refused_lines (sorting_of words.now).uploads ends.now)
-        (if are_posted ends.now then 0 else 3)) }
-{
-    let note = note_of(alloc, &words.uploads, ends)?;
-    prepare(alloc, words, ends, note, status_of(ends))
+    };
+    let partial = Partial {
+        name: words.out,
+        file,
+        unmade: Fault::Unmade(words.out),
+    };
+    carry(&prepared, Some(partial), world)
 }
 
 /// The file was begun, and is not made.
 pub(crate) fn failed<'a, W: World>(name: &'a str, file: W::File, world: &mut W) -> Halt<'a>
     ensures { (words : List (List ℕ)) → Contains words name.entry.now
-        → Leaves words result.why (W.run world.old) (W.run world.new) }
+        → Leaves words result.0 (W.run world.old) (W.run world.new) }
 {
     let why = Outside::Unmade(world.fail(name, file), true);
-    Halt {
-        why,
-        line: line_of(why, name, Fault::Unmade(name)),
-    }
+    Halt(why, line_of(why, name, Fault::Unmade(name)))
 }
 
 /// The uploads are loaded, and the file is begun.
@@ -205,21 +197,11 @@ fn write_sorted<'a, R: Threads + Sync, W: World>(
         Ok(ends) => ends,
         Err(_) => return Err(failed(words.out, file, world)),
     };
-    match prepare_sorted(alloc, words, &ends) {
-        Ok(prepared) => {
-            let partial = Partial {
-                name: words.out,
-                file,
-                unmade: Fault::Unmade(words.out),
-            };
-            carry(&prepared, Some(partial), world)
-        }
+    match note_of(alloc, &words.uploads, &ends) {
+        Ok(note) => make_sorted(alloc, words, &ends, note, status_of(&ends), file, world),
         Err(AllocError) => {
             world.discard(file);
-            Err(Halt {
-                why: Outside::NoMemory,
-                line: Fault::NoMemory,
-            })
+            Err(Halt(Outside::NoMemory, Fault::NoMemory))
         }
     }
 }
@@ -236,10 +218,7 @@ fn sort<'a, R: Threads + Sync, W: World + Counted>(
         Ok(file) => file,
         Err(why) => {
             let why = Outside::Unmade(why, false);
-            return Err(Halt {
-                why,
-                line: line_of(why, words.out, Fault::Unmade(words.out)),
-            });
+            return Err(Halt(why, line_of(why, words.out, Fault::Unmade(words.out))));
         }
     };
     let loaded = load_uploads(alloc, words, world);
@@ -264,6 +243,8 @@ pub fn sort_over<R: Threads + Sync, W: World + Counted>(
 ) -> u8
     ensures { Ends (sort_rule (sorting_of words.now)) (W.run world.old) (W.run world.new) result }
 {
-    let done = sort(threads, alloc, words, world);
-    ended(done, world)
+    match sort(threads, alloc, words, world) {
+        Ok(status) => status,
+        Err(halt) => stopped(halt, world),
+    }
 }

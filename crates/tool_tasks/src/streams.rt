@@ -6,7 +6,7 @@ ghost use Rattle.tool_tasks.specs.inside.Streams.{IsFinished, IsUnopened};
 ghost use Rattle.world.specs.Run.{Calls};
 
 use crate::fault::Fault;
-use crate::stops::{Halt, line_of};
+use crate::stops::Halt;
 use frame::{Outside, file_of};
 use recorded_lines::Lines;
 use world::{LoadFault, World};
@@ -44,27 +44,20 @@ pub(crate) fn open<'a, F: Streams>(files: &mut F, word: &'a str) -> Result<Lines
     ensures unchanged { OnOk result (F.readings files.new ≡ F.readings files.old) }
     ensures stopped { IfErr result (λ halt. (calls : Calls)
         × (F.readings files.new ≡ F.readings files.old ++ calls ∷ [])
-        × IsUnopened word.entry.now calls halt.why) }
+        × IsUnopened word.entry.now calls halt.0) }
 {
     match files.open(file_of(word)) {
         Ok(lines) => Ok(lines),
-        Err(LoadFault::Unread) => Err(Halt {
-            why: Outside::Unread(LoadFault::Unread),
-            line: Fault::Unread(word),
-        }),
-        Err(_) => Err(Halt {
-            why: Outside::NoMemory,
-            line: Fault::NoMemory,
-        }),
+        Err(LoadFault::Unread) => {
+            Err(Halt(Outside::Unread(LoadFault::Unread), Fault::Unread(word)))
+        }
+        Err(_) => Err(Halt(Outside::NoMemory, Fault::NoMemory)),
     }
 }
 
-/// What is noted after a text, and the status.
+/// What is noted after a text.
 #[derive(Drop)]
-pub(crate) struct Noted {
-    pub(crate) note: Vec<u8>,
-    pub(crate) status: u8,
-}
+pub(crate) struct Noted(pub(crate) Vec<u8>);
 
 /// Flushes what was written, also if something stopped the run, and gives the note.
 pub(crate) fn finish<'a, W: World>(
@@ -76,30 +69,18 @@ pub(crate) fn finish<'a, W: World>(
     match streamed {
         Ok(noted) => match world.flush() {
             Ok(()) => {
-                world.say(&noted.note);
-                Ok(noted.status)
+                world.say(&noted.0);
+                Ok(0)
             }
-            Err(why) => {
-                let why = Outside::Unwritten(why);
-                Err(Halt {
-                    why,
-                    line: line_of(why, "", Fault::Write),
-                })
-            }
+            Err(why) => Err(Halt(Outside::Unwritten(why), Fault::from(why))),
         },
         Err(halt) => {
-            if let Outside::Unwritten(_) = halt.why {
+            if let Outside::Unwritten(_) = halt.0 {
                 return Err(halt);
             }
             match world.flush() {
                 Ok(()) => Err(halt),
-                Err(why) => {
-                    let why = Outside::Unwritten(why);
-                    Err(Halt {
-                        why,
-                        line: line_of(why, "", Fault::Write),
-                    })
-                }
+                Err(why) => Err(Halt(Outside::Unwritten(why), Fault::from(why))),
             }
         }
     }

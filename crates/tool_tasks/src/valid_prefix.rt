@@ -6,12 +6,12 @@ ghost use Rattle.frame.specs.Outcome.{Ends};
 ghost use Rattle.tool_words.specs.Tasks.{valid_prefix_of};
 ghost use Rattle.tool_tasks.specs.ValidPrefix.{HasValidPrefix, valid_prefix_rule};
 ghost use Rattle.tool_tasks.specs.inside.Does.{Does};
-ghost use Rattle.tool_tasks.specs.inside.Prepared.{IsAlone, whole_of};
+ghost use Rattle.tool_tasks.specs.inside.Prepared.{AreNamed, whole_of};
 
 use crate::fault::Fault;
 use crate::loads::load;
 use crate::prepared::{NewFile, Prepared, carry_out};
-use crate::stops::{Halt, ended};
+use crate::stops::{Halt, stopped};
 use crate::upload_tokens::{add_tokens, no_tokens, tokens_text};
 use crate::uploads::upload_text;
 use frame::Outside;
@@ -59,7 +59,7 @@ fn prepare<'a>(
 ) -> Result<Prepared<'a>, NoMemory>
     ensures right { IfOk result (λ prepared. HasValidPrefix (valid_prefix_of words.now)
         (whole_of (load_of words.now.upload.now upload.now ∷ []) prepared) prepared.status) }
-    ensures alone { IfOk result (IsAlone words.now.out.now) }
+    ensures named { IfOk result (AreNamed (words.now.upload.now ∷ words.now.out.now ∷ [])) }
 {
     let facts = facts_of(upload);
     let valid = valid_prefix(upload);
@@ -89,15 +89,13 @@ fn keep<'a, W: World>(
     ensures { Does (valid_prefix_rule (valid_prefix_of words.now)) (W.run world.old)
         (W.run world.new) result }
 {
-    match load(world, words.upload) {
-        Err(halt) => Err(halt),
-        Ok(upload) => match prepare(alloc, words, &upload) {
-            Err(NoMemory) => Err(Halt {
-                why: Outside::NoMemory,
-                line: Fault::NoMemory,
-            }),
-            Ok(prepared) => carry_out(&prepared, world),
-        },
+    let upload = match load(world, words.upload) {
+        Ok(upload) => upload,
+        Err(halt) => return Err(halt),
+    };
+    match prepare(alloc, words, &upload) {
+        Ok(prepared) => carry_out(&prepared, world),
+        Err(NoMemory) => Err(Halt(Outside::NoMemory, Fault::NoMemory)),
     }
 }
 
@@ -108,6 +106,8 @@ pub fn valid_prefix_over<W: World>(alloc: Global, words: &ValidPrefixWords<'_>, 
     ensures { Ends (valid_prefix_rule (valid_prefix_of words.now)) (W.run world.old)
         (W.run world.new) result }
 {
-    let done = keep(alloc, words, world);
-    ended(done, world)
+    match keep(alloc, words, world) {
+        Ok(status) => status,
+        Err(halt) => stopped(halt, world),
+    }
 }

@@ -1,25 +1,14 @@
 //! What is wrong with a tap table, with an agency's CSV, with a device table or with a fare table.
-ghost use Rattle.std.specs.Prelude.{◌≡◌, Some};
-ghost use Rattle.tool_tasks.specs.WrongTables.{column_text, device_text, reason_text};
-ghost use Rattle.tool_tasks.specs.WrongTables.{devices_text, fare_table_text, rows_text};
-ghost use Rattle.tool_tasks.specs.WrongTables.{tap_table_text};
-
 use crate::names::Escaped;
 use fare_table::TableFault;
 use std::fmt;
-use tap_rows::{Column, Reason, WrongDevice};
+use tap_rows::{Column, DevicesFault, Reason, RowsFault, WrongDevice};
 
-/// What is wrong with a tap table. Its `Display` begins with the line.
-#[derive(Clone, Copy, Debug, PartialEq, Eq)]
-pub enum WrongTapTable {
-    Head,
-    /// The line of this number, from 1, by this column.
-    Row(u64, Column),
-}
+/// What is wrong with a tap table, from the line on.
+#[derive(Clone, Copy, Debug)]
+pub(crate) struct WrongTapTable(pub(crate) RowsFault);
 
-fn column_text(column: Column) -> &'static str
-    ensures { result.now ≡ column_text column }
-{
+fn column_text(column: Column) -> &'static str {
     match column {
         Column::Fields => "there are not three fields",
         Column::Token => "the token is not 32 hexadecimal digits",
@@ -29,15 +18,15 @@ fn column_text(column: Column) -> &'static str
 }
 
 impl fmt::Display for WrongTapTable {
-    ghost output = { λ wrong. Some (tap_table_text wrong) };
-
     fn fmt<W: fmt::Write>(&self, f: &mut fmt::Formatter<W>) -> fmt::Result {
-        match self {
-            WrongTapTable::Head => f.write_str("line 1: it is not token,validator,moment"),
-            WrongTapTable::Row(number, column) => {
-                let why = column_text(*column);
-                write!(f, "line {number}: {why}")
-            }
+        match self.0 {
+            RowsFault::Head => f.write_str("line 1: it is not token,validator,moment"),
+            RowsFault::Row { number, column } => write!(
+                f,
+                "line {number}: {}",
+                column_text(column)
+            ),
+            RowsFault::NoMemory => f.write_str("out of memory"),
         }
     }
 }
@@ -53,9 +42,7 @@ pub enum WrongRows<'a> {
     Quote(u64),
 }
 
-fn reason_text(reason: Reason) -> &'static str
-    ensures { result.now ≡ reason_text reason }
-{
+fn reason_text(reason: Reason) -> &'static str {
     match reason {
         Reason::Fields => "there are not as many fields as in the head",
         Reason::Token => "the token is neither 32 hexadecimal digits nor a UUID",
@@ -71,34 +58,22 @@ fn reason_text(reason: Reason) -> &'static str
 }
 
 impl fmt::Display for WrongRows<'_> {
-    ghost output = { λ wrong. Some (rows_text wrong) };
-
     fn fmt<W: fmt::Write>(&self, f: &mut fmt::Formatter<W>) -> fmt::Result {
         match self {
             WrongRows::Column(column) => {
-                let column = Escaped(column);
-                write!(f, "row 1: there is not one column {column}")
+                write!(f, "row 1: there is not one column {}", Escaped(column))
             }
-            WrongRows::Row(number, reason) => {
-                let why = reason_text(*reason);
-                write!(f, "row {number}: {why}")
-            }
+            WrongRows::Row(number, reason) => write!(f, "row {number}: {}", reason_text(*reason)),
             WrongRows::Quote(number) => write!(f, "line {number}: a quote is not closed"),
         }
     }
 }
 
-/// What is wrong with a device table. Its `Display` begins with the row.
-#[derive(Clone, Copy, Debug, PartialEq, Eq)]
-pub enum WrongDevices {
-    Head,
-    /// The row of this number. The head is row 1.
-    Row(u64, WrongDevice),
-}
+/// What is wrong with a device table, from the row on.
+#[derive(Clone, Copy, Debug)]
+pub(crate) struct WrongDevices(pub(crate) DevicesFault);
 
-fn device_text(wrong: WrongDevice) -> &'static str
-    ensures { result.now ≡ device_text wrong }
-{
+fn device_text(wrong: WrongDevice) -> &'static str {
     match wrong {
         WrongDevice::Fields => "there are not two fields",
         WrongDevice::NoName => "the device is empty",
@@ -108,15 +83,15 @@ fn device_text(wrong: WrongDevice) -> &'static str
 }
 
 impl fmt::Display for WrongDevices {
-    ghost output = { λ wrong. Some (devices_text wrong) };
-
     fn fmt<W: fmt::Write>(&self, f: &mut fmt::Formatter<W>) -> fmt::Result {
-        match self {
-            WrongDevices::Head => f.write_str("row 1: it is not device,validator"),
-            WrongDevices::Row(number, wrong) => {
-                let why = device_text(*wrong);
-                write!(f, "row {number}: {why}")
-            }
+        match self.0 {
+            DevicesFault::Head => f.write_str("row 1: it is not device,validator"),
+            DevicesFault::Row { number, wrong } => write!(
+                f,
+                "row {number}: {}",
+                device_text(wrong)
+            ),
+            DevicesFault::NoMemory => f.write_str("out of memory"),
         }
     }
 }
@@ -126,8 +101,6 @@ impl fmt::Display for WrongDevices {
 pub(crate) struct WrongFareTable(pub(crate) TableFault);
 
 impl fmt::Display for WrongFareTable {
-    ghost output = { λ wrong. Some (fare_table_text wrong.0) };
-
     fn fmt<W: fmt::Write>(&self, f: &mut fmt::Formatter<W>) -> fmt::Result {
         match self.0 {
             TableFault::Text => f.write_str("the text is not TOML"),

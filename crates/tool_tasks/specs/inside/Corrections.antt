@@ -1,14 +1,14 @@
 -- What private functions of `corrections` say.
 use Rattle.std.specs.Prelude.{◌≡◌, ◌⊎◌, ℕ, Bool, List, [], Result, Ok, Err}
+use Rattle.frame.specs.declared.outside.Outside.{Outside}
 use Rattle.frame.specs.declared.outside.Outside.TheVariants as outside
 use Rattle.ledger_changes.specs.Given.{HasStarted, IsAllGiven, IsFaultOf}
 use Rattle.ledger_changes.specs.declared.fault.CorrectionsFault.TheVariants.{Line, Unread, NoMemory}
-use Rattle.tool_tasks.specs.Corrections.{removed_note, wrong_note}
+use Rattle.tool_tasks.specs.Corrections.{IsRemovedNote}
 use Rattle.tool_tasks.specs.declared.corrections.Stopped.{Stopped}
 use Rattle.tool_tasks.specs.declared.corrections.Stopped.TheVariants.{Fault, Write}
 use Rattle.tool_tasks.specs.declared.stops.Halt.{Halt}
 use Rattle.tool_tasks.specs.declared.streams.Noted.{Noted}
-use Rattle.tool_words.specs.Request.{CorrectionsRequest}
 use Rattle.world.specs.Run.{Calls, Run, with_cut, with_written}
 use Rattle.world.specs.declared.faults.LoadFault.TheVariants as load
 
@@ -24,15 +24,16 @@ IsWritten by_token old new run run' (Err stopped) = (text : List ℕ)
     × ((text ≡ []) ⊎ HasStarted by_token text old new)
     × IsStoppedBy stopped old new (with_written run text) run'
 
+-- what this is to the run
+abbrev pub why_of : Stopped → Outside
+why_of (Fault (Line bill number why)) = outside.Wrong
+why_of (Fault (Unread bill)) = outside.Unread load.Unread
+why_of (Fault NoMemory) = outside.NoMemory
+why_of (Write why) = outside.Unwritten why
+
 -- what is noted of it, unless an allocation failed
-abbrev pub IsNoted : CorrectionsRequest → Result ℕ Stopped → Result Noted Halt → Type 0
-IsNoted request (Ok removed) (Ok noted) =
-    (noted.note.items ≡ removed_note request removed) × (noted.status ≡ 0)
-IsNoted request (Err (Fault (Line bill number why))) (Ok noted) =
-    (noted.note.items ≡ wrong_note request bill number why) × (noted.status ≡ 1)
-IsNoted request (Err (Fault (Unread bill))) (Err halt) = halt.why ≡ outside.Unread load.Unread
-IsNoted request (Err (Write why)) (Err halt) = halt.why ≡ outside.Unwritten why
-IsNoted request (Ok removed) (Err halt) = halt.why ≡ outside.NoMemory
-IsNoted request (Err (Fault (Line bill number why))) (Err halt) = halt.why ≡ outside.NoMemory
-IsNoted request (Err (Fault NoMemory)) (Err halt) = halt.why ≡ outside.NoMemory
-IsNoted request written noted = ⊥
+abbrev pub IsNoted : Result ℕ Stopped → Result Noted Halt → Type 0
+IsNoted (Ok removed) (Ok noted) = IsRemovedNote removed noted.0.items
+IsNoted (Ok removed) (Err halt) = halt.0 ≡ outside.NoMemory
+IsNoted (Err stopped) (Err halt) = halt.0 ≡ why_of stopped
+IsNoted written noted = ⊥

@@ -1,5 +1,6 @@
 -- What an encoding of CSVs has loaded and made so far: what private functions alone cite.
-use Rattle.std.specs.Prelude.{◌≡◌, ⊤, ℕ, Bool, List, [], None, Option, Some, map, option_map, string_bytes}
+use Rattle.std.specs.Prelude.{◌≡◌, ⊤, ℕ, Bool, Contains, Err, List, [], None, Ok, Option, Result, Some}
+use Rattle.std.specs.Prelude.{map, option_map, string_bytes}
 use Rattle.jiff_tz.specs.declared.timezone.TimeZone.{TimeZone}
 use Rattle.jiff_tz.specs.declared.timezone.TimeZone.TheVariants as zones
 use Rattle.jiff_tz.specs.declared.tzif.Tzif.{Tzif}
@@ -7,17 +8,16 @@ use Rattle.tap_rows.specs.Devices.{Device, devices_of}
 use Rattle.tap_rows.specs.declared.agency.choice.Choice.{Choice}
 use Rattle.tap_rows.specs.declared.agency.choice.Fold.{Fold}
 use Rattle.tap_rows.specs.declared.agency.choice.LocalClock.{LocalClock}
-use Rattle.tool_tasks.specs.EncodeRows.{AnswersTexts, Csv, Encoded, IsRowsAnswer, IsWrongRows}
+use Rattle.frame.specs.Outsides.{Stops}
+use Rattle.tool_tasks.specs.EncodeRows.{Csv, Encoded, IsChoice, IsRowsUpload, IsWrongCsv, IsWrongText}
 use Rattle.tool_tasks.specs.EncodeRows.{Texts, later_loads, load_csv, word_in}
-use Rattle.tool_tasks.specs.Fault.{wrong_line}
-use Rattle.tool_tasks.specs.WrongTables.{rows_text}
 use Rattle.tool_tasks.specs.declared.encode_csvs.Encoded.{Encoded as Held}
 use Rattle.tool_tasks.specs.declared.encode_loads.Csv.{Csv as HeldCsv}
 use Rattle.tool_tasks.specs.declared.encode_loads.Texts.{Texts as HeldTexts}
 use Rattle.tool_tasks.specs.declared.prepared.NewFile.{NewFile}
 use Rattle.tool_tasks.specs.declared.prepared.Prepared.{Prepared}
-use Rattle.tool_tasks.specs.declared.wrong_tables.WrongRows.{WrongRows}
-use Rattle.tool_tasks.specs.inside.Prepared.{IsRefusal, whole_of}
+use Rattle.tool_tasks.specs.declared.stops.Halt.{Halt}
+use Rattle.tool_tasks.specs.inside.Prepared.{whole_of}
 use Rattle.tool_words.specs.declared.task.RowsWords.{RowsWords}
 use Rattle.world.specs.Origins.{with_loads}
 use Rattle.world.specs.Run.{Run}
@@ -82,17 +82,16 @@ pub record AreOf (words : RowsWords) (prepared : Prepared) : Type 0 where
   pub upload : IsOf (word_in words.out) prepared.upload
   pub refused : IsOf (word_in words.refused) prepared.held
 
--- what was prepared is the answer to the CSVs, if they are read so
-abbrev pub PreparesCsvs : RowsWords → Choice → List Csv → Prepared → Type 0
-PreparesCsvs words choice csvs prepared = AreOf words prepared
-    × IsRowsAnswer words choice csvs (whole_of [] prepared) prepared.status
+-- what was prepared is of the CSVs, if they are read so; or one of them is wrong
+abbrev pub PreparesCsvs : RowsWords → Choice → List Csv → Result Prepared Halt → Type 0
+PreparesCsvs words choice csvs (Ok prepared) = AreOf words prepared
+    × IsRowsUpload words choice csvs (whole_of [] prepared) prepared.status
+PreparesCsvs words choice csvs (Err halt) =
+    Stops ((csv : Csv) × Contains csvs csv × IsWrongCsv words choice csv.1) halt.0
 
--- what was prepared is the answer to the texts
-abbrev pub Prepares : RowsWords → Bool → Texts → Prepared → Type 0
-Prepares words is_there texts prepared = AreOf words prepared
-    × AnswersTexts words is_there texts (whole_of [] prepared) prepared.status
-
--- what was prepared says what is wrong with this CSV
-abbrev pub IsWrongCsv : RowsWords → Choice → Csv → Prepared → Type 0
-IsWrongCsv words choice csv prepared = (wrong : WrongRows) × IsWrongRows words choice csv.1 wrong
-    × (more : List ℕ) × IsRefusal (wrong_line csv.0 (rows_text wrong)) more prepared
+-- what was prepared is of the texts; or one of them is wrong
+abbrev pub Prepares : RowsWords → Bool → Texts → Result Prepared Halt → Type 0
+Prepares words is_there texts (Ok prepared) = AreOf words prepared × (choice : Choice)
+    × IsChoice words is_there texts choice
+    × IsRowsUpload words choice texts.csvs (whole_of [] prepared) prepared.status
+Prepares words is_there texts (Err halt) = Stops (IsWrongText words is_there texts) halt.0

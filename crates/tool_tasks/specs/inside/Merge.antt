@@ -1,9 +1,9 @@
 -- What private functions of `merge` say.
-use Rattle.std.specs.Prelude.{◌≡◌, ℕ, List, [], Option, Result, Ok, Err, Some, map, slice_get}
+use Rattle.std.specs.Prelude.{◌≡◌, ℕ, List, [], Option, Result, Ok, Err, map}
+use Rattle.frame.specs.declared.outside.Outside.{Outside}
 use Rattle.frame.specs.declared.outside.Outside.TheVariants as outside
 use Rattle.part_texts.specs.declared.fault.MergeFault.{MergeFault}
 use Rattle.part_texts.specs.declared.fault.MergeFault.TheVariants.{Line, Unread, Write, NoMemory}
-use Rattle.tool_tasks.specs.Merge.{part_note}
 use Rattle.tool_tasks.specs.declared.stops.Halt.{Halt}
 use Rattle.tool_tasks.specs.declared.streams.Noted.{Noted}
 use Rattle.world.specs.Run.{Calls}
@@ -12,14 +12,14 @@ use Rattle.world.specs.declared.faults.LoadFault.TheVariants as load
 abbrev pub names_of : List Calls → List (Option (List ℕ))
 names_of calls = map (λ c. c.reading.name) calls
 
--- what is noted of it, unless an allocation failed
-abbrev pub IsNoted : List (List ℕ) → Result Unit MergeFault → Result Noted Halt → Type 0
-IsNoted words (Ok done) (Ok noted) = (noted.note.items ≡ []) × (noted.status ≡ 0)
-IsNoted words (Err (Line part number why)) (Ok noted) = (word : List ℕ)
-    × (slice_get words part ≡ Some word) × (noted.note.items ≡ part_note word number why)
-    × (noted.status ≡ 1)
-IsNoted words (Err (Unread part)) (Err halt) = halt.why ≡ outside.Unread load.Unread
-IsNoted words (Err (Write why)) (Err halt) = halt.why ≡ outside.Unwritten why
-IsNoted words (Err (Line part number why)) (Err halt) = halt.why ≡ outside.NoMemory
-IsNoted words (Err NoMemory) (Err halt) = halt.why ≡ outside.NoMemory
-IsNoted words merged noted = ⊥
+-- what a fault is to the run
+abbrev pub why_of : MergeFault → Outside
+why_of (Line part number why) = outside.Wrong
+why_of (Unread part) = outside.Unread load.Unread
+why_of (Write why) = outside.Unwritten why
+why_of NoMemory = outside.NoMemory
+
+abbrev pub IsNoted : Result Unit MergeFault → Result Noted Halt → Type 0
+IsNoted (Ok done) (Ok noted) = noted.0.items ≡ []
+IsNoted (Err fault) (Err halt) = halt.0 ≡ why_of fault
+IsNoted merged noted = ⊥

@@ -1,9 +1,8 @@
 -- What is done of what was prepared: what private functions alone cite.
 use Rattle.std.specs.Prelude.{◌≡◌, ⊤, ℕ, Contains, List, [], ◌∷◌, None, Option, Some, Result, Ok, Err}
-use Rattle.std.specs.Prelude.{option_map, string_bytes}
+use Rattle.std.specs.Prelude.{string_bytes}
 use Rattle.frame.specs.Given.{Given, file_of, gave, with_files, with_note, with_text}
 use Rattle.frame.specs.Outsides.{IsStoppedIn}
-use Rattle.tool_tasks.specs.Encode.{Refuses}
 use Rattle.tool_tasks.specs.declared.prepared.Partial.{Partial}
 use Rattle.tool_tasks.specs.declared.prepared.NewFile.{NewFile}
 use Rattle.tool_tasks.specs.declared.prepared.Prepared.{Prepared}
@@ -41,21 +40,6 @@ given_of loads p files = with_note (with_files (with_prepared
 abbrev pub whole_of : List Load → Prepared → Given
 whole_of loads p = given_of loads p (files_in p.held)
 
-pub record HasNoFiles (p : Prepared) : Type 0 where
-  pub first : p.first ≡ None
-  pub upload : p.upload ≡ None
-  pub held : p.held ≡ None
-
--- the only file is of this name, and is made after the text
-pub record IsAlone (name : List ℕ) (p : Prepared) : Type 0 where
-  pub first : p.first ≡ None
-  pub held : p.held ≡ None
-  pub upload : option_map (λ file. file.name.now) p.upload ≡ Some name
-
--- the line is noted, with more after it, and there are no files
-abbrev pub IsRefusal : (line more : List ℕ) → Prepared → Type 0
-IsRefusal line more p = Refuses line more (whole_of [] p) p.status × HasNoFiles p
-
 -- ---- the words that name the files
 abbrev pub IsNamedIn : List (List ℕ) → Option NewFile → Type 0
 IsNamedIn words None = ⊤
@@ -74,4 +58,4 @@ pub record AreNamed (words : List (List ℕ)) (p : Prepared) : Type 0 where
 abbrev pub Carries : List (List ℕ) → Run → Given → ℕ → Run → Result ℕ Halt → Type 0
 Carries words start whole status new (Ok result) =
     (result ≡ status) × (new ≡ with_flushed (gave start whole))
-Carries words start whole status new (Err halt) = IsStoppedIn words start new whole halt.why
+Carries words start whole status new (Err halt) = IsStoppedIn words start new whole halt.0

@@ -2,7 +2,7 @@
 use Rattle.std.specs.Prelude.{◌≡◌, ◌⊎◌, ⊤, ℕ, List, [], ◌∷◌, ◌++◌, Result, Ok, Err}
 use Rattle.frame.specs.Names.{file_named}
 use Rattle.frame.specs.declared.outside.Outside.{Outside}
-use Rattle.frame.specs.declared.outside.Outside.TheVariants.{NoMemory, Unmade, Unread, Unwritten}
+use Rattle.frame.specs.declared.outside.Outside.TheVariants.{NoMemory, Unread, Unwritten}
 use Rattle.tool_tasks.specs.Streams.{HasFailed, IsKept, LeavesOf}
 use Rattle.tool_tasks.specs.declared.stops.Halt.{Halt}
 use Rattle.tool_tasks.specs.declared.streams.Noted.{Noted}
@@ -12,25 +12,24 @@ use Rattle.world.specs.declared.faults.WriteFault.{WriteFault}
 -- the file was not opened, which its calls say
 abbrev pub IsUnopened : List ℕ → Calls → Outside → Type 0
 IsUnopened word calls (Unread why) = calls.run.unread ≡ file_named word ∷ []
-IsUnopened word calls (Unwritten why) = ⊥
-IsUnopened word calls (Unmade why is_partial) = ⊥
 IsUnopened word calls NoMemory = ⊤
+IsUnopened word calls _ = ⊥
 
 -- one of the words was not opened, which the calls say
 abbrev pub IsUnopenedIn : List (List ℕ) → List Calls → Outside → Type 0
 IsUnopenedIn words calls (Unread why) = HasFailed words calls
-IsUnopenedIn words calls (Unwritten why) = ⊥
-IsUnopenedIn words calls (Unmade why is_partial) = ⊥
 IsUnopenedIn words calls NoMemory = ⊤
+IsUnopenedIn words calls _ = ⊥
 
 -- a text was written, and the note is right with it; or a part of one
-abbrev pub IsStreamed : (List Calls → List ℕ → List ℕ → ℕ → Type 0) → (List Calls → List ℕ → Type 0)
-    → List (List ℕ) → List Calls → Run → Run → Result Noted Halt → Type 0
-IsStreamed Whole Part words calls old new (Ok noted) = (text : List ℕ)
+abbrev pub IsStreamed : (List Calls → List ℕ → List ℕ → Type 0) → (List Calls → List ℕ → Type 0)
+    → (List Calls → Type 0) → List (List ℕ) → List Calls → Run → Run → Result Noted Halt → Type 0
+IsStreamed Whole Part truth words calls old new (Ok noted) = (text : List ℕ)
     × (new ≡ with_written old text) × ((text ≡ []) ⊎ Part calls text)
-    × Whole calls text noted.note.items noted.status
-IsStreamed Whole Part words calls old new (Err halt) = (text : List ℕ)
-    × ((text ≡ []) ⊎ Part calls text) × LeavesOf words calls halt.why (with_written old text) new
+    × Whole calls text noted.0.items
+IsStreamed Whole Part truth words calls old new (Err halt) = (text : List ℕ)
+    × ((text ≡ []) ⊎ Part calls text)
+    × LeavesOf (truth calls) words calls halt.0 (with_written old text) new
 
 -- the flush failed
 abbrev pub IsCutBy : Outside → Run → Run → Type 0
@@ -38,9 +37,9 @@ IsCutBy why old new = (fault : WriteFault) × (why ≡ Unwritten fault) × (new 
 
 -- the output was flushed, and the note given
 abbrev pub IsFinished : Result Noted Halt → Run → Run → Result ℕ Halt → Type 0
-IsFinished (Ok noted) old new (Ok status) = (status ≡ noted.status)
-    × (new ≡ with_said (with_flushed old) noted.note.items)
-IsFinished (Ok noted) old new (Err halt) = IsCutBy halt.why old new
+IsFinished (Ok noted) old new (Ok status) =
+    (status ≡ 0) × (new ≡ with_said (with_flushed old) noted.0.items)
+IsFinished (Ok noted) old new (Err halt) = IsCutBy halt.0 old new
 IsFinished (Err first) old new (Ok status) = ⊥
 IsFinished (Err first) old new (Err halt) =
-    ((halt.why ≡ first.why) × IsKept old new) ⊎ IsCutBy halt.why old new
+    ((halt.0 ≡ first.0) × IsKept old new) ⊎ IsCutBy halt.0 old new

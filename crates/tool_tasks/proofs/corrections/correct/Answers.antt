@@ -16,8 +16,8 @@ returns-in-Err g c =
       (
         [],
         inl refl,
-        unopened_leaves words (calls ∷ []) [] c.in-Err.halt.why _
-            (unopened_in words request.old calls c.in-Err.halt.why (0, omega arith, refl) unopened),
+        unopened_leaves _ words (calls ∷ []) [] c.in-Err.halt.0 _
+            (unopened_in words request.old calls c.in-Err.halt.0 (0, omega arith, refl) unopened),
       ),
     )
 
@@ -35,8 +35,8 @@ returns-in-Err-open g c =
       (
         [],
         inl refl,
-        unopened_leaves words (calls ∷ []) (one ∷ []) c.in-Err-open.halt.why _
-            (unopened_in words request.new calls c.in-Err-open.halt.why (1, omega arith, refl)
+        unopened_leaves _ words (calls ∷ []) (one ∷ []) c.in-Err-open.halt.0 _
+            (unopened_in words request.new calls c.in-Err-open.halt.0 (1, omega arith, refl)
             unopened),
       ),
     )

@@ -1,9 +1,9 @@
-use Rattle.std.proofs.Common.{◌∙◌, ◌++◌, List, Option, ap, inl, inr, refl, sym, ℕ}
+use Rattle.std.proofs.Common.{◌∙◌, ◌++◌, [], List, Option, ap, append-nil, inl, inr, refl, sym, ℕ}
 use Rattle.std.specs.Prelude.{is_none}
 use Rattle.tap_views.specs.declared.fault.LayoutFault.{LayoutFault}
-use Rattle.tool_tasks.proofs.Decoding.{decoded_of, gave_line, gave_rows, gave_whole, stopped_line}
-use Rattle.tool_tasks.proofs.Decoding.{stopped_loaded, stopped_rows}
-use Rattle.tool_tasks.specs.Decode.{layout_line}
+use Rattle.tool_tasks.proofs.Decoding.{decoded_of, gave_rows, gave_said, some_fault, stopped_loaded}
+use Rattle.tool_tasks.proofs.Decoding.{stopped_rows}
+use Rattle.world.specs.Run.{Run}
 use Rattle.tool_tasks.proofs.decode.decode_one.Goals as goal
 
 pub returns-in-Err-clause-stopped : goal.returns-in-Err-clause-stopped
@@ -12,15 +12,15 @@ returns-in-Err-clause-stopped g c = λ words has. inl (c.in-Err.ensures.stopped 
 pub returns-in_default-clause-stopped : goal.returns-in_default-clause-stopped
 returns-in_default-clause-stopped g c = λ words has.
     let (rows, fault, decoded) = c.in_default.ensures.has_rows in
-    let one = decoded_of c.args.word.now c.in-Ok.upload.items _ rows fault c.deref.ensures.value
-    decoded in
+    let one = decoded_of c.args.word.now c.in-Ok.upload.items _ rows fault [] (λ none. refl)
+    c.deref.ensures.value decoded in
     inr (one, refl, stopped_loaded words _ _ one c.in-Ok.ensures.loaded)
 
 pub returns-in-Err-write-clause-stopped : goal.returns-in-Err-write-clause-stopped
 returns-in-Err-write-clause-stopped g c = λ words has.
     let (rows, decoded, appended) = c.in-Ok-decode.ensures.rows in
-    let one = decoded_of c.args.word.now c.in-Ok.upload.items _ rows c.in-Ok-decode.fault
-    c.deref.ensures.value decoded in
+    let one = decoded_of c.args.word.now c.in-Ok.upload.items _ rows c.in-Ok-decode.fault []
+    (λ none. refl) c.deref.ensures.value decoded in
     let piece = c.deref-2.ensures.value ∙ appended
     ∙ ap (λ (t : List ℕ). t ++ rows) c.new-rows.ensures.items in
     inr (
@@ -33,44 +33,30 @@ returns-in-Err-write-clause-stopped g c = λ words has.
 pub returns-in-None-clause-decoded : goal.returns-in-None-clause-decoded
 returns-in-None-clause-decoded g c =
     let (rows, decoded, appended) = c.in-Ok-decode.ensures.rows in
-    let one = decoded_of c.args.word.now c.in-Ok.upload.items _ rows c.in-Ok-decode.fault
-    c.deref.ensures.value decoded in
+    let one = decoded_of c.args.word.now c.in-Ok.upload.items _ rows c.in-Ok-decode.fault []
+    (λ none. refl) c.deref.ensures.value decoded in
     let piece = c.deref-2.ensures.value ∙ appended
-    ∙ ap (λ (t : List ℕ). t ++ rows) c.new-rows.ensures.items in (
+    ∙ ap (λ (t : List ℕ). t ++ rows) c.new-rows.ensures.items in
+    let run : Run = g.W.Inputs.run c.write.new.world in (
       one,
       refl,
       ap (λ (f : Option (ℕ × LayoutFault)). is_none f) c.in-None.is,
-      gave_whole _ _ one c.in-None.is (gave_rows _ _ _ one c.deref-2.result.now
-          c.in-Ok.ensures.loaded piece c.in_default-write.ensures.written),
+      gave_said _ run run one (gave_rows _ _ _ one c.deref-2.result.now c.in-Ok.ensures.loaded
+          piece c.in_default-write.ensures.written)
+          (ap (λ (s : List ℕ). record run { said = s }) (sym (append-nil run.said))),
     )
 
-pub returns-in-Ok-layout_note-clause-decoded : goal.returns-in-Ok-layout_note-clause-decoded
-returns-in-Ok-layout_note-clause-decoded g c =
+pub returns-clause-decoded : goal.returns-clause-decoded
+returns-clause-decoded g c =
     let (rows, decoded, appended) = c.in-Ok-decode.ensures.rows in
-    let one = decoded_of c.args.word.now c.in-Ok.upload.items _ rows c.in-Ok-decode.fault
-    c.deref.ensures.value decoded in
+    let said = c.report_line.ensures.said in
+    let one = decoded_of c.args.word.now c.in-Ok.upload.items _ rows c.in-Ok-decode.fault said.text
+    (λ none. some_fault c.in-Some.is none) c.deref.ensures.value decoded in
     let piece = c.deref-2.ensures.value ∙ appended
     ∙ ap (λ (t : List ℕ). t ++ rows) c.new-rows.ensures.items in (
       one,
       refl,
       ap (λ (f : Option (ℕ × LayoutFault)). is_none f) c.in-Some.is,
-      gave_line _ _ _ one c.as_bytes.result.now (gave_rows _ _ _ one c.deref-2.result.now
-          c.in-Ok.ensures.loaded piece c.in_default-write.ensures.written)
-          (c.as_bytes.ensures.value ∙ c.in-Ok-layout_note.ensures
-          ∙ ap (λ (f : Option (ℕ × LayoutFault)). layout_line c.args.word.now f) (sym c.in-Some.is))
-          c.say.ensures,
-    )
-
-pub returns-clause-stopped : goal.returns-clause-stopped
-returns-clause-stopped g c = λ words has.
-    let (rows, decoded, appended) = c.in-Ok-decode.ensures.rows in
-    let one = decoded_of c.args.word.now c.in-Ok.upload.items _ rows c.in-Ok-decode.fault
-    c.deref.ensures.value decoded in
-    let piece = c.deref-2.ensures.value ∙ appended
-    ∙ ap (λ (t : List ℕ). t ++ rows) c.new-rows.ensures.items in
-    inr (
-      one,
-      refl,
-      stopped_line words _ _ one (gave_rows _ _ _ one c.deref-2.result.now
-          c.in-Ok.ensures.loaded piece c.in_default-write.ensures.written),
+      gave_said _ _ _ one (gave_rows _ _ _ one c.deref-2.result.now c.in-Ok.ensures.loaded piece
+          c.in_default-write.ensures.written) said.only,
     )

@@ -1,33 +1,54 @@
-use Rattle.std.proofs.Common.{◌∷◌, [], List, arith, refl, subst, sym, ℕ}
-use Rattle.frame.proofs.Outcomes.{halted_loading}
+use Rattle.std.proofs.Common.{◌∷◌, [], List, arith, refl, subst, ℕ}
+use Rattle.frame.proofs.Outcomes.{halted_by, halted_loading}
 use Rattle.frame.specs.Given.{load_of}
-use Rattle.frame.specs.declared.outside.Outside.TheVariants.{NoMemory}
-use Rattle.tool_tasks.proofs.Preparing.{carried, halted_early, no_files_named}
-use Rattle.tool_tasks.specs.Encode.{EncodesTable, IsTableAnswer}
-use Rattle.tool_tasks.specs.inside.Prepared.{whole_of}
+use Rattle.frame.specs.declared.outside.Outside.TheVariants.{NoMemory, Wrong}
+use Rattle.tap_rows.specs.TapTables.{IsEncoded, IsRowsFault}
+use Rattle.tool_tasks.proofs.Preparing.{carried, halted_early}
+use Rattle.tool_tasks.specs.Encode.{EncodesTable, IsNoTapTable}
 use Rattle.tool_tasks.proofs.encode.encode.Goals as goal
 
 pub returns-in-Err : goal.returns-in-Err
 returns-in-Err g c =
-    let old = g.W.Inputs.run c.args.world.now in let word = c.args.word.now in
-    halted_early (EncodesTable word) (word ∷ []) old _ c.in-Err.halt.why (c.in-Err.ensures.stopped (word ∷ []) (0, omega arith, refl))
-
-pub returns-in-Err-prepare : goal.returns-in-Err-prepare
-returns-in-Err-prepare g c =
     let word = c.args.word.now in
-    halted_loading (EncodesTable word) (word ∷ []) (g.W.Inputs.run c.args.world.now) _ _
-    (load_of word c.in-Ok.table.items ∷ []) NoMemory c.in-Ok.ensures.loaded refl
+    halted_early (EncodesTable word) (IsNoTapTable word) (word ∷ []) (g.W.Inputs.run c.args.world.now)
+    _ c.in-Err.halt.0 (c.in-Err.ensures.stopped (word ∷ []) (0, omega arith, refl))
+
+pub returns-in-Ok-encode : goal.returns-in-Ok-encode
+returns-in-Ok-encode g c =
+    let old = g.W.Inputs.run c.args.world.now in let word = c.args.word.now in
+    let table = c.in-Ok.table.items in
+    carried (EncodesTable word) (IsNoTapTable word) (word ∷ []) old _ _ _ c.carry_out.result
+    (c.carry_out.ensures (word ∷ []) old (load_of word table ∷ []) c.in-Ok.ensures.loaded
+    (record { first = tt; upload = tt; held = tt })) (record {
+      text = table;
+      loaded = refl;
+      encoded = subst (λ (t : List ℕ). IsEncoded t c.in-Ok-encode.upload.items) c.deref.ensures.value
+          c.in-Ok-encode.ensures.upload;
+      note = c.new.ensures.bytes;
+      files = refl;
+      success = refl;
+    })
+
+pub returns-in-NoMemory : goal.returns-in-NoMemory
+returns-in-NoMemory g c =
+    let word = c.args.word.now in
+    halted_loading (EncodesTable word) (IsNoTapTable word) (word ∷ [])
+    (g.W.Inputs.run c.args.world.now) _ _ (load_of word c.in-Ok.table.items ∷ []) NoMemory
+    c.in-Ok.ensures.loaded refl
 
 pub returns : goal.returns
 returns g c =
-    let old = g.W.Inputs.run c.args.world.now in let word = c.args.word.now in
-    let table = c.in-Ok.table.items in let prepared = c.in-Ok-prepare.prepared in
-    let is = c.in-Ok-prepare.ensures in
-    carried (EncodesTable word) (word ∷ []) old _ (whole_of (load_of word table ∷ []) prepared)
-    prepared.status c.carry_out.result (record {
-      text = table;
-      loaded = refl;
-      answered = subst (λ (t : List ℕ). IsTableAnswer word t (whole_of [] prepared) prepared.status)
-          c.deref.ensures.value is.0;
-    }) (c.carry_out.ensures (word ∷ []) old (load_of word table ∷ []) c.in-Ok.ensures.loaded
-    (no_files_named (word ∷ []) prepared is.1))
+    let word = c.args.word.now in let table = c.in-Ok.table.items in
+    let fault = c.in-Err-encode.fault in
+    halted_by (EncodesTable word) (IsNoTapTable word) (word ∷ []) (g.W.Inputs.run c.args.world.now) _
+    _ (load_of word table ∷ []) Wrong c.in-Ok.ensures.loaded (
+      record {
+        text = table;
+        loaded = refl;
+        fault = fault;
+        seen = c.in_default.not-NoMemory;
+        wrong = subst (λ (t : List ℕ). IsRowsFault t fault) c.deref.ensures.value
+            c.in-Err-encode.ensures.fault;
+      },
+      refl,
+    )

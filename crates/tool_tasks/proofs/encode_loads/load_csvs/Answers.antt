@@ -12,7 +12,7 @@ use Rattle.tool_tasks.proofs.encode_loads.load_csvs.Goals as goal
 pub returns-in-Err-clause-stopped : goal.returns-in-Err-clause-stopped
 returns-in-Err-clause-stopped g c = λ names all. (
   map load_csv (map csv_of c.loop-number.csvs.items),
-  subst (λ (r : Run). Leaves names c.in-Err.halt.why r (g.W.Inputs.run c.load_whole.new.files))
+  subst (λ (r : Run). Leaves names c.in-Err.halt.0 r (g.W.Inputs.run c.load_whole.new.files))
       c.loop-number.invariant.1 (c.in-Err.ensures.stopped names (all _
       (word_contained c.args.words.now c.loop-number.number _ c.loop-number-test.true))),
 )

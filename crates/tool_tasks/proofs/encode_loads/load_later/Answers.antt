@@ -47,7 +47,7 @@ returns-clause-stopped g c =
     let was = c.in-Ok-load_named-2.ensures.loaded
     ∙ ap (λ r. with_loads r zone) c.in-Ok-load_named.ensures.loaded ∙ more_loads old key zone in (
       (key ++ zone) ++ more,
-      subst (λ (r : Run). Leaves names c.in-Err-load_csvs.halt.why r
+      subst (λ (r : Run). Leaves names c.in-Err-load_csvs.halt.0 r
           (g.W.Inputs.run c.load_csvs.new.world))
           (ap (λ r. with_loads r more) was ∙ more_loads old (key ++ zone) more) leaves,
     )

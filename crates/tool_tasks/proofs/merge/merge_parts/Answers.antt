@@ -38,5 +38,5 @@ returns-in-Err g c =
       calls ++ more,
       c.close_all-in-Err.ensures ∙ ap (λ (l : List Calls). l ++ more) all
           ∙ append_assoc (g.F.Streams.readings c.args.files.now) calls more,
-      ([], inl refl, unopened_leaves words calls more c.in-Err.halt.why _ unopened),
+      ([], inl refl, unopened_leaves _ words calls more c.in-Err.halt.0 _ unopened),
     )

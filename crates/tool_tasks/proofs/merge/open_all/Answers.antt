@@ -42,7 +42,7 @@ returns-in-Err-clause-stopped g c =
     let (calls, all, unopened) = c.in-Err.ensures.stopped in (
       calls ∷ [],
       all ∙ ap (λ l. l ++ calls ∷ []) c.loop-word.invariant.unchanged,
-      unopened_in (map (λ w. w.now) c.args.words.now) _ calls c.in-Err.halt.why
+      unopened_in (map (λ w. w.now) c.args.words.now) _ calls c.in-Err.halt.0
           (word_contained c.args.words.now c.loop-word.word-index no_word c.loop-word-test.true)
           unopened,
     )

@@ -1,8 +1,6 @@
 use Rattle.std.proofs.Common.{◌≡◌, ◌<◌, ◌++◌, ◌∷◌, [], ◌∙◌, List, ℕ, length, map, take, ap, ap₂}
-use Rattle.std.proofs.Common.{get_or, Bor, ◌+◌, refl}
+use Rattle.std.proofs.Common.{get_or, Bor, ◌+◌}
 use Rattle.std.proofs.lemmas.List.{map-append, take_all, take_more}
-use Rattle.program_manners.proofs.Refusals.{is_one_at}
-use Rattle.tool_tasks.proofs.MergedUploads.{right_unopened}
 use Rattle.tool_tasks.proofs.placed.open_placed.Goals as goal
 
 abbrev word_in : Bor (List ℕ) → List ℕ
@@ -31,10 +29,3 @@ returns-clause-opened g c =
     let under = g.D.PlacedFiles.bytes_under c.args.disk.now in
     c.loop-word.invariant
     ∙ ap (λ ns. map under (map word_in ns)) (take_all _ c.args.words.now c.loop-word-test.false)
-
-pub returns-in-Err-clause-fault : goal.returns-in-Err-clause-fault
-returns-in-Err-clause-fault g c =
-    let no_word : Bor (List ℕ) = record { ref_ptr = (0, 0); now = [] } in
-    right_unopened (map word_in c.args.words.now) _ c.fault_of_open.result
-    (is_one_at c.args.words.now c.loop-word.word-index no_word _ c.loop-word-test.true refl)
-    c.fault_of_open.ensures

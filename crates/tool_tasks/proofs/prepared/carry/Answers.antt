@@ -13,9 +13,9 @@ returns-in-Err g c = λ words start loads was named partial.
     let files = partial_files g.W.File.Write.contents c.args.partial in
     let none : Given = record { loads = loads; text = []; note = []; files = [] } in
     subst (λ (r : Run). IsStoppedIn words start r
-    (with_note (with_files (with_prepared none p) files) (string_bytes p.note)) c.in-Err.halt.why)
+    (with_note (with_files (with_prepared none p) files) (string_bytes p.note)) c.in-Err.halt.0)
     (sym c.discard.ensures) (stopped_early words start _ (with_prepared none p)
-    (λ g'. with_note (with_files g' files) (string_bytes p.note)) c.in-Err.halt.why
+    (λ g'. with_note (with_files g' files) (string_bytes p.note)) c.in-Err.halt.0
     (λ part g' is_part. part_note part (with_files g' files) (string_bytes p.note)
     (part_files part g' files is_part))
     (c.in-Err.ensures.stopped words named start none (was ∙ gave_loads start loads)))
@@ -26,10 +26,10 @@ returns-in-Err-finish_partial g c = λ words start loads was named partial.
     let files = partial_files g.W.File.Write.contents c.args.partial in
     let none : Given = record { loads = loads; text = []; note = []; files = [] } in
     stopped_early words start _ (with_prepared none p)
-    (λ g'. with_note (with_files g' files) (string_bytes p.note)) c.in-Err-finish_partial.halt.why
+    (λ g'. with_note (with_files g' files) (string_bytes p.note)) c.in-Err-finish_partial.halt.0
     (λ part g' is_part. part_note part (with_files g' files) (string_bytes p.note)
     (part_files part g' files is_part))
-    (stopped_at words start _ _ (with_prepared none p) c.in-Err-finish_partial.halt.why
+    (stopped_at words start _ _ (with_prepared none p) c.in-Err-finish_partial.halt.0
     (c.in-Ok.ensures.given start none (was ∙ gave_loads start loads))
     (c.in-Err-finish_partial.ensures.stopped words partial))
 

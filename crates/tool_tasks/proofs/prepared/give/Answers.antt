@@ -9,7 +9,7 @@ use Rattle.tool_tasks.proofs.prepared.give.Goals as goal
 
 pub returns-in-Err-clause-stopped : goal.returns-in-Err-clause-stopped
 returns-in-Err-clause-stopped g c = λ words named start given is.
-    stopped_first words start _ _ given c.args.prepared.now c.in-Err.halt.why is
+    stopped_first words start _ _ given c.args.prepared.now c.in-Err.halt.0 is
     (c.in-Err.ensures.stopped words named.first)
 
 pub returns-in-Err-write-clause-stopped : goal.returns-in-Err-write-clause-stopped
@@ -29,9 +29,9 @@ returns-in-Err-make_new-clause-stopped g c = λ words named start given is.
     let p = c.args.prepared.now in
     let before = with_files given (files_in p.first) in
     stopped_early words start _ (with_text before p.text.items)
-    (λ g'. with_files g' (files_in p.upload)) c.in-Err-make_new.halt.why
+    (λ g'. with_files g' (files_in p.upload)) c.in-Err-make_new.halt.0
     (λ part g' is_part. part_files part g' (files_in p.upload) is_part)
-    (stopped_at words start _ _ (with_text before p.text.items) c.in-Err-make_new.halt.why
+    (stopped_at words start _ _ (with_text before p.text.items) c.in-Err-make_new.halt.0
     (c.in-Ok-write.ensures.written start before (c.in-Ok.ensures.made start given is)
     ∙ ap (λ (t : List ℕ). gave start (with_text before t)) c.deref.ensures.value)
     (c.in-Err-make_new.ensures.stopped words named.upload))

@@ -14,7 +14,7 @@ returns-in-Err-clause-stopped g c =
     let request = sorting_of c.args.words.now in
     let all = c.loop-number.invariant in (
       all.loads,
-      subst (λ (r : Run). Leaves (names_of request) c.in-Err.halt.why r
+      subst (λ (r : Run). Leaves (names_of request) c.in-Err.halt.0 r
           (g.W.Inputs.run c.load.new.files)) (c.show_count.ensures ∙ all.all)
           (c.in-Err.ensures.stopped (names_of request) (upload_contained request
           c.args.words.now.uploads.items c.loop-number.number _

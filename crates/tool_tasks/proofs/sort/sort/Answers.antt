@@ -13,7 +13,7 @@ use Rattle.tool_tasks.proofs.sort.sort.Goals as goal
 pub returns-in-Err : goal.returns-in-Err
 returns-in-Err g c =
     let request = sorting_of c.args.words.now in let old = g.W.Inputs.run c.args.world.now in
-    halted_early (Sorts request) (names_of request) old _ _
+    halted_early (Sorts request) (λ loads. ⊥) (names_of request) old _ _
     (request.out, (0, omega arith, refl), c.in-Err.ensures.unmade)
 
 pub returns-in-Ok-loaded : goal.returns-in-Ok-loaded
@@ -32,9 +32,9 @@ returns-in-Err-loaded g c =
     let request = sorting_of c.args.words.now in
     let run = g.W.Inputs.run in
     let old = run c.args.world.now in
-    let why = c.in-Err-loaded.halt.why in
+    let why = c.in-Err-loaded.halt.0 in
     let (loads, leaves) = c.in-Err-loaded.ensures.stopped in
-    halted_loading (Sorts request) (names_of request) old (with_loads (run c.begin.new.self) loads) _
+    halted_loading (Sorts request) (λ loads. ⊥) (names_of request) old (with_loads (run c.begin.new.self) loads) _
     loads why (ap (λ (r : Run). with_loads r loads) c.in-Ok.ensures.unchanged)
     (subst (λ (r : Run). Leaves (names_of request) why (with_loads (run c.begin.new.self) loads) r)
     (sym (c.discard.ensures ∙ c.end_count.ensures)) leaves)

@@ -1,4 +1,4 @@
-use Rattle.std.proofs.Common.{refl, subst, sym}
+use Rattle.std.proofs.Common.{arith, refl, subst, sym}
 use Rattle.tap_views.specs.Facts.{IsValidPrefix}
 use Rattle.tool_tasks.proofs.valid_prefix.prepare.Goals as goal
 
@@ -15,3 +15,6 @@ returns-clause-right c = record {
   status_is = c.status_of.ensures;
   note = c.new.ensures.bytes;
 }
+
+pub returns-clause-named : goal.returns-clause-named
+returns-clause-named c = record { first = tt; upload = (1, omega arith, refl); held = tt }

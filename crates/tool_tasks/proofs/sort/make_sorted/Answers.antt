@@ -1,0 +1,40 @@
+use Rattle.std.proofs.Common.{◌≡◌, ◌∙◌, [], List, ap, arith, refl, string_bytes, subst, sym, ℕ}
+use Rattle.frame.proofs.Giving.{stopped_at}
+use Rattle.frame.proofs.Outcomes.{gave_loads, loaded_of, stopped_early}
+use Rattle.frame.specs.Given.{Given}
+use Rattle.frame.specs.declared.outside.Outside.TheVariants.{NoMemory}
+use Rattle.tool_tasks.proofs.Making.{ends_given, first_named}
+use Rattle.tool_tasks.specs.Sort.{ends_files, names_of}
+use Rattle.tool_tasks.specs.inside.Prepared.{Carries}
+use Rattle.tool_tasks.specs.inside.Sort.{sorted_given}
+use Rattle.tool_words.specs.Tasks.{sorting_of}
+use Rattle.tool_tasks.proofs.sort.make_sorted.Goals as goal
+
+pub returns-in_default : goal.returns-in_default
+returns-in_default g c = λ start loads bytes was known.
+    let request = sorting_of c.args.words.now in
+    record {
+      part = loaded_of loads;
+      is_part = record {
+        loads = refl;
+        text = ([], refl);
+        note = (string_bytes c.args.note, refl);
+        files = ((sorted_given request loads [] c.args.ends.now bytes).files, refl);
+      };
+      leaves = c.discard.ensures ∙ was ∙ gave_loads start loads;
+    }
+
+pub returns : goal.returns
+returns g c = λ start loads bytes was known.
+    let request = sorting_of c.args.words.now in
+    subst (λ (whole : Given). Carries (names_of request) start whole c.args.status
+    (g.W.Inputs.run c.carry.new.world) c.carry.result)
+    (ends_given request c.args.ends.now loads (string_bytes c.args.note) _ bytes
+    c.ends_file.result (g.W.File.Write.contents c.args.file) c.new.ensures.items
+    (c.ends_file.ensures.files ∙ ap (λ (t : List ℕ). ends_files request.ends t) c.in-Ok.ensures)
+    known)
+    (c.carry.ensures (names_of request) start loads was (record {
+      first = first_named request c.ends_file.result c.ends_file.ensures.named;
+      upload = tt;
+      held = tt;
+    }) (0, omega arith, refl))
