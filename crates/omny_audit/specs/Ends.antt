@@ -1,7 +1,8 @@
 -- How a run of the program ends.
 use Rattle.std.specs.Prelude.{◌≡◌, ◌⊎◌, ⊤, ℕ, Bool, true, false, List, [], ◌∷◌, ◌++◌, Option, None, Some}
 use Rattle.std.specs.Prelude.{Contains, suc, zero}
-use Rattle.clap.specs.Words.{Text}
+use Rattle.clap.specs.Words.{IsAmong, Text, fault_of}
+use Rattle.clap.specs.declared.error.kind.ErrorKind.TheVariants.{DisplayHelp, DisplayVersion}
 use Rattle.toml.specs.Data.{Members}
 use Rattle.toml.specs.Parse.{parse_document}
 use Rattle.tariffs.specs.Fares.{Fares}
@@ -15,8 +16,8 @@ use Rattle.program_manners.specs.TablesFaults.{IsTablesFault}
 use Rattle.program_manners.specs.TableWords.{TableNames, table_files, wrong_word}
 use Rattle.program_manners.specs.declared.recorded_loads.RecordedLoads.{RecordedLoads}
 use Rattle.omny_audit.specs.Fault.{IsReported}
-use Rattle.omny_audit.specs.Options.{AsksForAuditText, AuditRequest, ParsesForAudit}
-use Rattle.omny_audit.specs.Options.{audit_request_by, files_of, ledger_name}
+use Rattle.omny_audit.specs.Options.{AuditRequest, audit_program, audit_request_by, files_of}
+use Rattle.omny_audit.specs.Options.{ledger_name}
 use Rattle.omny_audit.specs.Program.{HasFound, IsTextOf}
 use Rattle.omny_audit.specs.declared.fault.Fault.{Fault}
 use Rattle.omny_audit.specs.declared.fault.Fault.TheVariants.{ClassName, File, GivenLedger, Ledger}
@@ -116,12 +117,14 @@ EndsRun request did _ = ⊥
 
 -- the words are a command line, in which each fare table but the first has a date
 abbrev pub IsCommand : List Text → Type 0
-IsCommand words = ParsesForAudit words × (wrong_word (audit_request_by words).table ≡ None)
+IsCommand words = (fault_of audit_program words ≡ [])
+    × (wrong_word (audit_request_by words).table ≡ None)
 
 -- How words end that are no command line: with status 0 they ask for help or the version. Nothing
 -- was loaded, and nothing read of a ledger.
 pub record EndsAnswer (words : List Text) (did : Did) (status : ℕ) : Type 0 where
-  pub asks : status ≡ 0 → AsksForAuditText words
+  pub asks : status ≡ 0 → IsAmong DisplayHelp (fault_of audit_program words)
+      ⊎ IsAmong DisplayVersion (fault_of audit_program words)
   pub unloaded : did.loaded' ≡ did.loaded
   pub unread : did.ledger ≡ no_calls
 
