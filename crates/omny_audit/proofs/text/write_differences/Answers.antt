@@ -1,4 +1,4 @@
-use Rattle.std.proofs.Common.{◌≡◌, ◌++◌, ◌∙◌, ℕ, Bool, List, true, false, codes, refl, sym, ap}
+use Rattle.std.proofs.Common.{◌≡◌, ◌++◌, ◌∙◌, ℕ, Bool, List, true, false, refl, sym, ap}
 use Rattle.std.proofs.Common.{subst, append_assoc, string_bytes}
 use Rattle.std.specs.Prelude.{None, MatchBool}
 use Rattle.omny_audit.specs.Text.{AreDifferenceLines, IsDifferenceText, are_none}
@@ -8,12 +8,12 @@ pub returns-then-are_none : goal.returns-then-are_none
 returns-then-are_none c =
     let missing = c.args.missing.now in
     let surplus = c.args.surplus.now in
-    let text = codes "all taps of the uploads\n" in
+    let (text, is, grown) = c.in_ok-write_difference.ensures in
     let yes : are_none missing surplus ≡ true = sym c.are_none.ensures ∙ c.if-are_none.true in (
       text,
       subst (λ (b : Bool). MatchBool b (IsDifferenceText None text)
-          (AreDifferenceLines missing surplus text)) (sym yes) refl,
-      c.in_ok-write_even.ensures,
+          (AreDifferenceLines missing surplus text)) (sym yes) is,
+      grown,
     )
 
 pub returns : goal.returns
