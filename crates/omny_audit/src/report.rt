@@ -95,11 +95,7 @@ fn write_verdict(
 fn is_of_ledger(verdict: &ReportVerdict) -> bool
     ensures { result ≡ is_of_ledger verdict.now }
 {
-    match verdict {
-        ReportVerdict::OfLedger => true,
-        ReportVerdict::Wants(_, _) | ReportVerdict::NoLine(_) => false,
-        ReportVerdict::Taps { .. } => false,
-    }
+    matches!(verdict, ReportVerdict::OfLedger)
 }
 
 /// If no uploads are named.

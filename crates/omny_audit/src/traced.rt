@@ -13,7 +13,7 @@ ghost use Rattle.ledger_check.specs.Taps.{IsTapOfLine};
 ghost use Rattle.omny_audit.specs.Traced.{AreColumnsReported, IsFaultAfter, IsPositionFault};
 ghost use Rattle.omny_audit.specs.Traced.{NamesTapWithColumns, ReadLine, class_fault, class_text};
 ghost use Rattle.omny_audit.specs.Traced.{fault_by, fault_text, lines_read, positions_text};
-ghost use Rattle.omny_audit.specs.Traced.{position_text, upload_position_text};
+ghost use Rattle.omny_audit.specs.Traced.{position_text};
 ghost use Rattle.omny_audit.specs.declared.traced.PositionFault.{PositionFault as AFault};
 ghost use Rattle.omny_audit.specs.inside.Traced.{HasLines, HasLooked, HasPositions, HasReadAll};
 ghost use Rattle.omny_audit.specs.inside.Traced.{HasReadAs, HasTraced, HaveNamed, IsKeptOf, placed_of};
@@ -64,21 +64,6 @@ pub(crate) enum PositionFault {
     },
 }
 
-/// An upload, from 0, and an index there, from 1.
-#[derive(Clone, Copy)]
-struct UploadPosition {
-    upload: u32,
-    position: u64,
-}
-
-impl fmt::Display for UploadPosition {
-    ghost output = { λ at. Some (upload_position_text at.upload at.position) };
-
-    fn fmt<W: fmt::Write>(&self, f: &mut fmt::Formatter<W>) -> fmt::Result {
-        write!(f, "upload {} place {}", self.upload, self.position)
-    }
-}
-
 impl fmt::Display for PositionFault {
     ghost output = { λ fault. Some (fault_text fault) };
 
@@ -96,13 +81,7 @@ impl fmt::Display for PositionFault {
                 line,
                 upload,
                 position,
-            } => {
-                let at = UploadPosition {
-                    upload: *upload,
-                    position: *position,
-                };
-                write!(f, "line {line} has {at} again")
-            }
+            } => write!(f, "line {line} has upload {upload} place {position} again"),
             PositionFault::NoLine { upload, position } => {
                 write!(f, "no line has upload {upload} place {position}")
             }
@@ -127,6 +106,16 @@ fn put_other(text: &mut Vec<u8>, line: &[u8]) -> Result<(), AllocError>
     Ok(())
 }
 
+/// The line becomes the fields and a line feed.
+fn end_fields(line: &mut Vec<u8>, fields: &[u8]) -> Result<(), AllocError>
+    ensures { OnOk result (line.new.items ≡ fields.now ++ 10 ∷ []) }
+{
+    line.clear();
+    line.extend_from_slice(fields)?;
+    line.push(b'\n')?;
+    Ok(())
+}
+
 /// Gives the tap that the fields name, if any. The line replaces what is in `line`, and the text in
 /// `again` is replaced.
 fn put_fields(
@@ -139,9 +128,7 @@ fn put_fields(
     ensures text { OnOk result (text.new.items ≡ text.old.items ++ (fields.now ++ 10 ∷ [])) }
     ensures tap { IfOk result (IsTapOfLine (fields.now ++ 10 ∷ [])) }
 {
-    line.clear();
-    line.extend_from_slice(fields)?;
-    line.push(b'\n')?;
+    end_fields(line, fields)?;
     let whole = line.as_slice();
     text.extend_from_slice(whole)?;
     let tap = tap_of_line(whole, again)?;
