@@ -6,9 +6,11 @@ use Rattle.std.proofs.lemmas.Bool.{and_parts, false≢true}
 use Rattle.tariffs.specs.Fares.{Fares}
 use Rattle.histories.specs.declared.entry.Entry.{Entry}
 use Rattle.tap_views.specs.declared.encoder.TapFields.{TapFields}
-use Rattle.ledger_check.specs.Ledger.{IsLedgerOf}
-use Rattle.omny_audit.specs.Reports.{AuditsDecide, HasOwnReport, IsAudit, IsVerdictOn, are_whole, fits}
-use Rattle.omny_audit.specs.Reports.{Given, ledger_in}
+use Rattle.ledger_check.specs.Ledger.{IsLedger, IsLedgerOf}
+use Rattle.omny_audit.specs.Findings.{IsRightLedger}
+use Rattle.omny_audit.specs.Reports.{Given, HasOwnReport, IsRightAudit, IsVerdictOn, are_whole}
+use Rattle.omny_audit.specs.Reports.{ledger_in}
+use Rattle.omny_audit.specs.inside.Reports.{fits}
 use Rattle.tap_views.specs.declared.upload_end.UploadEnd.{UploadEnd}
 use Rattle.omny_audit.specs.Traced.{AreColumnsReported, HasRightColumns, HasRightPositions}
 use Rattle.omny_audit.specs.Traced.{IsFaultAfter}
@@ -86,49 +88,54 @@ looked_at : (all legal : Bool) → legal ≡ true → (all || legal) ≡ true
 looked_at true legal is = refl
 looked_at false legal is = is
 
--- ---- of a legal ledger
 module _ (verdicts : ReportVerdictsDecide) (given : Given) (file : List ℕ) (read : List ReadLine)
-    (text : List ℕ) (success : Bool) (audit : IsAudit given file read text success)
-    (legal : audit.legal ≡ true) where
-  columns : (audit.right ≡ true) ↔ HasRightColumns given.wanted file read
-  columns = columns_right given.wanted file read audit.columns audit.right
-      (subst (λ (b : Bool). AreColumnsReported given.wanted b file read audit.columns audit.right)
-      (looked_at given.all audit.legal legal) audit.are_columns)
+    (sound legal right : Bool) (reported : List ℕ) (verdict : Option ReportVerdict)
+    (is_sound : (sound ≡ true)
+    ↔ IsRightLedger given.live given.fares (ledger_in given file) given.valid)
+    (is_legal : (legal ≡ true) ↔ IsLedger given.fares (ledger_in given file))
+    (are_columns : AreColumnsReported given.wanted (given.all || legal) file read reported right)
+    (is_verdict : IsVerdictOn given.ends given.fares (ledger_in given file) given.report
+    (legal && right) verdict) where
+  columns : legal ≡ true → (right ≡ true) ↔ HasRightColumns given.wanted file read
+  columns is = columns_right given.wanted file read reported right
+      (subst (λ (b : Bool). AreColumnsReported given.wanted b file read reported right)
+      (looked_at given.all legal is) are_columns)
 
-  own : audit.right ≡ true → (entries : List Entry)
+  own : legal ≡ true → right ≡ true → (entries : List Entry)
       → IsLedgerOf given.fares entries (ledger_in given file)
-      → (fits given.report audit.verdict ≡ true) ↔ HasOwnReport given.ends given.report entries
-  own right entries of = fits_own verdicts given.ends given.fares (ledger_in given file)
-      given.report audit.verdict entries
+      → (fits given.report verdict ≡ true) ↔ HasOwnReport given.ends given.report entries
+  own is yes entries of = fits_own verdicts given.ends given.fares (ledger_in given file)
+      given.report verdict entries
       (subst (λ (b : Bool). IsVerdictOn given.ends given.fares (ledger_in given file) given.report b
-      audit.verdict) (ap (λ (x : Bool). x && audit.right) legal ∙ right) audit.is_verdict) of
+      verdict) (ap (λ (x : Bool). x && right) is ∙ yes) is_verdict) of
 
-pub decides : ReportVerdictsDecide → AuditsDecide
-decides verdicts given file read text success audit =
-    let well = fits given.report audit.verdict in (
-      λ is.
-          let parts = and_parts audit.sound (audit.right && (well && are_whole given.ends))
-          (sym audit.both ∙ is) in
-          let ends = and_parts audit.right (well && are_whole given.ends) parts.1 in
-          let lasts = and_parts well (are_whole given.ends) ends.1 in
-          let right = audit.is_sound.0 parts.0 in
-          let legal = audit.is_legal.1 (right.0, right.1) in (
-            right.0,
-            right.1,
-            right.2,
-            right.3,
-            (columns verdicts given file read text success audit legal).0 ends.0,
-            (own verdicts given file read text success audit legal ends.0 right.0 right.1).0 lasts.0,
-            lasts.1,
-          ),
-      λ right.
-          let legal = audit.is_legal.1 (right.0, right.1) in
-          let are = (columns verdicts given file read text success audit legal).1 right.4 in
-          audit.both
-          ∙ ap (λ (x : Bool). x && (audit.right && (well && are_whole given.ends)))
-          (audit.is_sound.1 (right.0, right.1, right.2, right.3))
-          ∙ ap (λ (x : Bool). x && (well && are_whole given.ends)) are
-          ∙ ap (λ (x : Bool). x && are_whole given.ends)
-          ((own verdicts given file read text success audit legal are right.0 right.1).1 right.5)
-          ∙ right.6,
-    )
+  -- all is well exactly if all is right
+  pub decides : (success : Bool)
+      → success ≡ (sound && (right && (fits given.report verdict && are_whole given.ends)))
+      → (success ≡ true) ↔ IsRightAudit given file read
+  decides success both =
+      let well = fits given.report verdict in (
+        λ is.
+            let parts = and_parts sound (right && (well && are_whole given.ends)) (sym both ∙ is) in
+            let ends = and_parts right (well && are_whole given.ends) parts.1 in
+            let lasts = and_parts well (are_whole given.ends) ends.1 in
+            let all = is_sound.0 parts.0 in
+            let whole = is_legal.1 (all.0, all.1) in (
+              all.0,
+              all.1,
+              all.2,
+              all.3,
+              (columns whole).0 ends.0,
+              (own whole ends.0 all.0 all.1).0 lasts.0,
+              lasts.1,
+            ),
+        λ all.
+            let whole = is_legal.1 (all.0, all.1) in
+            let are = (columns whole).1 all.4 in
+            both
+            ∙ ap (λ (x : Bool). x && (right && (well && are_whole given.ends)))
+            (is_sound.1 (all.0, all.1, all.2, all.3))
+            ∙ ap (λ (x : Bool). x && (well && are_whole given.ends)) are
+            ∙ ap (λ (x : Bool). x && are_whole given.ends) ((own whole are all.0 all.1).1 all.5)
+            ∙ all.6,
+      )

@@ -14,14 +14,12 @@ use Rattle.program_manners.specs.TableLoads.{LoadsTables}
 use Rattle.program_manners.specs.TableWords.{TableNames, table_files}
 use Rattle.program_manners.specs.declared.recorded_loads.RecordedLoads.{RecordedLoads}
 use Rattle.tariffs.specs.Fares.{Fares}
-use Rattle.world.specs.declared.faults.WriteFault.{WriteFault}
-use Rattle.world.specs.Run.{Calls, Load, Run, with_cut, with_written}
+use Rattle.world.specs.Run.{Calls, Load, Run}
 use Rattle.omny_audit.specs.inside.Ends.{EndsAudit}
-use Rattle.omny_audit.specs.Ends.{Did, HasStartedText, IsRightFault, LoadsUnplainClass, NamesUnplainClass}
-use Rattle.omny_audit.specs.Ends.{did_by}
+use Rattle.omny_audit.specs.Ends.{Did, IsRightFault, LoadsUnplainClass, NamesUnplainClass, did_by}
 use Rattle.omny_audit.specs.Options.{AuditRequest, files_of, ledger_name, named_file}
-use Rattle.omny_audit.specs.Program.{HasFound, HasLoaded, HoldsOfRead, IsTextOf, given_of}
-use Rattle.omny_audit.specs.Reports.{AuditsDecide, IsAudit, IsAuditText}
+use Rattle.omny_audit.specs.Program.{HasLoaded, HoldsOfRead, IsTextOf, given_of}
+use Rattle.omny_audit.specs.Reports.{IsAuditText}
 use Rattle.omny_audit.specs.declared.fault.Fault.{Fault}
 use Rattle.omny_audit.specs.declared.fault.Fault.TheVariants.{ClassName, File, GivenLedger, Ledger}
 use Rattle.omny_audit.specs.declared.fault.Fault.TheVariants.{NamedClass, NoMemory, Unwritten}
@@ -134,27 +132,13 @@ pub stopped_before : {Right : Type 0} (Text : List ℕ → Type 0) (run : Run) �
 stopped_before Text run right = (right, started_none Text run.written, refl)
 
 -- what an audit of these files ends as
-pub ends_audit : (request : AuditRequest) (did : Did) (result : Result Bool Fault) → AuditsDecide
+pub ends_audit : (request : AuditRequest) (did : Did) (result : Result Bool Fault)
     → (files : HasLoaded request did.loaded did.loaded' did.ledger)
     → EndsAs (given_of request files) did.ledger did.old did.new result
     → EndsAudit request did result
-ends_audit request did (Ok success) decide files is = (
-  is.0,
-  record {
-    files = files;
-    found = λ more end.
-        let one = is.2.0 more end in record {
-          read = one.0;
-          audit = one.1;
-          right = decide (given_of request files) (did.ledger.reading.bytes ++ more) one.0 is.0
-              success
-              one.1;
-        };
-    whole = is.2.1;
-  },
-  is.1,
-)
-ends_audit request did (Err fault) decide files is = (
+ends_audit request did (Ok success) files (text, (found, whole), wrote) =
+    (text, record { files = files; found = found; whole = whole }, wrote)
+ends_audit request did (Err fault) files is = (
   stream_cause request did files.reads_ledger fault is.0,
   started_weaker (λ text. HoldsOfRead did.ledger
       (λ file. IsAuditText (given_of request files) file text))
@@ -162,25 +146,3 @@ ends_audit request did (Err fault) decide files is = (
       (λ text right. record { files = files; right = right }) is.1,
   is.2,
 )
-
--- the whole text was written, and the flush after it failed
-pub unflushed : (request : AuditRequest) (did : Did) (text : List ℕ) (success : Bool)
-    (before : Run) (why : WriteFault) → HasFound request did.loaded did.loaded' did.ledger text success
-    → before ≡ with_written did.old text
-    → HasStartedText request (record did { new = with_cut before why })
-unflushed request did text success before why found wrote = record {
-  front = text;
-  grown = ap (λ (r : Run). r.written) wrote;
-  rest = [];
-  right = inr (record {
-    files = found.files;
-    right = λ more end.
-        let one = found.found more end in inl (
-          one.read,
-          success,
-          subst (λ (t : List ℕ). IsAudit (given_of request found.files)
-              (did.ledger.reading.bytes ++ more) one.read t success) (sym (append-nil text))
-              one.audit,
-        );
-  });
-}

@@ -1,6 +1,7 @@
 //! The whole program.
 ghost use Rattle.std.specs.Prelude.{◌≡◌, ◌⊎◌, ◌≤◌, ◌++◌, ◌∷◌, [], List, ℕ, Contains, IfErr, IfOk};
-ghost use Rattle.std.specs.Prelude.{None, OnOk, Option, Some, if◌then◌else◌, length, map, option_map};
+ghost use Rattle.std.specs.Prelude.{None, OnOk, Option, Some, false, if◌then◌else◌, length, map};
+ghost use Rattle.std.specs.Prelude.{option_map};
 ghost use Rattle.std.specs.Prelude.{string_bytes};
 ghost use Rattle.clap.specs.Words.{kind_of};
 ghost use Rattle.ledger_check.specs.Columns.{has_traced_head};
@@ -26,7 +27,6 @@ ghost use Rattle.world.specs.Writes.{IsSaid};
 use crate::audit::{Audit, audit_over};
 use crate::check::Check;
 use crate::fault::{Fault, fail};
-use crate::laws::audits_decide;
 use crate::ledger::read_head;
 use crate::options::Options;
 use crate::report::{HeldReport, seed_of};
@@ -182,7 +182,7 @@ fn trace_of<'a>(
     ensures wanted { IfOk result (λ trace. AreWanted tables.now.fares
         (map (λ t. t.items) tables.now.texts.items) (has_traced_head head.now)
         (uploads_in positions) (wanted_by trace)) }
-    ensures read { IfOk result (λ trace. HasReadAs trace [] []) }
+    ensures read { IfOk result (λ trace. HasReadAs trace false [] []) }
     ensures fault { IfErr result (IsClassFault (names_of words.now)
         (map (λ t. t.items) tables.now.texts.items)) }
 {
@@ -275,8 +275,6 @@ fn audit<'a, W: World>(
         report,
         text: Vec::new(alloc),
     };
-    // proof: all is well exactly if the ledger is right, and the report its own
-    audits_decide();
     audit_over(alloc, head, ledger, &mut audit, world)
 }
 
@@ -320,20 +318,16 @@ fn show<W: World>(alloc: Global, error: &Error, world: &mut W) -> u8
     }
 }
 
-/// Flushes the output after the finding. A flush that fails is reported as a write is.
+/// Reports a fault, and returns the status.
 fn end_run<W: World>(ended: Result<bool, Fault<'_>>, world: &mut W) -> u8
     ensures { (request : AuditRequest) (did : Did)
         → EndsAudit request (record did { new = W.run world.old }) ended.entry
         → EndsRun request (record did { new = W.run world.new }) result }
 {
-    let succeeded = match ended {
-        Ok(succeeded) => succeeded,
-        Err(fault) => return fail(&fault, world),
-    };
-    match world.flush() {
-        Ok(()) if succeeded => 0,
-        Ok(()) => 1,
-        Err(unflushed) => fail(&Fault::Unwritten(unflushed), world),
+    match ended {
+        Ok(true) => 0,
+        Ok(false) => 1,
+        Err(fault) => fail(&fault, world),
     }
 }
 
