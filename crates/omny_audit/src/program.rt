@@ -4,6 +4,7 @@ ghost use Rattle.std.specs.Prelude.{None, OnOk, Option, Some, false, if◌then�
 ghost use Rattle.std.specs.Prelude.{option_map};
 ghost use Rattle.std.specs.Prelude.{string_bytes};
 ghost use Rattle.clap.specs.Words.{kind_of};
+ghost use Rattle.class_names.specs.ClassFaults.{IsWrongAt};
 ghost use Rattle.ledger_check.specs.Columns.{has_traced_head};
 ghost use Rattle.tap_views.specs.declared.encoder.TapFields.{TapFields};
 ghost use Rattle.omny_audit.specs.Ends.{Did, Ends, EndsRun, did_by};
@@ -12,7 +13,7 @@ ghost use Rattle.omny_audit.specs.Options.{AuditRequest, named_file};
 ghost use Rattle.omny_audit.specs.inside.Options.{audit_request_of};
 ghost use Rattle.omny_audit.specs.inside.Reports.{text_of};
 ghost use Rattle.omny_audit.specs.Program.{AreWanted, LoadsNamedFiles, LoadsReport};
-ghost use Rattle.omny_audit.specs.inside.Fault.{IsClassFault, IsLoadFault, IsNamedClass, IsUnopened};
+ghost use Rattle.omny_audit.specs.inside.Fault.{IsClassFault, IsLoadFault, IsUnopened};
 ghost use Rattle.omny_audit.specs.inside.Traced.{HasReadAs, HaveNamed, uploads_in, wanted_by};
 ghost use Rattle.omny_audit.specs.inside.Uploads.{AreUploads};
 ghost use Rattle.program_manners.specs.Refusals.{IsShown, refusal_of};
@@ -38,8 +39,7 @@ use file_sources::Host;
 use histories::HashSeed;
 use ledger_check::{Balance, Positions, has_ledger_head, has_traced_head};
 use program_manners::{
-    FileFault, FileSource, NamedClassLine, STANDARD_INPUT, TableWord, TableWords, Tables,
-    load_tables,
+    FileFault, FileSource, STANDARD_INPUT, TableWord, TableWords, Tables, load_tables,
 };
 use std::alloc::Global;
 use std::fmt::Display;
@@ -154,14 +154,15 @@ fn load_report<'a, R: RandomSource>(
 /// The texts were read as fare tables before, so each is TOML and names a default class.
 fn of_names<'a>(words: &TableWords<'a>, wrong: WrongNames) -> Fault<'a>
     requires { wrong.position ≤ length (names_of words.now).later }
-    ensures { IsNamedClass (names_of words.now) wrong.fault result }
+    ensures { (texts : List (List ℕ)) → IsWrongAt texts wrong
+        → IsClassFault (names_of words.now) texts result }
 {
+    let is_alone = words.later.as_slice().is_empty();
     match wrong.fault {
-        ClassFault::Name if words.later.as_slice().is_empty() => Fault::ClassName,
-        ClassFault::Name if wrong.position == 0 => Fault::NamedClass(NamedClassLine(words.first)),
+        ClassFault::Name if wrong.position == 0 => Fault::Class(words.first, is_alone),
         ClassFault::Name => {
             let word = words.later[wrong.position - 1];
-            Fault::NamedClass(NamedClassLine(TableWord::of(word).name))
+            Fault::Class(TableWord::of(word).name, is_alone)
         }
         ClassFault::Text | ClassFault::NoMemory => Fault::NoMemory,
     }
