@@ -14,11 +14,7 @@ use Rattle.frame.specs.Failing.{HasStarted}
 use Rattle.tariffs.specs.Fares.{Fares}
 use Rattle.ledger_check.specs.Columns.{read_as}
 use Rattle.ledger_check.specs.Lines.{lines_of}
-use Rattle.ledger_check.specs.FullCheckStates.{IsFed, IsRightSoFar}
 use Rattle.ledger_check.specs.Verdicts.{IsVerdict}
-use Rattle.ledger_check.specs.declared.balance.Balance.{Balance}
-use Rattle.ledger_check.specs.declared.checker.Checker.{Checker}
-use Rattle.ledger_check.specs.declared.checker.Verdict.{Verdict}
 use Rattle.tap_views.specs.declared.encoder.TapFields.{TapFields}
 use Rattle.omny_audit.specs.Program.{HoldsOfRead}
 use Rattle.omny_audit.specs.Reports.{Given, IsAuditText}
@@ -71,28 +67,14 @@ checked_more : (fares : Fares) (subtracts : Bool) (valid : List TapFields) (chec
     → is_decided check ≡ true → HasChecked fares subtracts valid check (text ++ rest) written
 checked_more fares subtracts valid (First checker balance None) text written rest has is = absurd cc
 checked_more fares subtracts valid (First checker balance (Some verdict)) text written rest has is = (
-  λ more. subst (λ (t : List ℕ). IsVerdict fares t verdict) (sym (append_assoc text rest more))
-      (has.0 (rest ++ more)),
+  (
+    λ more. subst (λ (t : List ℕ). IsVerdict fares t verdict) (sym (append_assoc text rest more))
+        (has.0.0 (rest ++ more)),
+    has.0.1,
+  ),
   has.1,
-  has.2,
 )
 checked_more fares subtracts valid (All full_check full) text written rest has is = absurd cc
-
--- a piece more, up to the first wrong line
-pub first_fed : (fares : Fares) (subtracts : Bool) (valid : List TapFields)
-    (checker after : Checker)
-    (balance left : Balance) (before verdict : Option Verdict) (text piece written : List ℕ)
-    → before ≡ None
-    → (IsRightSoFar fares checker balance text valid
-    → IsFed fares after left (text ++ piece) valid verdict)
-    → HasChecked fares subtracts valid (First checker balance before) text written
-    → HasChecked fares subtracts valid (First after left verdict) (text ++ piece) written
-first_fed fares subtracts valid checker after balance left (Some old) verdict text piece written
-    none fed has = absurd cc
-first_fed fares subtracts valid checker after balance left None None text piece written none fed
-    has = (fed has.0, has.1)
-first_fed fares subtracts valid checker after balance left None (Some verdict) text piece written
-    none fed has = let found = fed has.0 in (found.0, found.1, has.1)
 
 -- what was read to the end was read whole
 whole_as : (trace : Option TracedPieces) (file text : List ℕ) → HasReadAs trace true file text
@@ -141,8 +123,7 @@ remarked given audit ledger file piece written read has =
     by_check : (check : Check) → audit.check ≡ check
         → HasChecked audit.table.now audit.subtracts has.valid check has.text written
         → MayBeLeft (given_in audit has.valid) ledger written
-    by_check (First checker balance None) same checked = inl checked.1
-    by_check (First checker balance (Some verdict)) same checked = inl checked.2
+    by_check (First checker balance verdict) same checked = inl checked.1
     by_check (All full_check full) same checked = inr (λ more end.
         let left = reads_more audit.trace file has.text has.as_text (piece ++ more) in
         subst (λ (f : List ℕ). IsAuditText (given_in audit has.valid) f written)

@@ -7,8 +7,7 @@ use Rattle.histories.specs.declared.entry.Entry.{Entry}
 use Rattle.ledger_check.specs.Balances.{IsBalance, IsDifference}
 use Rattle.ledger_check.specs.Ledger.{IsLedger, IsLedgerOf}
 use Rattle.ledger_check.specs.Sums.{AreSumsOf}
-use Rattle.ledger_check.specs.FullCheckStates.{HasFullyChecked, IsRightSoFar}
-use Rattle.ledger_check.specs.Verdicts.{IsVerdict, is_legal}
+use Rattle.ledger_check.specs.FullCheckStates.{HasFullyChecked, IsFed}
 use Rattle.ledger_check.specs.declared.balance.Balance.{Balance}
 use Rattle.ledger_check.specs.declared.balance.Difference.{Difference}
 use Rattle.tap_views.specs.declared.encoder.TapFields.{TapFields}
@@ -31,11 +30,8 @@ is_decided (All full_check full) = false
 -- The text was read, this was reported of it, and its taps were subtracted from the valid ones, if
 -- it is to subtract them; or a line of it is the first wrong one, whatever follows.
 abbrev pub HasChecked : Fares → Bool → List TapFields → Check → List ℕ → List ℕ → Type 0
-HasChecked fares subtracts valid (First checker balance None) text written =
-    IsRightSoFar fares checker balance text valid × (written ≡ [])
-HasChecked fares subtracts valid (First checker balance (Some verdict)) text written =
-    ((more : List ℕ) → IsVerdict fares (text ++ more) verdict) × (is_legal verdict ≡ false)
-    × (written ≡ [])
+HasChecked fares subtracts valid (First checker balance verdict) text written =
+    IsFed fares checker balance text valid verdict × (written ≡ [])
 HasChecked fares subtracts valid (All full_check full) text written =
     HasFullyChecked fares full_check subtracts full text written valid
 

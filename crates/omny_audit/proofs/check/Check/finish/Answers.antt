@@ -13,14 +13,14 @@ pub returns-in_ok-found-in-Some-clause-found : goal.returns-in_ok-found-in-Some-
 returns-in_ok-found-in-Some-clause-found c = λ fares valid text written has.
     let known = rw c.in-Some.is at (rw c.in-First.is at has) in
     let is = subst (λ (t : List ℕ). IsVerdict fares t c.in-Some.verdict) (append-nil text)
-    (known.0 []) in
-    rw c.in-First.is (rw known.2 (c.in_ok-found-in-Some.ensures.found fares text valid is
-    (λ legal. absurd (true≢false (sym legal ∙ known.1)))))
+    (known.0.0 []) in
+    rw c.in-First.is (rw known.1 (c.in_ok-found-in-Some.ensures.found fares text valid is
+    (λ legal. absurd (true≢false (sym legal ∙ known.0.1)))))
 
 pub returns-in_ok-found-in-Some-clause-decided : goal.returns-in_ok-found-in-Some-clause-decided
 returns-in_ok-found-in-Some-clause-decided c = λ is.
     c.in_ok-found-in-Some.ensures.legal
-    ∙ (rw c.in-Some.is at (rw c.in-First.is at c.requires.fed.4)).1
+    ∙ (rw c.in-Some.is at (rw c.in-First.is at c.requires.fed.4)).0.1
 
 pub returns-in_ok-found-in-None-clause-found : goal.returns-in_ok-found-in-None-clause-found
 returns-in_ok-found-in-None-clause-found c = λ fares valid text written has.
