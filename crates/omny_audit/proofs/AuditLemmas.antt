@@ -12,8 +12,7 @@ use Rattle.omny_audit.specs.Reports.{Given, HasOwnReport, IsRightAudit, IsVerdic
 use Rattle.omny_audit.specs.Reports.{ledger_in}
 use Rattle.omny_audit.specs.inside.Reports.{fits}
 use Rattle.tap_views.specs.declared.upload_end.UploadEnd.{UploadEnd}
-use Rattle.omny_audit.specs.Traced.{AreColumnsReported, HasRightColumns, HasRightPositions}
-use Rattle.omny_audit.specs.Traced.{IsFaultAfter}
+use Rattle.omny_audit.specs.Traced.{AreColumnsReported, HasRightColumns, IsFaultAfter}
 use Rattle.omny_audit.specs.Traced.{IsPositionFault, ReadLine, Wanted, have_position, wrong_class}
 use Rattle.omny_audit.specs.Traced.{wrong_position}
 use Rattle.omny_audit.specs.declared.traced.PositionFault.{PositionFault}
@@ -37,33 +36,20 @@ none_of : {A : Type 0} (wrong : Option A) → not (is_some wrong) ≡ true → w
 none_of None holds = refl
 none_of (Some wrong) holds = absurd (false≢true holds)
 
-positions_right : (uploads : Option (List (List TapFields))) (read : List ReadLine)
-    → IsPositionFault uploads read None → HasRightPositions uploads read
-positions_right None read is = tt
-positions_right (Some uploads) read is = by_wrong (wrong_position uploads read) refl is
-  where
-    by_wrong : (wrong : Option PositionFault) → wrong_position uploads read ≡ wrong
-        → IsFaultAfter uploads (have_position read) wrong None
-        → HasRightPositions (Some uploads) read
-    by_wrong None none is = (none, is)
-    by_wrong (Some wrong) some is =
-        let bad : ◌≡◌ {A = Option PositionFault} None (Some wrong) = is in absurd (cc)
-
-right_positions : (uploads : Option (List (List TapFields))) (read : List ReadLine)
+no_fault : (uploads : Option (List (List TapFields))) (read : List ReadLine)
     (fault : Option PositionFault) → IsPositionFault uploads read fault
-    → HasRightPositions uploads read
-    → fault ≡ None
-right_positions None read fault is has = is
-right_positions (Some uploads) read fault is has =
-    by_fault fault (subst (λ (w : Option PositionFault). IsFaultAfter uploads (have_position read) w
-    fault) has.0 is)
+    → IsPositionFault uploads read None → fault ≡ None
+no_fault None read fault is none = is
+no_fault (Some uploads) read fault is none = by_wrong (wrong_position uploads read) fault is none
   where
-    by_fault : (fault : Option PositionFault) → IsFaultAfter uploads (have_position read) None fault
-        → fault ≡ None
-    by_fault None is = refl
-    by_fault (Some (OtherTap line upload position)) is = absurd is
-    by_fault (Some (Repeated line upload position)) is = absurd is
-    by_fault (Some (NoLine upload position)) is = absurd (has.1 upload position is.is)
+    by_wrong : (wrong fault : Option PositionFault)
+        → IsFaultAfter uploads (have_position read) wrong fault
+        → IsFaultAfter uploads (have_position read) wrong None → fault ≡ None
+    by_wrong (Some wrong) fault is none = is ∙ sym none
+    by_wrong None None is none = refl
+    by_wrong None (Some (OtherTap line upload position)) is none = absurd is
+    by_wrong None (Some (Repeated line upload position)) is none = absurd is
+    by_wrong None (Some (NoLine upload position)) is none = absurd (none upload position is.is)
 
 columns_right : (wanted : Option Wanted) (file : List ℕ) (read : List ReadLine)
     (reported : List ℕ) (right : Bool) → AreColumnsReported wanted true file read reported right
@@ -75,13 +61,12 @@ columns_right (Some wanted) file read reported right is = (
       (sym is.4 ∙ holds) in (
         is.0,
         none_of (wrong_class wanted.classes read) parts.0,
-        positions_right wanted.uploads read (subst (IsPositionFault wanted.uploads read)
-            (none_of is.1 parts.1) is.2),
+        subst (IsPositionFault wanted.uploads read) (none_of is.1 parts.1) is.2,
       ),
   λ has.
       is.4 ∙ ap (λ (w : Option WrongClass). not (is_some w) && not (is_some is.1)) has.1
       ∙ ap (λ (f : Option PositionFault). not (is_some f))
-      (right_positions wanted.uploads read is.1 is.2 has.2),
+      (no_fault wanted.uploads read is.1 is.2 has.2),
 )
 
 looked_at : (all legal : Bool) → legal ≡ true → (all || legal) ≡ true

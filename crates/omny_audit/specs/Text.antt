@@ -48,12 +48,10 @@ AreTapLines words taps text = (lines : List (List ℕ)) × AllZip (IsTapLine wor
     × (text ≡ flat_map (λ line. line) lines)
 
 -- `missing tap ..` for each missing tap, then `surplus tap ..` for each surplus one
-pub record AreDifferenceLines (missing surplus : List TapFields) (text : List ℕ) : Type 0 where
-  pub missing_lines : List ℕ
-  pub are_missing : AreTapLines (codes "missing tap ") missing missing_lines
-  pub surplus_lines : List ℕ
-  pub are_surplus : AreTapLines (codes "surplus tap ") surplus surplus_lines
-  pub shown : text ≡ missing_lines ++ surplus_lines
+abbrev pub AreDifferenceLines : List TapFields → List TapFields → List ℕ → Type 0
+AreDifferenceLines missing surplus text = (first : List ℕ) × (next : List ℕ)
+    × AreTapLines (codes "missing tap ") missing first
+    × AreTapLines (codes "surplus tap ") surplus next × (text ≡ first ++ next)
 
 -- whether nothing is missing and nothing surplus
 abbrev pub are_none : List TapFields → List TapFields → Bool

@@ -144,8 +144,6 @@ const TABLE_HELP: &str = "Fare table; again as G@2026-01-04: from that day on";
 
 const ALL_HELP: &str = "Print each wrong line and tap, not only the first";
 
-const LIVE_HELP: &str = "Take a ledger of a run without --settle";
-
 const UPLOADS_HELP: &str = "Compare their taps; the list ends at an option or --";
 
 const REPORT_HELP: &str = "Check this report of the ledger, too";
@@ -168,7 +166,7 @@ fn command<'a>(alloc: Global) -> Result<Command<'a>, AllocError>
 {
     let table = table_arg(alloc);
     let all = flag_arg(alloc, "all", ALL_HELP);
-    let live = flag_arg(alloc, "live", LIVE_HELP);
+    let live = flag_arg(alloc, "live", "Take a ledger of a run without --settle");
     let uploads = files_arg(alloc, "uploads", UPLOADS_HELP);
     let report = option_arg(alloc, "report", "REPORT", REPORT_HELP);
     let made_by = option_arg(alloc, "made-by", "FILE", MADE_BY_HELP);

