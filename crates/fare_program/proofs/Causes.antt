@@ -14,7 +14,7 @@ use Rattle.fare_program.specs.declared.fault.Fault.{Fault}
 use Rattle.fare_program.specs.declared.fault.Fault.TheVariants.{Gather, Late, NoMemory, TooManyTaps}
 use Rattle.fare_program.specs.declared.fault.Fault.TheVariants.{Unopened, Unsorted, Uploads, Write}
 use Rattle.fare_program.specs.declared.sorted_fault.LateFault.{LateFault}
-use Rattle.fare_program.specs.inside.Causes.{IsOfOutput, IsRightOfUploads}
+use Rattle.fare_program.specs.inside.Fault.{IsOfOutput, IsRightOfUploads}
 use Rattle.fare_program.specs.inside.Ends.{IsLate}
 
 -- a file of the words is one of those that are reported

@@ -31,42 +31,21 @@ printed contents old new Right print.Write same started = started refl
 printed contents old new Right print.NoMemory same started = rw same (Keeps-refl (contents old))
 
 -- what is right so is right in another way
-pub stops_by : (A B : List ℕ → Type 0) (out out' : Option (List ℕ)) (fault : Fault)
+stops_by : (A B : List ℕ → Type 0) (out out' : Option (List ℕ)) (fault : Fault)
     → ((text : List ℕ) → A text → B text) → Stops A out out' fault → Stops B out out' fault
 stops_by A B out out' Write same (text, right, started) = (text, same text right, started)
 stops_by A B out out' (Late why) same stops = tt
 stops_by A B out out' _ same stops = stops
 
-pub gives_by : (A B : List ℕ → Bool → Type 0) (out out' : Option (List ℕ)) (r : Result Bool Fault)
-    → ((text : List ℕ) (success : Bool) → A text success → B text success) → Gives A out out' r
-    → Gives B out out' r
-gives_by A B out out' (Ok success) same (text, right, written) =
-    (text, same text success right, written)
-gives_by A B out out' (Err fault) same stops =
-    stops_by (λ text. (success : Bool) × A text success) (λ text. (success : Bool) × B text success)
-    out out' fault (λ text right. (right.0, same text right.0 right.1)) stops
-
--- also where something is given beside
-pub gives_if : (Given : Type 0) (A B : List ℕ → Bool → Type 0) (out out' : Option (List ℕ))
-    (r : Result Bool Fault) → ((text : List ℕ) (success : Bool) → A text success → B text success)
-    → Gives A out out' r → GivesIf Given B out out' r
-gives_if Given A B out out' (Ok success) same (text, right, written) =
-    (text, same text success right, written)
-gives_if Given A B out out' (Err fault) same stops =
-    stops_by (λ text. (success : Bool) × A text success)
-    (λ text. Given → (success : Bool) × B text success)
-    out out' fault (λ text right given. (right.0, same text right.0 right.1)) stops
-
--- where less is given
-pub gives_given : (Given Given' : Type 0) (A B : List ℕ → Bool → Type 0) (out out' : Option (List ℕ))
+-- also where less is given
+pub gives_by : {Given Given' : Type 0} {A B : List ℕ → Bool → Type 0} {out out' : Option (List ℕ)}
     (r : Result Bool Fault) → (Given' → Given)
     → ((text : List ℕ) (success : Bool) → A text success → B text success)
     → GivesIf Given A out out' r → GivesIf Given' B out out' r
-gives_given Given Given' A B out out' (Ok success) given same (text, right, written) =
+gives_by (Ok success) given same (text, right, written) =
     (text, same text success right, written)
-gives_given Given Given' A B out out' (Err fault) given same stops =
-    stops_by (λ text. Given → (success : Bool) × A text success)
-    (λ text. Given' → (success : Bool) × B text success) out out' fault
+gives_by (Err fault) given same stops =
+    stops_by _ _ _ _ fault
     (λ text right more. let it = right (given more) in (it.0, same text it.0 it.1)) stops
 
 -- a text that was printed, by what is known of each end of it
@@ -80,7 +59,7 @@ pub gives_printed : {T V : Type 0} (contents : V → Option (List ℕ)) (old new
 gives_printed contents old new A (Ok done) success (text, right, written) started same =
     (text, (refl, right), written)
 gives_printed contents old new A (Err print.Write) success ok started same =
-    let (text, right, front) = started refl in (text, (success, (refl, right)), front)
+    let (text, right, front) = started refl in (text, (λ given. (success, (refl, right))), front)
 gives_printed contents old new A (Err print.NoMemory) success ok started same =
     rw same (Keeps-refl (contents old))
 

@@ -1,6 +1,6 @@
 -- How a run ends.
 use Rattle.std.specs.Prelude.{◌≡◌, ◌≢◌, ◌⊎◌, ℕ, suc, zero, Bool, true, false, List, Option, None}
-use Rattle.std.specs.Prelude.{is_some, map}
+use Rattle.std.specs.Prelude.{is_some}
 use Rattle.std.specs.Io.KnownBytes.{Appends, Keeps}
 use Rattle.clap.specs.Words.{Text}
 use Rattle.fare_texts.specs.WrittenOut.{Begins}
@@ -16,7 +16,6 @@ use Rattle.program_manners.specs.Loads.{Loaded}
 use Rattle.program_manners.specs.declared.complaints.Complaints.{Complaints}
 use Rattle.program_manners.specs.declared.output.Output.{Output}
 use Rattle.program_manners.specs.declared.output.WriteEnd.{WriteEnd}
-use Rattle.sorted_bills.specs.Ledgers.{KnownAreBytes}
 use Rattle.world.specs.Origins.{Origin}
 use Rattle.world.specs.declared.faults.LoadFault.{LoadFault}
 
@@ -60,24 +59,14 @@ did_over under origin loaded refused written said disk source source' out out' e
   failed = err'.failed;
 }
 
--- the ledger of all tokens of sorted files is requested: its lines go out while these are read
-abbrev pub IsSortedLedger : Request → Type 0
-IsSortedLedger request = (request.sorted ≡ true) × (request.ledger ≡ true) × (request.token ≡ None)
-
 -- the ledger of a part is requested: nothing is promised of a prefix of it
 abbrev pub IsPartLedger : Request → Type 0
 IsPartLedger request = (is_some request.tokens ≡ true) × (request.ledger ≡ true)
 
--- The ledger of a part is not requested. If that of all tokens is, what is known of the files is
--- bytes, as of all files that can be read.
-abbrev pub AreOfBytes : Request → (List ℕ → Option (List ℕ)) → Type 0
-AreOfBytes request under =
-    (¬ IsPartLedger request) × (IsSortedLedger request → KnownAreBytes (map under request.files))
-
 -- a prefix of a text that is requested was written, and nothing else
 abbrev pub HasStarted : Request → Did → Type 0
 HasStarted request did = (text : List ℕ)
-    × (AreOfBytes request did.under → (success : Bool)
+    × (¬ IsPartLedger request → (success : Bool)
     × Does request did.under did.origin did.loaded did.loaded' text success)
     × Begins did.out did.out' text
 

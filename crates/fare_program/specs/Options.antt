@@ -1,17 +1,15 @@
 -- The command line, and what its words ask for.
 use Rattle.std.specs.Prelude.{◌≡◌, ◌⊎◌, ◌∷◌, ℕ, Bool, false, List, [], Option, None, Some, codes}
 use Rattle.std.specs.Prelude.{pos, true, unwrap_or}
-use Rattle.std.specs.Option.{option_map_or}
-use Rattle.std.specs.Str.{bytes_eq}
 use Rattle.clap.specs.Words.{App, IsAmong, Row, Rule, Text, all_of, fault_of, first_of, matches_of}
-use Rattle.clap.specs.Words.{one_of, with_rule}
+use Rattle.clap.specs.Words.{with_rule}
 use Rattle.fare_texts.specs.declared.form.Form.{Form}
 use Rattle.fare_texts.specs.declared.form.Form.TheVariants.{Text as Words, Json}
 use Rattle.clap.specs.declared.builder.action.ArgAction.TheVariants.{Append}
 use Rattle.clap.specs.declared.error.kind.ErrorKind.TheVariants.{DisplayHelp, DisplayVersion}
-use Rattle.program_manners.specs.Words.{flag_rule, list_option, named_app, null_flag, number_rule}
 use Rattle.program_manners.specs.TableWords.{TableNames, tables_in}
-use Rattle.program_manners.specs.Words.{option_rule, positional_rule, repeated_rule}
+use Rattle.program_manners.specs.Words.{flag_rule, is_given, list_option, named_app, null_flag}
+use Rattle.program_manners.specs.Words.{number_rule, option_rule, positional_rule, repeated_rule}
 
 abbrev pub with_rules : App → List Rule → App
 with_rules app [] = app
@@ -44,26 +42,6 @@ abbrev pub AsksForText : List Text → Type 0
 AsksForText words =
     IsAmong DisplayHelp (fault_of program words) ⊎ IsAmong DisplayVersion (fault_of program words)
 
--- the words of `--table`, if any
-abbrev pub tables_named : List Text → Option TableNames
-tables_named words = tables_in (unwrap_or (all_of (codes "table") (matches_of program words)) [])
-
--- the token that the words name, if any, as it is written
-abbrev pub token_named : List Text → Option Text
-token_named words = first_of (codes "token") (matches_of program words)
-
--- the range of tokens that the words name, if any, as it is written
-abbrev pub range_named : List Text → Option Text
-range_named words = first_of (codes "tokens") (matches_of program words)
-
--- the files that the words name, in order
-abbrev pub files_named : List Text → List Text
-files_named words = unwrap_or (all_of (codes "FILE") (matches_of program words)) []
-
--- whether the flag of this name was given
-abbrev pub is_given : Text → List Row → Bool
-is_given name rows = option_map_or (λ text. bytes_eq text (codes "true")) (one_of name rows) false
-
 -- what a command line asks for
 pub record Request : Type 0 where
   pub table : Option TableNames
@@ -81,24 +59,28 @@ pub record Request : Type 0 where
   pub tokens : Option Text
   pub files : List Text
 
--- what these words ask for, and with how many workers and shards it is done
-abbrev pub request_by : ℕ → ℕ → List Text → Request
-request_by workers shards words = record {
-  table = tables_named words;
-  list = is_given (codes "list") (matches_of program words);
+-- what is asked for by these rows of a parse, and with how many workers and shards it is done
+abbrev pub request_in : ℕ → ℕ → List Row → Request
+request_in workers shards rows = record {
+  table = tables_in (unwrap_or (all_of (codes "table") rows) []);
+  list = is_given (codes "list") rows;
   workers = workers;
   shards = shards;
-  token = token_named words;
-  settle = is_given (codes "settle") (matches_of program words);
-  live = is_given (codes "live") (matches_of program words);
-  sorted = is_given (codes "sorted") (matches_of program words);
-  ledger = is_given (codes "ledger") (matches_of program words);
-  explain = is_given (codes "explain") (matches_of program words);
-  json = is_given (codes "json") (matches_of program words);
-  traced = is_given (codes "traced") (matches_of program words);
-  tokens = range_named words;
-  files = files_named words;
+  token = first_of (codes "token") rows;
+  settle = is_given (codes "settle") rows;
+  live = is_given (codes "live") rows;
+  sorted = is_given (codes "sorted") rows;
+  ledger = is_given (codes "ledger") rows;
+  explain = is_given (codes "explain") rows;
+  json = is_given (codes "json") rows;
+  traced = is_given (codes "traced") rows;
+  tokens = first_of (codes "tokens") rows;
+  files = unwrap_or (all_of (codes "FILE") rows) [];
 }
+
+-- what these words ask for
+abbrev pub request_by : ℕ → ℕ → List Text → Request
+request_by workers shards words = request_in workers shards (matches_of program words)
 
 -- the form of an explained statement, if the statement is explained
 abbrev pub form_by : Bool → Bool → Option Form

@@ -1,10 +1,7 @@
 -- What only private functions cite. Who reads the contracts of public calls need not read it.
-pub mod Causes
 pub mod Ends
 pub mod Fault
 pub mod Listing
 pub mod Options
-pub mod Parts
 pub mod PostedFiles
-pub mod Settling
 pub mod Uploads

@@ -1,9 +1,9 @@
 //! The report of settled files, account by account.
 ghost use Rattle.std.specs.Prelude.{◌≡◌, ◌^◌, ◌≤◌, IfErr, List, None, false, length};
-ghost use Rattle.fare_program.specs.inside.Causes.{IsOfOutput};
+ghost use Rattle.fare_program.specs.inside.Fault.{IsOfOutput};
 ghost use Rattle.fare_program.specs.inside.Ends.{Gives};
 ghost use Rattle.fare_program.specs.inside.Options.{request_of};
-ghost use Rattle.fare_program.specs.inside.Settling.{Settles};
+ghost use Rattle.fare_program.specs.inside.PostedFiles.{Settles};
 ghost use Rattle.fare_program.specs.Parts.{report_over};
 ghost use Rattle.tap_views.specs.UploadEnds.{are_posted};
 ghost use Rattle.settlement.specs.Bills.{IsBillOf};

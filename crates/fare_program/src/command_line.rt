@@ -2,7 +2,7 @@
 ghost use Rattle.std.specs.Prelude.{◌≡◌, ◌≤◌, IfOk, map, string_bytes};
 ghost use Rattle.clap.specs.Words.{FailsBy, app_of, fault_of, found_of, matches_of, rows_of};
 ghost use Rattle.clap.specs.Words.{rule_of};
-ghost use Rattle.fare_program.specs.Options.{form_of, is_given, program, request_by, text_rules};
+ghost use Rattle.fare_program.specs.Options.{form_of, program, request_by, request_in, text_rules};
 ghost use Rattle.fare_program.specs.Options.{with_rules};
 ghost use Rattle.fare_program.specs.inside.Options.{request_of};
 
@@ -10,8 +10,8 @@ use crate::options::Options;
 use clap::{Arg, ArgAction, ArgMatches, Command, Error};
 use fare_texts::Form;
 use program_manners::{
-    TableWords, add_list_args, flag_arg, names_in, new_command, number_arg, option_arg,
-    positional_arg, repeated_arg,
+    TableWords, add_list_args, flag_arg, flag_in, names_in, new_command, number_arg, option_arg,
+    positional_arg, repeated_arg, value_in, with_arg,
 };
 use std::alloc::{AllocError, Global};
 
@@ -124,26 +124,21 @@ fn hidden<'a>(arg: Arg<'a>) -> Arg<'a>
 }
 
 /// The command line, as clap reads it.
+#[tactic(auto, unfolding(crate::specs::Options::program))]
 fn command<'a>(alloc: Global) -> Result<Command<'a>, AllocError>
     ensures { IfOk result (λ command. app_of command ≡ program) }
 {
-    let table = repeated_arg(alloc, "table", "F", TABLE_HELP);
-    let settle = flag_arg(alloc, "settle", SETTLE_HELP);
-    let live = flag_arg(alloc, "live", LIVE_HELP);
-    let sorted = flag_arg(alloc, "sorted", SORTED_HELP);
-    let list = flag_arg(alloc, "list", LIST_HELP);
+    let command = new_command(alloc, "omny_cli", ABOUT, NOTES);
+    let command = with_arg(command, repeated_arg(alloc, "table", "F", TABLE_HELP))?;
+    let command = with_arg(command, flag_arg(alloc, "settle", SETTLE_HELP))?;
+    let command = with_arg(command, hidden(flag_arg(alloc, "live", LIVE_HELP)))?;
+    let command = with_arg(command, flag_arg(alloc, "sorted", SORTED_HELP))?;
+    let command = with_arg(command, hidden(flag_arg(alloc, "list", LIST_HELP)))?;
     let workers = number_arg(alloc, "workers", 16, "2", WORKERS_HELP);
+    let command = with_arg(command, hidden(workers))?;
     let shards = number_arg(alloc, "shards", 64, "8", SHARDS_HELP);
-    let token = option_arg(alloc, "token", "HEX", TOKEN_HELP);
-    let command = new_command(alloc, "omny_cli", ABOUT, NOTES)
-        .arg(table)?
-        .arg(settle)?
-        .arg(hidden(live))?
-        .arg(sorted)?
-        .arg(hidden(list))?
-        .arg(hidden(workers))?
-        .arg(hidden(shards))?
-        .arg(token)?;
+    let command = with_arg(command, hidden(shards))?;
+    let command = with_arg(command, option_arg(alloc, "token", "HEX", TOKEN_HELP))?;
     with_texts(alloc, command)
 }
 
@@ -152,23 +147,16 @@ fn command<'a>(alloc: Global) -> Result<Command<'a>, AllocError>
 fn with_texts<'a>(alloc: Global, command: Command<'a>) -> Result<Command<'a>, AllocError>
     ensures { IfOk result (λ more. app_of more ≡ with_rules (app_of command.entry) text_rules) }
 {
-    let ledger = flag_arg(alloc, "ledger", LEDGER_HELP);
-    let explain = flag_arg(alloc, "explain", EXPLAIN_HELP);
-    let json = flag_arg(alloc, "json", JSON_HELP);
-    let traced = flag_arg(alloc, "traced", TRACED_HELP);
+    let command = with_arg(command, flag_arg(alloc, "ledger", LEDGER_HELP))?;
+    let command = with_arg(command, flag_arg(alloc, "explain", EXPLAIN_HELP))?;
+    let command = with_arg(command, hidden(flag_arg(alloc, "json", JSON_HELP)))?;
+    let command = with_arg(command, hidden(flag_arg(alloc, "traced", TRACED_HELP)))?;
     let tokens = option_arg(alloc, "tokens", "RANGE", TOKENS_HELP);
-    let made_by = option_arg(alloc, "made-by", "FILE", MADE_BY_HELP);
-    let format = option_arg(alloc, "format", "FORM", FORMAT_HELP);
+    let command = with_arg(command, hidden(tokens))?;
+    let command = with_arg(command, option_arg(alloc, "made-by", "FILE", MADE_BY_HELP))?;
+    let command = with_arg(command, option_arg(alloc, "format", "FORM", FORMAT_HELP))?;
     let file = positional_arg(alloc, "FILE", ArgAction::Append, FILE_HELP);
-    let command = command
-        .arg(ledger)?
-        .arg(explain)?
-        .arg(hidden(json))?
-        .arg(hidden(traced))?
-        .arg(hidden(tokens))?
-        .arg(made_by)?
-        .arg(format)?;
-    add_list_args(alloc, command)?.arg(file)
+    with_arg(add_list_args(alloc, command)?, file)
 }
 
 /// The words read by clap.
@@ -178,13 +166,6 @@ pub(crate) fn matched<'a>(alloc: Global, words: &'a [String]) -> Result<ArgMatch
     ensures kinds { FailsBy (fault_of program (map string_bytes words.entry.now)) result }
 {
     command(alloc)?.try_get_matches_from(words)
-}
-
-/// Whether a flag was given. The contract of `get_flag` says less of what it answers.
-fn flag_in<'a>(matches: &ArgMatches<'a>, name: &str) -> bool
-    ensures { result ≡ is_given name.now (rows_of (found_of matches.now)) }
-{
-    matches.get_one(name).unwrap_or(false)
 }
 
 /// The number of an option that has a default. Its parser takes only numbers of 1 to `most`.
@@ -210,6 +191,29 @@ impl<'a> Options<'a> {
         Some(Form::Text)
     }
 
+    fn of(alloc: Global, matches: &ArgMatches<'a>) -> Result<Options<'a>, AllocError>
+        ensures { IfOk result (λ options. request_of options
+            ≡ request_in options.workers options.shards (rows_of (found_of matches.now))) }
+    {
+        let tables = names_in(alloc, matches, "table")?;
+        Ok(Options {
+            table: TableWords::of(alloc, &tables)?,
+            list: flag_in(matches, "list"),
+            workers: number_in(matches, "workers", 16),
+            shards: number_in(matches, "shards", 64),
+            token: value_in(matches, "token"),
+            settle: flag_in(matches, "settle"),
+            live: flag_in(matches, "live"),
+            sorted: flag_in(matches, "sorted"),
+            ledger: flag_in(matches, "ledger"),
+            explain: flag_in(matches, "explain"),
+            json: flag_in(matches, "json"),
+            traced: flag_in(matches, "traced"),
+            tokens: value_in(matches, "tokens"),
+            files: names_in(alloc, matches, "FILE")?,
+        })
+    }
+
     /// What the words ask for; else clap's error, which may be a call for help.
     pub(crate) fn read(alloc: Global, words: &'a [String]) -> Result<Options<'a>, Error>
         ensures request { IfOk result
@@ -218,22 +222,6 @@ impl<'a> Options<'a> {
         ensures kinds { FailsBy (fault_of program (map string_bytes words.entry.now)) result }
     {
         let matches = matched(alloc, words)?;
-        let tables = names_in(alloc, &matches, "table")?;
-        Ok(Options {
-            table: TableWords::of(alloc, &tables)?,
-            list: flag_in(&matches, "list"),
-            workers: number_in(&matches, "workers", 16),
-            shards: number_in(&matches, "shards", 64),
-            token: matches.get_str("token"),
-            settle: flag_in(&matches, "settle"),
-            live: flag_in(&matches, "live"),
-            sorted: flag_in(&matches, "sorted"),
-            ledger: flag_in(&matches, "ledger"),
-            explain: flag_in(&matches, "explain"),
-            json: flag_in(&matches, "json"),
-            traced: flag_in(&matches, "traced"),
-            tokens: matches.get_str("tokens"),
-            files: names_in(alloc, &matches, "FILE")?,
-        })
+        Ok(Options::of(alloc, &matches)?)
     }
 }

@@ -2,9 +2,8 @@
 ghost use Rattle.std.specs.Prelude.{◌≡◌, ◌≢◌, ℕ, List, Option, Some, IfErr, map};
 ghost use Rattle.fare_service.specs.Faults.{MissesNothing};
 ghost use Rattle.fare_program.specs.Fault.{class_text, fault_text};
-ghost use Rattle.fare_program.specs.inside.Causes.{IsOfOutput, IsRightOfUploads};
+ghost use Rattle.fare_program.specs.inside.Fault.{IsOfOutput, IsRightOfUploads, as_remembered, ended_as, printed_as};
 ghost use Rattle.fare_program.specs.inside.Ends.{IsLate};
-ghost use Rattle.fare_program.specs.inside.Fault.{as_remembered, ended_as, printed_as};
 ghost use Rattle.fare_program.specs.Causes.{IsRightOfSorted};
 ghost use Rattle.sorted_bills.specs.Faults.{IsBeforeText, IsBillFault};
 

@@ -1,11 +1,13 @@
 //! What is requested of a part of sorted files: of the taps of a range of tokens.
-ghost use Rattle.std.specs.Prelude.{◌≡◌, ◌≤◌, ◌^◌, ℕ, List, Option, None, IfErr, false, length, map, true};
+ghost use Rattle.std.specs.Prelude.{◌≡◌, ◌≤◌, ◌^◌, ◌++◌, ℕ, List, Option, None, IfErr, false, length};
+ghost use Rattle.std.specs.Prelude.{map, true};
 ghost use Rattle.histories.specs.declared.entry.Entry.{Entry};
+ghost use Rattle.part_texts.specs.Heads.{part_head};
 ghost use Rattle.settlement.specs.Bills.{IsBillOf};
 ghost use Rattle.fare_program.specs.Causes.{IsRightOfSorted};
+ghost use Rattle.fare_program.specs.Parts.{report_over};
 ghost use Rattle.fare_program.specs.TokenRanges.{range_fault};
 ghost use Rattle.fare_program.specs.inside.Ends.{Gives, GivesPart};
-ghost use Rattle.fare_program.specs.inside.Parts.{IsReportOf};
 ghost use Rattle.fare_program.specs.inside.Options.{request_of};
 
 use crate::bill::write_billed;
@@ -29,7 +31,9 @@ fn write_made<'a, W: Write>(alloc: Global, made: PartBill, out: &mut W) -> Resul
     requires { (history : List Entry) × IsBillOf history made.billed.bill
         × (length history ≤ 2 ^ 95) }
     ensures ends { (history : List Entry) → IsBillOf history made.billed.bill
-        → Gives (IsReportOf made history) (W.contents out.old) (W.contents out.new) result }
+        → Gives (λ text success. (success ≡ true)
+        × (text ≡ part_head made.spans.items ++ report_over made.billed.ends.items history))
+        (W.contents out.old) (W.contents out.new) result }
     ensures right { IfErr result (λ fault. (names : List (List ℕ)) (known : List (Option (List ℕ)))
         → IsRightOfSorted names known fault) }
 {

@@ -3,7 +3,7 @@ ghost use Rattle.std.specs.Prelude.{◌≡◌, ℕ, List, IfErr, OnOk, false, le
 ghost use Rattle.std.specs.Io.KnownBytes.{Appends};
 ghost use Rattle.fare_texts.specs.PrintFaults.{UnchangedUnlessWrite};
 ghost use Rattle.fare_texts.specs.WrittenOut.{Begins};
-ghost use Rattle.fare_program.specs.inside.Causes.{IsRightOfUploads};
+ghost use Rattle.fare_program.specs.inside.Fault.{IsRightOfUploads};
 ghost use Rattle.fare_program.specs.inside.Options.{request_of};
 ghost use Rattle.fare_program.specs.inside.Ends.{Gives};
 ghost use Rattle.fare_program.specs.inside.PostedFiles.{Posts};

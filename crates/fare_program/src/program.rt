@@ -3,7 +3,7 @@ ghost use Rattle.std.specs.Prelude.{◌≡◌, ◌++◌, ◌∷◌, [], List, Op
 ghost use Rattle.std.specs.Prelude.{codes, map, string_bytes};
 ghost use Rattle.std.specs.Option.{option_and_then, option_copied};
 ghost use Rattle.fare_program.specs.Causes.{IsFileFault, IsRightFault, names_reported};
-ghost use Rattle.fare_program.specs.Ends.{AreOfBytes, Ends, did_over};
+ghost use Rattle.fare_program.specs.Ends.{Ends, IsPartLedger, did_over};
 ghost use Rattle.fare_program.specs.inside.Ends.{Gives, GivesIf};
 ghost use Rattle.fare_program.specs.Fault.{fault_text};
 ghost use Rattle.fare_program.specs.FilesLoaded.{LoadsFiles, names_to_load};
@@ -29,8 +29,8 @@ use fare_table::FareTable;
 use fare_texts::write_bytes;
 use file_sources::{Disk, Source, prefetch_files};
 use program_manners::{
-    Complaints, FileFault, LoadFault, Output, STANDARD_INPUT, TableWords, Tables, load_tables,
-    show_answer,
+    Complaints, FileFault, LoadFault, Output, STANDARD_INPUT, TableWords, Tables, load_named,
+    load_tables, show_answer,
 };
 use std::alloc::Global;
 use std::io::Write;
@@ -38,24 +38,11 @@ use std::marker::Sync;
 use std::random::RandomSource;
 use std::sync::Wait;
 use std::thread::Threads;
-use tap_views::Token;
+use tap_views::{NoMemory, Token};
 
 /// How many threads read files at once, or as many as there are workers if these are more. What is
 /// loaded does not depend on it.
 const READERS: u32 = 4;
-
-/// All bytes of the file of this name.
-fn load_named<'a, S: Source>(source: &mut S, name: &'a str) -> Result<Vec<u8>, FileFault<'a>>
-    ensures ok { IfOk result (λ bytes. LoadsOne (S.loaded source.old) (S.loaded source.new)
-        (Some name.entry.now) bytes.items) }
-    ensures fault { IfErr result (λ file. (file.name.now ≡ name.entry.now)
-        × HasRefused (S.refused source.new) file.name.now file.fault) }
-{
-    match source.load(name) {
-        Ok(bytes) => Ok(bytes),
-        Err(fault) => Err(FileFault { name, fault }),
-    }
-}
 
 /// All bytes of standard input.
 fn load_input<'a, S: Source>(source: &mut S) -> Result<Vec<u8>, FileFault<'a>>
@@ -73,18 +60,11 @@ fn load_input<'a, S: Source>(source: &mut S) -> Result<Vec<u8>, FileFault<'a>>
     }
 }
 
-/// Adds the bytes of the file of this name.
-fn push<'a>(files: &mut Vec<Vec<u8>>, bytes: Vec<u8>, name: &'a str) -> Result<(), FileFault<'a>>
-    ensures ok { OnOk result (files.new.items ≡ files.old.items ++ bytes ∷ []) }
-    ensures memory { IfErr result (λ file. file.fault ≡ LoadFault.NoMemory) }
+pub(crate) fn push<F: Drop>(files: &mut Vec<F>, file: F) -> Result<(), NoMemory>
+    ensures { OnOk result (files.new.items ≡ files.old.items ++ file ∷ []) }
 {
-    match files.push(bytes) {
-        Ok(()) => Ok(()),
-        Err(_) => Err(FileFault {
-            name,
-            fault: LoadFault::NoMemory,
-        }),
-    }
+    files.push(file)?;
+    Ok(())
 }
 
 /// The files of these names, in their order, or standard input if there is none. Several files may
@@ -108,9 +88,12 @@ fn load_all<'a, R: Threads + Sync, D: Disk + Sync, S: Source>(
             Ok(bytes) => bytes,
             Err(file) => return Err(file),
         };
-        if let Err(file) = push(&mut files, bytes, STANDARD_INPUT) {
-            return Err(file);
-        }
+        let Ok(()) = push(&mut files, bytes) else {
+            return Err(FileFault {
+                name: STANDARD_INPUT,
+                fault: LoadFault::NoMemory,
+            });
+        };
         return Ok(files);
     }
     let ahead = prefetch_files(rt, alloc, disk, names, threads);
@@ -120,9 +103,12 @@ fn load_all<'a, R: Threads + Sync, D: Disk + Sync, S: Source>(
             Ok(bytes) => bytes,
             Err(file) => return Err(file),
         };
-        if let Err(file) = push(&mut files, bytes, name) {
-            return Err(file);
-        }
+        let Ok(()) = push(&mut files, bytes) else {
+            return Err(FileFault {
+                name,
+                fault: LoadFault::NoMemory,
+            });
+        };
     }
     Ok(files)
 }
@@ -225,7 +211,7 @@ fn work_by<'a, R: Threads + Wait + RandomSource + Sync, D: Disk + Sync, S: Sourc
     requires named { (request_of options.now).table ≡ Some (names_of words.now) }
     requires loaded { (before : Option (List Loaded)) × LoadsTables (names_of words.now) before
         (S.loaded source.old) (map (λ t. t.items) tables.texts.items) tables.fares }
-    ensures ends { GivesIf (AreOfBytes (request_of options.now) (D.bytes_under disk.now))
+    ensures ends { GivesIf (¬ IsPartLedger (request_of options.now))
         (DoesBy (request_of options.now) (D.bytes_under disk.now) (D.origin disk.now)
         (map (λ t. t.items) tables.texts.items) tables.fares token (S.loaded source.old)
         (S.loaded source.new)) (W.contents out.old) (W.contents out.new) result }
@@ -265,7 +251,7 @@ fn work<'a, R: Threads + Wait + RandomSource + Sync, D: Disk + Sync, S: Source, 
     requires range { option_and_then range_fault (request_of options.now).tokens ≡ None }
     requires dates { option_and_then wrong_word (request_of options.now).table ≡ None }
     requires token { IsTokenIn (request_of options.now).token token }
-    ensures ends { GivesIf (AreOfBytes (request_of options.now) (D.bytes_under disk.now))
+    ensures ends { GivesIf (¬ IsPartLedger (request_of options.now))
         (Does (request_of options.now) (D.bytes_under disk.now) (D.origin disk.now)
         (S.loaded source.old) (S.loaded source.new)) (W.contents out.old) (W.contents out.new)
         result }

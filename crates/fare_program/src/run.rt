@@ -2,7 +2,7 @@
 ghost use Rattle.std.specs.Prelude.{◌≡◌, ◌≢◌, ℕ, true, List, Option, IfErr, IfOk, length};
 ghost use Rattle.tariffs.specs.Fares.{Fares};
 ghost use Rattle.tap_views.specs.declared.token.Token.{Token};
-ghost use Rattle.fare_program.specs.inside.Causes.{IsRightOfUploads};
+ghost use Rattle.fare_program.specs.inside.Fault.{IsRightOfUploads};
 ghost use Rattle.tap_views.specs.UploadEnds.{are_posted, is_posted};
 ghost use Rattle.fare_program.specs.Options.{Request};
 ghost use Rattle.fare_program.specs.Program.{ShowsOf, ShowsPlain};

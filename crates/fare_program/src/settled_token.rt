@@ -8,9 +8,9 @@ ghost use Rattle.tap_views.specs.Encoding.{AreEarly};
 ghost use Rattle.histories.specs.Entry.{own};
 ghost use Rattle.histories.specs.declared.entry.Entry.{Entry};
 ghost use Rattle.settlement.specs.Posted.{posted, token_of_tap};
-ghost use Rattle.fare_program.specs.inside.Causes.{IsOfOutput};
+ghost use Rattle.fare_program.specs.inside.Fault.{IsOfOutput};
 ghost use Rattle.fare_program.specs.inside.Ends.{Gives};
-ghost use Rattle.fare_program.specs.inside.Settling.{Settles};
+ghost use Rattle.fare_program.specs.inside.PostedFiles.{Settles};
 ghost use Rattle.fare_program.specs.Settling.{ShowsOver};
 ghost use Rattle.fare_program.specs.inside.Options.{request_of};
 

@@ -1,11 +1,10 @@
 //! What is requested of sorted files, which are read in pieces and merged.
-ghost use Rattle.std.specs.Prelude.{◌≡◌, ◌++◌, ◌∷◌, [], Option, None, Some, IfErr, IfOk, OnOk};
-ghost use Rattle.std.specs.Prelude.{false, map, true};
+ghost use Rattle.std.specs.Prelude.{◌≡◌, Option, None, Some, IfErr, IfOk, false, map, true};
 ghost use Rattle.std.specs.Option.{option_and_then};
 ghost use Rattle.fare_program.specs.Causes.{IsRightOfSorted};
 ghost use Rattle.fare_program.specs.Parts.{ShowsSorted};
 ghost use Rattle.fare_program.specs.TokenRanges.{range_fault};
-ghost use Rattle.fare_program.specs.Ends.{AreOfBytes};
+ghost use Rattle.fare_program.specs.Ends.{IsPartLedger};
 ghost use Rattle.fare_program.specs.Program.{IsTokenIn};
 ghost use Rattle.fare_program.specs.inside.Ends.{GivesKnown, GivesSettled};
 ghost use Rattle.fare_program.specs.inside.Options.{request_of};
@@ -15,6 +14,7 @@ use crate::bill::write_billed;
 use crate::fault::{Fault, ended};
 use crate::options::Options;
 use crate::part::charge_part;
+use crate::program::push;
 use crate::remarks::note_taps;
 use crate::settled_token::write_text;
 use crate::sorted_fault::UnopenedFile;
@@ -29,14 +29,7 @@ use std::io::Write;
 use std::marker::Sync;
 use std::random::RandomSource;
 use std::thread::Threads;
-use tap_views::{NoMemory, Token};
-
-fn push<F: Drop>(files: &mut Vec<F>, file: F) -> Result<(), NoMemory>
-    ensures { OnOk result (files.new.items ≡ files.old.items ++ file ∷ []) }
-{
-    files.push(file)?;
-    Ok(())
-}
+use tap_views::Token;
 
 fn open_files<'a, D: Disk>(
     alloc: Global,
@@ -172,7 +165,7 @@ pub(crate) fn work_sorted<'a, R: Threads + RandomSource + Sync, D: Disk, W: Writ
     requires word { option_and_then range_fault (request_of options.now).tokens ≡ None }
     requires token { IsTokenIn (request_of options.now).token token }
     requires sorted { (request_of options.now).sorted ≡ true }
-    ensures ends { GivesKnown (AreOfBytes (request_of options.now) (D.bytes_under disk.now))
+    ensures ends { GivesKnown (¬ IsPartLedger (request_of options.now))
         (map (D.bytes_under disk.now) (request_of options.now).files) (λ files text.
         ShowsSorted (request_of options.now) table.now files token text true) (W.contents out.old)
         (W.contents out.new) result }

@@ -3,7 +3,7 @@ ghost use Rattle.std.specs.Prelude.{◌≡◌, ◌≤◌, List, Option, Some, If
 ghost use Rattle.std.specs.Prelude.{slice_get, true};
 ghost use Rattle.fare_program.specs.Causes.{IsRightFault};
 ghost use Rattle.fare_program.specs.Program.{Traces};
-ghost use Rattle.fare_program.specs.inside.Causes.{IsOfOutput};
+ghost use Rattle.fare_program.specs.inside.Fault.{IsOfOutput};
 ghost use Rattle.fare_program.specs.inside.Ends.{Gives};
 ghost use Rattle.fare_program.specs.inside.Options.{request_of};
 ghost use Rattle.program_manners.specs.Loads.{Loaded};

@@ -1,6 +1,7 @@
 -- The fields of a ledger's line that are not plain numbers.
-use Rattle.std.specs.Prelude.{◌==◌, ◌&&◌, ◌||◌, ◌^◌, ℕ, Bool, List, is_some, length, nat_le}
+use Rattle.std.specs.Prelude.{◌≡◌, ◌≤◌, ◌==◌, ◌&&◌, ◌||◌, ◌^◌, ℕ, Bool, List, Some, drop, is_some, length, nat_le, take}
 use Rattle.std.specs.List.{list_all}
+use Rattle.line_forms.specs.Columns.{column_where}
 use Rattle.line_forms.specs.Numbers.{number_in}
 use Rattle.ledger_fields.specs.Moments.{is_moment}
 use Rattle.ledger_fields.specs.declared.field.Field.{Field}
@@ -11,13 +12,13 @@ use Rattle.ledger_fields.specs.declared.field.Field.TheVariants.{Word}
 abbrev pub is_token_byte : ℕ → Bool
 is_token_byte byte = (nat_le 48 byte && nat_le byte 57) || (nat_le 97 byte && nat_le byte 102)
 
--- a byte of a word: `a` to `z`, or a hyphen
-abbrev pub is_word_byte : ℕ → Bool
-is_word_byte byte = (nat_le 97 byte && nat_le byte 122) || (byte == 45)
+-- a byte of a word: `a` to `z`, a hyphen, or this mark
+abbrev pub is_word_byte : ℕ → ℕ → Bool
+is_word_byte mark byte = (nat_le 97 byte && nat_le byte 122) || ((byte == 45) || (byte == mark))
 
--- a byte of a reason: of a word, or the colon before the name of a cap
-abbrev pub is_reason_byte : ℕ → Bool
-is_reason_byte byte = is_word_byte byte || (byte == 58)
+-- at most so many bytes of a word
+abbrev pub is_word : ℕ → ℕ → List ℕ → Bool
+is_word most mark text = nat_le (length text) most && list_all (is_word_byte mark) text
 
 -- the text is one of the field
 abbrev pub fits : Field → List ℕ → Bool
@@ -25,6 +26,11 @@ fits Token text = (length text == 32) && list_all is_token_byte text
 fits Moment text = is_moment 2100 text
 fits PastMoment text = (length text == 0) || is_moment 2100 text
 fits LaterMoment text = (length text == 0) || is_moment 10000 text
-fits Word text = nat_le (length text) 16 && list_all is_word_byte text
-fits Reason text = nat_le (length text) 32 && list_all is_reason_byte text
+fits Word text = is_word 16 45 text
+fits Reason text = is_word 32 58 text
 fits Ride text = (length text == 0) || is_some (number_in (2 ^ 32) text)
+
+-- the column at the front of the text passes the test, and has so many bytes
+abbrev pub IsFront : (List ℕ → Bool) → List ℕ → ℕ → Type 0
+IsFront test text size = (size ≤ length text)
+    × (column_where test text ≡ Some (take size text, drop size text))

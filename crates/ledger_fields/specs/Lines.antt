@@ -18,39 +18,21 @@ next_field field = after_read (codes ",") (column_where (fits field))
 abbrev pub next_number : ℕ → Reader ℕ
 next_number bound = after_read (codes ",") (number_at bound)
 
--- `,full,` or `,cap:month,`
-abbrev pub ReasonFields : Type 0
-ReasonFields = List ℕ × List ℕ
-
--- `,2024-03-08T17:00:00.000Z,2024-03-15T17:00:00.000Z,1,full,`
-abbrev pub WindowFields : Type 0
-WindowFields = List ℕ × (List ℕ × (List ℕ × ReasonFields))
-
--- `,subway,paid,300,..`
-abbrev pub ChargeFields : Type 0
-ChargeFields = List ℕ × (List ℕ × (ℕ × WindowFields))
-
 -- the token, the number, the moment, the validator, the mode, the answer, the cents, the window's
 -- start and end, the ride, the reason, and the moment to which it points
 abbrev pub LineFields : Type 0
-LineFields = List ℕ × (ℕ × (List ℕ × (ℕ × ChargeFields)))
-
-abbrev pub reason_fields : Reader ReasonFields
-reason_fields = then_read (next_field Reason) (next_field PastMoment)
-
-abbrev pub window_fields : Reader WindowFields
-window_fields =
-    then_read (next_field PastMoment) (then_read (next_field LaterMoment) (then_read (next_field Ride) reason_fields))
-
-abbrev pub charge_fields : Reader ChargeFields
-charge_fields =
-    then_read (next_field Word) (then_read (next_field Word) (then_read (next_number (2 ^ 32)) window_fields))
+LineFields =
+    List ℕ × (ℕ × (List ℕ × (ℕ × (List ℕ × (List ℕ × (ℕ
+    × (List ℕ × (List ℕ × (List ℕ × (List ℕ × List ℕ))))))))))
 
 -- THE form of a ledger's line, before its line feed
 abbrev pub line_fields : Reader LineFields
 line_fields =
-    then_read (column_where (fits Token)) (then_read (next_number (2 ^ 64))
-    (then_read (next_field Moment) (then_read (next_number (2 ^ 32)) charge_fields)))
+    then_read (column_where (fits Token)) (then_read (next_number (2 ^ 64)) (then_read (next_field Moment)
+    (then_read (next_number (2 ^ 32)) (then_read (next_field Word) (then_read (next_field Word)
+    (then_read (next_number (2 ^ 32)) (then_read (next_field PastMoment)
+    (then_read (next_field LaterMoment) (then_read (next_field Ride)
+    (then_read (next_field Reason) (next_field PastMoment)))))))))))
 
 -- what corrections and merged parts look at
 abbrev pub row_of_line : LineFields → Row

@@ -1,18 +1,25 @@
 -- The texts of moments, as `2024-03-08T17:00:00.000Z`.
-use Rattle.std.specs.Prelude.{◌==◌, ◌+◌, ◌-◌, ◌*◌, ◌%◌, ◌&&◌, ◌||◌, ℕ, Bool, false, List, Option, Some, None, cond, not, length}
-use Rattle.std.specs.Prelude.{nat_le, nat_lt, slice_index}
+use Rattle.std.specs.Prelude.{◌==◌, ◌+◌, ◌*◌, ◌%◌, ◌&&◌, ◌||◌, ℕ, Bool, true, false, List, [], ◌∷◌, codes, cond, not}
+use Rattle.std.specs.Prelude.{length, nat_le, nat_lt, slice_index}
 use Rattle.std.specs.Char.{is_ascii_digit}
-use Rattle.line_forms.specs.Forms.{value_if}
 
--- the number of two decimal digits
-abbrev pub number_of_two : ℕ → ℕ → Option ℕ
-number_of_two tens ones =
-    value_if (is_ascii_digit tens && is_ascii_digit ones) ((tens - 48) * 10 + (ones - 48))
+-- a digit where the form has a `0`, and else the form's own byte
+abbrev pub is_of_form : ℕ → ℕ → Bool
+is_of_form form byte = cond (form == 48) (is_ascii_digit byte) (byte == form)
 
--- the test of a number; none fails it
-abbrev pub is_such : Option ℕ → (ℕ → Bool) → Bool
-is_such None test = false
-is_such (Some number) test = test number
+-- each byte of the text is of that of the form, and there are as many
+abbrev pub has_form : List ℕ → List ℕ → Bool
+has_form [] [] = true
+has_form [] (byte ∷ text) = false
+has_form (form ∷ forms) [] = false
+has_form (form ∷ forms) (byte ∷ text) = is_of_form form byte && has_form forms text
+
+abbrev pub moment_form : List ℕ
+moment_form = codes "0000-00-00T00:00:00.000Z"
+
+-- the number of two decimal digits from this byte on; the byte of `0` is a multiple of 16
+abbrev pub number_of_two : List ℕ → ℕ → ℕ
+number_of_two text at = slice_index text at % 16 * 10 + slice_index text (at + 1) % 16
 
 abbrev pub is_leap_year : ℕ → Bool
 is_leap_year year = (year % 4 == 0) && (not (year % 100 == 0) || (year % 400 == 0))
@@ -29,27 +36,17 @@ abbrev pub is_date : ℕ → ℕ → ℕ → Bool
 is_date year month day =
     nat_le 1970 year && (nat_le 1 day && nat_le day (days_in_month year month))
 
--- `2024-03-08`, before a year
-abbrev pub has_date : ℕ → List ℕ → Bool
-has_date limit text =
-    is_such (number_of_two (slice_index text 0) (slice_index text 1)) (λ century.
-    is_such (number_of_two (slice_index text 2) (slice_index text 3)) (λ year.
-    is_such (number_of_two (slice_index text 5) (slice_index text 6)) (λ month.
-    is_such (number_of_two (slice_index text 8) (slice_index text 9)) (λ day.
-    (slice_index text 4 == 45) && ((slice_index text 7 == 45)
-    && (nat_lt (century * 100 + year) limit && is_date (century * 100 + year) month day))))))
+-- `17:00:00` from byte 11 on is a time of day
+abbrev pub has_time : List ℕ → Bool
+has_time text =
+    nat_lt (number_of_two text 11) 24 && (nat_lt (number_of_two text 14) 60 && nat_lt (number_of_two text 17) 60)
 
--- after it, a letter `T` and the time of day, as `17:00:00.000Z`
-abbrev pub has_clock : List ℕ → Bool
-has_clock text =
-    is_such (number_of_two (slice_index text 11) (slice_index text 12)) (λ hour.
-    is_such (number_of_two (slice_index text 14) (slice_index text 15)) (λ minute.
-    is_such (number_of_two (slice_index text 17) (slice_index text 18)) (λ second.
-    is_such (number_of_two (slice_index text 20) (slice_index text 21)) (λ hundredths.
-    (nat_lt hour 24 && (nat_lt minute 60 && (nat_lt second 60 && is_ascii_digit (slice_index text 22))))
-    && (((slice_index text 10 == 84) && ((slice_index text 13 == 58) && (slice_index text 16 == 58)))
-    && ((slice_index text 19 == 46) && (slice_index text 23 == 90)))))))
+-- the year that the text begins with
+abbrev pub year_of : List ℕ → ℕ
+year_of text = number_of_two text 0 * 100 + number_of_two text 2
 
 -- the text is that of a moment from 1970 on and before this year
 abbrev pub is_moment : ℕ → List ℕ → Bool
-is_moment limit text = (length text == 24) && (has_date limit text && has_clock text)
+is_moment limit text =
+    (length text == 24) && (has_form moment_form text && ((nat_lt (year_of text) limit
+    && is_date (year_of text) (number_of_two text 5) (number_of_two text 8)) && has_time text))

@@ -1,18 +1,42 @@
 //! Whether a text is that of a moment, as `2024-03-08T17:00:00.000Z`.
 
-ghost use Rattle.std.specs.Prelude.{◌≡◌, ◌<◌, IfSome, length};
-ghost use Rattle.ledger_fields.specs.Moments.{days_in_month, has_clock, has_date, is_date};
-ghost use Rattle.ledger_fields.specs.Moments.{is_leap_year, is_moment, number_of_two};
+ghost use Rattle.std.specs.Prelude.{◌≡◌, ◌<◌, ◌+◌, length};
+ghost use Rattle.ledger_fields.specs.Moments.{days_in_month, has_form, has_time, is_date};
+ghost use Rattle.ledger_fields.specs.Moments.{is_leap_year, is_moment, is_of_form, moment_form};
+ghost use Rattle.ledger_fields.specs.Moments.{number_of_two, year_of};
 
-fn number_of_two(tens: u8, ones: u8) -> Option<u64>
-    ensures value { result ≡ number_of_two tens ones }
-    ensures small { IfSome result (λ number. number < 100) }
+/// How many bytes the text of a moment has.
+pub(crate) const MOMENT_BYTES: usize = 24;
+
+const FORM: [u8; MOMENT_BYTES] = *b"0000-00-00T00:00:00.000Z";
+
+fn is_of_form(form: u8, byte: u8) -> bool
+    ensures { result ≡ is_of_form form byte }
 {
-    if tens.is_ascii_digit() && ones.is_ascii_digit() {
-        Some(u64::from(tens - b'0') * 10 + u64::from(ones - b'0'))
+    if form == b'0' {
+        byte.is_ascii_digit()
     } else {
-        None
+        byte == form
     }
+}
+
+/// Each byte is tested, with no branch: so they are tested at once.
+fn has_form(text: &[u8]) -> bool
+    requires { length text.now ≡ 24 }
+    ensures { result ≡ has_form moment_form text.now }
+{
+    let mut is_so = true;
+    for at in 0..MOMENT_BYTES {
+        is_so = is_so & is_of_form(FORM[at], text[at]);
+    }
+    is_so
+}
+
+fn number_of_two(text: &[u8], at: usize) -> u64
+    requires { at + 1 < length text.now }
+    ensures { result ≡ number_of_two text.now at }
+{
+    u64::from(text[at] % 16) * 10 + u64::from(text[at + 1] % 16)
 }
 
 fn is_leap_year(year: u64) -> bool
@@ -41,53 +65,29 @@ fn is_date(year: u64, month: u64, day: u64) -> bool
     1970 <= year && (1 <= day && day <= days_in_month(year, month))
 }
 
-fn has_date(text: &[u8], year_limit: u64) -> bool
+fn has_time(text: &[u8]) -> bool
     requires { length text.now ≡ 24 }
-    ensures { result ≡ has_date year_limit text.now }
+    ensures { result ≡ has_time text.now }
 {
-    let Some(century) = number_of_two(text[0], text[1]) else {
-        return false;
-    };
-    let Some(year) = number_of_two(text[2], text[3]) else {
-        return false;
-    };
-    let Some(month) = number_of_two(text[5], text[6]) else {
-        return false;
-    };
-    let Some(day) = number_of_two(text[8], text[9]) else {
-        return false;
-    };
-    let year = century * 100 + year;
-    text[4] == b'-' && (text[7] == b'-' && (year < year_limit && is_date(year, month, day)))
+    let hour = number_of_two(text, 11);
+    hour < 24 && (number_of_two(text, 14) < 60 && number_of_two(text, 17) < 60)
 }
 
-fn has_clock(text: &[u8]) -> bool
+fn year_of(text: &[u8]) -> u64
     requires { length text.now ≡ 24 }
-    ensures { result ≡ has_clock text.now }
+    ensures { result ≡ year_of text.now }
 {
-    let Some(hour) = number_of_two(text[11], text[12]) else {
-        return false;
-    };
-    let Some(minute) = number_of_two(text[14], text[15]) else {
-        return false;
-    };
-    let Some(second) = number_of_two(text[17], text[18]) else {
-        return false;
-    };
-    let Some(_hundredths) = number_of_two(text[20], text[21]) else {
-        return false;
-    };
-    let is_early = hour < 24 && (minute < 60 && (second < 60 && text[22].is_ascii_digit()));
-    is_early
-        && ((text[10] == b'T' && (text[13] == b':' && text[16] == b':'))
-            && (text[19] == b'.' && text[23] == b'Z'))
+    number_of_two(text, 0) * 100 + number_of_two(text, 2)
 }
 
 pub(crate) fn is_moment(text: &[u8], year_limit: u64) -> bool
     ensures { result ≡ is_moment year_limit text.now }
 {
-    if text.len() != 24 {
+    if text.len() != MOMENT_BYTES {
         return false;
     }
-    has_date(text, year_limit) && has_clock(text)
+    let year = year_of(text);
+    let day = number_of_two(text, 8);
+    has_form(text)
+        && ((year < year_limit && is_date(year, number_of_two(text, 5), day)) && has_time(text))
 }

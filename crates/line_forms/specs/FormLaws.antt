@@ -23,12 +23,6 @@ use Rattle.line_forms.specs.Numbers.{BeginsWithNoDigit, IsNumber, ends_digits, n
 use Rattle.line_forms.specs.inside.Narrow.{below}
 
 -- ---- options
--- what is to be said of nothing, if nothing is returned
-pub MatchOption_none : {T : Type 0} (P : Type 0) (Q : T → Type 0) (result : Option T)
-    → result ≡ None → P → MatchOption result P Q
-MatchOption_none {T} P Q result none holds =
-    subst (λ (r : Option T). MatchOption r P Q) (sym none) holds
-
 pub is_none : {A : Type 0} (r : Option A) → ((a : A) → ¬ (r ≡ Some a)) → r ≡ None
 is_none None f = refl
 is_none (Some a) f = absurd (f a refl)
@@ -230,7 +224,7 @@ with_some a None v rest e = absurd (cc)
 with_some a (Some q) v rest e =
     (some_one (ap (option_map (λ p. p.0.0)) e), ap (option_map (λ p. (p.0.1, p.1))) e)
 
-go_on_some : {A B : Type 0} (second : Reader B) (r : Option (A × List ℕ)) (v : A × B) (rest : List ℕ)
+pub go_on_some : {A B : Type 0} (second : Reader B) (r : Option (A × List ℕ)) (v : A × B) (rest : List ℕ)
     → go_on second r ≡ Some (v, rest)
     → (mid : List ℕ) × (r ≡ Some (v.0, mid)) × (second mid ≡ Some (v.1, rest))
 go_on_some second None v rest e = absurd (cc)
@@ -265,7 +259,7 @@ end_is [] e = absurd (false≢true e)
 end_is (byte ∷ []) e = let one : byte ≡ 10 = (Decides-eqb byte 10).0 e in ap (λ b. b ∷ []) one
 end_is (byte ∷ (other ∷ more)) e = absurd (false≢true e)
 
-ended_some : {A : Type 0} (r : Option (A × List ℕ)) (v : A) → ended r ≡ Some v
+pub ended_some : {A : Type 0} (r : Option (A × List ℕ)) (v : A) → ended r ≡ Some v
     → r ≡ Some (v, 10 ∷ [])
 ended_some None v e = absurd (cc)
 ended_some (Some parts) v e = at (is_end parts.1) refl e

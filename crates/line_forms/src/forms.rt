@@ -1,38 +1,19 @@
 //! Forms that are made of others, and whole lines.
 
-ghost use Rattle.std.specs.Prelude.{◌≡◌, ◌∷◌, ◌++◌, ℕ, List, [], MatchOption};
+ghost use Rattle.std.specs.Prelude.{◌≡◌, MatchOption};
 ghost use Rattle.line_forms.specs.Forms.{IsAfter, IsFirst, IsThen, after, after_read};
 ghost use Rattle.line_forms.specs.Forms.{is_end, said_by, then_read};
 ghost use Rattle.line_forms.specs.FormLaws.{after_law, then_law};
 
 use crate::form::FormOf;
 
-fn stripped<'a>(text: &'a [u8], word: &[u8]) -> Option<&'a [u8]>
-    ensures { MatchOption result ((rest : List ℕ) → ¬ (text.now ≡ word.now ++ rest))
-        (λ rest. text.now ≡ word.now ++ rest.now) }
-{
-    text.strip_prefix(word)
-}
-
-fn after_byte<'a>(text: &'a [u8], byte: u8) -> Option<&'a [u8]>
-    ensures { MatchOption result (after (byte ∷ []) text.now ≡ None)
-        (λ rest. after (byte ∷ []) text.now ≡ Some rest.now) }
-{
-    match text {
-        [first, rest @ ..] if byte == *first => Some(rest),
-        _ => None,
-    }
-}
-
-/// What follows the word with which the text begins. A word of one byte is compared at once.
+/// What follows the word with which the text begins.
+#[inline(always)]
 pub fn after_word<'a>(text: &'a [u8], word: &[u8]) -> Option<&'a [u8]>
     ensures { MatchOption result (after word.now text.now ≡ None)
         (λ rest. after word.now text.now ≡ Some rest.now) }
 {
-    match word {
-        [byte] => after_byte(text, *byte),
-        _ => stripped(text, word),
-    }
+    text.strip_prefix(word)
 }
 
 /// A form after a word. It says what the form says.
@@ -54,6 +35,7 @@ impl<'a, 'w, F: FormOf<'a> + Drop> FormOf<'a> for After<'w, F> {
 
     ghost valid = { λ form. F.valid form.1 };
 
+    #[inline(always)]
     fn read(&self, text: &'a [u8]) -> Option<(F::Value, &'a [u8])> {
         let rest = after_word(text, self.0)?;
         self.1.read(rest)
@@ -82,6 +64,7 @@ impl<'a, A: FormOf<'a> + Drop, B: FormOf<'a> + Drop> FormOf<'a> for Then<A, B> {
     ghost valid = { λ form. A.valid form.0 × B.valid form.1
         × IsFirst (A.ends form.0) (B.says form.1) };
 
+    #[inline(always)]
     fn read(&self, text: &'a [u8]) -> Option<((A::Value, B::Value), &'a [u8])> {
         let (first, rest) = self.0.read(text)?;
         let (second, rest) = self.1.read(rest)?;

@@ -1,58 +1,47 @@
 //! Numbers, written as they are: without a sign, and without zeros in front.
 
-ghost use Rattle.std.specs.Prelude.{◌≡◌, ◌<◌, ◌≤◌, ◌^◌, ℕ, false, length, MatchOption};
-ghost use Rattle.std.specs.Fmt.{decimal};
+ghost use Rattle.std.specs.Prelude.{◌≡◌, ◌<◌, ◌≤◌, ◌^◌, ℕ, length, true, MatchOption};
 ghost use Rattle.std.specs.Str.{all_ascii_digits};
+ghost use Rattle.std.specs.Str.Parse.{digits_value};
 ghost use Rattle.line_forms.specs.FormLaws.{number_law, wide_32, wide_64};
 ghost use Rattle.line_forms.specs.Numbers.{BeginsWithNoDigit, IsNumber, digits_in, number_at};
 ghost use Rattle.line_forms.specs.Numbers.{number_in};
-ghost use Rattle.line_forms.specs.inside.Narrow.{IsValueOf, below};
+ghost use Rattle.line_forms.specs.inside.Narrow.{below};
 
 use crate::form::FormOf;
-use itoa::Buffer;
 
-/// So many digits write less than 2^64.
-const FEW_DIGITS: usize = 19;
-
-/// The value of so few digits, or `None` if one of these bytes is no digit.
+/// The value of the digits. It is `None` if one of the bytes is no digit, or beyond 64 bits.
 fn value_of(digits: &[u8]) -> Option<u64>
-    requires { length digits.now ≤ 19 }
-    ensures { MatchOption result (all_ascii_digits digits.now ≡ false) (IsValueOf digits.now) }
+    ensures { MatchOption result
+        (all_ascii_digits digits.now ≡ true → 2 ^ 64 ≤ digits_value 10 digits.now)
+        (λ number. (all_ascii_digits digits.now ≡ true) × (number ≡ digits_value 10 digits.now)
+        × (number < 2 ^ 64)) }
 {
     let mut number: u64 = 0;
     for byte in digits {
         if !byte.is_ascii_digit() {
             return None;
         }
-        number = number * 10 + u64::from(*byte - b'0');
+        let Some(tens) = number.checked_mul(10) else {
+            return None;
+        };
+        let Some(next) = tens.checked_add(u64::from(*byte - b'0')) else {
+            return None;
+        };
+        number = next;
     }
     Some(number)
 }
 
-fn parsed_wide(digits: &[u8]) -> Option<u64>
-    ensures { MatchOption result
-        ((number : ℕ) → number < 2 ^ 64 → ¬ (digits.now ≡ decimal number))
-        (λ number. IsNumber (2 ^ 64) number digits.now) }
-{
-    let number = match str::from_utf8(digits) {
-        Ok(text) => text.parse::<u64>().ok()?,
-        Err(_) => return None,
-    };
-    let mut buffer = Buffer::new();
-    if buffer.format(number).as_bytes() == digits {
-        Some(number)
-    } else {
-        None
-    }
-}
-
-/// The number of at most 64 bits that the digits write, if it is written so. Most numbers have few
-/// digits, and are not written again to be compared.
+/// The number of at most 64 bits that the digits write, if it is written so.
 pub fn number_of(digits: &[u8]) -> Option<u64>
     ensures { result ≡ number_in (2 ^ 64) digits.now }
 {
-    if digits.is_empty() || digits.len() > FEW_DIGITS || (digits[0] == b'0' && digits.len() > 1) {
-        return parsed_wide(digits);
+    if digits.is_empty() {
+        return None;
+    }
+    if digits[0] == b'0' && digits.len() > 1 {
+        return None;
     }
     value_of(digits)
 }
@@ -80,8 +69,14 @@ pub fn digits_before(text: &[u8]) -> usize
     ensures value { result ≡ digits_in text.now }
     ensures within { result ≤ length text.now }
 {
-    let end = text.iter().position(|byte| !byte.is_ascii_digit());
-    end.unwrap_or(text.len())
+    let mut size = 0;
+    for byte in text {
+        if !byte.is_ascii_digit() {
+            return size;
+        }
+        size += 1;
+    }
+    size
 }
 
 /// A number of at most 64 bits.
@@ -103,6 +98,7 @@ impl<'a> FormOf<'a> for Number64 {
 
     ghost valid = { λ form. Unit {0} };
 
+    #[inline(always)]
     fn read(&self, text: &'a [u8]) -> Option<(u64, &'a [u8])> {
         let size = digits_before(text);
         let number = number_of(&text[..size])?;
@@ -131,6 +127,7 @@ impl<'a> FormOf<'a> for Number32 {
 
     ghost valid = { λ form. Unit {0} };
 
+    #[inline(always)]
     fn read(&self, text: &'a [u8]) -> Option<(u32, &'a [u8])> {
         let size = digits_before(text);
         let number = number_32_of(&text[..size])?;

@@ -1,7 +1,6 @@
 pub mod FileLists
 pub mod LineWritten
 pub mod Lines
-pub mod ListWords
 pub mod Loads
 pub mod Refusals
 pub mod TableLoads

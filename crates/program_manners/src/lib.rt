@@ -35,12 +35,12 @@ pub use loading::{FileFault, STANDARD_INPUT, load_file, load_from, open_file};
 pub use output::{Output, WriteEnd};
 pub use recorded_loads::RecordedLoads;
 pub use table_line::TableLine;
-pub use table_loads::{Tables, TablesFault, load_tables};
+pub use table_loads::{Tables, TablesFault, load_named, load_tables};
 pub use table_words::{DateFault, TableWord, TableWords, WrittenDate, WrongWord, date_fault};
 pub use terminal_line::{PACE_MS, QUIET_MS, TerminalLine};
 pub use version::VERSION;
 pub use words::{
     add_list_args, files_arg, flag_arg, flag_in, names_in, new_command, number_arg, option_arg,
-    positional_arg, repeated_arg, with_help,
+    positional_arg, repeated_arg, value_in, with_arg, with_help,
 };
 pub use world::{LOAD_LIMIT_BYTES, LoadFault};

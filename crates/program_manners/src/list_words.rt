@@ -1,7 +1,4 @@
 //! What the words say of a list of files, and the words with the names of its files.
-ghost use Rattle.std.specs.Prelude.{◌≡◌, IfErr, IfOk, false, option_map, true};
-ghost use Rattle.clap.specs.Words.{found_of, kind_of, rows_of};
-ghost use Rattle.program_manners.specs.ListWords.{lacks_list, list_request, view_of};
 
 use crate::complaints::Complaints;
 use crate::file_list::{ListFault, NameEnd, names_of_list};
@@ -29,13 +26,7 @@ pub struct ListWords<'a> {
 
 impl<'a> ListWords<'a> {
     /// What the words say of a list, if they name one. An error is `NullAlone`.
-    pub fn of(matches: &ArgMatches<'a>) -> Result<Option<ListWords<'a>>, ListFault>
-        ensures list { IfOk result (λ list. option_map view_of list
-            ≡ list_request (rows_of (found_of matches.now))) }
-        ensures right { IfOk result (λ _. lacks_list (rows_of (found_of matches.now)) ≡ false) }
-        ensures wrong { IfErr result (λ fault. (fault ≡ ListFault.NullAlone)
-            × (lacks_list (rows_of (found_of matches.now)) ≡ true)) }
-    {
+    pub fn of(matches: &ArgMatches<'a>) -> Result<Option<ListWords<'a>>, ListFault> {
         let is_null = flag_in(matches, "null");
         let Some(name) = matches.get_str("files-from") else {
             return if is_null {
@@ -54,12 +45,7 @@ impl<'a> ListWords<'a> {
 
     /// What words that clap does not read say of a list: nothing. An error is an allocation
     /// failure.
-    pub fn unread(error: &Error) -> Result<Option<ListWords<'a>>, ListFault>
-        ensures memory { kind_of error.now ≡ ErrorKind.OutOfMemory
-            → result ≡ Err ListFault.NoMemory }
-        ensures list { IfOk result (λ list. list ≡ None) }
-        ensures fault { IfErr result (λ fault. fault ≡ ListFault.NoMemory) }
-    {
+    pub fn unread(error: &Error) -> Result<Option<ListWords<'a>>, ListFault> {
         match error.kind() {
             ErrorKind::OutOfMemory => Err(ListFault::NoMemory),
             _ => Ok(None),

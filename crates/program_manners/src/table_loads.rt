@@ -60,7 +60,11 @@ pub struct Tables {
     pub texts: Vec<Vec<u8>>,
 }
 
-fn load_named<'a, S: FileSource>(source: &mut S, name: &'a str) -> Result<Vec<u8>, FileFault<'a>>
+/// All bytes of the file of this name.
+pub fn load_named<'a, S: FileSource>(
+    source: &mut S,
+    name: &'a str,
+) -> Result<Vec<u8>, FileFault<'a>>
     ensures ok { IfOk result (λ bytes. LoadsOne (S.loaded source.old) (S.loaded source.new)
         (Some name.entry.now) bytes.items) }
     ensures named { IfErr result (λ file. file.name.now ≡ name.entry.now) }

@@ -1,7 +1,7 @@
 //! A command and its options, as `clap` takes them.
-ghost use Rattle.std.specs.Prelude.{◌≡◌, IfOk, [], false, map, pos, unwrap_or};
+ghost use Rattle.std.specs.Prelude.{◌≡◌, IfOk, [], false, map, option_map, pos, unwrap_or};
 ghost use Rattle.clap.specs.Simple.{app_of};
-ghost use Rattle.clap.specs.Words.{all_of, found_of, rows_of, rule_of, with_rule};
+ghost use Rattle.clap.specs.Words.{all_of, first_of, found_of, rows_of, rule_of, with_rule};
 ghost use Rattle.program_manners.specs.Words.{files_rule, flag_rule, is_given, list_option};
 ghost use Rattle.program_manners.specs.Words.{named_app, null_flag, number_rule};
 ghost use Rattle.program_manners.specs.Words.{option_rule, positional_rule, repeated_rule};
@@ -87,6 +87,15 @@ pub fn positional_arg<'a>(alloc: Global, name: &'a str, action: ArgAction, help:
     Arg::new(alloc, name).action(action).help(help)
 }
 
+/// The command with one argument more, which is not global.
+pub fn with_arg<'a>(command: Command<'a>, arg: Arg<'a>) -> Result<Command<'a>, AllocError>
+    requires { arg.global ≡ false }
+    ensures { IfOk result
+        (λ more. app_of more ≡ with_rule (app_of command.entry) (rule_of arg.entry)) }
+{
+    command.arg(arg)
+}
+
 fn first_paragraph(text: &str) -> &str {
     match text.split_once("\n\n") {
         Some((first, _)) => first,
@@ -132,9 +141,15 @@ pub fn add_list_args<'a>(alloc: Global, command: Command<'a>) -> Result<Command<
     ensures { IfOk result (λ more. app_of more
         ≡ with_rule (with_rule (app_of command.entry) list_option) null_flag) }
 {
-    let list = list_arg(alloc);
-    let null = null_arg(alloc);
-    command.arg(list)?.arg(null)
+    with_arg(with_arg(command, list_arg(alloc))?, null_arg(alloc))
+}
+
+/// The value under this name, if there is one: the first one.
+pub fn value_in<'a>(matches: &ArgMatches<'a>, name: &str) -> Option<&'a str>
+    ensures { option_map (λ v. v.now) result
+        ≡ first_of name.now (rows_of (found_of matches.now)) }
+{
+    matches.get_str(name)
 }
 
 /// All values under this name, in order.

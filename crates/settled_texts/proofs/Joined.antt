@@ -21,6 +21,13 @@ use Rattle.settled_texts.specs.inside.WorkerSlots.{IsSoundList}
 use Rattle.settled_texts.proofs.TapsExplained.{begins_longer, explains_then, lines_front, lines_then}
 use Rattle.settled_texts.proofs.TapsExplained.{may_front, may_rest}
 
+-- the elements before a place, the one there and those behind it
+pub around : {X : Type 0} (xs : List X) (i : ℕ) (other : X) → i < length xs
+    → take i xs ++ (get_or xs i other ∷ drop (i + 1) xs) ≡ xs
+around {X} xs i other within =
+    ap (λ (ys : List X). take i xs ++ ys) (sym (rw (add-one) (drop-cons xs i other within)))
+    ∙ take-append-drop i xs
+
 -- the taps of lists, one list behind the other
 abbrev pub joined : List (Vec TapFields Global) → List TapFields
 joined lists = flat_map (λ (list : Vec TapFields Global). list.items) lists
@@ -48,11 +55,9 @@ pub joined_at : (lists : List (Vec TapFields Global)) (position : ℕ) (other : 
     ≡ joined lists
 joined_at lists position other within =
     let f : Vec TapFields Global → List TapFields = λ list. list.items in
-    let at : drop position lists ≡ get_or lists position other ∷ drop (position + 1) lists =
-    rw (add-one) (drop-cons lists position other within) in
-    ap (λ ts. joined (take position lists) ++ ts) (sym (ap (flat_map f) at))
-    ∙ sym (flat_map-append f (take position lists) (drop position lists))
-    ∙ ap (flat_map f) (take-append-drop position lists)
+    sym (flat_map-append f (take position lists)
+    (get_or lists position other ∷ drop (position + 1) lists))
+    ∙ ap (flat_map f) (around lists position other within)
 
 -- ---- taps between two places
 pub take_between : (taps : List TapFields) (begin end : ℕ) → begin ≤ end
@@ -86,6 +91,14 @@ pub may_next : {fares : Fares} {old mid : Explainer} {done taps : List TapFields
 may_next {fares} {old} {mid} {done} {taps} {said} next later whole so_far may =
     may_front fares mid next later (next ++ later) refl
     (may_rest fares old mid done (next ++ later) taps said whole may so_far)
+
+pub gone_begins : (a b : Option (List ℕ)) (old new : List ℕ) → GoesOut a old b new [] → Begins a b old
+gone_begins a b old new gone = record {
+  front = gone.front;
+  rest = new;
+  whole = sym (append-nil old) ∙ gone.whole;
+  written = gone.written;
+}
 
 pub explains_next : {fares : Fares} {old mid new : Explainer} {done next : List TapFields}
     {begin out after : Option (List ℕ)} {text waits left : List ℕ}

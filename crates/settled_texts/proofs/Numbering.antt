@@ -1,9 +1,13 @@
 -- Taps that are numbered one after the other.
 use Rattle.std.proofs.Common.{◌≡◌, ◌∙◌, ℕ, ◌+◌, List, [], ◌∷◌, ◌++◌, length, refl, ap, sym}
+use Rattle.std.proofs.Common.{◌<◌, get_or, take}
 use Rattle.std.proofs.Common.{arith, append_assoc, append-nil, Bool, true, false, not}
 use Rattle.std.specs.Prelude.{◌&&◌}
 use Rattle.std.specs.List.{list_all}
+use Rattle.std.proofs.lemmas.List.{length-take, take_more}
 use Rattle.std.proofs.lemmas.List.Folds.{list_all-append}
+use Rattle.tap_views.specs.Layout.{Tap}
+use Rattle.tap_parts.specs.Parts.{taps_at}
 use Rattle.tap_views.specs.Files.{ValidBatchesView}
 use Rattle.tap_views.specs.declared.encoder.TapFields.{TapFields}
 use Rattle.settled_texts.specs.Traces.{valid_fields, is_whole, numbered, traced_from}
@@ -21,17 +25,23 @@ numbered_append upload position (x ∷ xs) ys =
     (numbered_append upload (position + 1) xs ys
     ∙ ap (λ (p : ℕ). numbered upload (position + 1) xs ++ numbered upload p ys) same)
 
--- taps, and more of them with the places behind
-pub numbered_on : (upload position next : ℕ) (old now new : List TracedTap)
-    (xs ys all : List TapFields) → now ≡ old ++ numbered upload position xs
-    → next ≡ position + length xs → new ≡ now ++ numbered upload next ys → xs ++ ys ≡ all
-    → new ≡ old ++ numbered upload position all
-numbered_on upload position next old now new xs ys all was is more whole =
-    more ∙ ap (λ (ts : List TracedTap). ts ++ numbered upload next ys) was
-    ∙ append_assoc old (numbered upload position xs) (numbered upload next ys)
-    ∙ ap (λ (ts : List TracedTap). old ++ ts)
-    (ap (λ (p : ℕ). numbered upload position xs ++ numbered upload p ys) is
-    ∙ sym (numbered_append upload position xs ys) ∙ ap (numbered upload position) whole)
+-- one tap more
+pub numbered_more : (upload : ℕ) (list : List TapFields) (i : ℕ) (other : TapFields)
+    → i < length list
+    → numbered upload 1 (take (i + 1) list) ≡ numbered upload 1 (take i list)
+    ++ record { tap = get_or list i other; upload = upload; position = i + 1 } ∷ []
+numbered_more upload list i other within =
+    let before = numbered upload 1 (take i list) in
+    let long = length-take i list in
+    let place : 1 + length (take i list) ≡ i + 1 = omega (arith, long, within) in
+    ap (numbered upload 1) (take_more list i other within)
+    ∙ numbered_append upload 1 (take i list) (get_or list i other ∷ [])
+    ∙ ap (λ (p : ℕ). before ++ numbered upload p (get_or list i other ∷ [])) place
+
+-- all taps fall to one part
+pub all_at : (taps : List Tap) → taps_at (λ _. 0) 0 taps ≡ taps
+all_at [] = refl
+all_at (tap ∷ taps) = ap (λ (ts : List Tap). tap ∷ ts) (all_at taps)
 
 -- one upload more
 pub traced_push : (upload number : ℕ) (readings : List ValidBatchesView)

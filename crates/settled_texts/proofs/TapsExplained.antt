@@ -1,9 +1,8 @@
 -- The lines of taps, and of more taps behind them.
-use Rattle.std.proofs.Common.{◌≡◌, ℕ, List, [], ◌∷◌, ◌++◌, take, drop}
+use Rattle.std.proofs.Common.{◌≡◌, ℕ, List, [], ◌∷◌, ◌++◌}
 use Rattle.std.proofs.Common.{Option, Some, refl, sym, ap, subst, ◌∙◌, append-nil, append_assoc}
 use Rattle.std.proofs.Common.{◌<◌, All, arith, false, length, length-append}
 use Rattle.std.specs.Prelude.{slice_get}
-use Rattle.std.proofs.lemmas.List.{take-append-drop}
 use Rattle.tariffs.specs.Fares.{Fares}
 use Rattle.tap_views.specs.declared.token.Token.{Token}
 use Rattle.tap_views.specs.declared.encoder.TapFields.{TapFields}
@@ -202,13 +201,6 @@ pub begins_longer : (a b : Option (List ℕ)) (x y z : List ℕ) → Begins a b 
 begins_longer a b x y z started =
     subst (λ t. Begins a b t) (append_assoc x y z) (begins_front a b (x ++ y) z started)
 
--- all that was appended to nothing
-pub all_out : (old first new lines : List ℕ) → old ≡ [] → first ≡ [] → new ≡ old ++ (first ++ lines)
-    → new ≡ lines
-all_out old first new lines none empty is =
-    is ∙ ap (λ (bytes : List ℕ). bytes ++ (first ++ lines)) none
-    ∙ ap (λ (bytes : List ℕ). bytes ++ lines) empty
-
 -- ---- one tap
 -- the next entry of the token is what the tap is answered
 next_answered : (fares : Fares) (earlier : List Entry) (tap : TapFields) (token : Token)
@@ -255,12 +247,6 @@ one_reported fares earlier tap explainer next line its same consumed is explaine
           (subst (λ (e : Entry). HasExplained fares next (own explainer.token earlier ++ e ∷ [])) of
           explained);
     }
-
--- the front of a list and what stands behind it
-pub halves_of : {A : Type 0} (n : ℕ) (xs front back : List A) → front ≡ take n xs → back ≡ drop n xs
-    → front ++ back ≡ xs
-halves_of n xs front back is_front is_back =
-    ap (λ ys. ys ++ back) is_front ∙ ap (λ ys. take n xs ++ ys) is_back ∙ take-append-drop n xs
 
 -- taps that do not fall from a token do not fall from the first one's, which is not below it
 pub nondecreasing_first : (token : Token) (taps : List TapFields) (first : TapFields)

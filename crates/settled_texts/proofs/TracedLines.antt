@@ -1,94 +1,32 @@
 -- Columns behind the lines of a text.
-use Rattle.std.proofs.Common.{◌≡◌, ◌∙◌, ℕ, suc, ◌+◌, ◌==◌, Bool, true, false, List, [], ◌∷◌}
-use Rattle.std.proofs.Common.{◌++◌, refl, sym, ap, drop, append_assoc, arith, drop-drop}
-use Rattle.std.specs.Prelude.{codes, if◌then◌else◌}
-use Rattle.std.proofs.lemmas.List.{drop-map, drop_all}
+use Rattle.std.proofs.Common.{◌≡◌, ◌∙◌, ℕ, ◌+◌, ◌<◌, ◌==◌, false, List, [], ◌∷◌, ◌++◌, Option, refl}
+use Rattle.std.proofs.Common.{sym, ap, subst, drop, take, get_or, append_assoc, append-nil, length}
+use Rattle.std.specs.Prelude.{codes}
+use Rattle.std.specs.Io.KnownBytes.{Appends}
+use Rattle.std.proofs.lemmas.List.{map-append, take-append-drop, take_more}
+use Rattle.tariffs.specs.Fares.{Fares}
+use Rattle.tap_views.specs.declared.encoder.TapFields.{TapFields}
 use Rattle.fare_texts.specs.LedgerLines.{head_text}
-use Rattle.settled_texts.specs.Columns.{columns_by, columns_of, head_columns, with_columns}
-use Rattle.settled_texts.specs.inside.Feeds.{feeds}
+use Rattle.fare_texts.specs.WrittenOut.{Begins, GoesOut}
+use Rattle.fare_texts.specs.declared.explainer.Explainer.{Explainer}
+use Rattle.fare_texts.proofs.Beginnings.{begins_front, goes_last, goes_passed, goes_then}
+use Rattle.settled_texts.specs.Columns.{columns_by, head_columns, with_columns}
+use Rattle.settled_texts.specs.ExplainedTaps.{Explains, HaveLines}
+use Rattle.settled_texts.specs.Traces.{taps_of_trace}
 use Rattle.settled_texts.specs.declared.trace.TracedTap.{TracedTap}
+use Rattle.settled_texts.specs.inside.Puts.{Puts}
+use Rattle.settled_texts.proofs.Joined.{around}
+use Rattle.settled_texts.proofs.TapsExplained.{explained_lines, lines_front}
 
 pub no_columns : (text : List ℕ) → with_columns text [] ≡ text
 no_columns [] = refl
 no_columns (byte ∷ text) = refl
-
--- a text behind another goes on with the columns that are left
-pub with_append : (a b : List ℕ) (columns : List (List ℕ))
-    → with_columns (a ++ b) columns
-    ≡ with_columns a columns ++ with_columns b (drop (feeds a) columns)
-with_append [] b columns = refl
-with_append (x ∷ a) b [] =
-    ap (λ (t : List ℕ). (x ∷ a) ++ t)
-    (sym (ap (with_columns b) (drop_all (feeds (x ∷ a)) [] (omega arith)) ∙ no_columns b))
-with_append (x ∷ a) b (c ∷ columns) =
-    by (x == 10) (with_append a b columns) (with_append a b (c ∷ columns))
-  where
-    more : (n : ℕ) → suc n ≡ n + 1
-    more n = omega arith
-
-    by : (t : Bool)
-        → with_columns (a ++ b) columns
-        ≡ with_columns a columns ++ with_columns b (drop (feeds a) columns)
-        → with_columns (a ++ b) (c ∷ columns)
-        ≡ with_columns a (c ∷ columns) ++ with_columns b (drop (feeds a) (c ∷ columns))
-        → (if t then c ++ x ∷ with_columns (a ++ b) columns
-        else x ∷ with_columns (a ++ b) (c ∷ columns))
-        ≡ (if t then c ++ x ∷ with_columns a columns else x ∷ with_columns a (c ∷ columns))
-        ++ with_columns b (drop (if t then feeds a + 1 else feeds a) (c ∷ columns))
-    by true taken other =
-        ap (λ (t : List ℕ). c ++ x ∷ t) taken
-        ∙ sym (append_assoc c (x ∷ with_columns a columns)
-        (with_columns b (drop (feeds a) columns)))
-        ∙ ap (λ (n : ℕ). (c ++ x ∷ with_columns a columns) ++ with_columns b (drop n (c ∷ columns)))
-        (more (feeds a))
-    by false taken other = ap (λ (t : List ℕ). x ∷ t) other
-
--- how many line feeds two texts have
-pub feeds_append : (a b : List ℕ) → feeds (a ++ b) ≡ feeds a + feeds b
-feeds_append [] b = omega arith
-feeds_append (x ∷ a) b = by (x == 10) (feeds_append a b)
-  where
-    by : (t : Bool) → feeds (a ++ b) ≡ feeds a + feeds b
-        → (if t then feeds (a ++ b) + 1 else feeds (a ++ b))
-        ≡ (if t then feeds a + 1 else feeds a) + feeds b
-    by true is = omega (arith, is)
-    by false is = is
-
--- the line feeds of a byte and of a text behind it
-pub feeds_first : (byte : ℕ) (trailing : List ℕ)
-    → (if byte == 10 then 1 else 0) + feeds trailing ≡ feeds (byte ∷ trailing)
-feeds_first byte trailing = by (byte == 10)
-  where
-    by : (t : Bool)
-        → (if t then 1 else 0) + feeds trailing ≡ (if t then feeds trailing + 1 else feeds trailing)
-    by true = omega arith
-    by false = omega arith
 
 -- a byte that is no line feed stands where it stood
 pub with_other : (byte : ℕ) (trailing : List ℕ) (columns : List (List ℕ)) → (byte == 10) ≡ false
     → with_columns (byte ∷ trailing) columns ≡ byte ∷ with_columns trailing columns
 with_other byte trailing [] is = ap (λ (t : List ℕ). byte ∷ t) (sym (no_columns trailing))
 with_other byte trailing (c ∷ columns) is = rw is refl
-
--- lines behind others have the columns of the taps that are left
-pub columns_on : (classes : ℕ → List ℕ → List ℕ) (lines more : List ℕ) (trace left : List TracedTap)
-    → left ≡ drop (feeds lines) trace
-    → with_columns (lines ++ more) (columns_by classes trace)
-    ≡ with_columns lines (columns_by classes trace) ++ with_columns more (columns_by classes left)
-columns_on classes lines more trace left is =
-    with_append lines more (columns_by classes trace)
-    ∙ ap (λ (cs : List (List ℕ)). with_columns lines (columns_by classes trace) ++ with_columns more
-    cs)
-    (drop-map (λ traced. columns_of (classes traced.tap.moment traced.tap.token) traced)
-    (feeds lines) trace ∙ ap (columns_by classes) (sym is))
-
--- the taps that are left behind more lines
-pub left_on : (lines more : List ℕ) (trace left next : List TracedTap)
-    → left ≡ drop (feeds lines) trace → next ≡ drop (feeds more) left
-    → next ≡ drop (feeds (lines ++ more)) trace
-left_on lines more trace left next is on =
-    on ∙ ap (drop (feeds more)) is ∙ drop-drop (feeds more) (feeds lines) trace
-    ∙ ap (λ (n : ℕ). drop n trace) (sym (feeds_append lines more))
 
 -- behind the head line, which takes the columns' names, are the lines with their columns
 pub head_on : (lines : List ℕ) (columns : List (List ℕ))
@@ -104,3 +42,93 @@ pub none_left : (classes : ℕ → List ℕ → List ℕ) (rest : List ℕ) (tap
     ≡ 10 ∷ with_columns rest (columns_by classes taps)
 none_left classes rest [] is = ap (λ (t : List ℕ). 10 ∷ t) (sym (no_columns rest))
 none_left classes rest (traced ∷ taps) is = cc
+
+-- ---- lines that go out with their columns
+
+-- The lines went out after what waited at first, with the columns of the first taps. Whatever text
+-- comes next gets the columns of the taps that are left.
+abbrev pub GoesWith : (ℕ → List ℕ → List ℕ) → List TracedTap → Option (List ℕ) → List ℕ
+    → Option (List ℕ) → List ℕ → List TracedTap → List ℕ → Type 0
+GoesWith classes trace begin waited out waits left lines =
+    (rest : List ℕ) → GoesOut begin waited out (waits ++ with_columns rest (columns_by classes left))
+    (with_columns (lines ++ rest) (columns_by classes trace))
+
+-- more text waits
+goes_longer : (a b : Option (List ℕ)) (old new more : List ℕ) → GoesOut a old b new []
+    → GoesOut a (old ++ more) b (new ++ more) []
+goes_longer a b old new more gone = record {
+  front = gone.front;
+  whole = append-nil (old ++ more)
+      ∙ ap (λ (t : List ℕ). t ++ more) (sym (append-nil old) ∙ gone.whole)
+      ∙ append_assoc gone.front new more;
+  written = gone.written;
+}
+
+-- what waits goes out, and then lines are put
+pub goes_put : (classes : ℕ → List ℕ → List ℕ) (trace left later : List TracedTap)
+    (a b c : Option (List ℕ)) (waited waits passed put lines more : List ℕ)
+    → GoesWith classes trace a waited b waits left lines → GoesOut b waits c passed []
+    → Puts classes passed left more put later
+    → GoesWith classes trace a waited c put later (lines ++ more)
+goes_put classes trace left later a b c waited waits passed put lines more gone pass puts =
+    λ rest.
+    let columns = columns_by classes trace in
+    let next = with_columns (more ++ rest) (columns_by classes left) in
+    subst (λ (t : List ℕ). GoesOut a waited c (put ++ with_columns rest (columns_by classes later))
+    (with_columns t columns)) (sym (append_assoc lines more rest))
+    (subst (λ (t : List ℕ). GoesOut a waited c t (with_columns (lines ++ (more ++ rest)) columns))
+    (puts rest)
+    (goes_passed a b c waited (waits ++ next) (passed ++ next)
+    (with_columns (lines ++ (more ++ rest)) columns) (gone (more ++ rest))
+    (goes_longer b c waits passed next pass)))
+
+-- the last lines go out
+pub goes_all : (classes : ℕ → List ℕ → List ℕ) (trace left : List TracedTap)
+    (a b c : Option (List ℕ)) (waited waits lines : List ℕ)
+    → GoesWith classes trace a waited b waits left lines → Appends b c waits
+    → Appends a c (waited ++ with_columns lines (columns_by classes trace))
+goes_all classes trace left a b c waited waits lines gone written =
+    subst (λ (t : List ℕ). Appends a c (waited ++ with_columns t (columns_by classes trace)))
+    (append-nil lines)
+    (goes_last a b c waited (waits ++ []) (with_columns (lines ++ []) (columns_by classes trace))
+    (gone []) (subst (Appends b c) (sym (append-nil waits)) written))
+
+-- ---- the taps of a trace
+abbrev tap_in : TracedTap → TapFields
+tap_in traced = traced.tap
+
+-- what a write that failed left, after the lines of some taps
+pub traced_started : (classes : ℕ → List ℕ → List ℕ) (trace left : List TracedTap) (fares : Fares)
+    (old mid : Explainer) (i : ℕ) (a b c : Option (List ℕ)) (waited waits : List ℕ)
+    → Explains fares old (taps_of_trace (take i trace)) mid
+    (GoesWith classes trace a waited b waits left)
+    → Begins b c waits
+    → HaveLines fares old (taps_of_trace trace)
+    (λ lines. Begins a c (waited ++ with_columns lines (columns_by classes trace)))
+traced_started classes trace left fares old mid i a b c waited waits is started =
+    lines_front fares old (taps_of_trace (take i trace)) (taps_of_trace (drop i trace))
+    (taps_of_trace trace) (GoesWith classes trace a waited b waits left)
+    (λ lines. Begins a c (waited ++ with_columns lines (columns_by classes trace)))
+    (sym (map-append tap_in (take i trace) (drop i trace))
+    ∙ ap taps_of_trace (take-append-drop i trace))
+    (explained_lines fares old mid (taps_of_trace (take i trace))
+    (GoesWith classes trace a waited b waits left) is)
+    (λ l m gone. goes_then a b c waited (waits ++ with_columns m (columns_by classes left))
+    (with_columns (l ++ m) (columns_by classes trace)) (gone m)
+    (begins_front b c waits (with_columns m (columns_by classes left)) started))
+
+-- one more
+pub taps_more : (trace : List TracedTap) (i : ℕ) (d : TracedTap) → i < length trace
+    → taps_of_trace (take i trace) ++ (get_or trace i d).tap ∷ []
+    ≡ taps_of_trace (take (i + 1) trace)
+taps_more trace i d within =
+    sym (ap taps_of_trace (take_more trace i d within)
+    ∙ map-append tap_in (take i trace) (get_or trace i d ∷ []))
+
+-- those before one, that one, and those behind it
+pub taps_at : (trace : List TracedTap) (i : ℕ) (d : TracedTap) → i < length trace
+    → taps_of_trace (take i trace)
+    ++ ((get_or trace i d).tap ∷ [] ++ taps_of_trace (drop (i + 1) trace)) ≡ taps_of_trace trace
+taps_at trace i d within =
+    sym (map-append tap_in (take i trace) (get_or trace i d ∷ drop (i + 1) trace))
+    ∙ ap taps_of_trace (around trace i d within)

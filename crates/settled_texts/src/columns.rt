@@ -1,10 +1,10 @@
 //! The three columns after the lines of a traced ledger.
 
-ghost use Rattle.std.specs.Prelude.{◌≡◌, ◌++◌, ◌∷◌, [], ℕ, List, IfOk, OnOk, codes, drop};
-ghost use Rattle.std.specs.Prelude.{◌==◌, if◌then◌else◌};
+ghost use Rattle.std.specs.Prelude.{◌≡◌, ◌++◌, ◌∷◌, [], ℕ, List, IfOk, OnOk, codes};
+ghost use Rattle.std.specs.Prelude.{◌==◌};
 ghost use Rattle.std.specs.Fmt.{decimal};
 ghost use Rattle.settled_texts.specs.Columns.{columns_by, columns_of, with_columns};
-ghost use Rattle.settled_texts.specs.inside.Feeds.{feeds};
+ghost use Rattle.settled_texts.specs.inside.Puts.{Puts};
 ghost use Rattle.class_names.specs.Names.{class_by};
 
 use crate::trace::TracedTap;
@@ -37,8 +37,7 @@ fn put_next<'t>(
     names: &ClassNames,
     taps: &'t [TracedTap],
 ) -> Result<&'t [TracedTap], AllocError>
-    ensures left { IfOk result (λ left. left.now ≡ drop 1 taps.now) }
-    ensures put { IfOk result (λ left. (rest : List ℕ)
+    ensures { IfOk result (λ left. (rest : List ℕ)
         → text.old.items ++ with_columns (10 ∷ rest) (columns_by (class_by names.now) taps.now)
         ≡ text.new.items ++ 10 ∷ with_columns rest (columns_by (class_by names.now) left.now)) }
 {
@@ -68,11 +67,8 @@ fn put_byte<'t>(
     names: &ClassNames,
     taps: &'t [TracedTap],
 ) -> Result<&'t [TracedTap], AllocError>
-    ensures left { IfOk result (λ left. left.now
-        ≡ drop (if byte == 10 then 1 else 0) taps.now) }
-    ensures put { IfOk result (λ left. (rest : List ℕ)
-        → text.old.items ++ with_columns (byte ∷ rest) (columns_by (class_by names.now) taps.now)
-        ≡ text.new.items ++ with_columns rest (columns_by (class_by names.now) left.now)) }
+    ensures { IfOk result (λ left. Puts (class_by names.now) text.old.items taps.now (byte ∷ [])
+        text.new.items left.now) }
 {
     if is_feed(byte) {
         let left = put_next(text, names, taps)?;
@@ -90,9 +86,8 @@ pub(crate) fn put_lines<'t>(
     names: &ClassNames,
     taps: &'t [TracedTap],
 ) -> Result<&'t [TracedTap], AllocError>
-    ensures left { IfOk result (λ left. left.now ≡ drop (feeds lines.now) taps.now) }
-    ensures text { IfOk result (λ left. text.new.items ≡ text.old.items
-        ++ with_columns lines.now (columns_by (class_by names.now) taps.now)) }
+    ensures { IfOk result (λ left. Puts (class_by names.now) text.old.items taps.now lines.now
+        text.new.items left.now) }
 {
     let mut rest = lines;
     let mut left = taps;

@@ -13,10 +13,9 @@ ghost use Rattle.fare_texts.specs.Ledger.{IsLedgerOver};
 ghost use Rattle.settlement.specs.Posted.{HasName, posted};
 ghost use Rattle.settled_texts.specs.ExplainedTaps.{Explains, HaveLines, MayExplain};
 
-use crate::lines::STRIDE_ROOM_BYTES;
 use crate::rounds::{slots_of, write_by_workers};
 use crate::slot::WorkerSlot;
-use fare_texts::{Explainer, PrintFault, head_with_room, pass_on};
+use fare_texts::{Explainer, LINE_ROOM_BYTES, PrintFault, head_with_room, pass_on};
 use settlement::least_token;
 use std::alloc::Global;
 use std::io::Write;
@@ -94,7 +93,7 @@ pub fn write_settled_ledger<R: Threads + Sync, W: Write>(
     // proof: the taps can be counted
     let _count = count(lists)?;
     let clock = table.clock(alloc)?;
-    let mut text = head_with_room(alloc, STRIDE_ROOM_BYTES)?;
+    let mut text = head_with_room(alloc, LINE_ROOM_BYTES)?;
     let mut slots = slots_of(alloc, workers)?;
     let mut explainer = Explainer::of(least_token());
     write_lists(

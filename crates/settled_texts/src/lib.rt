@@ -15,7 +15,7 @@ mod traced_ledger;
 
 pub use class_names::{ClassFault, ClassNames, WrongNames};
 pub use ledger::write_settled_ledger;
-pub use lines::{STRIDE_ROOM_BYTES, token_of, write_taps};
+pub use lines::write_taps;
 pub use one_token::{write_token_explained, write_token_ledger, write_token_statement};
 pub use rounds::{slots_of, write_by_workers};
 pub use slot::WorkerSlot;

@@ -3,8 +3,9 @@
 ghost use Rattle.std.specs.Prelude.{◌≡◌, ◌≤◌, length, true};
 ghost use Rattle.settled_texts.specs.inside.WorkerSlots.{HasSat, IsSoundList, IsWhole};
 
-use crate::lines::{explain_taps, token_of};
+use crate::lines::explain_taps;
 use fare_texts::Explainer;
+use settlement::token_of;
 use std::alloc::Global;
 use tap_views::{TapFields, Token};
 use tariffs::{Clock, FareTable};

@@ -1,14 +1,14 @@
 //! The valid taps of uploads, each with its upload and its index there.
 
-ghost use Rattle.std.specs.Prelude.{◌≡◌, ◌&&◌, ◌+◌, ◌++◌, ℕ, List, IfOk, length, map};
+ghost use Rattle.std.specs.Prelude.{◌≡◌, ◌&&◌, ◌++◌, List, IfOk, OnOk, map};
 ghost use Rattle.std.specs.List.{list_all};
-ghost use Rattle.tap_views.specs.Encoding.{fields_of};
 ghost use Rattle.tap_views.specs.Files.{ValidBatchesView, IsReadAs};
 ghost use Rattle.settled_texts.specs.Traces.{AreReadAs, IsTrace, valid_fields, is_whole, numbered};
 ghost use Rattle.settled_texts.specs.Traces.{traced_from};
 
-use std::alloc::Global;
-use tap_views::{Batch, NoMemory, TapFields, valid_batches};
+use std::alloc::{AllocError, Global};
+use tap_parts::{PartRule, Parts};
+use tap_views::{NoMemory, TapFields};
 
 /// A tap, and where it is in the uploads. The order is the canonical one, then by upload and index.
 #[derive(Clone, Copy, Debug, PartialEq, Eq, PartialOrd, Ord)]
@@ -28,43 +28,52 @@ pub struct Trace {
     pub whole: bool,
 }
 
-/// The first tap has this index in the upload. Returns the index after the last.
-fn add_batch(
+/// All taps fall to one part.
+struct OnePart;
+
+impl PartRule for OnePart {
+    ghost part_of = { λ _ _. 0 };
+
+    fn part(&self, _token: &[u8]) -> u32 {
+        0
+    }
+}
+
+/// The taps of an upload, numbered from 1.
+fn add_numbered(
     taps: &mut Vec<TracedTap>,
     upload: u64,
-    position: u64,
-    batch: &Batch<'_>,
-) -> Result<u64, NoMemory>
-    ensures added { IfOk result (λ next. taps.new.items
-        ≡ taps.old.items ++ numbered upload position (map fields_of batch.now)) }
-    ensures next { IfOk result (λ next. next ≡ position + length batch.now) }
+    list: &[TapFields],
+) -> Result<(), AllocError>
+    ensures { OnOk result (taps.new.items ≡ taps.old.items ++ numbered upload 1 list.now) }
 {
-    let mut next = position;
-    for tap in batch.taps() {
-        let tap = TapFields::of(&tap);
+    for index in 0..list.len() {
         taps.push(TracedTap {
-            tap,
+            tap: list[index],
             upload,
-            position: next,
+            position: index as u64 + 1,
         })?;
-        next = next.checked_add(1).ok_or(NoMemory)?;
     }
-    Ok(next)
+    Ok(())
 }
 
 /// Returns whether it has no layout fault.
-fn add_upload(taps: &mut Vec<TracedTap>, upload: u64, bytes: &[u8]) -> Result<bool, NoMemory>
+fn add_upload(
+    alloc: Global,
+    taps: &mut Vec<TracedTap>,
+    upload: u64,
+    bytes: &[u8],
+) -> Result<bool, NoMemory>
     ensures { IfOk result (λ whole. (reading : ValidBatchesView)
         × IsReadAs bytes.now reading.batches reading.fault
         × (taps.new.items ≡ taps.old.items ++ numbered upload 1 (valid_fields reading))
         × (whole ≡ is_whole reading)) }
 {
-    let mut position = 1;
-    let mut valid = valid_batches(bytes);
-    while let Some(batch) = valid.next() {
-        position = add_batch(taps, upload, position, &batch)?;
-    }
-    Ok(valid.fault().is_none())
+    let mut parts = Parts::with_room(alloc, 1, 0)?;
+    let added = parts.add_upload(&OnePart, bytes)?;
+    let lists = parts.into_lists(alloc)?;
+    add_numbered(taps, upload, &lists[0])?;
+    Ok(added.fault.is_none())
 }
 
 fn both(a: bool, b: bool) -> bool
@@ -83,7 +92,7 @@ fn collected(alloc: Global, uploads: &[Vec<u8>]) -> Result<Trace, NoMemory>
     let mut whole = true;
     let mut number: u64 = 0;
     for upload in uploads {
-        let posted = add_upload(&mut taps, number, upload)?;
+        let posted = add_upload(alloc, &mut taps, number, upload)?;
         whole = both(whole, posted);
         number = number.checked_add(1).ok_or(NoMemory)?;
     }

@@ -1,27 +1,27 @@
 //! The traced ledger of uploads.
 
 ghost use Rattle.std.specs.Prelude.{◌≡◌, ◌++◌, ◌∷◌, [], ℕ, List, None};
-ghost use Rattle.std.specs.Prelude.{Bool, IfErr, IfOk, OnErr, OnOk, drop, map};
-ghost use Rattle.std.specs.Prelude.{string_bytes};
+ghost use Rattle.std.specs.Prelude.{Bool, IfErr, IfOk, OnErr, OnOk, map};
 ghost use Rattle.std.specs.Io.KnownBytes.{Appends};
 ghost use Rattle.fare_texts.specs.PrintFaults.{UnchangedUnlessWrite};
-ghost use Rattle.fare_texts.specs.WrittenOut.{Begins};
+ghost use Rattle.fare_texts.specs.WrittenOut.{Begins, GoesOut};
 ghost use Rattle.fare_texts.specs.declared.print_fault.PrintFault.TheVariants.{Write as ForWrite};
 ghost use Rattle.fare_texts.specs.Ledger.{IsLedgerOver};
+ghost use Rattle.fare_texts.specs.LedgerLines.{head_text};
 ghost use Rattle.settlement.specs.Posted.{posted};
 ghost use Rattle.settlement.specs.SettledTaps.{AreSettledTaps};
 ghost use Rattle.settled_texts.specs.ExplainedTaps.{Explains, HaveLines, MayExplain};
 ghost use Rattle.settled_texts.specs.Columns.{columns_by, head_columns, with_columns};
-ghost use Rattle.settled_texts.specs.inside.Feeds.{feeds};
+ghost use Rattle.settled_texts.specs.inside.Puts.{Puts};
 ghost use Rattle.settled_texts.specs.Ledgers.{IsTracedLedger};
 ghost use Rattle.class_names.specs.Names.{class_by};
 ghost use Rattle.settled_texts.specs.Traces.{taps_of_trace};
 
 use crate::columns::put_lines;
+use crate::lines::explain_tap;
 use crate::trace::{TracedTap, trace_of};
-use crate::{STRIDE_ROOM_BYTES, write_taps};
 use class_names::ClassNames;
-use fare_texts::{Explainer, PrintFault, pass_on, write_out};
+use fare_texts::{Explainer, LINE_ROOM_BYTES, PIECE_BYTES, PrintFault, write_out};
 use histories::laws::plain_history;
 use settlement::least_token;
 use std::alloc::{AllocError, Global};
@@ -37,105 +37,70 @@ const HEAD: &str =
 /// What comes after it in a traced ledger.
 const HEAD_COLUMNS: &str = ",class,upload,place\n";
 
-/// How many taps are posted before their lines go out.
-const STRIDE_TAPS: usize = 64;
+/// More bytes than the columns of a line have.
+const COLUMNS_ROOM_BYTES: usize = 128;
 
-/// More bytes than the columns of a stride have.
-const COLUMNS_ROOM_BYTES: usize = STRIDE_TAPS * 128;
-
-/// What the lines of a stride are made in. No memory is taken later.
+/// What the lines are made in. No memory is taken later.
 #[derive(Drop)]
 struct Room {
-    taps: Vec<TapFields>,
-    /// Their lines, before they are whole.
-    text: String,
+    /// The line of one tap.
+    line: String,
+    /// The lines that wait, with their columns.
     lines: Vec<u8>,
-    /// Their lines with the columns after them.
-    traced: Vec<u8>,
 }
 
 impl Room {
-    fn new(alloc: Global) -> Result<Room, NoMemory>
-        ensures { IfOk result (λ room. string_bytes room.text ≡ []) }
+    /// The header line waits.
+    fn with_head(alloc: Global) -> Result<Room, NoMemory>
+        ensures { IfOk result (λ room. (lines : List ℕ) → (columns : List (List ℕ))
+            → room.lines.items ++ with_columns lines columns
+            ≡ with_columns (head_text ++ lines) (head_columns ∷ columns)) }
     {
-        let taps = Vec::with_capacity(alloc, STRIDE_TAPS)?;
-        let mut text = String::new(alloc);
-        text.reserve(STRIDE_ROOM_BYTES)?;
-        let lines = Vec::with_capacity(alloc, STRIDE_ROOM_BYTES)?;
-        let traced = Vec::with_capacity(alloc, STRIDE_ROOM_BYTES + COLUMNS_ROOM_BYTES)?;
-        Ok(Room {
-            taps,
-            text,
-            lines,
-            traced,
-        })
+        let mut line = String::new(alloc);
+        line.reserve(LINE_ROOM_BYTES)?;
+        let room = PIECE_BYTES + LINE_ROOM_BYTES + COLUMNS_ROOM_BYTES;
+        let mut lines = Vec::with_capacity(alloc, room)?;
+        lines.extend_from_slice(HEAD.as_bytes())?;
+        lines.extend_from_slice(HEAD_COLUMNS.as_bytes())?;
+        Ok(Room { line, lines })
     }
 
-    fn take(&mut self, stride: &[TracedTap]) -> Result<(), AllocError>
-        ensures taps { OnOk result (self.new.taps.items ≡ taps_of_trace stride.now) }
-        ensures text { OnOk result (self.new.text ≡ self.old.text) }
+    /// Writes out the lines that wait, if they are a piece.
+    fn pass_piece<W: Write>(&mut self, out: &mut W) -> Result<(), PrintFault>
+        ensures gone { OnOk result (GoesOut (W.contents out.old) self.old.lines.items
+            (W.contents out.new) self.new.lines.items []) }
+        ensures started { OnErr result (Begins (W.contents out.old) (W.contents out.new)
+            self.old.lines.items) }
+        ensures fault { IfErr result (λ fault. fault ≡ ForWrite) }
     {
-        self.taps.clear();
-        for traced in stride {
-            self.taps.push(traced.tap)?;
+        if self.lines.len() < PIECE_BYTES {
+            return Ok(());
         }
+        write_out(&self.lines, out)?;
+        self.lines.clear();
         Ok(())
     }
 
-    fn explain(
+    /// Posts the tap, and puts its line. Returns the taps whose columns are left.
+    fn put<'t>(
         &mut self,
         table: &FareTable,
         clock: &Clock,
-        explainer: &mut Explainer,
-        stride: &[TracedTap],
-    ) -> Result<(), PrintFault>
-        requires clock { clock.now ≡ table.now.zone }
-        requires may { MayExplain table.now explainer.old (taps_of_trace stride.now) }
-        requires empty { string_bytes self.old.text ≡ [] }
-        ensures explained { OnOk result (Explains table.now explainer.old
-            (taps_of_trace stride.now) explainer.new (λ lines. self.new.lines.items ≡ lines)) }
-        ensures empty { OnOk result (string_bytes self.new.text ≡ []) }
-        ensures fault { IfErr result (λ fault. fault ≡ ForWrite) }
-    {
-        // There is room for a stride, so that none is refused.
-        let Ok(()) = self.take(stride) else {
-            return Err(PrintFault::Write);
-        };
-        self.lines.clear();
-        write_taps(
-            &mut self.text,
-            table,
-            clock,
-            explainer,
-            &self.taps,
-            &mut self.lines,
-        )?;
-        pass_on(&mut self.text, &mut self.lines)?;
-        Ok(())
-    }
-
-    /// Returns the taps that are left.
-    fn write<'t, W: Write>(
-        &mut self,
         names: &ClassNames,
-        taps: &'t [TracedTap],
-        out: &mut W,
-    ) -> Result<&'t [TracedTap], PrintFault>
-        ensures left { IfOk result (λ left. left.now ≡ drop (feeds self.old.lines.items) taps.now) }
-        ensures written { OnOk result (Appends (W.contents out.old) (W.contents out.new)
-            (with_columns self.old.lines.items (columns_by (class_by names.now) taps.now))) }
-        ensures started { OnErr result (Begins (W.contents out.old) (W.contents out.new)
-            (with_columns self.old.lines.items (columns_by (class_by names.now) taps.now))) }
-        ensures text { self.new.text ≡ self.old.text }
-        ensures fault { IfErr result (λ fault. fault ≡ ForWrite) }
+        explainer: &mut Explainer,
+        tap: &TapFields,
+        left: &'t [TracedTap],
+    ) -> Result<&'t [TracedTap], AllocError>
+        requires clock { clock.now ≡ table.now.zone }
+        requires may { MayExplain table.now explainer.old (tap.now ∷ []) }
+        ensures { IfOk result (λ rest. Explains table.now explainer.old (tap.now ∷ [])
+            explainer.new (λ line. Puts (class_by names.now) self.old.lines.items left.now line
+            self.new.lines.items rest.now)) }
     {
-        self.traced.clear();
-        // There is room for a stride, so that none is refused.
-        let Ok(left) = put_lines(&mut self.traced, &self.lines, names, taps) else {
-            return Err(PrintFault::Write);
-        };
-        write_out(&self.traced, out)?;
-        Ok(left)
+        self.line.clear();
+        explain_tap(&mut self.line, table, clock, explainer, tap)?;
+        let rest = put_lines(&mut self.lines, self.line.as_bytes(), names, left)?;
+        Ok(rest)
     }
 }
 
@@ -150,23 +115,24 @@ fn write_lines<W: Write>(
 ) -> Result<(), PrintFault>
     requires clock { clock.now ≡ table.now.zone }
     requires may { MayExplain table.now explainer.old (taps_of_trace trace.now) }
-    requires empty { string_bytes room.old.text ≡ [] }
-    ensures explained { OnOk result (Explains table.now explainer.old (taps_of_trace trace.now)
-        explainer.new (λ lines. Appends (W.contents out.old) (W.contents out.new)
-        (with_columns lines (columns_by (class_by names.now) trace.now)))) }
+    ensures ok { OnOk result (HaveLines table.now explainer.old (taps_of_trace trace.now)
+        (λ lines. Appends (W.contents out.old) (W.contents out.new)
+        (room.old.lines.items ++ with_columns lines (columns_by (class_by names.now) trace.now)))) }
     ensures started { OnErr result (HaveLines table.now explainer.old (taps_of_trace trace.now)
         (λ lines. Begins (W.contents out.old) (W.contents out.new)
-        (with_columns lines (columns_by (class_by names.now) trace.now)))) }
+        (room.old.lines.items ++ with_columns lines (columns_by (class_by names.now) trace.now)))) }
     ensures fault { IfErr result (λ fault. fault ≡ ForWrite) }
 {
-    let mut rest = trace;
     let mut left = trace;
-    while !rest.is_empty() {
-        let (stride, trailing) = rest.split_at(rest.len().min(STRIDE_TAPS));
-        room.explain(table, clock, explainer, stride)?;
-        left = room.write(names, left, out)?;
-        rest = trailing;
+    for traced in trace {
+        room.pass_piece(out)?;
+        // There is room for a line, so that none is refused.
+        let Ok(rest) = room.put(table, clock, names, explainer, &traced.tap, left) else {
+            return Err(PrintFault::Write);
+        };
+        left = rest;
     }
+    write_out(&room.lines, out)?;
     Ok(())
 }
 
@@ -193,10 +159,8 @@ fn write_trace<W: Write>(
     // proof: the taps can be counted
     let _count = trace.len();
     let clock = table.clock(alloc)?;
-    let mut room = Room::new(alloc)?;
+    let mut room = Room::with_head(alloc)?;
     let mut explainer = Explainer::of(least_token());
-    write_out(HEAD.as_bytes(), out)?;
-    write_out(HEAD_COLUMNS.as_bytes(), out)?;
     write_lines(&mut room, table, &clock, names, &mut explainer, trace, out)?;
     Ok(())
 }

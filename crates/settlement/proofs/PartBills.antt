@@ -1,19 +1,16 @@
--- Bills of parts that are ranges of tokens, and of chunks of such parts.
-use Rattle.std.proofs.Common.{◌≡◌, ℕ, suc, ◌+◌, ◌*◌, ◌/◌, ◌%◌, ◌<◌, ◌≤◌, ◌^◌, List, ◌∷◌, ◌++◌, [], All}
+-- Bills of parts that are ranges of tokens, and of runs of such parts.
+use Rattle.std.proofs.Common.{◌≡◌, ℕ, suc, ◌+◌, ◌<◌, ◌≤◌, List, ◌∷◌, ◌++◌, [], All}
 use Rattle.std.proofs.Common.{length, map, flat_map, take, drop, get_or, sym, ap, subst, ◌∙◌}
-use Rattle.std.proofs.Common.{arith, length-append, min}
-use Rattle.std.specs.Prelude.{Result, Ok, IfOk, slice_index_or}
+use Rattle.std.proofs.Common.{arith, length-append}
 use Rattle.std.specs.List.{AllZip}
-use Rattle.std.proofs.lemmas.Grind.{div_ceil_times}
-use Rattle.std.proofs.lemmas.List.{drop-take, get_or_default, get_or-take, get_or-drop}
+use Rattle.std.proofs.lemmas.List.{get_or_default, get_or-take, get_or-drop}
 use Rattle.std.proofs.lemmas.List.{flat_map_more, length-take, length-drop}
-use Rattle.std.proofs.lemmas.List.{take-append-drop, take-take, take_all, take_more}
+use Rattle.std.proofs.lemmas.List.{take-append-drop, take_more}
 use Rattle.std.proofs.lemmas.List.Concat.{flat_map-append}
 use Rattle.std.proofs.lemmas.List.Elements.{All-append, All-nil, All-weaker}
 use Rattle.std.proofs.lemmas.List.Sorted.{All-permutation, IsPermutation-append, length_permutation}
 use Rattle.std.proofs.lemmas.List.Sorted.{IsPermutation-refl}
 use Rattle.tariffs.specs.Fares.{Fares}
-use Rattle.tap_views.specs.declared.memory.NoMemory.{NoMemory}
 use Rattle.tap_views.specs.declared.token.Token.{Token}
 use Rattle.tap_views.specs.declared.encoder.TapFields.{TapFields}
 use Rattle.tap_views.specs.TokenOrder.{AreBelow}
@@ -23,9 +20,9 @@ use Rattle.histories.specs.SumsByKey.{token_of}
 use Rattle.histories.specs.declared.entry.Entry.{Entry}
 use Rattle.settlement.specs.Bills.{HaveBillRoom, IsBillOf}
 use Rattle.settlement.specs.Nondecreasing.{TapsNondecreasingFrom, last_token}
-use Rattle.settlement.specs.Posted.{HasName, posted, posted_after, token_of_tap}
+use Rattle.settlement.specs.Posted.{HasName, posted, token_of_tap}
 use Rattle.settlement.specs.declared.bill.Bill.{Bill}
-use Rattle.settlement.specs.inside.Billing.{AreRangesFrom, IsBillOfTaps, IsSoundTap}
+use Rattle.settlement.specs.inside.Billing.{AreFewInRanges, AreRangesFrom, IsBillOfTaps, IsSoundTap}
 use Rattle.settlement.proofs.Nondecreasing.{canonical_nondecreasing, nondecreasing_append}
 use Rattle.settlement.proofs.Placed.{NotLess, pairs_append, sorted_pairs}
 use Rattle.settlement.proofs.Ranges.{AreTapsBelow, has_name, later_range, posted_below, to_tokens}
@@ -42,13 +39,6 @@ flat_more parts i inside =
     ap flat (take_more parts i [] inside)
     ∙ sym (flat_map_more (λ (part : List TapFields). part) [] (take i parts) (get_or parts i []))
 
-take_then : (n m : ℕ) (parts : List (List TapFields))
-    → take (n + m) parts ≡ take n parts ++ take m (drop n parts)
-take_then n m parts =
-    sym (take-append-drop n (take (n + m) parts))
-    ∙ ap (λ ps. ps ++ drop n (take (n + m) parts)) (take-take n (n + m) parts (omega arith))
-    ∙ ap (λ ps. take n parts ++ ps) (drop-take n m parts)
-
 -- some of the parts have no more taps than all
 pub flat_take : (n : ℕ) (parts : List (List TapFields))
     → length (flat (take n parts)) ≤ length (flat parts)
@@ -57,15 +47,6 @@ flat_take n parts =
     ∙ flat_map-append (λ (part : List TapFields). part) (take n parts) (drop n parts)) in
     let both = length-append (flat (take n parts)) (flat (drop n parts)) in
     omega (arith, whole, both)
-
-pub flat_chunk : (size start : ℕ) (parts : List (List TapFields))
-    → length (flat (take size (drop start parts))) ≤ length (flat parts)
-flat_chunk size start parts =
-    let whole = ap length (ap flat (sym (take-append-drop start parts))
-    ∙ flat_map-append (λ (part : List TapFields). part) (take start parts) (drop start parts)) in
-    let both = length-append (flat (take start parts)) (flat (drop start parts)) in
-    let fits = flat_take size (drop start parts) in
-    omega (arith, whole, both, fits)
 
 -- ---- ranges of tokens
 module _ (bounds : List ℕ) where
@@ -189,140 +170,67 @@ lists_joined bounds start (p ∷ parts) (l ∷ lists) are zip =
     (sound_flat bounds (start + 1) parts rest) zip.0
     (lists_joined bounds (start + 1) parts lists rest zip.1)
 
--- ---- bills
--- the bill of no taps
-no_bill : (fares : Fares) (bill : Bill) → IsBillOf [] bill → IsBillOfTaps fares [] bill
-unfolding posted_after
-no_bill fares bill is = record {
-  order = [];
-  canonical = no_order;
-  billed = is;
-  few = omega arith;
-}
+-- ---- runs of parts
+module _ (parts : List (List TapFields)) (n : ℕ) (few : AreFewInRanges parts) where
+  pub few_before : AreFewInRanges (take n parts)
+  few_before =
+      let (bounds, start, are, fit) = few in
+      let short = flat_take n parts in
+      (bounds, start, ranges_take bounds start n parts are, omega (arith, fit, short))
 
--- a bill more, of higher ranges
-pub bill_more : (fares : Fares) (bounds : List ℕ) (low middle high : ℕ) (xs ys : List TapFields)
-    (bill more new : Bill) → All (IsSoundTap bounds low middle) xs
-    → All (IsSoundTap bounds middle high) ys → IsBillOfTaps fares xs bill
-    → IsBillOfTaps fares ys more → length (xs ++ ys) < 2 ^ 64
-    → ((entries others : List Entry) → IsBillOf entries bill → IsBillOf others more
-    → AreBelow (map token_of entries) (map token_of others) → IsBillOf (entries ++ others) new)
-    → IsBillOfTaps fares (xs ++ ys) new
-bill_more fares bounds low middle high xs ys bill more new below above one other few adds =
-    let apart = to_tokens one.order other.order
-    (ranges_apart bounds low middle high xs ys one.order other.order below above one.canonical
-    other.canonical) in
-    let both = ranges_joined bounds low middle high xs ys one.order other.order below above
-    one.canonical other.canonical in
-    let long = length_permutation (xs ++ ys) (one.order ++ other.order) both.moved in
-    record {
-      order = one.order ++ other.order;
-      canonical = both;
-      billed = subst (λ (es : List Entry). IsBillOf es new)
-          (sym (posted_below fares one.order other.order apart))
-          (adds (posted fares one.order) (posted fares other.order) one.billed other.billed
-          (subst (λ (ts : List Token). AreBelow ts (map token_of (posted fares other.order)))
-          (sym (tokens_posted fares [] one.order))
-          (subst (λ (ts : List Token). AreBelow (map token_of_tap one.order) ts)
-          (sym (tokens_posted fares [] other.order)) apart)));
-      few = omega (arith, few, long);
-    }
+  whole : flat (take n parts) ++ flat (drop n parts) ≡ flat parts
+  whole =
+      sym (flat_map-append (λ (part : List TapFields). part) (take n parts) (drop n parts))
+      ∙ ap flat (take-append-drop n parts)
 
-module _ (fares : Fares) (parts : List (List TapFields)) (size : ℕ) where
-  -- these results are bills of the chunks of the parts, from the one of this number on
-  abbrev pub AreBillsFrom : ℕ → List (Result Bill NoMemory) → Type 0
-  AreBillsFrom n results =
-      (k : ℕ) (d : Result Bill NoMemory) → k < length results
-      → IfOk (slice_index_or results k d)
-      (IsBillOfTaps fares (flat (take size (drop ((n + k) * size) parts))))
+  pub few_behind : AreFewInRanges (drop n parts)
+  few_behind =
+      let (bounds, start, are, fit) = few in
+      let long = length-append (flat (take n parts)) (flat (drop n parts)) in
+      let all = ap length whole in
+      (bounds, start + n, ranges_drop bounds start n parts are, omega (arith, fit, long, all))
 
-  -- the bill is that of the first chunks, and the results that are left are of the others
-  pub record AreJoining (bill : Bill) (left : List (Result Bill NoMemory)) : Type 0 where
-    pub done : ℕ
-    pub billed : IsBillOfTaps fares (flat (take (done * size) parts)) bill
-    pub rest : AreBillsFrom done left
-    pub all : length parts ≤ (done + length left) * size
+  -- the bills of two runs
+  module _ (fares : Fares) (bill more new : Bill) (one : IsBillOfTaps fares (flat (take n parts)) bill)
+      (other : IsBillOfTaps fares (flat (drop n parts)) more) where
+    pub bills_room : HaveBillRoom bill more
+    bills_room =
+        let few = one.few in
+        let less = other.few in
+        let long = posted_length fares [] one.order in
+        let short = posted_length fares [] other.order in (
+          posted fares one.order,
+          posted fares other.order,
+          one.billed.counts,
+          other.billed.counts,
+          omega (arith, few, less, long, short),
+        )
 
-  pub first_joining : (bill : Bill) (results : List (Result Bill NoMemory)) → IsBillOf [] bill
-      → 0 < size → length results ≡ length parts / size + min 1 (length parts % size)
-      → ((k : ℕ) (d : Result Bill NoMemory) → k < length results
-      → IfOk (slice_index_or results k d)
-      (IsBillOfTaps fares (flat (take size (drop (k * size) parts)))))
-      → AreJoining bill results
-  first_joining bill results is some number each = record {
-    done = 0;
-    billed = let none : 0 ≡ 0 * size = omega arith in
-        subst (λ (n : ℕ). IsBillOfTaps fares (flat (take n parts)) bill) none
-        (no_bill fares bill is);
-    rest = λ k d inside. let same : k ≡ 0 + k = omega arith in
-        subst (λ (n : ℕ). IfOk (slice_index_or results k d)
-        (IsBillOfTaps fares (flat (take size (drop (n * size) parts))))) same (each k d inside);
-    all = subst (λ (n : ℕ). length parts ≤ n * size) (sym number ∙ (omega arith))
-        (div_ceil_times (length parts) size some).0;
-  }
-
-  pub all_joined : (bill : Bill) → AreJoining bill [] → IsBillOfTaps fares (flat parts) bill
-  all_joined bill joining =
-      subst (λ ps. IsBillOfTaps fares (flat ps) bill)
-      (take_all (joining.done * size) parts
-      (subst (λ (n : ℕ). length parts ≤ n * size) (omega arith) joining.all)) joining.billed
-
-module _ (fares : Fares) (bounds : List ℕ) (start size : ℕ) (parts : List (List TapFields))
-    (bill more new : Bill) (left : List (Result Bill NoMemory))
-    (joining : AreJoining fares parts size bill (Ok more ∷ left))
-    (are : AreRangesFrom bounds start parts) where
-  abbrev front : List (List TapFields)
-  front = take (joining.done * size) parts
-
-  abbrev rest : List (List TapFields)
-  rest = drop (joining.done * size) parts
-
-  this : IsBillOfTaps fares (flat (take size rest)) more
-  this = subst (λ n. IsBillOfTaps fares (flat (take size (drop (n * size) parts))) more)
-      (omega arith) (joining.rest 0 (Ok more) (omega arith))
-
-  -- there is room for both bills
-  pub bills_room : HaveBillRoom bill more
-  bills_room =
-      let one = joining.billed in
-      let other = this in
-      let few = one.few in
-      let less = other.few in
-      let long = posted_length fares [] one.order in
-      let short = posted_length fares [] other.order in (
-        posted fares one.order,
-        posted fares other.order,
-        one.billed.counts,
-        other.billed.counts,
-        omega (arith, few, less, long, short),
-      )
-
-  pub bills_joined : length (flat parts) < 2 ^ 64
-      → ((entries others : List Entry) → IsBillOf entries bill → IsBillOf others more
-      → AreBelow (map token_of entries) (map token_of others) → IsBillOf (entries ++ others) new)
-      → AreJoining fares parts size new left
-  bills_joined few adds =
-      let n = joining.done in
-      let next : take (n * size + size) parts ≡ front ++ take size rest = take_then (n * size) size parts in
-      let both : flat front ++ flat (take size rest) ≡ flat (take (n * size + size) parts) =
-      sym (ap flat next ∙ flat_map-append (λ (part : List TapFields). part) front (take size rest)) in
-      let more_is : (n + 1) * size ≡ n * size + size = grind arith in
-      let fits = flat_take (n * size + size) parts in
-      let fits_too = ap length both in
-      record {
-        done = n + 1;
-        billed = subst (λ (m : ℕ). IsBillOfTaps fares (flat (take m parts)) new) (sym more_is)
-            (subst (λ (ts : List TapFields). IsBillOfTaps fares ts new) both
-            (bill_more fares bounds start (start + n * size)
-            (start + n * size + length (take size rest)) (flat front) (flat (take size rest)) bill
-            more new
-            (sound_before bounds start (n * size) parts are)
-            (sound_flat bounds (start + n * size) (take size rest)
-            (ranges_take bounds (start + n * size) size rest
-            (ranges_drop bounds start (n * size) parts are)))
-            joining.billed this (omega (arith, few, fits, fits_too)) adds));
-        rest = λ k d inside. subst (λ (m : ℕ). IfOk (slice_index_or left k d)
-            (IsBillOfTaps fares (flat (take size (drop (m * size) parts))))) (omega arith)
-            (joining.rest (suc k) d (omega (arith, inside)));
-        all = subst (λ (m : ℕ). length parts ≤ m * size) (omega arith) joining.all;
-      }
+    pub bills_joined : ((entries others : List Entry) → IsBillOf entries bill
+        → IsBillOf others more → AreBelow (map token_of entries) (map token_of others)
+        → IsBillOf (entries ++ others) new) → IsBillOfTaps fares (flat parts) new
+    bills_joined adds =
+        let (bounds, start, are, fit) = few in
+        let below = sound_before bounds start n parts are in
+        let above = sound_flat bounds (start + n) (drop n parts)
+        (ranges_drop bounds start n parts are) in
+        let apart = to_tokens one.order other.order
+        (ranges_apart bounds start (start + n) _ _ _ one.order other.order below above one.canonical
+        other.canonical) in
+        let both = ranges_joined bounds start (start + n) _ _ _ one.order other.order below above
+        one.canonical other.canonical in
+        let all = subst (λ (ts : List TapFields). IsCanonical ts (one.order ++ other.order)) whole
+        both in
+        let long = length_permutation (flat parts) (one.order ++ other.order) all.moved in
+        record {
+          order = one.order ++ other.order;
+          canonical = all;
+          billed = subst (λ (es : List Entry). IsBillOf es new)
+              (sym (posted_below fares one.order other.order apart))
+              (adds (posted fares one.order) (posted fares other.order) one.billed other.billed
+              (subst (λ (ts : List Token). AreBelow ts (map token_of (posted fares other.order)))
+              (sym (tokens_posted fares [] one.order))
+              (subst (λ (ts : List Token). AreBelow (map token_of_tap one.order) ts)
+              (sym (tokens_posted fares [] other.order)) apart)));
+          few = omega (arith, fit, long);
+        }

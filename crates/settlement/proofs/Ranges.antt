@@ -26,7 +26,7 @@ use Rattle.tap_views.proofs.Lists.{All-unmap}
 use Rattle.histories.specs.Plain.{token_of_bytes}
 use Rattle.histories.proofs.SumsByToken.{none_of}
 use Rattle.tap_views.specs.TokenOrder.{AreBelow}
-use Rattle.settlement.specs.Posted.{HasName, posted, posted_after, token_of_tap}
+use Rattle.settlement.specs.Posted.{HasName, posted, token_of_tap}
 use Rattle.settlement.proofs.TokenRuns.{tokens_posted}
 use Rattle.settlement.proofs.Concats.{posted_apart}
 use Rattle.settlement.proofs.Own.{IsNamedBy}
@@ -120,7 +120,3 @@ posted_below fares taps others below =
     (map token_of (posted fares taps))
     (subst (λ tokens. AreBelow tokens (map token_of_tap others))
     (sym (tokens_posted fares [] taps)) below)))
-
-pub none_posted : (fares : Fares) → posted fares [] ≡ []
-unfolding posted_after
-none_posted fares = refl

@@ -27,7 +27,6 @@ use Rattle.settlement.specs.Settled.{IsSettledHistory}
 use Rattle.settlement.specs.SettledTaps.{AreSettledTaps, AreSettledTapsOf}
 use Rattle.settlement.specs.declared.bill.Bill.{Bill}
 use Rattle.settlement.specs.inside.Billing.{IsBillOfTaps}
-use Rattle.settlement.specs.inside.OwnTaps.{AreOwnTaps}
 use Rattle.settlement.specs.inside.SplitUploads.{AreSplit}
 use Rattle.settlement.proofs.Early.{uploads_early}
 use Rattle.settlement.proofs.Files.{taps_in}
@@ -123,26 +122,26 @@ bill_settled uploads ends parts split fares bill billed =
 
 -- the taps of one token
 pub own_settled : (uploads : List (List ℕ)) (token : Token) (own list : List TapFields)
-    (ends : List UploadEnd) → (is : AreOwnTaps token uploads own ends)
-    → All HasTokenBytes (map fields_of (taps_of_uploads is.taps)) → IsCanonical own list
+    (taps : List (List Tap)) → AreValidTapsOfEach uploads taps
+    → own ≡ only token (map fields_of (taps_of_uploads taps))
+    → All HasTokenBytes (map fields_of (taps_of_uploads taps)) → IsCanonical own list
     → AreSettledTapsOf uploads token list
-own_settled uploads token own list ends is tokens canonical =
+own_settled uploads token own list taps each are tokens canonical =
     let p = is_its token in
-    let valid = map fields_of (taps_of_uploads is.taps) in
-    let order = canonical_order (taps_of_uploads is.taps) in
+    let order = canonical_order (taps_of_uploads taps) in
     let ordered = map fields_of order.0 in
     record {
       order = ordered;
-      settled = settled_order uploads is.taps ordered is.of_uploads tokens order.1;
+      settled = settled_order uploads taps ordered each tokens order.1;
       own = same_sorted tap_cmp tap_cmp_total tap_cmp_exact list (only token ordered)
           canonical.sorted
           (IsSortedBy-filter (λ a b. is_lt (tap_cmp a b))
           (ranks_by tap_cmp_total (λ (t : TapFields). t))
           p ordered order.1.sorted)
           (λ f. sum_by-IsPermutation f own list canonical.moved
-          ∙ ap (sum_by f) is.are
-          ∙ sum_filter p f valid
-          ∙ sym (sum_by-IsPermutation (λ x. cond (p x) (f x) 0) valid ordered order.1.moved)
+          ∙ ap (sum_by f) are
+          ∙ sum_filter p f (map fields_of (taps_of_uploads taps))
+          ∙ sym (sum_by-IsPermutation (λ x. cond (p x) (f x) 0) _ ordered order.1.moved)
           ∙ sym (sum_filter p f ordered));
     }
 

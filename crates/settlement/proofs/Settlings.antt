@@ -134,7 +134,5 @@ module _ (fares : Fares) (uploads : List (List ℕ)) (cuts : All HasUniqueParse 
       → IsSettledHistory fares uploads (before ++ entry ∷ after) → entry.answer ≡ Stale
       → HasSameMoment fares before entry
   stale before entry after is answer =
-      has_same_moment fares is.order before entry after
-      (all_ascending (map fields_of is.order) is.canonical.sorted)
-      (in_order (before ++ entry ∷ after) is)
+      has_same_moment fares before entry after (time_order (before ++ entry ∷ after) is)
       (legal_history fares uploads (before ++ entry ∷ after) is) answer

@@ -37,23 +37,21 @@ posted_length fares earlier [] = refl
 posted_length fares earlier (tap ∷ taps) =
     ap suc (posted_length fares (earlier ++ answered fares earlier (unposted tap) ∷ []) taps)
 
-one_posted : (fares : Fares) (earlier : List Entry) (tap : TapFields)
-    → posted_after fares earlier (tap ∷ []) ≡ answered fares earlier (unposted tap) ∷ []
+-- one tap posted behind others
+pub posted_next : (fares : Fares) (taps : List TapFields) (tap : TapFields)
+    → posted fares (taps ++ tap ∷ [])
+    ≡ posted fares taps ++ answered fares (posted fares taps) (unposted tap) ∷ []
 unfolding posted_after
-one_posted fares earlier tap = refl
+posted_next fares taps tap = posted_append fares [] taps (tap ∷ [])
 
 -- one tap more
-pub posted_more : (fares : Fares) (taps : List TapFields) (i : ℕ) (tap : TapFields)
+pub posted_more : (fares : Fares) (taps : List TapFields) (i : ℕ) (other : TapFields)
     → i < length taps
-    → get_or taps i tap ≡ tap
-    → posted fares (take (i + 1) taps)
-    ≡ posted fares (take i taps) ++ answered fares (posted fares (take i taps)) (unposted tap) ∷ []
-posted_more fares taps i tap inside is =
-    let done = posted fares (take i taps) in
-    ap (posted fares)
-    (take_more taps i tap inside ∙ ap (λ (t : TapFields). take i taps ++ t ∷ []) is)
-    ∙ posted_append fares [] (take i taps) (tap ∷ [])
-    ∙ ap (λ (es : List Entry). done ++ es) (one_posted fares done tap)
+    → posted fares (take (i + 1) taps) ≡ posted fares (take i taps)
+    ++ answered fares (posted fares (take i taps)) (unposted (get_or taps i other)) ∷ []
+posted_more fares taps i other inside =
+    ap (posted fares) (take_more taps i other inside)
+    ∙ posted_next fares (take i taps) (get_or taps i other)
 
 -- ---- the sums of one token
 pub tokens_are : (token : Token) (fares : Fares) (earlier : List Entry) (taps : List TapFields)
@@ -102,7 +100,3 @@ pub named_token : (tap : TapFields) (bytes : List ℕ) (token : Token) → tap.t
     → bytes_of token ≡ bytes → Fits token → token_of_tap tap ≡ token
 named_token tap bytes token same is fits =
     ap token_of_bytes (same ∙ sym is) ∙ token_back token fits
-
--- what a place past the end would be read as
-abbrev pub no_tap : TapFields
-no_tap = record { token = []; validator = 0; moment = 0 }

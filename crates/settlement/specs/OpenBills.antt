@@ -1,34 +1,33 @@
 -- Bills to which taps are added one by one.
 use Rattle.std.specs.Prelude.{◌≡◌, ◌==◌, ◌+◌, ◌^◌, ◌<◌, ◌≤◌, ℕ, true, false, All, List, [], ◌∷◌}
-use Rattle.std.specs.Prelude.{◌++◌}
-use Rattle.std.specs.Prelude.{length, map}
+use Rattle.std.specs.Prelude.{◌++◌, length, map}
 use Rattle.tariffs.specs.Fares.{Fares}
 use Rattle.tap_views.specs.declared.encoder.TapFields.{TapFields}
 use Rattle.histories.specs.Sums.{sums}
-use Rattle.histories.specs.SumsByKey.{sums_by_token, validator_of}
+use Rattle.histories.specs.SumsByKey.{sums_by_token, token_of, validator_of}
 use Rattle.histories.specs.TalliesByKey.{AreByKey}
 use Rattle.histories.specs.Tally.{sums_of_tally}
-use Rattle.settlement.specs.Posted.{posted, token_of_tap}
+use Rattle.histories.specs.declared.entry.Entry.{Entry}
+use Rattle.settlement.specs.Posted.{posted}
 use Rattle.settlement.specs.Replays.{HasPosted}
 use Rattle.tap_views.specs.TokenOrder.{AreBelow}
 use Rattle.settlement.specs.declared.open_bill.OpenBill.{OpenBill}
 
--- The taps are those of lower tokens, and then those of the last token. These were posted by its
--- account, and counted; the bill has the sums of the others, and all taps by validator.
+-- The entries of the taps are those of lower tokens, and then those of the last token, whose account
+-- has posted them. The bill has the sums of the others, and all entries by validator.
 pub record IsOpenBill (fares : Fares) (taps : List TapFields) (bill : OpenBill) : Type 0 where
-  pub lower : List TapFields
-  pub last : List TapFields
-  pub both : taps ≡ lower ++ last
-  pub below : AreBelow (map token_of_tap lower) (bill.replay.token ∷ [])
-  pub its : All (λ tap. token_of_tap tap ≡ bill.replay.token) last
-  pub holds : HasPosted fares bill.replay (posted fares last)
-  pub tally : sums_of_tally bill.tally ≡ sums (posted fares last)
+  pub lower : List Entry
+  pub last : List Entry
+  pub both : posted fares taps ≡ lower ++ last
+  pub below : AreBelow (map token_of lower) (bill.replay.token ∷ [])
+  pub its : All (λ entry. entry.token ≡ bill.replay.token) last
+  pub holds : HasPosted fares bill.replay (posted fares taps)
+  pub tally : sums_of_tally bill.tally ≡ sums last
   pub some : bill.has_taps ≡ true → 0 < length last
   pub none : bill.has_taps ≡ false → last ≡ []
-  pub tokens : bill.bill.tokens ≡ sums_by_token (posted fares lower)
-  pub totals : sums_of_tally bill.bill.totals ≡ sums (posted fares lower)
-  pub validators : AreByKey ◌==◌ validator_of (posted fares lower ++ posted fares last)
-      bill.bill.validators
+  pub tokens : bill.bill.tokens ≡ sums_by_token lower
+  pub totals : sums_of_tally bill.bill.totals ≡ sums lower
+  pub validators : AreByKey ◌==◌ validator_of (posted fares taps) bill.bill.validators
 
 -- the bill has some taps, and there is room for `more` others
 abbrev pub HasRoomFor : OpenBill → ℕ → Type 0

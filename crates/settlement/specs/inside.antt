@@ -1,5 +1,4 @@
 -- What only private functions cite. Who reads the contracts of public calls need not read it.
 pub mod Billing
-pub mod OwnTaps
 pub mod SplitUploads
 pub mod Taken

@@ -1,8 +1,9 @@
 //! The bill of all parts, made by several threads.
 
-ghost use Rattle.std.specs.Prelude.{◌≡◌, ◌<◌, ◌^◌, ℕ, List, length, flat_map, IfOk};
+ghost use Rattle.std.specs.Prelude.{◌≡◌, ℕ, List, length, flat_map, IfOk};
+ghost use denote.Param.Send.{IsSync};
 ghost use Rattle.tap_parts.specs.Canonical.{IsCanonical};
-ghost use Rattle.settlement.specs.inside.Billing.{AreRangesFrom, IsBillOfTaps};
+ghost use Rattle.settlement.specs.inside.Billing.{AreFewInRanges, AreRangesFrom, IsBillOfTaps};
 
 use crate::bill::Bill;
 use crate::open_bill::{OpenBill, least_token};
@@ -56,31 +57,80 @@ fn count_of(parts: &[Pieces]) -> Result<u64, NoMemory>
     Ok(taps)
 }
 
-fn bill_of<U: Uploads>(
-    alloc: Global,
-    table: &FareTable,
+/// What makes the bill of a run of parts.
+trait Charging {
+    ghost use Rattle.std.specs.Prelude.{flat_map, IfOk};
+    ghost use Rattle.tariffs.specs.Fares.{Fares};
+    ghost use Rattle.settlement.specs.inside.Billing.{AreFewInRanges, IsBillOfTaps};
+
+    ghost fares: { Self → Fares };
+
+    fn bill_of(&self, alloc: Global, parts: &[Pieces]) -> Result<Bill, NoMemory>
+        requires { AreFewInRanges parts.now }
+        ensures { IfOk result
+            (IsBillOfTaps (fares self.now) (flat_map (λ part. part) parts.now)) };
+}
+
+#[derive(Drop)]
+struct Charges<'a, U> {
+    table: &'a FareTable,
     seed: HashSeed,
-    uploads: &U,
-    parts: &[Pieces],
-) -> Result<Bill, NoMemory>
-    requires ranges { (bounds : List ℕ) × (start : ℕ) × AreRangesFrom bounds start parts.now }
-    requires few { length (flat_map (λ part. part) parts.now) < 2 ^ 64 }
-    ensures { IfOk result (IsBillOfTaps table.now (flat_map (λ part. part) parts.now)) }
-{
-    let clock = table.clock(alloc)?;
-    let mut list = Vec::new(alloc);
-    let mut bill = OpenBill::new(alloc, seed, least_token());
-    for pieces in parts {
-        let taps = ordered(alloc, &mut list, pieces)?;
-        bill.add(alloc, table, &clock, taps)?;
-        uploads.note_charged(taps.len() as u64);
+    uploads: &'a U,
+}
+
+impl<U: Uploads> Charging for Charges<'_, U> {
+    ghost fares = { λ charges. charges.table.now };
+
+    fn bill_of(&self, alloc: Global, parts: &[Pieces]) -> Result<Bill, NoMemory> {
+        let clock = self.table.clock(alloc)?;
+        let mut list = Vec::new(alloc);
+        let mut bill = OpenBill::new(alloc, self.seed, least_token());
+        for pieces in parts {
+            let taps = ordered(alloc, &mut list, pieces)?;
+            bill.add(alloc, self.table, &clock, taps)?;
+            self.uploads.note_charged(taps.len() as u64);
+        }
+        let bill = bill.into_bill(alloc)?;
+        Ok(bill)
     }
-    let bill = bill.into_bill(alloc)?;
+}
+
+/// Each thread makes the bill of a run of parts. If one cannot be started, another does its work.
+#[cycle(bills)]
+fn bill_of_runs<R: Threads + Sync, C: Charging + Sync>(
+    rt: &R,
+    alloc: Global,
+    charges: &C,
+    parts: &[Pieces],
+    threads: usize,
+) -> Result<Bill, NoMemory>
+    requires { AreFewInRanges parts.now }
+    ensures { IfOk result (IsBillOfTaps (C.fares charges.now) (flat_map (λ part. part) parts.now)) }
+{
+    if threads <= 1 {
+        return charges.bill_of(alloc, parts);
+    }
+    let fewer = threads / 2;
+    let others = threads - fewer;
+    let size = parts.len().div_ceil(threads);
+    let (front, back) = parts.split_at(size.saturating_mul(fewer).min(parts.len()));
+    let first = move || -> Result<Bill, NoMemory>
+        requires { IsSync R.row × IsSync C.row × AreFewInRanges front.now }
+        ensures { IfOk result (IsBillOfTaps (C.fares charges.entry.now)
+            (flat_map (λ part. part) front.entry.now)) }
+    { bill_of_runs(rt, alloc, charges, front, fewer) };
+    let second = move || -> Result<Bill, NoMemory>
+        requires { IsSync R.row × IsSync C.row × AreFewInRanges back.now }
+        ensures { IfOk result (IsBillOfTaps (C.fares charges.entry.now)
+            (flat_map (λ part. part) back.entry.now)) }
+    { bill_of_runs(rt, alloc, charges, back, others) };
+    let (bill, more) = thread::join(rt, first, second);
+    let mut bill = bill?;
+    bill.append(alloc, more?)?;
     Ok(bill)
 }
 
-/// Each of `workers` threads makes the bill of a run of parts. If a thread cannot be started,
-/// another does its work. The parts are noted for whoever watches the uploads.
+/// The bill of the parts, by `workers` threads. The parts are noted for whoever watches the uploads.
 pub(crate) fn bill_by_threads<R: Threads + Sync, U: Uploads + Sync>(
     rt: &R,
     alloc: Global,
@@ -94,17 +144,11 @@ pub(crate) fn bill_by_threads<R: Threads + Sync, U: Uploads + Sync>(
     ensures { IfOk result (IsBillOfTaps table.now (flat_map (λ part. part) parts.now)) }
 {
     uploads.note_all(count_of(parts)?);
-    let size = parts.len().div_ceil(workers.max(1) as usize).max(1);
-    let bills = thread::map_chunks(
-        rt,
-        alloc,
-        parts,
-        size,
-        &|_start, chunk: &[Pieces]| { bill_of(alloc, table, seed, uploads, chunk) },
-    )?;
-    let mut bill = Bill::new(alloc, seed);
-    for more in bills {
-        bill.append(alloc, more?)?;
-    }
-    Ok(bill)
+    let threads = parts.len().min(workers as usize);
+    let charges = Charges {
+        table,
+        seed,
+        uploads,
+    };
+    bill_of_runs(rt, alloc, &charges, parts, threads)
 }

@@ -27,8 +27,9 @@ pub fn least_token() -> Token
     Token::of(&[0; 16])
 }
 
+/// The token of a tap.
 #[inline(always)]
-fn token_of(tap: &TapFields) -> Token
+pub fn token_of(tap: &TapFields) -> Token
     ensures { result ≡ token_of_tap tap.now }
 {
     Token::of(&tap.token)

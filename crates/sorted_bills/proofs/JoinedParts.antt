@@ -1,17 +1,17 @@
 -- Parts of files that join, and what the files have in all of them.
-use Rattle.std.proofs.Common.{◌≡◌, ℕ, suc, zero, ◌+◌, ◌<◌, List, [], ◌∷◌, ◌++◌, length, map, All}
+use Rattle.std.proofs.Common.{◌≡◌, ℕ, suc, zero, ◌+◌, List, [], ◌∷◌, ◌++◌, length, map, All}
 use Rattle.std.proofs.Common.{get_or, refl, sym, ap, subst, ◌∙◌, arith, None, Some}
-use Rattle.std.proofs.Common.{append-nil, append_assoc, length-append, take}
+use Rattle.std.proofs.Common.{append-nil, append_assoc, length-append}
 use Rattle.std.specs.Prelude.{Option, flat_map}
-use Rattle.std.specs.List.Sorted.{IsPermutation, IsSorted}
 use Rattle.std.specs.Ordering.{is_lt, nat_cmp, ordering_reverse, ordering_then}
 use Rattle.std.specs.Cmp.Lexicographic.{slice_cmp}
 use Rattle.std.specs.declared.cmp.Ordering.TheVariants.{Less, Greater}
 use Rattle.std.proofs.Math.Seq.{drop-length}
 use Rattle.std.proofs.lemmas.Cmp.{nat_list_cmp_total}
-use Rattle.std.proofs.lemmas.List.Elements.{All-append, All-cons, All-head, All-nil, All-tail}
-use Rattle.std.proofs.lemmas.List.Sorted.{IsPermutation-append, IsPermutation-append_right}
-use Rattle.std.proofs.lemmas.List.Sorted.{IsPermutation-refl, IsPermutation-trans}
+use Rattle.std.proofs.lemmas.List.Elements.{All-append, All-cons, All-head, All-map, All-nil}
+use Rattle.std.proofs.lemmas.List.Elements.{All-tail}
+use Rattle.std.proofs.lemmas.List.Sorted.{IsPermutation-append}
+use Rattle.std.proofs.lemmas.List.Sorted.{IsPermutation-trans}
 use Rattle.tariffs.specs.Fares.{Fares}
 use Rattle.tap_views.specs.Token.{token_cmp}
 use Rattle.tap_views.specs.TokenOrder.{AreBelow}
@@ -19,7 +19,7 @@ use Rattle.tap_views.specs.UploadEnds.{ArePlainEnds}
 use Rattle.tap_views.specs.declared.encoder.TapFields.{TapFields}
 use Rattle.tap_views.specs.declared.upload_end.UploadEnd.TheVariants.{Posted}
 use Rattle.tap_views.proofs.TokenBytes.{token-order}
-use Rattle.tap_parts.specs.Canonical.{IsCanonical, tap_cmp}
+use Rattle.tap_parts.specs.Canonical.{IsCanonical}
 use Rattle.histories.specs.SumsByKey.{token_of}
 use Rattle.histories.specs.declared.entry.Entry.{Entry}
 use Rattle.settlement.specs.Posted.{HasName, posted, token_of_tap}
@@ -34,45 +34,22 @@ use Rattle.sorted_taps.specs.Reading.{AreTapsBetween}
 use Rattle.sorted_taps.specs.Sorted.{IsSortedFile}
 use Rattle.sorted_taps.specs.declared.positions.FileSpan.{FileSpan}
 use Rattle.sorted_taps.specs.declared.positions.Position.{Position}
-use Rattle.sorted_taps.proofs.Joining.{inner_swap, sorted_across, sorted_glue}
+use Rattle.sorted_taps.proofs.Joining.{sorted_across, sorted_then}
 use Rattle.sorted_taps.proofs.Standing.{whole_file}
-use Rattle.sorted_taps.proofs.Taking.{first_only}
+use Rattle.sorted_taps.proofs.Taking.{all_of, both, both_moved}
 use Rattle.sorted_bills.specs.Parts.{ArePartsOf, AreIncreasing, IsPartOf, PartView, added}
 use Rattle.sorted_bills.specs.Parts.{numbers_of_parts}
 use Rattle.sorted_bills.specs.inside.Charged.{HaveTaps, joined_spans}
 use Rattle.sorted_bills.proofs.Counted.{plain_ends}
-use Rattle.sorted_bills.proofs.Settled.{settled_list}
-
--- the taps of all lists
-abbrev all_of : List (List TapFields) → List TapFields
-all_of lists = flat_map (λ list. list) lists
+use Rattle.sorted_bills.proofs.Settled.{files_more, settled_list}
 
 -- ---- the lists of two parts, file by file
-abbrev pub joined : List (List TapFields) → List (List TapFields) → List (List TapFields)
-joined [] others = others
-joined (list ∷ lists) [] = list ∷ lists
-joined (list ∷ lists) (other ∷ others) = (list ++ other) ∷ joined lists others
-
-joined_moved : (lists others : List (List TapFields))
-    → IsPermutation (all_of (joined lists others)) (all_of lists ++ all_of others)
-joined_moved [] others = IsPermutation-refl (all_of others)
-joined_moved (list ∷ lists) [] =
-    subst (λ l. IsPermutation (all_of (list ∷ lists)) l) (sym (append-nil (all_of (list ∷ lists))))
-    (IsPermutation-refl (all_of (list ∷ lists)))
-joined_moved (list ∷ lists) (other ∷ others) =
-    IsPermutation-trans ((list ++ other) ++ all_of (joined lists others))
-    ((list ++ other) ++ (all_of lists ++ all_of others))
-    ((list ++ all_of lists) ++ (other ++ all_of others))
-    (IsPermutation-append_right (list ++ other) (all_of (joined lists others))
-    (all_of lists ++ all_of others) (joined_moved lists others))
-    (inner_swap list other (all_of lists) (all_of others))
-
 pub joined_lengths : (lists others : List (List TapFields))
-    → map length (joined lists others) ≡ added (map length lists) (map length others)
+    → map length (both lists others) ≡ added (map length lists) (map length others)
 joined_lengths [] others = refl
 joined_lengths (list ∷ lists) [] = refl
 joined_lengths (list ∷ lists) (other ∷ others) =
-    ap (λ n. n ∷ map length (joined lists others)) (length-append list other)
+    ap (λ n. n ∷ map length (both lists others)) (length-append list other)
     ∙ ap (λ ns. (length list + length other) ∷ ns) (joined_lengths lists others)
 
 -- ---- two parts, the second of which begins where the first one ends
@@ -88,11 +65,8 @@ one_spanned : (file : List ℕ) (span other : FileSpan) (list more : List TapFie
 one_spanned file span other list more one next meet = record {
   goes = λ rest left. subst (λ taps. IsLeftAt file span.from taps)
       (sym (append_assoc list more rest)) (one.goes (more ++ rest) (here rest left));
-  sorted = λ rest left. subst (λ taps. IsSorted tap_cmp taps)
-      (sym (append_assoc list more (take 1 rest)))
-      (sorted_glue list (more ++ take 1 rest)
-      (subst (λ taps. IsSorted tap_cmp (list ++ taps)) (sym (first_only more rest))
-      (one.sorted (more ++ rest) (here rest left))) (next.sorted rest left));
+  sorted = λ rest left.
+      sorted_then list more rest (one.sorted (more ++ rest) (here rest left)) (next.sorted rest left);
 }
   where
     here : (rest : List TapFields) → IsLeftAfter file other.to rest
@@ -104,7 +78,7 @@ one_spanned file span other list more one next meet = record {
 spanned_both : (files : List (List ℕ)) (spans others : List FileSpan)
     (lists more : List (List TapFields)) → AreSpanned files spans lists
     → AreSpanned files others more → ends_of spans ≡ begins_of others
-    → AreSpanned files (joined_spans spans others) (joined lists more)
+    → AreSpanned files (joined_spans spans others) (both lists more)
 spanned_both [] [] [] [] [] first next meet = tt
 spanned_both [] [] [] [] (l ∷ more) first next meet = absurd next
 spanned_both [] [] [] (list ∷ lists) more first next meet = absurd first
@@ -148,39 +122,18 @@ lower_first a b of_a of_b less =
     ap (λ r. is_lt (ordering_then r (ordering_then (nat_cmp b.moment a.moment)
     (nat_cmp b.validator a.validator)))) greater
 
-all_lower : (a : TapFields) (others : List TapFields) → HasName a → All HasName others
-    → All (λ (b : TapFields). token_cmp (token_of_tap a) (token_of_tap b) ≡ Less) others
-    → All (IsNotBefore a) others
-all_lower a [] of_a named below = All-nil (IsNotBefore a)
-all_lower a (b ∷ others) of_a named below =
-    let P : TapFields → Type 0 = λ t. token_cmp (token_of_tap a) (token_of_tap t) ≡ Less in
-    All-cons (IsNotBefore a) b others
-    (lower_first a b of_a (All-head HasName b others named) (All-head P b others below))
-    (all_lower a others of_a (All-tail HasName b others named) (All-tail P b others below))
-
-each_lower : (taps others : List TapFields) → All HasName taps → All HasName others
-    → All (λ (a : TapFields). All (λ (b : TapFields).
-    token_cmp (token_of_tap a) (token_of_tap b) ≡ Less) others) taps
-    → All (λ a. All (IsNotBefore a) others) taps
-each_lower [] others of_taps named below = All-nil (λ a. All (IsNotBefore a) others)
-each_lower (a ∷ taps) others of_taps named below =
-    let P : TapFields → Type 0 = λ t. All (λ (b : TapFields).
-    token_cmp (token_of_tap t) (token_of_tap b) ≡ Less) others in
-    All-cons (λ t. All (IsNotBefore t) others) a taps
-    (all_lower a others (All-head HasName a taps of_taps) named (All-head P a taps below))
-    (each_lower taps others (All-tail HasName a taps of_taps) named (All-tail P a taps below))
-
 -- the taps of both, if the tokens of the first are below those of the second
 canonical_both : (lists others : List (List TapFields)) (taps more : List TapFields)
     → IsCanonical (all_of lists) taps → IsCanonical (all_of others) more → All HasName taps
     → All HasName more → AreBelow (map token_of_tap taps) (map token_of_tap more)
-    → IsCanonical (all_of (joined lists others)) (taps ++ more)
+    → IsCanonical (all_of (both lists others)) (taps ++ more)
 canonical_both lists others taps more one next named other below = record {
-  moved = IsPermutation-trans (all_of (joined lists others)) (all_of lists ++ all_of others)
-      (taps ++ more) (joined_moved lists others)
+  moved = IsPermutation-trans (all_of (both lists others)) (all_of lists ++ all_of others)
+      (taps ++ more) (both_moved lists others)
       (IsPermutation-append (all_of lists) taps (all_of others) more one.moved next.moved);
-  sorted = sorted_across taps more (each_lower taps more named other (to_taps taps more below))
-      one.sorted next.sorted;
+  sorted = sorted_across taps more (λ j d inside k e within.
+      lower_first (get_or taps j d) (get_or more k e) (named j d inside) (other k e within)
+      (to_taps taps more below j d inside k e within)) one.sorted next.sorted;
 }
 
 pub both_have : (files : List (List ℕ)) (spans others : List FileSpan) (numbers counts : List ℕ)
@@ -189,7 +142,7 @@ pub both_have : (files : List (List ℕ)) (spans others : List FileSpan) (number
     → All HasName more → AreBelow (map token_of_tap taps) (map token_of_tap more)
     → HaveTaps files (joined_spans spans others) (added numbers counts) (taps ++ more)
 both_have files spans others numbers counts taps more one next meet named other below = record {
-  lists = joined one.lists next.lists;
+  lists = both one.lists next.lists;
   spanned = spanned_both files spans others one.lists next.lists one.spanned next.spanned meet;
   counted = (λ i. added (one.counted i) (next.counted i))
       ∙ sym (joined_lengths one.lists next.lists);
@@ -213,18 +166,7 @@ file_of_span file span list is begin end =
       sorted = is.sorted [] none;
     })
 
--- a file more in front
-files_more : (file : List ℕ) (files : List (List ℕ)) (list : List TapFields)
-    (lists : List (List TapFields)) → IsSortedFile file list → AreSortedFiles files lists
-    → AreSortedFiles (file ∷ files) (list ∷ lists)
-files_more file files list lists first rest = record { number = ap suc rest.number; each = at }
-  where
-    at : (k : ℕ) → k < length (file ∷ files)
-        → IsSortedFile (get_or (file ∷ files) k []) (get_or (list ∷ lists) k [])
-    at zero inside = first
-    at (suc k) inside = rest.each k (omega (arith, inside))
-
-pub whole_files : (files : List (List ℕ)) (spans : List FileSpan) (lists : List (List TapFields))
+whole_files : (files : List (List ℕ)) (spans : List FileSpan) (lists : List (List TapFields))
     → AreSpanned files spans lists → All (λ begin. begin ≡ Some first_position) (begins_of spans)
     → All (λ end. end ≡ None) (ends_of spans) → AreSortedFiles files lists
 whole_files [] [] [] spanned begins ends =
@@ -234,13 +176,20 @@ whole_files [] (span ∷ spans) lists spanned begins ends = absurd spanned
 whole_files (file ∷ files) [] lists spanned begins ends = absurd spanned
 whole_files (file ∷ files) (span ∷ spans) [] spanned begins ends = absurd spanned
 whole_files (file ∷ files) (span ∷ spans) (list ∷ lists) (first, more) begins ends =
-    let P : Option Position → Type 0 = λ begin. begin ≡ Some first_position in
-    let Q : Option Position → Type 0 = λ end. end ≡ None in
     files_more file files list lists
-    (file_of_span file span list first (All-head P (Some span.from) (begins_of spans) begins)
-    (All-head Q span.to (ends_of spans) ends))
-    (whole_files files spans lists more (All-tail P (Some span.from) (begins_of spans) begins)
-    (All-tail Q span.to (ends_of spans) ends))
+    (file_of_span file span list first (begins zero None (omega arith)) (ends zero None (omega arith)))
+    (whole_files files spans lists more (λ k d inside. begins (suc k) d (omega (arith, inside)))
+    (λ k d inside. ends (suc k) d (omega (arith, inside))))
+
+-- each of the spans is all of its file
+pub whole_spans : (files : List (List ℕ)) (spans : List FileSpan) (lists : List (List TapFields))
+    → AreSpanned files spans lists → All (λ (span : FileSpan). span.from ≡ first_position) spans
+    → All (λ (span : FileSpan). span.to ≡ None) spans → AreSortedFiles files lists
+whole_spans files spans lists spanned begins ends =
+    whole_files files spans lists spanned
+    (All-map (λ begin. begin ≡ Some first_position) (λ (span : FileSpan). Some span.from) spans
+    (λ k d inside. ap Some (begins k d inside)))
+    (All-map (λ end. end ≡ None) (λ (span : FileSpan). span.to) spans ends)
 
 -- ---- some parts
 abbrev IsPart : Fares → List (List ℕ) → PartView → Type 0
@@ -249,7 +198,7 @@ IsPart fares files part = IsPartOf fares files part.spans part.lists part.histor
 -- what each file has in them
 abbrev lists_of : PartView → List PartView → List (List TapFields)
 lists_of part [] = part.lists
-lists_of part (next ∷ parts) = joined part.lists (lists_of next parts)
+lists_of part (next ∷ parts) = both part.lists (lists_of next parts)
 
 -- the files have these taps in spans that begin there, and end where the files do
 record AreJoined (files : List (List ℕ)) (begins : List (Option Position))

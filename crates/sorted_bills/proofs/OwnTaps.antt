@@ -1,8 +1,9 @@
 -- The taps of one token, collected from sorted files.
-use Rattle.std.proofs.Common.{◌≡◌, ℕ, ◌+◌, Bool, true, false, List, [], ◌∷◌, ◌++◌, All, length, map}
-use Rattle.std.proofs.Common.{◌<◌, get_or, flat_map, cond, refl, sym, ap, subst, ◌∙◌, append-nil}
-use Rattle.std.proofs.Common.{option_map, Option, None, Some, arith}
-use Rattle.std.specs.Prelude.{Err, IfErr, IfOk, IfSome, Ok, Result, slice_get}
+use Rattle.std.proofs.Common.{◌≡◌, ℕ, zero, suc, ◌+◌, ◌<◌, Bool, true, false, List, [], ◌∷◌, ◌++◌, All}
+use Rattle.std.proofs.Common.{length, map, take, get_or, cond, refl, sym, ap, subst, ◌∙◌}
+use Rattle.std.proofs.Common.{append-nil, option_map, Option, None, Some, arith, length-take-le}
+use Rattle.std.specs.Prelude.{slice_get}
+use Rattle.std.proofs.lemmas.List.{get_or-take, map-append, take_more}
 use Rattle.std.proofs.lemmas.List.Concat.{flat_map-append}
 use Rattle.std.proofs.lemmas.List.Elements.{All-append, All-cons, All-nil, filter-append}
 use Rattle.std.proofs.lemmas.List.Elements.{All-weaker}
@@ -19,18 +20,21 @@ use Rattle.settlement.specs.Posted.{HasName, only, token_of_tap}
 use Rattle.settlement.specs.SettledTaps.{AreSettledTapsOf}
 use Rattle.settlement.proofs.Ranges.{has_token_bytes}
 use Rattle.settlement.proofs.SettledOrders.{own_settled}
-use Rattle.sorted_taps.specs.Checked.{AreCountedFiles}
-use Rattle.sorted_taps.specs.Readers.{ahead, IsAdvanced, IsPositionedIn}
+use Rattle.sorted_taps.specs.Checked.{AreCountedFiles, IsFirstFault}
+use Rattle.sorted_taps.specs.Merges.{AreSortedFiles}
+use Rattle.sorted_taps.specs.Readers.{ahead, IsPassed, IsPositionedIn}
+use Rattle.sorted_taps.specs.Sorted.{IsSortedFault, IsSortedFile}
+use Rattle.sorted_taps.specs.declared.fault.FileFault.{FileFault}
 use Rattle.sorted_taps.specs.declared.reader.TapReader.{TapReader}
-use Rattle.sorted_taps.proofs.Checking.{AreCounted, counted_more, counted_none}
 use Rattle.sorted_taps.proofs.Files.{known_number}
-use Rattle.sorted_taps.proofs.Standing.{sorted_at_end, holds_on}
+use Rattle.sorted_taps.proofs.Standing.{positioned_further, sorted_at_end}
+use Rattle.sorted_taps.proofs.Taking.{all_of}
 use Rattle.sorted_bills.specs.declared.own_by_threads.OwnTaps.{OwnTaps}
 use Rattle.sorted_bills.specs.inside.OwnTaps.{AreOwnOf, IsOwnOf, IsOwnPushed, own_of}
 use Rattle.sorted_bills.specs.inside.Taken.{AreFollowing}
 use Rattle.sorted_bills.proofs.Counted.{counted_ends}
 use Rattle.sorted_bills.proofs.Parts.{nondecreasing_between}
-use Rattle.sorted_bills.proofs.Settled.{file_taps}
+use Rattle.sorted_bills.proofs.Settled.{file_taps, files_more}
 
 only_both : (token : Option Token) (xs ys : List TapFields)
     → own_of token (xs ++ ys) ≡ own_of token xs ++ own_of token ys
@@ -83,21 +87,19 @@ none_read token all taps reader none holds = record {
   are = none ∙ sym (own_of_none token);
 }
 
-pub one_read : (token : Option Token) (all : List ℕ) (own more : List TapFields)
-    (was is : TapReader) → IsOwnRead token all own was
-    → ((tap : TapFields) (rest : List TapFields) → ahead was ≡ tap ∷ rest
-    → IsOwnPushed token tap own more)
-    → IsAdvanced all was is → IsOwnRead token all more is
-one_read token all own more was is read pushed step =
-    let one = pushed step.tap step.trailing step.stood in record {
-      passed = read.passed ++ step.tap ∷ [];
-      holds = holds_on all 0 read.passed was is read.holds step;
-      named = All-append HasName read.passed (step.tap ∷ []) read.named
-          (All-cons HasName step.tap [] one.named (All-nil HasName));
-      are = one.pushed
-          ∙ ap (λ (ts : List TapFields). ts ++ own_of token (step.tap ∷ [])) read.are
-          ∙ sym (only_both token read.passed (step.tap ∷ []));
-    }
+pub one_read : (token : Option Token) (all : List ℕ) (own more : List TapFields) (tap : TapFields)
+    (rest : List TapFields) (was is : TapReader) → ahead was ≡ tap ∷ rest
+    → IsOwnPushed token tap own more → IsOwnRead token all own was
+    → IsPassed all was (take 1 (ahead was)) is → IsOwnRead token all more is
+one_read token all own more tap rest was is stood one read step = record {
+  passed = read.passed ++ tap ∷ [];
+  holds = positioned_further all 0 read.passed (tap ∷ []) was is read.holds
+      (subst (λ (run : List TapFields). IsPassed all was run is) (ap (take 1) stood) step);
+  named = All-append HasName read.passed (tap ∷ []) read.named
+      (All-cons HasName tap [] one.named (All-nil HasName));
+  are = one.pushed ∙ ap (λ (ts : List TapFields). ts ++ own_of token (tap ∷ [])) read.are
+      ∙ sym (only_both token read.passed (tap ∷ []));
+}
 
 pub whole_read : (token : Option Token) (all : List ℕ) (own : OwnTaps) (reader : TapReader)
     → IsOwnRead token all own.taps.items reader → ahead reader ≡ []
@@ -107,58 +109,74 @@ whole_read token all own reader read none counted = record {
   of_file = sorted_at_end all read.passed reader read.holds none;
   named = read.named;
   are = read.are;
-  counted = counted ∙ read.holds.number;
+  counted = counted ∙ read.holds.1;
 }
 
--- the token's taps of the first files
-pub record AreOwnSoFar (token : Option Token) (files : List (List ℕ)) (count : ℕ) (own : List TapFields)
-    (numbers : List ℕ) : Type 0 where
-  pub counted : AreCounted files count numbers
-  pub named : All HasName (flat_map (λ list. list) counted.lists)
-  pub are : own ≡ own_of token (flat_map (λ list. list) counted.lists)
+-- ---- one file more
+sorted_end : (files : List (List ℕ)) (file : List ℕ) (lists : List (List TapFields))
+    (list : List TapFields) → AreSortedFiles files lists → IsSortedFile file list
+    → AreSortedFiles (files ++ file ∷ []) (lists ++ list ∷ [])
+sorted_end [] file [] list sorted is = files_more file [] list [] is sorted
+sorted_end [] file (l ∷ lists) list sorted is =
+    absurd (let number = sorted.number in omega (arith, number))
+sorted_end (f ∷ files) file [] list sorted is =
+    absurd (let number = sorted.number in omega (arith, number))
+sorted_end (f ∷ files) file (l ∷ lists) list sorted is =
+    let number = sorted.number in
+    files_more f (files ++ file ∷ []) l (lists ++ list ∷ []) (sorted.each zero (omega arith))
+    (sorted_end files file lists list (record {
+      number = omega (arith, number);
+      each = λ k inside. sorted.each (suc k) (omega (arith, inside));
+    }) is)
 
-pub none_so_far : (token : Option Token) (files : List (List ℕ)) → AreOwnSoFar token files 0 [] []
-unfolding counted_none
-none_so_far token files =
-    record { counted = counted_none files; named = All-nil HasName; are = sym (own_of_none token) }
+pub none_so_far : (token : Option Token) → AreOwnOf token [] [] []
+none_so_far token = record {
+  lists = [];
+  sorted = record { number = refl; each = λ k inside. absurd (omega (arith, inside)) };
+  named = All-nil HasName;
+  are = sym (own_of_none token);
+  counted = refl;
+}
 
 pub one_file_more : (token : Option Token) (files : List (List ℕ)) (count : ℕ)
-    (own next : List TapFields) (numbers more : List ℕ) (made : OwnTaps)
-    → AreOwnSoFar token files count own numbers → IsOwnOf token (get_or files count []) made
+    (own next : List TapFields) (numbers more : List ℕ) (made : OwnTaps) → count < length files
+    → AreOwnOf token (take count files) own numbers → IsOwnOf token (get_or files count []) made
     → next ≡ own ++ made.taps.items → more ≡ numbers ++ made.number ∷ []
-    → AreOwnSoFar token files (count + 1) next more
-unfolding counted_more
-one_file_more token files count own next numbers more made so_far is added counted =
-    let lists = so_far.counted.lists in
-    let joined : flat_map (λ list. list) (lists ++ is.list ∷ [])
-    ≡ flat_map (λ list. list) lists ++ is.list =
+    → AreOwnOf token (take (count + 1) files) next more
+one_file_more token files count own next numbers more made inside so_far is added counted =
+    let lists = so_far.lists in
+    let joined : all_of (lists ++ is.list ∷ []) ≡ all_of lists ++ is.list =
     flat_map-append (λ (list : List TapFields). list) lists (is.list ∷ [])
-    ∙ ap (λ (ts : List TapFields). flat_map (λ list. list) lists ++ ts) (append-nil is.list) in
-    record {
-      counted = counted_more files count numbers more is.list so_far.counted is.of_file
-          (counted ∙ ap (λ n. numbers ++ n ∷ []) is.counted);
+    ∙ ap (λ (ts : List TapFields). all_of lists ++ ts) (append-nil is.list) in
+    subst (λ (fs : List (List ℕ)). AreOwnOf token fs next more)
+    (sym (take_more files count [] inside)) (record {
+      lists = lists ++ is.list ∷ [];
+      sorted = sorted_end (take count files) (get_or files count []) lists is.list so_far.sorted
+          is.of_file;
       named = subst (λ (ts : List TapFields). All HasName ts) (sym joined)
-          (All-append HasName (flat_map (λ list. list) lists) is.list so_far.named is.named);
-      are = added ∙ ap (λ (ts : List TapFields). ts ++ made.taps.items) so_far.are
-          ∙ ap (λ (ts : List TapFields). own_of token (flat_map (λ list. list) lists) ++ ts) is.are
-          ∙ sym (ap (own_of token) joined
-          ∙ only_both token (flat_map (λ list. list) lists) is.list);
-    }
+          (All-append HasName (all_of lists) is.list so_far.named is.named);
+      are = added ∙ (λ i. so_far.are i ++ is.are i)
+          ∙ sym (ap (own_of token) joined ∙ only_both token (all_of lists) is.list);
+      counted = counted ∙ (λ i. so_far.counted i ++ is.counted i ∷ [])
+          ∙ sym (map-append length lists (is.list ∷ []));
+    })
 
-pub own_of_all : (token : Option Token) (files : List (List ℕ)) (count : ℕ) (own : List TapFields)
-    (numbers : List ℕ) → AreOwnSoFar token files count own numbers → count ≡ length files
-    → AreOwnOf token files own numbers
-own_of_all token files count own numbers so_far whole =
-    let number = so_far.counted.number in
+-- the fault of a file behind good ones is the first
+pub first_refused : (token : Option Token) (files : List (List ℕ)) (fault : FileFault)
+    (own : List TapFields) (numbers : List ℕ)
+    → AreOwnOf token (take fault.index files) own numbers → fault.index < length files
+    → IsSortedFault (get_or files fault.index []) fault.fault → IsFirstFault files fault
+first_refused token files fault own numbers are inside is =
+    let long = length-take-le fault.index files (omega (arith, inside)) in
     record {
-      lists = so_far.counted.lists;
-      sorted = record {
-        number = omega (arith, number, whole);
-        each = λ k inside. so_far.counted.each k (omega (arith, inside, whole));
-      };
-      named = so_far.named;
-      are = so_far.are;
-      counted = so_far.counted.counted;
+      within = inside;
+      earlier = λ k less. (
+        get_or are.lists k [],
+        subst (λ (file : List ℕ). IsSortedFile file (get_or are.lists k []))
+            (get_or-take fault.index files k [] less)
+            (are.sorted.each k (omega (arith, long, less))),
+      );
+      is_fault = is;
     }
 
 pub own_counted : (token : Option Token) (files : List (List ℕ)) (own : List TapFields)
@@ -177,16 +195,10 @@ pub own_in_order : (token : Token) (files : List (List ℕ)) (own list : List Ta
     → AreSettledTapsOf files token list
 own_in_order token files own list numbers are canonical =
     let of = file_taps files are.lists are.sorted in
-    own_settled files token own list (map Posted numbers)
-    (record {
-      taps = of.taps;
-      of_uploads = of.each;
-      are = are.are ∙ ap (only token) (sym of.fields);
-      ended = own_ends (Some token) files own numbers are;
-    })
+    own_settled files token own list of.taps of.each (are.are ∙ ap (only token) (sym of.fields))
     (subst (λ (ts : List TapFields). All HasTokenBytes ts) (sym of.fields)
     (All-weaker HasName HasTokenBytes (λ tap name. has_token_bytes tap name.named)
-    (flat_map (λ list. list) are.lists) are.named)) canonical
+    (all_of are.lists) are.named)) canonical
 
 -- the bytes of one of the files, as a slice gives them
 pub known_slice : {X : Type 0} (known : X → Option (List ℕ)) (files : List X) (all : List (List ℕ))
@@ -205,16 +217,6 @@ pub known_there : {X : Type 0} (known : X → Option (List ℕ)) (files : List X
 known_there known files k file bytes within is there =
     same_Some (known file) bytes (sym (slice_get-map known files k
     ∙ ap (option_map known) (slice_get-get_or files k file within ∙ ap Some (sym is))) ∙ there)
-
--- what a file has, by its bytes if they are known
-pub both_known : {A B : Type 0} (bytes : Option (List ℕ)) (result : Result A B)
-    (P : List ℕ → A → Type 0) (Q : List ℕ → B → Type 0)
-    → IfOk result (λ a. IfSome bytes (λ all. P all a))
-    → IfErr result (λ b. IfSome bytes (λ all. Q all b))
-    → IfSome bytes (λ all. IfOk result (P all) × IfErr result (Q all))
-both_known None result P Q ok err = tt
-both_known (Some all) (Ok a) P Q ok err = (ok, tt)
-both_known (Some all) (Err b) P Q ok err = (tt, err)
 
 -- tokens that do not fall, from one to the same
 pub all_its : (token : Token) (taps : List TapFields) → AreFollowing token taps token

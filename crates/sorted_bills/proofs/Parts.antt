@@ -1,9 +1,9 @@
 -- Taps of parts, one behind the other.
-use Rattle.std.proofs.Common.{◌≡◌, ℕ, ◌+◌, ◌^◌, ◌≤◌, List, [], ◌∷◌, ◌++◌, All, map, Option}
+use Rattle.std.proofs.Common.{◌≡◌, ℕ, List, [], ◌∷◌, ◌++◌, All, get_or, map, Option}
 use Rattle.std.proofs.Common.{sym, ap, subst, ◌∙◌, arith}
 use Rattle.std.specs.Ordering.{is_lt, ordering_reverse}
 use Rattle.std.specs.declared.cmp.Ordering.TheVariants.{Less}
-use Rattle.std.proofs.lemmas.List.Elements.{All-append, All-cons, All-map, All-nil, All-weaker}
+use Rattle.std.proofs.lemmas.List.Elements.{All-cons, All-map, All-nil, All-weaker}
 use Rattle.tariffs.specs.Fares.{Fares}
 use Rattle.tap_views.specs.Token.{token_cmp}
 use Rattle.tap_views.specs.declared.encoder.TapFields.{TapFields}
@@ -55,32 +55,12 @@ pub below_bound : (taps others : List TapFields) (last first : Token) → All (U
     → token_cmp last first ≡ Less → All (From first) others
     → AreBelow (map token_of_tap taps) (map token_of_tap others)
 below_bound taps others last first up less from =
-    let P : Token → Type 0 = λ t. All (λ o. token_cmp t o ≡ Less) (map token_of_tap others) in
-    All-map P token_of_tap taps
-    (All-weaker (UpTo last) (λ (tap : TapFields). P (token_of_tap tap)) (λ (tap : TapFields) below.
-    All-map (λ o. token_cmp (token_of_tap tap) o ≡ Less) token_of_tap others
-    (All-weaker (From first)
-    (λ (other : TapFields). token_cmp (token_of_tap tap) (token_of_tap other) ≡ Less)
-    (λ (other : TapFields) above. less_up (token_of_tap tap) first (token_of_tap other)
-    (up_less (token_of_tap tap) last first below less) above) others from)) taps up)
-
--- no tap of both is above the last token
-pub up_to_next : (taps others : List TapFields) (last first next : Token) → All (UpTo last) taps
-    → token_cmp last first ≡ Less → IsUpTo first next → All (UpTo next) others
-    → All (UpTo next) (taps ++ others)
-up_to_next taps others last first next before above up most =
-    All-append (UpTo next) taps others
-    (All-weaker (UpTo last) (UpTo next)
-    (λ (tap : TapFields) below. up_chain (token_of_tap tap) last next below
-    (up_chain last first next (less_is_up last first above) up)) taps before) most
-
--- taps from a token on that is above another are from that on
-pub from_lower : (others : List TapFields) (lower last first : Token) → IsUpTo lower last
-    → token_cmp last first ≡ Less → All (From first) others → All (From lower) others
-from_lower others lower last first up above from =
-    All-weaker (From first) (From lower)
-    (λ (tap : TapFields) is. up_chain lower first (token_of_tap tap)
-    (up_chain lower last first up (less_is_up last first above)) is) others from
+    All-map (λ t. All (λ o. token_cmp t o ≡ Less) (map token_of_tap others)) token_of_tap taps
+    (λ j d inside.
+    let token = token_of_tap (get_or taps j d) in
+    All-map (λ o. token_cmp token o ≡ Less) token_of_tap others (λ k e within.
+    less_up token first (token_of_tap (get_or others k e))
+    (up_less token last first (up j d inside) less) (from k e within)))
 
 -- the bill of the taps of two parts
 pub billed_both : (fares : Fares) (taps others : List TapFields) (old more new : Bill)
@@ -97,33 +77,19 @@ billed_both fares taps others old more new below one other added =
     (subst (λ (ts : List Token). AreBelow (map token_of_tap taps) ts)
     (sym (tokens_posted fares [] others)) below)))
 
--- a part with a bound on its taps has each higher bound
-pub part_within : (fares : Fares) (known : List (Option (List ℕ))) (few most : ℕ) (part : Part)
-    → IsPart fares known few part → few ≤ most → IsPart fares known most part
-part_within fares known few most part is up = record {
-  taps = is.taps;
-  in_files = is.in_files;
-  named = is.named;
-  bill_is = is.bill_is;
-  range = is.range;
-  from = is.from;
-  up = is.up;
-  few = let less = is.few in omega (arith, less, up);
-}
-
 -- there is room for the taps of two parts
-pub parts_room : (fares : Fares) (known : List (Option (List ℕ))) (few others : ℕ)
-    (part more : Part)
-    → IsPart fares known few part → IsPart fares known others more → few + others ≤ 2 ^ 95
-    → HaveBillRoom part.bill more.bill
-parts_room fares known few others part more one other room =
+pub parts_room : (fares : Fares) (known : List (Option (List ℕ))) (part more : Part)
+    → IsPart fares known part → IsPart fares known more → HaveBillRoom part.bill more.bill
+parts_room fares known part more one other =
     let long = posted_length fares [] one.taps in
     let wide = posted_length fares [] other.taps in
-    let less = one.few in
-    let least = other.few in (
+    let counted = one.counted in
+    let few = one.few in
+    let also = other.counted in
+    let small = other.few in (
       posted fares one.taps,
       posted fares other.taps,
       one.bill_is.counts,
       other.bill_is.counts,
-      omega (arith, long, wide, less, least, room),
+      omega (arith, long, wide, counted, few, also, small),
     )

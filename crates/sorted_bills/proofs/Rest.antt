@@ -1,82 +1,29 @@
 -- What is left of sorted files after taps that were taken: with it they are all in canonical order.
-use Rattle.std.proofs.Common.{◌≡◌, ◌∙◌, ℕ, zero, suc, ◌<◌, List, [], ◌∷◌, ◌++◌, All, Bool}
-use Rattle.std.proofs.Common.{append_assoc, arith, ap, drop, false, get_or, length, map, refl}
-use Rattle.std.proofs.Common.{subst, sym, true}
+use Rattle.std.proofs.Common.{◌≡◌, ◌∙◌, ℕ, zero, suc, ◌<◌, List, [], ◌∷◌, ◌++◌, All, append_assoc}
+use Rattle.std.proofs.Common.{arith, ap, drop, get_or, length, map, refl, subst, sym}
 use Rattle.std.specs.List.Sorted.{IsPermutation, IsSorted}
-use Rattle.std.specs.Ordering.{is_lt}
-use Rattle.std.proofs.lemmas.List.Elements.{All-append, All-cons, All-nil}
+use Rattle.std.proofs.Math.Seq.{drop-append_seam}
+use Rattle.std.proofs.lemmas.List.{drop-map}
+use Rattle.std.proofs.lemmas.List.Elements.{All-append, All-nil}
 use Rattle.std.proofs.lemmas.List.Sorted.{All-permutation, IsPermutation-append}
-use Rattle.std.proofs.lemmas.List.Sorted.{IsPermutation-append_right, IsPermutation-cons}
-use Rattle.std.proofs.lemmas.List.Sorted.{IsPermutation-insert, IsPermutation-refl}
+use Rattle.std.proofs.lemmas.List.Sorted.{IsPermutation-append_right, IsPermutation-refl}
 use Rattle.std.proofs.lemmas.List.Sorted.{IsPermutation-trans}
 use Rattle.tap_views.specs.Encoding.{fields_of}
 use Rattle.tap_views.specs.Files.{IsFile, taps_of_batches}
+use Rattle.tap_views.specs.Layout.{Tap}
 use Rattle.tap_views.specs.declared.encoder.TapFields.{TapFields}
 use Rattle.tap_parts.specs.Canonical.{IsCanonical, tap_cmp}
+use Rattle.tap_parts.specs.Parts.{taps_of_uploads}
+use Rattle.settlement.proofs.Sorting.{canonical_order, unmoved}
 use Rattle.sorted_taps.specs.Merged.{BeginsNotBefore, IsNotBefore}
-use Rattle.sorted_taps.specs.Merges.{AreStarted, AreSortedFiles, AreTaken, IsPassed}
-use Rattle.sorted_taps.specs.Readers.{IsPositionedIn, ahead}
+use Rattle.sorted_taps.specs.Merges.{AreStarted, AreSortedFiles, AreTaken}
+use Rattle.sorted_taps.specs.Readers.{IsPassed, IsPositionedIn, ahead}
 use Rattle.sorted_taps.specs.Sorted.{IsSortedFile}
 use Rattle.sorted_taps.specs.declared.reader.TapReader.{TapReader}
 use Rattle.sorted_taps.proofs.After.{after_read, none_of_nothing}
-use Rattle.sorted_taps.proofs.Joining.{after_first, inner_swap, none_before, ranked, sorted_across}
-use Rattle.sorted_taps.proofs.Joining.{sorted_back, sorted_cons, tail}
+use Rattle.sorted_taps.proofs.Joining.{inner_swap, none_before, sorted_across, sorted_back}
 use Rattle.sorted_taps.proofs.Taking.{all_of, some_of}
-
--- ---- each list has a canonical order
-insert_tap : (tap : TapFields) (list : List TapFields) → IsSorted tap_cmp list
-    → (order : List TapFields) × IsCanonical (tap ∷ list) order
-insert_tap tap [] up = (
-  tap ∷ [],
-  record {
-    moved = IsPermutation-refl (tap ∷ []);
-    sorted = sorted_cons tap [] (All-nil (IsNotBefore tap)) up;
-  },
-)
-insert_tap tap (x ∷ xs) up =
-    by_test (is_lt (tap_cmp x tap)) refl (insert_tap tap xs (tail x xs up))
-  where
-    by_test : (b : Bool) → is_lt (tap_cmp x tap) ≡ b
-        → (order : List TapFields) × IsCanonical (tap ∷ xs) order
-        → (order : List TapFields) × IsCanonical (tap ∷ x ∷ xs) order
-    by_test false e rest = (
-      tap ∷ x ∷ xs,
-      record {
-        moved = IsPermutation-refl (tap ∷ x ∷ xs);
-        sorted = sorted_cons tap (x ∷ xs) (none_before tap (x ∷ xs) up e) up;
-      },
-    )
-    by_test true e (order, rest) = (
-      x ∷ order,
-      record {
-        moved = IsPermutation-trans (tap ∷ x ∷ xs) (x ∷ tap ∷ xs) (x ∷ order)
-            (IsPermutation-insert (x ∷ xs) 1 tap)
-            (IsPermutation-cons x (tap ∷ xs) order rest.moved);
-        sorted = sorted_cons x order
-            (All-permutation (IsNotBefore x) (tap ∷ xs) order rest.moved
-            (All-cons (IsNotBefore x) tap xs (ranked.one_way x tap e) (after_first x xs up)))
-            rest.sorted;
-      },
-    )
-
-ordered : (list : List TapFields) → (order : List TapFields) × IsCanonical list order
-ordered [] = (
-  [],
-  record {
-    moved = IsPermutation-refl [];
-    sorted = λ k d low high. absurd (omega (arith, high));
-  },
-)
-ordered (tap ∷ list) =
-    let (rest, of_rest) = ordered list in
-    let (order, is) = insert_tap tap rest of_rest.sorted in (
-      order,
-      record {
-        moved = IsPermutation-trans (tap ∷ list) (tap ∷ rest) order
-            (IsPermutation-cons tap list rest of_rest.moved) is.moved;
-        sorted = is.sorted;
-      },
-    )
+use Rattle.sorted_bills.proofs.Settled.{file_taps}
 
 -- ---- one file
 -- what a reader that began at its file's begin has left: it begins with the reader's head
@@ -86,7 +33,7 @@ left_of : (all : List ℕ) (old new : TapReader) (list run : List TapFields)
     × ((tap : TapFields) → BeginsNotBefore tap (ahead new) → All (IsNotBefore tap) left)
 left_of all old new list run is sorted passed =
     let (mid, mid_file, first) = after_read all 0 old.offset (ahead old) sorted.read.batches
-    is.between sorted.read.is_file in
+    is.0.between sorted.read.is_file in
     let (last, last_file, then) = after_read all old.offset new.offset passed.read mid
     passed.between mid_file in
     let more = map fields_of (taps_of_batches last) in
@@ -100,7 +47,7 @@ left_of all old new list run is sorted passed =
           (sorted_back run (ahead new ++ more)
           (subst (λ l. IsSorted tap_cmp l) whole sorted.sorted))
           (by_list (ahead new) refl more (λ none. ap (λ bs. map fields_of (taps_of_batches bs))
-          (none_of_nothing last (subst (λ l. IsFile l last []) (passed.end is.end none) last_file)))
+          (none_of_nothing last (subst (λ l. IsFile l last []) (passed.end is.0.end none) last_file)))
           tap begins),
     )
   where
@@ -140,6 +87,12 @@ all_left taps (list ∷ lists) (run ∷ runs) same each =
       λ j d low. All-append (IsNotBefore (get_or taps j d)) left rest (not j d low) (nots j d low),
     )
 
+behind_front : (front left : List TapFields) (taps : List Tap)
+    → front ++ left ≡ map fields_of taps → map fields_of (drop (length front) taps) ≡ left
+behind_front front left taps same =
+    sym (drop-map fields_of (length front) taps) ∙ ap (drop (length front)) (sym same)
+    ∙ drop-append_seam front left
+
 -- taps that were taken of sorted files go on to all their taps, in canonical order
 pub goes_on : (files : List (List ℕ)) (lists : List (List TapFields)) (started new : List TapReader)
     (taps : List TapFields) → AreSortedFiles files lists → AreStarted files started
@@ -157,11 +110,18 @@ goes_on files lists started new taps sorted is taken =
     (get_or lists k []) (get_or taken.runs k []) (is.each k d here)
     (sorted.each k (omega (arith, low, count))) (taken.each k d here) in
     (left, whole, λ j e within. begins (get_or taps j e) (taken.left k d here j e within))) in
-    let (rest, of_rest) = ordered left in (
+    let front = all_of taken.runs in
+    let of = file_taps files lists sorted in
+    let (others, same) = unmoved (taps_of_uploads of.taps) (front ++ left)
+    (subst (λ l. IsPermutation l (front ++ left)) (sym of.fields) moved) in
+    let (order, canonical) = canonical_order (drop (length front) others) in
+    let rest = map fields_of order in
+    let of_rest : IsCanonical left rest = subst (λ l. IsCanonical l rest)
+    (behind_front front left others same) canonical in (
       rest,
       record {
-        moved = IsPermutation-trans (all_of lists) (all_of taken.runs ++ left) (taps ++ rest) moved
-            (IsPermutation-append (all_of taken.runs) taps left rest taken.canonical.moved
+        moved = IsPermutation-trans (all_of lists) (front ++ left) (taps ++ rest) moved
+            (IsPermutation-append front taps left rest taken.canonical.moved
             of_rest.moved);
         sorted = sorted_across taps rest (λ j d within.
             All-permutation (IsNotBefore (get_or taps j d)) left rest of_rest.moved

@@ -1,6 +1,6 @@
 -- The taps of sorted files are settled taps.
 use Rattle.std.proofs.Common.{◌≡◌, ℕ, zero, suc, ◌<◌, List, [], ◌∷◌, ◌++◌, map, All}
-use Rattle.std.proofs.Common.{refl, sym, ap, subst, ◌∙◌, arith}
+use Rattle.std.proofs.Common.{refl, sym, ap, subst, ◌∙◌, arith, get_or, length}
 use Rattle.std.specs.Prelude.{flat_map}
 use Rattle.std.proofs.lemmas.List.{map-append}
 use Rattle.std.proofs.lemmas.List.Elements.{All-map}
@@ -15,6 +15,18 @@ use Rattle.settlement.specs.Posted.{HasName}
 use Rattle.settlement.specs.SettledTaps.{AreSettledTaps}
 use Rattle.settlement.proofs.Early.{uploads_early}
 use Rattle.sorted_taps.specs.Merges.{AreSortedFiles}
+use Rattle.sorted_taps.specs.Sorted.{IsSortedFile}
+
+-- a file more in front
+pub files_more : (file : List ℕ) (files : List (List ℕ)) (list : List TapFields)
+    (lists : List (List TapFields)) → IsSortedFile file list → AreSortedFiles files lists
+    → AreSortedFiles (file ∷ files) (list ∷ lists)
+files_more file files list lists first rest = record { number = ap suc rest.number; each = at }
+  where
+    at : (k : ℕ) → k < length (file ∷ files)
+        → IsSortedFile (get_or (file ∷ files) k []) (get_or (list ∷ lists) k [])
+    at zero inside = first
+    at (suc k) inside = rest.each k (omega (arith, inside))
 
 -- the good taps of sorted files, file by file
 pub record AreFileTaps (files : List (List ℕ)) (lists : List (List TapFields)) : Type 0 where

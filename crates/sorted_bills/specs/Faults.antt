@@ -1,11 +1,8 @@
 -- Why sorted files are not charged.
-use Rattle.std.specs.Prelude.{◌^◌, ◌<◌, ℕ, List, flat_map, length}
+use Rattle.std.specs.Prelude.{◌≢◌, ◌^◌, ◌<◌, ℕ, List, flat_map, length}
 use Rattle.tap_views.specs.declared.encoder.TapFields.{TapFields}
 use Rattle.sorted_taps.specs.Checked.{IsFirstFault}
 use Rattle.sorted_taps.specs.Merges.{AreSortedFiles}
-use Rattle.sorted_taps.specs.declared.fault.SortedFault.{SortedFault}
-use Rattle.sorted_taps.specs.declared.fault.SortedFault.TheVariants.{Layout, OutOfOrder}
-use Rattle.sorted_taps.specs.declared.fault.SortedFault.TheVariants as sorted
 use Rattle.sorted_bills.specs.declared.fault.BillFault.{BillFault}
 use Rattle.sorted_bills.specs.declared.fault.BillFault.TheVariants.{Changed, File, Late}
 use Rattle.sorted_bills.specs.declared.fault.BillFault.TheVariants.{TooManyTaps, Write}
@@ -30,9 +27,8 @@ IsBeforeText (Late fault) = ⊥
 IsBeforeText Write = ⊥
 IsBeforeText fault = Unit {0}
 
--- a fault of a file that was checked before
-abbrev pub late_fault : SortedFault → BillFault
-late_fault (OutOfOrder tap) = Changed
-late_fault (Layout offset fault) = Changed
-late_fault sorted.Unread = Late sorted.Unread
-late_fault sorted.NoMemory = Late sorted.NoMemory
+-- the fault says nothing of the files, no write failed, and bytes may have been written before
+pub record IsLateFault (fault : BillFault) : Type 0 where
+  pub says_nothing : (files : List (List ℕ)) → IsBillFault files fault
+  pub unwritten : fault ≢ Write
+  pub late : IsBeforeText fault → ⊥

@@ -1,7 +1,5 @@
 -- What only private functions cite. Who reads the contracts of public calls need not read it.
-pub mod Billed
 pub mod Charged
 pub mod OwnTaps
-pub mod Printed
 pub mod Taken
 pub mod Explained

@@ -1,81 +1,85 @@
 //! The bill of sorted files.
 
-ghost use Rattle.std.specs.Prelude.{◌≡◌, ◌≢◌, ◌≤◌, ◌^◌, true, ℕ, List, IfErr, IfOk, Some, length};
+ghost use Rattle.std.specs.Prelude.{◌≡◌, ◌≢◌, ◌≤◌, ◌^◌, true, ℕ, List, IfErr, IfOk, Ok, Some, length};
 ghost use Rattle.std.specs.Prelude.{map};
 ghost use Rattle.tap_views.specs.UploadEnds.{ArePlainEnds, are_posted};
 ghost use Rattle.histories.specs.declared.entry.Entry.{Entry};
 ghost use Rattle.settlement.specs.Bills.{IsBillOf};
 ghost use Rattle.settlement.specs.Settled.{IsSettledHistory};
-ghost use Rattle.sorted_taps.specs.Reading.{window_bytes};
 ghost use Rattle.sorted_bills.specs.Faults.{IsBillFault};
-ghost use Rattle.sorted_bills.specs.inside.Billed.{IsBilled};
+ghost use Rattle.sorted_bills.specs.inside.Charged.{IsPart};
 
 use crate::by_threads::part_by_threads;
 use crate::fault::BillFault;
-use crate::part::part_of;
+use crate::part::{Part, part_of};
+use crate::tap_numbers::{count, ends_of};
 use histories::HashSeed;
-use placed_files::Placed;
+use placed_files::{FileStamp, Placed};
 use settlement::Billed;
-use sorted_taps::{WINDOW_BYTES, check_files, have_stamps, stamps_of};
+use sorted_taps::{SortedFault, WINDOW_BYTES, check_files, have_stamps, stamps_of};
 use std::alloc::Global;
 use std::marker::Sync;
 use std::thread::Threads;
 use tariffs::FareTable;
 
-/// The first fault in the order of the files.
-pub(crate) fn first_fault<F: Placed>(alloc: Global, files: &[F], met: BillFault) -> BillFault
-    requires of_files { (all : List (List ℕ)) → map F.bytes files.now ≡ map Some all
-        → IsBillFault all met }
-    requires unwritten { met ≢ BillFault.Write }
-    ensures of_files { (all : List (List ℕ)) → map F.bytes files.now ≡ map Some all
-        → IsBillFault all result }
-    ensures unwritten { result ≢ BillFault.Write }
+/// What was made of the files, unless one has another stamp now. A fault is the first one in the
+/// order of the files, if they have one.
+pub(crate) fn unless_changed<F: Placed, T: Drop>(
+    alloc: Global,
+    files: &[F],
+    stamps: &[FileStamp],
+    made: Result<T, SortedFault>,
+) -> Result<T, BillFault>
+    ensures made { IfOk result (λ it. made ≡ Ok it) }
+    ensures fault { IfErr result (λ fault. (all : List (List ℕ))
+        → map F.bytes files.now ≡ map Some all → IsBillFault all fault) }
+    ensures unwritten { IfErr result (λ fault. fault ≢ BillFault.Write) }
 {
-    if !matches!(met, BillFault::Changed | BillFault::Late(_)) {
-        return met;
-    }
-    let Ok(mut window) = vec![in alloc; 0u8; WINDOW_BYTES] else {
-        return BillFault::NoMemory;
-    };
-    match check_files(alloc, files, &mut window) {
-        Ok(_) => met,
-        Err(fault) => BillFault::File(fault),
+    match made {
+        Ok(it) => {
+            if !have_stamps(files, stamps) {
+                return Err(BillFault::Changed);
+            }
+            Ok(it)
+        }
+        Err(SortedFault::NoMemory) => Err(BillFault::NoMemory),
+        Err(met) => {
+            let mut window = vec![in alloc; 0u8; WINDOW_BYTES]?;
+            match check_files(alloc, files, &mut window) {
+                Ok(_) => Err(BillFault::from(met)),
+                Err(fault) => Err(BillFault::File(fault)),
+            }
+        }
     }
 }
 
-/// A worker that is refused has all charged again by one. A fault need not be the first one of the
-/// files.
-fn bill_of<R: Threads + Sync, F: Placed + Sync>(
+/// If a worker is refused, one charges all again. A fault need not be the first one of the files.
+fn all_taps<R: Threads + Sync, F: Placed + Sync>(
     rt: &R,
     alloc: Global,
     table: &FareTable,
     seed: HashSeed,
     files: &[F],
     workers: u32,
-) -> Result<Billed, BillFault>
-    ensures billed { IfOk result (IsBilled table.now (map F.bytes files.now)) }
-    ensures posted { IfOk result (λ made. are_posted made.ends.items ≡ true) }
-    ensures fault { IfErr result (λ fault. (all : List (List ℕ))
-        → map F.bytes files.now ≡ map Some all → IsBillFault all fault) }
-    ensures unwritten { IfErr result (λ fault. fault ≢ BillFault.Write) }
+) -> Result<Part, SortedFault>
+    ensures { IfOk result (IsPart table.now (map F.bytes files.now)) }
 {
     if workers > 1 {
         if let Some(part) = part_by_threads(rt, alloc, table, seed, files, workers) {
-            return part.into_billed(alloc);
+            return Ok(part);
         }
     }
-    let part = part_of(alloc, table, seed, files, None, None)?;
-    part.into_billed(alloc)
+    part_of(alloc, table, seed, files, None, None)
 }
 
 /// The bill of the settled history of sorted files, in one pass. Of each file some batches are in
 /// memory, and of each token its sums: 32 bytes while each count fits 16 bits and the cents 32.
 /// `workers` threads, 64 at most, charge a range of the tokens each, with at most some 32 KiB a
 /// worker for each file of `sort`. The bounds are a hint that suits batches of 512 taps: if ranges
-/// do not join, or a worker is refused, one charges all again. If a file is refused then, all are
-/// checked in order, and the fault is the first. So neither bill nor fault depends on the workers.
-/// A file that was written meanwhile, or has another length at the end, is reported as changed: its
-/// end may have been a cut.
+/// do not join, or a worker is refused, one charges all again. So files in other batches are mostly
+/// read twice by several workers. If a file is refused then, all are checked in order, and the fault
+/// is the first. So neither bill nor fault depends on the workers. A file that was written
+/// meanwhile, or has another length at the end, is reported as changed: its end may have been a cut.
 pub fn sorted_bill<R: Threads + Sync, F: Placed + Sync>(
     rt: &R,
     alloc: Global,
@@ -94,14 +98,16 @@ pub fn sorted_bill<R: Threads + Sync, F: Placed + Sync>(
         → map F.bytes files.now ≡ map Some all → IsBillFault all fault) }
     ensures unwritten { IfErr result (λ fault. fault ≢ BillFault.Write) }
 {
+    // proof: posted taps that are settled are the settled history
+    settlement::laws::posted_taps();
     let stamps = stamps_of(alloc, files)?;
-    match bill_of(rt, alloc, table, seed, files, workers) {
-        Ok(made) => {
-            if !have_stamps(files, &stamps) {
-                return Err(BillFault::Changed);
-            }
-            Ok(made)
-        }
-        Err(met) => Err(first_fault(alloc, files, met)),
+    let charged = all_taps(rt, alloc, table, seed, files, workers);
+    let part = unless_changed(alloc, files, &stamps, charged)?;
+    if !part.is_whole() {
+        return Err(BillFault::Changed);
     }
+    let _counted = count(&part.numbers)?;
+    let ends = ends_of(alloc, &part.numbers)?;
+    let Part { bill, .. } = part;
+    Ok(Billed { ends, bill })
 }

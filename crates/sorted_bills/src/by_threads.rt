@@ -1,7 +1,6 @@
 //! The bill of all taps, made by several threads.
 
-ghost use Rattle.std.specs.Prelude.{◌^◌, ℕ, List, Option, IfOk, IfSome, map};
-ghost use Rattle.tariffs.specs.Fares.{Fares};
+ghost use Rattle.std.specs.Prelude.{IfOk, IfSome, map};
 ghost use Rattle.sorted_bills.specs.inside.Charged.{AreParts, IsPart};
 
 use crate::part::{Part, part_of};
@@ -25,7 +24,7 @@ fn part_at<F: Placed>(
     bounds: &[Token],
     at: usize,
 ) -> Option<Part>
-    ensures { IfSome result (IsPart table.now (map F.bytes files.now) (2 ^ 73)) }
+    ensures { IfSome result (IsPart table.now (map F.bytes files.now)) }
 {
     let from = match at.checked_sub(1) {
         Some(before) => bounds.get(before).copied(),
@@ -54,8 +53,7 @@ fn parts_of<R: Threads + Sync, F: Placed + Sync>(
         alloc,
         last + 1,
         &|position: usize| -> Option<Part>
-            ensures { IfSome result
-                (IsPart table.entry.now (map F.bytes files.entry.now) (2 ^ 73)) }
+            ensures { IfSome result (IsPart table.entry.now (map F.bytes files.entry.now)) }
         {
             part_at(
                 alloc,
@@ -70,45 +68,6 @@ fn parts_of<R: Threads + Sync, F: Placed + Sync>(
     Ok(parts)
 }
 
-/// None if it was not made, or if there is no part.
-fn next_part(parts: &mut Vec<Option<Part>>) -> Option<Part>
-    ensures { (fares : Fares) (known : List (Option (List ℕ)))
-        → AreParts fares known parts.old.items
-        → AreParts fares known parts.new.items × IfSome result (IsPart fares known (2 ^ 73)) }
-{
-    match parts.pop() {
-        Some(part) => part,
-        None => None,
-    }
-}
-
-/// None if one was not made, or does not begin where the one before it ends.
-fn join_parts(alloc: Global, parts: Vec<Option<Part>>) -> Option<Part>
-    requires { (fares : Fares) × (known : List (Option (List ℕ)))
-        × AreParts fares known parts.items }
-    ensures { (fares : Fares) (known : List (Option (List ℕ))) → AreParts fares known parts.items
-        → IfSome result (IsPart fares known (2 ^ 80)) }
-{
-    let mut parts = parts;
-    let Some(first) = next_part(&mut parts) else {
-        return None;
-    };
-    let mut whole = first;
-    for _taken in 1..100u32 {
-        if parts.is_empty() {
-            return Some(whole);
-        }
-        let Some(more) = next_part(&mut parts) else {
-            return None;
-        };
-        match whole.append(alloc, more) {
-            Ok(()) => {}
-            Err(_) => return None,
-        }
-    }
-    None
-}
-
 /// None if a range is refused, or does not begin where the one before it ends.
 pub(crate) fn part_by_threads<R: Threads + Sync, F: Placed + Sync>(
     rt: &R,
@@ -118,7 +77,7 @@ pub(crate) fn part_by_threads<R: Threads + Sync, F: Placed + Sync>(
     files: &[F],
     workers: u32,
 ) -> Option<Part>
-    ensures { IfSome result (IsPart table.now (map F.bytes files.now) (2 ^ 80)) }
+    ensures { IfSome result (IsPart table.now (map F.bytes files.now)) }
 {
     let Ok(bounds) = bounds_of(alloc, files, workers.min(MAX_WORKERS).saturating_sub(1)) else {
         return None;
@@ -126,8 +85,24 @@ pub(crate) fn part_by_threads<R: Threads + Sync, F: Placed + Sync>(
     if bounds.is_empty() {
         return None;
     }
-    match parts_of(rt, alloc, table, seed, files, &bounds) {
-        Ok(parts) => join_parts(alloc, parts),
-        Err(_) => None,
+    let Ok(made) = parts_of(rt, alloc, table, seed, files, &bounds) else {
+        return None;
+    };
+    let mut parts = made;
+    let Some(Some(first)) = parts.pop() else {
+        return None;
+    };
+    let mut whole = first;
+    for _ in 0..MAX_WORKERS {
+        let Some(next) = parts.pop() else {
+            return Some(whole);
+        };
+        let Some(more) = next else {
+            return None;
+        };
+        if let Err(_) = whole.append(alloc, more) {
+            return None;
+        }
     }
+    None
 }

@@ -1,21 +1,19 @@
 //! Taps of merged files, charged.
 
-ghost use Rattle.std.specs.Prelude.{◌≡◌, ◌≢◌, [], None, ℕ, List, IfErr, OnOk, length, map};
-ghost use Rattle.sorted_taps.specs.Merges.{AreAtEnd};
-ghost use Rattle.sorted_bills.specs.Faults.{IsBillFault};
+ghost use Rattle.std.specs.Prelude.{[], IfOk, OnOk, length, map};
 ghost use Rattle.sorted_bills.specs.inside.Charged.{IsCharged};
 ghost use Rattle.settlement.specs.OpenBills.{IsOpenBill};
 ghost use Rattle.sorted_bills.specs.inside.Taken.{IsReady};
 
-use crate::fault::BillFault;
 use crate::taker::{TAKEN_TAPS, Taker};
 use placed_files::Placed;
 use settlement::OpenBill;
+use sorted_taps::SortedFault;
 use std::alloc::Global;
 use tap_views::Token;
 use tariffs::FareTable;
 
-/// The bill has none of the taps yet.
+/// How many taps were charged. The bill had none of them.
 pub(crate) fn charge<F: Placed>(
     alloc: Global,
     table: &FareTable,
@@ -23,30 +21,31 @@ pub(crate) fn charge<F: Placed>(
     below: Option<Token>,
     taker: &mut Taker,
     so_far: &mut OpenBill,
-) -> Result<(), BillFault>
+) -> Result<u64, SortedFault>
     requires ready { IsReady (length files.now) taker.old }
     requires none { IsOpenBill table.now [] so_far.old }
     ensures ready { OnOk result (IsReady (length files.now) taker.new) }
-    ensures charged { OnOk result (IsCharged table.now (map F.bytes files.now)
+    ensures charged { IfOk result (IsCharged table.now (map F.bytes files.now)
         taker.old.merge.readers.items so_far.old.replay.token taker.new.merge.readers.items
         so_far.new) }
-    ensures end { OnOk result (below ≡ None → AreAtEnd taker.new.merge.readers.items) }
-    ensures fault { IfErr result (λ fault. (all : List (List ℕ)) → IsBillFault all fault) }
-    ensures unwritten { IfErr result (λ fault. fault ≢ BillFault.Write) }
 {
-    let clock = table.clock(alloc)?;
+    let Ok(clock) = table.clock(alloc) else {
+        return Err(SortedFault::NoMemory);
+    };
     let mut count = 0u64;
     for _round in 0..u64::MAX {
         taker.take(files, so_far.token(), below, TAKEN_TAPS)?;
         if taker.taps.is_empty() {
-            return Ok(());
+            return Ok(count);
         }
         // no files have so many taps
         let Some(more) = count.checked_add(taker.taps.len() as u64) else {
-            return Err(BillFault::Changed);
+            return Err(SortedFault::Unread);
         };
         count = more;
-        so_far.add(alloc, table, &clock, &taker.taps)?;
+        if let Err(_) = so_far.add(alloc, table, &clock, &taker.taps) {
+            return Err(SortedFault::NoMemory);
+        }
     }
-    Err(BillFault::Changed)
+    Err(SortedFault::Unread)
 }

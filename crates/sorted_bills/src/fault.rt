@@ -1,6 +1,5 @@
 //! Why sorted files are not charged.
 
-use fare_texts::PrintFault;
 use sorted_taps::{FileFault, SortedFault};
 use std::alloc::AllocError;
 use tap_views::NoMemory;
@@ -41,29 +40,14 @@ impl From<FileFault> for BillFault {
 }
 
 impl From<SortedFault> for BillFault {
-    ghost use Rattle.std.specs.Prelude.{◌≡◌};
-    ghost use Rattle.sorted_bills.specs.Faults.{late_fault};
+    ghost use Rattle.sorted_bills.specs.Faults.{IsLateFault};
 
-    ghost from_gives = { λ refused fault. fault ≡ late_fault refused };
+    ghost from_gives = { λ _ fault. IsLateFault fault };
 
     fn from(refused: SortedFault) -> BillFault {
         match refused {
             SortedFault::OutOfOrder { .. } | SortedFault::Layout { .. } => BillFault::Changed,
             SortedFault::Unread | SortedFault::NoMemory => BillFault::Late(refused),
-        }
-    }
-}
-
-impl From<PrintFault> for BillFault {
-    ghost use Rattle.std.specs.Prelude.{◌≡◌};
-    ghost use Rattle.sorted_bills.specs.inside.Printed.{printed_fault};
-
-    ghost from_gives = { λ refused fault. fault ≡ printed_fault refused };
-
-    fn from(refused: PrintFault) -> BillFault {
-        match refused {
-            PrintFault::Write => BillFault::Write,
-            PrintFault::NoMemory => BillFault::NoMemory,
         }
     }
 }

@@ -1,14 +1,8 @@
 //! Theorems about merged files, each the contract of a small function.
 
-ghost use Rattle.std.specs.Prelude.{◌≡◌, ℕ, List, All, flat_map, map};
-ghost use Rattle.std.specs.List.Sorted.{IsSorted};
+ghost use Rattle.std.specs.Prelude.{ℕ, List, All, flat_map, map};
 ghost use Rattle.tariffs.specs.Fares.{Fares};
-ghost use Rattle.tap_views.specs.Encoding.{fields_of};
-ghost use Rattle.tap_views.specs.Files.{AreValidTapsOfEach};
-ghost use Rattle.tap_views.specs.Layout.{Tap};
 ghost use Rattle.tap_views.specs.declared.encoder.TapFields.{TapFields};
-ghost use Rattle.tap_parts.specs.Canonical.{tap_cmp};
-ghost use Rattle.histories.specs.Plain.{plain};
 ghost use Rattle.settlement.specs.Posted.{HasName};
 ghost use Rattle.settlement.specs.Settled.{IsSettledHistory};
 ghost use Rattle.settlement.specs.SettledTaps.{AreSettledTaps};

@@ -5,21 +5,20 @@ ghost use Rattle.std.specs.Io.KnownBytes.{Appends};
 ghost use Rattle.tap_views.specs.UploadEnds.{ArePlainEnds, are_posted};
 ghost use Rattle.tap_views.specs.declared.upload_end.UploadEnd.{UploadEnd as AnEnd};
 ghost use Rattle.sorted_bills.specs.Faults.{IsBeforeText, IsBillFault};
-ghost use Rattle.sorted_bills.specs.Ledgers.{AreBytes, IsLedgerOfFiles};
+ghost use Rattle.sorted_bills.specs.Ledgers.{IsLedgerOfFiles};
 ghost use Rattle.sorted_bills.specs.declared.fault.BillFault.TheVariants.{Write as AFailedWrite};
 ghost use Rattle.fare_texts.specs.WrittenOut.{Begins};
 
 use crate::by_threads::MAX_WORKERS;
 use crate::fault::BillFault;
-use crate::lines_below::explain_below;
-use crate::own_taps::check_all;
+use crate::lines_below::write_lines;
+use crate::own_by_threads::own_of_files;
 use crate::taker::Taker;
 use crate::tap_numbers::{count, ends_of};
-use fare_texts::{Explainer, head_with_room, pass_on};
 use placed_files::Placed;
-use settled_texts::{STRIDE_ROOM_BYTES, slots_of};
+use settled_texts::slots_of;
 use settlement::least_token;
-use sorted_taps::{WINDOW_BYTES, are_at_end, have_stamps, stamps_of};
+use sorted_taps::{Merge, WINDOW_BYTES, are_at_end, have_stamps, stamps_of};
 use std::alloc::Global;
 use std::io::Write;
 use std::marker::Sync;
@@ -52,7 +51,7 @@ pub fn write_sorted_ledger<R: Threads + Sync, F: Placed + Sync, W: Write>(
     ensures kept { IfErr result (λ fault. IsBeforeText fault → out.new ≡ out.old) }
     // If a write failed, a prefix of the ledger was written.
     ensures started { IfErr result (λ fault. fault ≡ AFailedWrite → (text : List ℕ)
-        × ((all : List (List ℕ)) → map F.bytes files.now ≡ map Some all → AreBytes all
+        × ((all : List (List ℕ)) → map F.bytes files.now ≡ map Some all
         → IsLedgerOfFiles table.now all text)
         × Begins (W.contents out.old) (W.contents out.new) text) }
     ensures sorted { IfErr result (λ fault. fault ≡ AFailedWrite → (all : List (List ℕ))
@@ -65,34 +64,26 @@ pub fn write_sorted_ledger<R: Threads + Sync, F: Placed + Sync, W: Write>(
     crate::laws::taken_taps_are_settled();
     settlement::laws::posted_taps();
     let stamps = stamps_of(alloc, files)?;
-    let numbers = check_all(rt, alloc, files, workers)?;
-    let window = vec![in alloc; 0u8; WINDOW_BYTES]?;
-    let counted = count(&numbers)?;
-    let ends = ends_of(alloc, &numbers)?;
-    let clock = table.clock(alloc)?;
-    let mut text = head_with_room(alloc, STRIDE_ROOM_BYTES)?;
-    let mut taker = Taker::begin(alloc, files, window)?;
-    let mut explainer = Explainer::of(least_token());
+    let own = own_of_files(rt, alloc, None, files, workers)?;
+    let mut left = count(&own.numbers)?;
+    let ends = ends_of(alloc, &own.numbers)?;
+    let mut window = vec![in alloc; 0u8; WINDOW_BYTES]?;
+    let merge = Merge::begin(alloc, files, &mut window)?;
+    let mut taker = Taker::of(alloc, merge, window)?;
     let mut slots = slots_of(alloc, workers.min(MAX_WORKERS))?;
-    let mut left = counted;
-    explain_below(
+    write_lines(
         rt,
-        &mut text,
+        alloc,
         table,
-        &clock,
-        &mut explainer,
-        &mut taker,
         files,
+        least_token(),
         None,
+        &mut taker,
         &mut slots,
         &mut left,
         out,
     )?;
-    if left > 0 || !are_at_end(taker.merge.readers()) {
-        return Err(BillFault::Changed);
-    }
-    pass_on(&mut text, out)?;
-    if !have_stamps(files, &stamps) {
+    if left > 0 || !are_at_end(taker.merge.readers()) || !have_stamps(files, &stamps) {
         return Err(BillFault::Changed);
     }
     Ok(ends)

@@ -1,24 +1,24 @@
 //! The lines of taps of merged files, in rounds.
 
-ghost use Rattle.std.specs.Prelude.{◌≡◌, ◌+◌, ◌++◌, ◌<◌, ◌^◌, ℕ, List, IfErr, OnErr, OnOk};
-ghost use Rattle.std.specs.Prelude.{length, map, string_bytes};
-ghost use Rattle.fare_texts.specs.Lines.{HasConsumed};
-ghost use Rattle.fare_texts.specs.WrittenOut.{Begins, GoesOut};
-ghost use Rattle.histories.specs.declared.entry.Entry.{Entry};
-ghost use Rattle.sorted_bills.specs.Faults.{IsBeforeText};
+ghost use Rattle.std.specs.Prelude.{◌≡◌, ◌<◌, ℕ, List, IfErr, OnOk, length, map};
+ghost use Rattle.std.specs.Io.KnownBytes.{Appends};
+ghost use Rattle.fare_texts.specs.WrittenOut.{Begins};
+ghost use Rattle.sorted_taps.specs.declared.reader.TapReader.{TapReader as AReader};
+ghost use Rattle.sorted_bills.specs.Faults.{IsBeforeText, IsBillFault};
+ghost use Rattle.sorted_bills.specs.inside.Explained.{HasLines};
 ghost use Rattle.sorted_bills.specs.inside.Taken.{IsReady};
-ghost use Rattle.sorted_bills.specs.inside.Explained.{HasTaken, TakesLines};
 
 use crate::fault::BillFault;
 use crate::taker::{TAKEN_TAPS, Taker};
-use fare_texts::Explainer;
+use fare_texts::{Explainer, LINE_ROOM_BYTES, head_with_room, pass_on};
 use placed_files::Placed;
 use settled_texts::{WorkerSlot, write_by_workers};
+use std::alloc::Global;
 use std::io::Write;
 use std::marker::Sync;
 use std::thread::Threads;
 use tap_views::Token;
-use tariffs::{Clock, FareTable};
+use tariffs::FareTable;
 
 /// How many taps of a round a worker has.
 const SHARE_TAPS: usize = 24_576;
@@ -30,38 +30,41 @@ fn round_taps(workers: usize) -> usize
     workers.saturating_mul(SHARE_TAPS).max(TAKEN_TAPS)
 }
 
-/// Lines in `text` may go out first. More taps than are left are refused.
-pub(crate) fn explain_below<R: Threads + Sync, F: Placed, W: Write>(
+/// Writes the header line, and the lines of all taps that are taken. More taps than are left are
+/// refused.
+pub(crate) fn write_lines<R: Threads + Sync, F: Placed, W: Write>(
     rt: &R,
-    text: &mut String,
+    alloc: Global,
     table: &FareTable,
-    clock: &Clock,
-    explainer: &mut Explainer,
-    taker: &mut Taker,
     files: &[F],
+    from: Token,
     below: Option<Token>,
+    taker: &mut Taker,
     slots: &mut [WorkerSlot],
     left: &mut u64,
     out: &mut W,
 ) -> Result<(), BillFault>
-    requires clock { clock.now ≡ table.now.zone }
-    requires ready { IsReady (length files.now) taker.old }
-    requires room { explainer.old.number + left.old < 2 ^ 64 }
-    requires consumed { (earlier : List Entry) × HasConsumed table.now explainer.old earlier }
+    requires { IsReady (length files.now) taker.old }
     ensures ready { OnOk result (IsReady (length files.now) taker.new) }
-    ensures explained { OnOk result (TakesLines table.now (map F.bytes files.now)
-        taker.old.merge.readers.items explainer.old taker.new.merge.readers.items explainer.new
-        (GoesOut (W.contents out.old) (string_bytes text.old) (W.contents out.new)
-        (string_bytes text.new))) }
-    ensures started { OnErr result (HasTaken table.now (map F.bytes files.now)
-        taker.old.merge.readers.items explainer.old (λ lines. Begins (W.contents out.old)
-        (W.contents out.new) (string_bytes text.old ++ lines))) }
-    ensures fault { IfErr result (λ fault. IsBeforeText fault → ⊥) }
+    ensures whole { OnOk result (HasLines table.now (map F.bytes files.now)
+        taker.old.merge.readers.items from taker.new.merge.readers.items
+        (Appends (W.contents out.old) (W.contents out.new))) }
+    ensures kept { IfErr result (λ fault. IsBeforeText fault → out.new ≡ out.old) }
+    ensures started { IfErr result (λ fault. fault ≡ BillFault.Write → (readers : List AReader)
+        × HasLines table.now (map F.bytes files.now) taker.old.merge.readers.items from readers
+        (Begins (W.contents out.old) (W.contents out.new))) }
+    ensures fault { IfErr result (λ fault. (all : List (List ℕ)) → IsBillFault all fault) }
 {
+    let clock = table.clock(alloc)?;
+    let mut text = head_with_room(alloc, LINE_ROOM_BYTES)?;
+    let mut explainer = Explainer::of(from);
     let most = round_taps(slots.len());
     for _ in 0..u64::MAX {
         taker.take(files, explainer.token, below, most)?;
         if taker.taps.is_empty() {
+            if let Err(_) = pass_on(&mut text, out) {
+                return Err(BillFault::Write);
+            }
             return Ok(());
         }
         let number = taker.taps.len() as u64;
@@ -69,7 +72,18 @@ pub(crate) fn explain_below<R: Threads + Sync, F: Placed, W: Write>(
             return Err(BillFault::Changed);
         }
         *left -= number;
-        write_by_workers(rt, text, table, clock, explainer, slots, &taker.taps, out)?;
+        if let Err(_) = write_by_workers(
+            rt,
+            &mut text,
+            table,
+            &clock,
+            &mut explainer,
+            slots,
+            &taker.taps,
+            out,
+        ) {
+            return Err(BillFault::Write);
+        }
     }
     Err(BillFault::Changed)
 }

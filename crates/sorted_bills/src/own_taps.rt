@@ -1,19 +1,15 @@
 //! The taps of one token of sorted files.
 
-ghost use Rattle.std.specs.Prelude.{◌≡◌, ◌≢◌, ◌≤◌, ◌∷◌, true, ℕ, List, All, IfErr, IfOk};
-ghost use Rattle.std.specs.Prelude.{IfSome, OnOk, Some, length, map};
+ghost use Rattle.std.specs.Prelude.{◌≡◌, ◌≢◌, ◌≤◌, true, ℕ, List, All, IfErr, IfOk, IfSome, OnOk};
+ghost use Rattle.std.specs.Prelude.{Some, length, map};
 ghost use Rattle.tap_views.specs.Encoding.{AreEarly};
-ghost use Rattle.tap_views.specs.declared.encoder.TapFields.{TapFields};
 ghost use Rattle.tap_parts.specs.Canonical.{IsCanonical};
 ghost use Rattle.tap_views.specs.UploadEnds.{ArePlainEnds, are_posted};
 ghost use Rattle.settlement.specs.Posted.{token_of_tap};
 ghost use Rattle.settlement.specs.SettledTaps.{AreSettledTapsOf};
-ghost use Rattle.sorted_taps.specs.Checked.{AreCountedFiles};
-ghost use Rattle.sorted_taps.specs.Readers.{ahead};
 ghost use Rattle.sorted_taps.specs.Reading.{window_bytes};
-ghost use Rattle.sorted_taps.specs.Sorted.{IsSortedFault};
 ghost use Rattle.sorted_bills.specs.Faults.{IsBillFault};
-ghost use Rattle.sorted_bills.specs.inside.OwnTaps.{IsOwnOf, IsOwnPushed};
+ghost use Rattle.sorted_bills.specs.inside.OwnTaps.{IsOwnPushed, IsOwnResult};
 
 use crate::fault::BillFault;
 use crate::own_by_threads::{OwnTaps, own_of_files};
@@ -46,23 +42,6 @@ fn push_own(
     Ok(())
 }
 
-fn push_head(
-    token: Option<Token>,
-    reader: &TapReader,
-    taps: &mut Vec<TapFields>,
-) -> Result<(), AllocError>
-    ensures { OnOk result ((tap : TapFields) (rest : List TapFields) → ahead reader.now ≡ tap ∷ rest
-        → IsOwnPushed token tap taps.old.items taps.new.items) }
-{
-    match reader.head() {
-        Some(tap) => {
-            push_own(token, tap, taps)?;
-            Ok(())
-        }
-        None => Ok(()),
-    }
-}
-
 /// The file is checked whole.
 pub(crate) fn own_of_file<F: Placed>(
     alloc: Global,
@@ -71,18 +50,18 @@ pub(crate) fn own_of_file<F: Placed>(
     window: &mut [u8],
 ) -> Result<OwnTaps, SortedFault>
     requires { window_bytes ≤ length window.old }
-    ensures own { IfOk result (λ own. IfSome (F.bytes file.now) (λ all. IsOwnOf token all own)) }
-    ensures fault { IfErr result (λ fault. IfSome (F.bytes file.now)
-        (λ all. IsSortedFault all fault)) }
+    ensures { IfSome (F.bytes file.now) (IsOwnResult token result) }
 {
     let mut taps = Vec::new(alloc);
     let mut reader = TapReader::at(alloc, file, 0, window)?;
     for _ in 0..u64::MAX {
-        if reader.head().is_none() {
-            let number = reader.passed();
-            return Ok(OwnTaps { taps, number });
+        match reader.head() {
+            None => {
+                let number = reader.passed();
+                return Ok(OwnTaps { taps, number });
+            }
+            Some(tap) => push_own(token, tap, &mut taps)?,
         }
-        push_head(token, &reader, &mut taps)?;
         reader.advance(file, window)?;
     }
     Err(SortedFault::Unread)
@@ -95,24 +74,6 @@ fn in_order(taps: Vec<TapFields>) -> Vec<TapFields>
     let mut list = taps;
     sort(&mut list);
     list
-}
-
-/// The numbers of the taps of files, each checked whole. If a file is not sorted, the fault is the
-/// first one.
-pub(crate) fn check_all<R: Threads + Sync, F: Placed + Sync>(
-    rt: &R,
-    alloc: Global,
-    files: &[F],
-    workers: u32,
-) -> Result<Vec<u64>, BillFault>
-    ensures sorted { IfOk result (λ numbers. (all : List (List ℕ))
-        → map F.bytes files.now ≡ map Some all → AreCountedFiles all numbers.items) }
-    ensures fault { IfErr result (λ fault. (all : List (List ℕ))
-        → map F.bytes files.now ≡ map Some all → IsBillFault all fault) }
-    ensures unwritten { IfErr result (λ fault. fault ≢ BillFault.Write) }
-{
-    let own = own_of_files(rt, alloc, None, files, workers)?;
-    Ok(own.numbers)
 }
 
 /// The taps of one token of sorted files, in canonical order: no other tap is stored. One pass

@@ -1,27 +1,22 @@
 //! The bill of a range of the taps.
 
-ghost use Rattle.std.specs.Prelude.{◌≡◌, ◌≢◌, ◌^◌, ◌+◌, true, ℕ, All, List, Option, IfErr, IfOk};
-ghost use Rattle.std.specs.Prelude.{IfSome, IsTrue, None, OnOk, Some, map};
+ghost use Rattle.std.specs.Prelude.{◌≡◌, All, List, ℕ, Option, IfOk, IsTrue, None, OnOk, Some, map};
 ghost use Rattle.std.specs.declared.cmp.Ordering.TheVariants.{Less};
 ghost use Rattle.tariffs.specs.Fares.{Fares};
 ghost use Rattle.tap_views.specs.Token.{token_cmp};
-ghost use Rattle.tap_views.specs.UploadEnds.{are_posted};
 ghost use Rattle.settlement.specs.Bills.{HaveBillRoom};
 ghost use Rattle.sorted_taps.specs.Positions.{first_position};
-ghost use Rattle.sorted_bills.specs.Faults.{IsBillFault};
 ghost use Rattle.sorted_bills.specs.Parts.{added};
-ghost use Rattle.sorted_bills.specs.inside.Billed.{IsBilled};
 ghost use Rattle.sorted_bills.specs.inside.Charged.{IsPart, joined_spans};
 
 use crate::charges::charge;
 use crate::fault::BillFault;
-use crate::tap_numbers::{count, ends_of};
-use crate::token_part::{StartedPart, begin_part, end_part};
+use crate::token_part::StartedPart;
 use histories::HashSeed;
 use placed_files::Placed;
-use settlement::{Bill, Billed, OpenBill, least_token};
-use sorted_taps::{FileSpan, Position, WINDOW_BYTES};
-use std::alloc::{AllocError, Global};
+use settlement::{Bill, OpenBill, least_token};
+use sorted_taps::{FileSpan, Position, SortedFault};
+use std::alloc::Global;
 use tap_views::Token;
 use tariffs::FareTable;
 
@@ -32,6 +27,8 @@ pub(crate) struct Part {
     /// How many of them each file has.
     pub(crate) numbers: Vec<u64>,
     pub(crate) bill: Bill,
+    /// How many they are.
+    count: u64,
     /// A token below which the taps have none.
     first: Token,
     /// A token above which the taps have none.
@@ -47,29 +44,24 @@ pub(crate) fn part_of<F: Placed>(
     files: &[F],
     from: Option<Token>,
     below: Option<Token>,
-) -> Result<Part, BillFault>
-    ensures part { IfOk result (IsPart table.now (map F.bytes files.now) (2 ^ 73)) }
-    ensures fault { IfErr result (λ fault. (all : List (List ℕ)) → IsBillFault all fault) }
-    ensures unwritten { IfErr result (λ fault. fault ≢ BillFault.Write) }
+) -> Result<Part, SortedFault>
+    ensures { IfOk result (IsPart table.now (map F.bytes files.now)) }
 {
-    let mut window = vec![in alloc; 0u8; WINDOW_BYTES]?;
-    let started = begin_part(alloc, files, from, &mut window)?;
-    let StartedPart {
-        positions,
-        mut taker,
-    } = started;
+    let mut started = StartedPart::begin(alloc, files, from)?;
     let first = from.unwrap_or(least_token());
     let mut so_far = OpenBill::new(alloc, seed, first);
-    charge(alloc, table, files, below, &mut taker, &mut so_far)?;
-    let numbers = taker.merge.numbers(alloc)?;
+    let count = charge(alloc, table, files, below, &mut started.taker, &mut so_far)?;
+    let numbers = started.taker.merge.numbers(alloc)?;
     let last = so_far.token();
-    let bill = so_far.into_bill(alloc)?;
-    let readers = taker.merge.readers();
-    let spans = end_part(alloc, files, &positions, readers, below, &mut window)?;
+    let Ok(bill) = so_far.into_bill(alloc) else {
+        return Err(SortedFault::NoMemory);
+    };
+    let spans = started.end(alloc, files, below)?;
     Ok(Part {
         spans,
         numbers,
         bill,
+        count,
         first,
         last,
     })
@@ -81,116 +73,92 @@ pub(crate) fn is_below(token: Token, other: Token) -> bool
     token < other
 }
 
-/// None if the others do not begin where these end.
-fn join_spans(
+/// What the files have in two parts.
+#[derive(Drop)]
+struct JoinedFiles {
+    spans: Vec<FileSpan>,
+    numbers: Vec<u64>,
+}
+
+/// Refused if the others do not begin where these end, or if a sum exceeds 64 bits.
+fn join_files(
     alloc: Global,
     spans: &[FileSpan],
     others: &[FileSpan],
-) -> Result<Option<Vec<FileSpan>>, AllocError>
-    ensures meet { IfOk result (λ made. IfSome made
-        (λ _. map (λ span. span.to) spans.now ≡ map (λ span. Some span.from) others.now)) }
-    ensures joined { IfOk result (λ made. IfSome made
-        (λ joined. joined.items ≡ joined_spans spans.now others.now)) }
+    numbers: &[u64],
+    counts: &[u64],
+) -> Result<JoinedFiles, SortedFault>
+    ensures meet { IfOk result (λ _.
+        map (λ span. span.to) spans.now ≡ map (λ span. Some span.from) others.now) }
+    ensures spans { IfOk result (λ made. made.spans.items ≡ joined_spans spans.now others.now) }
+    ensures numbers { IfOk result (λ made. made.numbers.items ≡ added numbers.now counts.now) }
 {
-    if spans.len() != others.len() {
-        return Ok(None);
+    let long = spans.len();
+    if others.len() != long || numbers.len() != long || counts.len() != long {
+        return Err(SortedFault::Unread);
     }
-    let mut joined = Vec::with_capacity(alloc, spans.len())?;
-    for at in 0..spans.len() {
+    let mut joined = Vec::with_capacity(alloc, long)?;
+    let mut sums = Vec::with_capacity(alloc, long)?;
+    for at in 0..long {
         let FileSpan { from, to } = spans[at];
         let other = others[at];
         if to != Some(other.from) {
-            return Ok(None);
+            return Err(SortedFault::Unread);
         }
-        joined.push(FileSpan { from, to: other.to })?;
-    }
-    Ok(Some(joined))
-}
-
-/// None if there are not as many others, or if a sum exceeds 64 bits.
-fn add_up(alloc: Global, numbers: &[u64], others: &[u64]) -> Result<Option<Vec<u64>>, AllocError>
-    ensures { IfOk result (λ made. IfSome made (λ sums. sums.items ≡ added numbers.now others.now)) }
-{
-    if numbers.len() != others.len() {
-        return Ok(None);
-    }
-    let mut sums = Vec::with_capacity(alloc, numbers.len())?;
-    for at in 0..numbers.len() {
-        let Some(sum) = numbers[at].checked_add(others[at]) else {
-            return Ok(None);
+        let Some(sum) = numbers[at].checked_add(counts[at]) else {
+            return Err(SortedFault::Unread);
         };
+        joined.push(FileSpan { from, to: other.to })?;
         sums.push(sum)?;
     }
-    Ok(Some(sums))
-}
-
-/// Whether each of the spans is all of its file.
-fn are_whole(spans: &[FileSpan]) -> bool
-    ensures begins { IsTrue result → All (λ span. span.from ≡ first_position) spans.now }
-    ensures ends { IsTrue result → All (λ span. span.to ≡ None) spans.now }
-{
-    let begin = Position { offset: 0, skip: 0 };
-    for span in spans {
-        if span.from != begin || span.to.is_some() {
-            return false;
-        }
-    }
-    true
+    Ok(JoinedFiles {
+        spans: joined,
+        numbers: sums,
+    })
 }
 
 impl Part {
+    /// Whether each of its spans is all of its file.
+    pub(crate) fn is_whole(&self) -> bool
+        ensures begins { IsTrue result → All (λ span. span.from ≡ first_position) self.now.spans.items }
+        ensures ends { IsTrue result → All (λ span. span.to ≡ None) self.now.spans.items }
+    {
+        let begin = Position { offset: 0, skip: 0 };
+        for span in &self.spans {
+            if span.from != begin || span.to.is_some() {
+                return false;
+            }
+        }
+        true
+    }
+
     /// If the part does not begin where this one ends, with higher tokens, this one is of no use.
     pub(crate) fn append(&mut self, alloc: Global, more: Part) -> Result<(), BillFault>
         requires { HaveBillRoom self.old.bill more.bill }
-        ensures { OnOk result ((fares : Fares) (known : List (Option (List ℕ))) (few others : ℕ)
-            → IsPart fares known few self.old → IsPart fares known others more
-            → IsPart fares known (few + others) self.new) }
+        ensures { OnOk result ((fares : Fares) (known : List (Option (List ℕ)))
+            → IsPart fares known self.old → IsPart fares known more
+            → IsPart fares known self.new) }
     {
         let Part {
             spans,
             numbers,
             bill,
+            count,
             first,
             last,
         } = more;
         if !is_below(self.last, first) {
             return Err(BillFault::Changed);
         }
-        let Some(spans) = join_spans(alloc, &self.spans, &spans)? else {
+        let Some(count) = self.count.checked_add(count) else {
             return Err(BillFault::Changed);
         };
-        let Some(numbers) = add_up(alloc, &self.numbers, &numbers)? else {
-            return Err(BillFault::Changed);
-        };
-        self.spans = spans;
-        self.numbers = numbers;
+        let joined = join_files(alloc, &self.spans, &spans, &self.numbers, &numbers)?;
+        self.spans = joined.spans;
+        self.numbers = joined.numbers;
+        self.count = count;
         self.last = last;
         self.bill.append(alloc, bill)?;
         Ok(())
-    }
-
-    /// `Changed` if the part is not all of the files.
-    pub(crate) fn into_billed(self, alloc: Global) -> Result<Billed, BillFault>
-        ensures billed { IfOk result (λ made. (fares : Fares) (known : List (Option (List ℕ)))
-            → IsPart fares known (2 ^ 80) self → IsBilled fares known made) }
-        ensures posted { IfOk result (λ made. are_posted made.ends.items ≡ true) }
-        ensures fault { IfErr result (λ fault. (fares : Fares) (all : List (List ℕ))
-            → IsPart fares (map Some all) (2 ^ 80) self → IsBillFault all fault) }
-        ensures unwritten { IfErr result (λ fault. fault ≢ BillFault.Write) }
-    {
-        // proof: posted taps that are settled are the settled history
-        settlement::laws::posted_taps();
-        let Part {
-            spans,
-            numbers,
-            bill,
-            ..
-        } = self;
-        if !are_whole(&spans) {
-            return Err(BillFault::Changed);
-        }
-        let _counted = count(&numbers)?;
-        let ends = ends_of(alloc, &numbers)?;
-        Ok(Billed { ends, bill })
     }
 }

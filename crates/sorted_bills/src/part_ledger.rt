@@ -14,13 +14,11 @@ ghost use Rattle.sorted_bills.specs.Parts.{IsPartOf};
 ghost use Rattle.sorted_bills.specs.declared.fault.BillFault.TheVariants.{Write as AFailedWrite};
 
 use crate::fault::BillFault;
-use crate::lines_below::explain_below;
-use crate::token_part::{StartedPart, begin_part, end_part};
-use fare_texts::{Explainer, head_with_room, pass_on};
+use crate::lines_below::write_lines;
+use crate::token_part::StartedPart;
 use placed_files::Placed;
-use settled_texts::STRIDE_ROOM_BYTES;
 use settlement::least_token;
-use sorted_taps::{FileSpan, WINDOW_BYTES, have_stamps, stamps_of};
+use sorted_taps::{FileSpan, have_stamps, stamps_of};
 use std::alloc::Global;
 use std::io::Write;
 use std::marker::Sync;
@@ -70,36 +68,23 @@ pub fn write_part_ledger<R: Threads + Sync, F: Placed, W: Write>(
         → map F.bytes files.now ≡ map Some all → IsBillFault all fault) }
 {
     let stamps = stamps_of(alloc, files)?;
-    let mut window = vec![in alloc; 0u8; WINDOW_BYTES]?;
-    let clock = table.clock(alloc)?;
-    let mut text = head_with_room(alloc, STRIDE_ROOM_BYTES)?;
-    let started = begin_part(alloc, files, from, &mut window)?;
-    let StartedPart {
-        positions,
-        mut taker,
-    } = started;
-    let mut explainer = Explainer::of(from.unwrap_or(least_token()));
+    let mut started = StartedPart::begin(alloc, files, from)?;
+    let first = from.unwrap_or(least_token());
     let mut left = u64::MAX;
-    explain_below(
+    write_lines(
         rt,
-        &mut text,
+        alloc,
         table,
-        &clock,
-        &mut explainer,
-        &mut taker,
         files,
+        first,
         below,
+        &mut started.taker,
         &mut [],
         &mut left,
         out,
     )?;
-    let readers = taker.merge.readers();
-    let made = end_part(alloc, files, &positions, readers, below, &mut window)?;
-    if !are_spans(&made, spans) {
-        return Err(BillFault::Changed);
-    }
-    pass_on(&mut text, out)?;
-    if !have_stamps(files, &stamps) {
+    let made = started.end(alloc, files, below)?;
+    if !are_spans(&made, spans) || !have_stamps(files, &stamps) {
         return Err(BillFault::Changed);
     }
     Ok(())

@@ -1,17 +1,14 @@
 //! Taps of merged files, taken some at a time.
 
-ghost use Rattle.std.specs.Prelude.{◌≡◌, ◌≤◌, ◌<◌, [], ℕ, List, IfOk, IfSome, IsTrue, OnOk, None};
-ghost use Rattle.std.specs.Prelude.{Some};
-ghost use Rattle.std.specs.Prelude.{length, map};
+ghost use Rattle.std.specs.Prelude.{◌≡◌, ◌≤◌, ◌<◌, IfOk, IfSome, IsTrue, OnOk, length, map};
 ghost use Rattle.tap_views.specs.TokenOrder.{IsUpTo};
 ghost use Rattle.settlement.specs.Posted.{HasName, token_of_tap};
 ghost use Rattle.settlement.specs.Nondecreasing.{TapsNondecreasingFrom};
-ghost use Rattle.sorted_taps.specs.Merges.{AreAtEnd, AreStarted};
 ghost use Rattle.sorted_taps.specs.Reading.{window_bytes};
 ghost use Rattle.sorted_bills.specs.inside.Taken.{AreFollowing, AreTapsTaken, IsReady};
 
 use placed_files::Placed;
-use sorted_taps::{Merge, SortedFault, TapReader};
+use sorted_taps::{Merge, SortedFault};
 use std::alloc::{AllocError, Global};
 use tap_views::{MOMENT_LIMIT_MS, TapFields, Token};
 
@@ -22,7 +19,7 @@ pub(crate) const TAKEN_TAPS: usize = 512;
 pub(crate) struct Taker {
     pub(crate) merge: Merge,
     /// Room to read in.
-    window: Vec<u8>,
+    pub(crate) window: Vec<u8>,
     pub(crate) taps: Vec<TapFields>,
 }
 
@@ -68,24 +65,10 @@ pub(crate) fn last_of(taps: &[TapFields], last: Token) -> Option<Token>
 }
 
 impl Taker {
-    pub(crate) fn begin<F: Placed>(
-        alloc: Global,
-        files: &[F],
-        window: Vec<u8>,
-    ) -> Result<Self, SortedFault>
-        requires { window_bytes ≤ length window.items }
-        ensures ready { IfOk result (IsReady (length files.now)) }
-        ensures started { IfOk result (λ taker. (all : List (List ℕ))
-            → map F.bytes files.now ≡ map Some all → AreStarted all taker.merge.readers.items) }
-    {
-        let mut window = window;
-        let merge = Merge::begin(alloc, files, &mut window)?;
-        Ok(Taker::of(alloc, merge, window)?)
-    }
-
     pub(crate) fn of(alloc: Global, merge: Merge, window: Vec<u8>) -> Result<Self, AllocError>
+        requires { window_bytes ≤ length window.items }
+        ensures ready { IfOk result (IsReady (length merge.readers.items)) }
         ensures merge { IfOk result (λ taker. taker.merge ≡ merge) }
-        ensures window { IfOk result (λ taker. taker.window ≡ window) }
     {
         let taps = Vec::with_capacity(alloc, TAKEN_TAPS)?;
         Ok(Taker {
@@ -93,29 +76,6 @@ impl Taker {
             window,
             taps,
         })
-    }
-
-    pub(crate) fn over(
-        alloc: Global,
-        readers: Vec<TapReader>,
-        window: Vec<u8>,
-    ) -> Result<Self, AllocError>
-        requires { window_bytes ≤ length window.items }
-        ensures ready { IfOk result (IsReady (length readers.items)) }
-        ensures readers { IfOk result (λ taker. taker.merge.readers ≡ readers) }
-    {
-        Taker::of(alloc, Merge::of(readers), window)
-    }
-
-    pub(crate) fn into_readers(self) -> Vec<TapReader>
-        ensures { result ≡ self.merge.readers }
-    {
-        let Taker {
-            merge,
-            window: _,
-            taps: _,
-        } = self;
-        merge.into_readers()
     }
 
     /// The next taps, in place of the last ones: enough of them, and what a step of the merge takes
@@ -133,8 +93,6 @@ impl Taker {
         ensures taken { OnOk result (AreTapsTaken (map F.bytes files.now)
             self.old.merge.readers.items self.new.taps.items self.new.merge.readers.items) }
         ensures nondecreasing { OnOk result (TapsNondecreasingFrom from self.new.taps.items) }
-        ensures end { OnOk result (below ≡ None → self.new.taps.items ≡ []
-            → AreAtEnd self.new.merge.readers.items) }
     {
         self.merge
             .take(files, &mut self.window, below, enough, &mut self.taps)?;

@@ -1,6 +1,6 @@
 //! The numbers of the taps of files, and how the files end.
 
-ghost use Rattle.std.specs.Prelude.{◌≡◌, ◌^◌, ◌<◌, ◌≤◌, true, IfErr, IfOk, OnOk, map, sum};
+ghost use Rattle.std.specs.Prelude.{◌≡◌, ◌^◌, ◌<◌, ◌≤◌, true, IfErr, IfOk, map, sum};
 ghost use Rattle.tap_views.specs.UploadEnds.{are_posted};
 ghost use Rattle.tap_views.specs.declared.upload_end.UploadEnd.TheVariants.{Posted};
 ghost use Rattle.sorted_bills.specs.declared.fault.BillFault.TheVariants.{TooManyTaps};

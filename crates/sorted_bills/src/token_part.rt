@@ -1,19 +1,21 @@
 //! A part of sorted files: the taps of a range of tokens, and where they are in each file.
 
-ghost use Rattle.std.specs.Prelude.{◌≡◌, ◌≢◌, ◌≤◌, ◌^◌, true, ℕ, List, IfErr, IfOk};
-ghost use Rattle.std.specs.Prelude.{OnOk, Some, length, map};
+ghost use Rattle.std.specs.Prelude.{◌≡◌, ◌≢◌, ◌≤◌, ◌^◌, true, ℕ, List, IfErr, IfOk, Some, length};
+ghost use Rattle.std.specs.Prelude.{map};
 ghost use Rattle.tap_views.specs.UploadEnds.{are_posted};
 ghost use Rattle.tap_views.specs.declared.encoder.TapFields.{TapFields};
 ghost use Rattle.tap_views.specs.declared.upload_end.UploadEnd.TheVariants.{Posted};
 ghost use Rattle.histories.specs.declared.entry.Entry.{Entry};
 ghost use Rattle.settlement.specs.Bills.{IsBillOf};
-ghost use Rattle.sorted_taps.specs.Positions.{ArePlaced, AreSpanned, DoSpan};
-ghost use Rattle.sorted_taps.specs.Reading.{window_bytes};
-ghost use Rattle.sorted_bills.specs.Faults.{IsBeforeText, IsBillFault};
+ghost use Rattle.sorted_taps.specs.Merges.{AreTaken};
+ghost use Rattle.sorted_taps.specs.Positions.{ArePlaced, AreSpanned};
+ghost use Rattle.sorted_taps.specs.declared.reader.TapReader.{TapReader as AReader};
+ghost use Rattle.sorted_bills.specs.Faults.{IsBillFault};
 ghost use Rattle.sorted_bills.specs.Parts.{IsPartOf};
-ghost use Rattle.sorted_bills.specs.inside.Taken.{AreTapsTaken, IsReady};
+ghost use Rattle.sorted_bills.specs.inside.Charged.{HaveTaps};
+ghost use Rattle.sorted_bills.specs.inside.Taken.{IsReady};
 
-use crate::bill::first_fault;
+use crate::bill::unless_changed;
 use crate::fault::BillFault;
 use crate::part::{Part, part_of};
 use crate::taker::{TAKEN_TAPS, Taker};
@@ -22,8 +24,8 @@ use histories::HashSeed;
 use placed_files::Placed;
 use settlement::{Billed, least_token};
 use sorted_taps::{
-    FileSpan, PlacedReaders, Position, SortedFault, TapReader, WINDOW_BYTES, have_stamps,
-    readers_from, spans_to, stamps_of,
+    FileSpan, Merge, PlacedReaders, Position, SortedFault, WINDOW_BYTES, readers_from, spans_to,
+    stamps_of,
 };
 use std::alloc::Global;
 use tap_views::Token;
@@ -36,83 +38,61 @@ pub struct PartBill {
     pub billed: Billed,
 }
 
-/// Merged files at the positions where a part begins.
+/// Merged files, and the positions where a part begins.
 #[derive(Drop)]
 pub(crate) struct StartedPart {
-    pub(crate) positions: Vec<Position>,
+    positions: Vec<Position>,
     pub(crate) taker: Taker,
 }
 
-pub(crate) fn begin_part<F: Placed>(
-    alloc: Global,
-    files: &[F],
-    from: Option<Token>,
-    window: &mut [u8],
-) -> Result<StartedPart, SortedFault>
-    requires { window_bytes ≤ length window.old }
-    ensures ready { IfOk result (λ started. IsReady (length files.now) started.taker) }
-    ensures positions { IfOk result (λ started. length started.positions.items ≡ length files.now) }
-    ensures placed { IfOk result (λ started. (all : List (List ℕ))
-        → map F.bytes files.now ≡ map Some all
-        → ArePlaced all started.positions.items started.taker.merge.readers.items) }
-{
-    let placed = readers_from(alloc, files, from, window)?;
-    let PlacedReaders { positions, readers } = placed;
-    let room = vec![in alloc; 0u8; WINDOW_BYTES]?;
-    let taker = Taker::over(alloc, readers, room)?;
-    Ok(StartedPart { positions, taker })
-}
-
-/// `Changed` if the readers are not where a part would begin that goes on from the bound.
-pub(crate) fn end_part<F: Placed>(
-    alloc: Global,
-    files: &[F],
-    positions: &[Position],
-    readers: &[TapReader],
-    below: Option<Token>,
-    window: &mut [u8],
-) -> Result<Vec<FileSpan>, BillFault>
-    requires window { window_bytes ≤ length window.old }
-    requires positions { length positions.now ≡ length files.now }
-    requires readers { length readers.now ≡ length files.now }
-    ensures number { IfOk result (λ spans. length spans.items ≡ length files.now) }
-    ensures spanned { IfOk result (λ spans. (all : List (List ℕ))
-        → map F.bytes files.now ≡ map Some all
-        → DoSpan all positions.now readers.now spans.items) }
-    ensures fault { IfErr result (λ fault. (all : List (List ℕ)) → IsBillFault all fault) }
-    ensures unwritten { IfErr result (λ fault. fault ≢ BillFault.Write) }
-    ensures late { IfErr result (λ fault. IsBeforeText fault → ⊥) }
-{
-    match spans_to(alloc, files, positions, readers, below, window)? {
-        Some(spans) => Ok(spans),
-        None => Err(BillFault::Changed),
+impl StartedPart {
+    pub(crate) fn begin<F: Placed>(
+        alloc: Global,
+        files: &[F],
+        from: Option<Token>,
+    ) -> Result<Self, SortedFault>
+        ensures ready { IfOk result (λ part. IsReady (length files.now) part.taker) }
+        ensures positions { IfOk result (λ part. length part.positions.items ≡ length files.now) }
+        ensures placed { IfOk result (λ part. (all : List (List ℕ))
+            → map F.bytes files.now ≡ map Some all
+            → ArePlaced all part.positions.items part.taker.merge.readers.items) }
+    {
+        let mut window = vec![in alloc; 0u8; WINDOW_BYTES]?;
+        let placed = readers_from(alloc, files, from, &mut window)?;
+        let PlacedReaders { positions, readers } = placed;
+        let taker = Taker::of(alloc, Merge::of(readers), window)?;
+        Ok(StartedPart { positions, taker })
     }
-}
 
-/// Its fault need not be the first one of the files.
-fn bill_part<F: Placed>(
-    alloc: Global,
-    table: &FareTable,
-    seed: HashSeed,
-    files: &[F],
-    from: Option<Token>,
-    below: Option<Token>,
-) -> Result<PartBill, BillFault>
-    ensures billed { IfOk result (λ made. (history : List Entry)
-        × IsBillOf history made.billed.bill × (length history ≤ 2 ^ 95)
-        × ((all : List (List ℕ)) → map F.bytes files.now ≡ map Some all
-        → (lists : List (List TapFields))
-        × IsPartOf table.now all made.spans.items lists history
-        × (made.billed.ends.items ≡ map Posted (map length lists)))) }
-    ensures posted { IfOk result (λ made. are_posted made.billed.ends.items ≡ true) }
-    ensures fault { IfErr result (λ fault. (all : List (List ℕ)) → IsBillFault all fault) }
-    ensures unwritten { IfErr result (λ fault. fault ≢ BillFault.Write) }
-{
-    let part = part_of(alloc, table, seed, files, from, below)?;
-    let ends = ends_of(alloc, &part.numbers)?;
-    let Part { spans, bill, .. } = part;
-    let billed = Billed { ends, bill };
-    Ok(PartBill { spans, billed })
+    /// Refused if the readers are not where a part would begin that goes on from the bound.
+    pub(crate) fn end<F: Placed>(
+        self,
+        alloc: Global,
+        files: &[F],
+        below: Option<Token>,
+    ) -> Result<Vec<FileSpan>, SortedFault>
+        requires ready { IsReady (length files.now) self.taker }
+        requires positions { length self.positions.items ≡ length files.now }
+        ensures { IfOk result (λ spans. (all : List (List ℕ)) (begin : List AReader)
+            (taps : List TapFields) → map F.bytes files.now ≡ map Some all
+            → ArePlaced all self.positions.items begin
+            → AreTaken all begin taps self.taker.merge.readers.items
+            → HaveTaps all spans.items
+            (map (λ reader. reader.passed) self.taker.merge.readers.items) taps) }
+    {
+        let StartedPart { positions, taker } = self;
+        let Taker {
+            merge,
+            mut window,
+            ..
+        } = taker;
+        let readers = merge.readers();
+        match spans_to(alloc, files, &positions, readers, below, &mut window)? {
+            Some(spans) => Ok(spans),
+            // a file has changed, or is out of order
+            None => Err(SortedFault::OutOfOrder { tap: 0 }),
+        }
+    }
 }
 
 /// The bill of a part of sorted files, in one pass by one worker: of the taps with tokens from one
@@ -141,37 +121,12 @@ pub fn part_bill<F: Placed>(
     ensures unwritten { IfErr result (λ fault. fault ≢ BillFault.Write) }
 {
     let stamps = stamps_of(alloc, files)?;
-    match bill_part(alloc, table, seed, files, from, below) {
-        Ok(made) => {
-            if !have_stamps(files, &stamps) {
-                return Err(BillFault::Changed);
-            }
-            Ok(made)
-        }
-        Err(met) => Err(first_fault(alloc, files, met)),
-    }
-}
-
-fn pass_taps<F: Placed>(
-    files: &[F],
-    below: Option<Token>,
-    taker: &mut Taker,
-) -> Result<(), BillFault>
-    requires { IsReady (length files.now) taker.old }
-    ensures ready { OnOk result (IsReady (length files.now) taker.new) }
-    ensures taken { OnOk result ((taps : List TapFields)
-        × AreTapsTaken (map F.bytes files.now) taker.old.merge.readers.items taps
-        taker.new.merge.readers.items) }
-    ensures fault { IfErr result (λ fault. (all : List (List ℕ)) → IsBillFault all fault) }
-    ensures unwritten { IfErr result (λ fault. fault ≢ BillFault.Write) }
-{
-    for _ in 0..u64::MAX {
-        taker.take(files, least_token(), below, TAKEN_TAPS)?;
-        if taker.taps.is_empty() {
-            return Ok(());
-        }
-    }
-    Err(BillFault::Changed)
+    let charged = part_of(alloc, table, seed, files, from, below);
+    let part = unless_changed(alloc, files, &stamps, charged)?;
+    let ends = ends_of(alloc, &part.numbers)?;
+    let Part { spans, bill, .. } = part;
+    let billed = Billed { ends, bill };
+    Ok(PartBill { spans, billed })
 }
 
 /// Its fault need not be the first one of the files.
@@ -180,23 +135,18 @@ fn spans_of_part<F: Placed>(
     files: &[F],
     from: Option<Token>,
     below: Option<Token>,
-) -> Result<Vec<FileSpan>, BillFault>
-    ensures spanned { IfOk result (λ spans. (all : List (List ℕ))
-        → map F.bytes files.now ≡ map Some all
+) -> Result<Vec<FileSpan>, SortedFault>
+    ensures { IfOk result (λ spans. (all : List (List ℕ)) → map F.bytes files.now ≡ map Some all
         → (lists : List (List TapFields)) × AreSpanned all spans.items lists) }
-    ensures fault { IfErr result (λ fault. (all : List (List ℕ)) → IsBillFault all fault) }
-    ensures unwritten { IfErr result (λ fault. fault ≢ BillFault.Write) }
 {
-    let mut window = vec![in alloc; 0u8; WINDOW_BYTES]?;
-    let started = begin_part(alloc, files, from, &mut window)?;
-    let StartedPart {
-        positions,
-        mut taker,
-    } = started;
-    pass_taps(files, below, &mut taker)?;
-    let readers = taker.merge.readers();
-    let spans = end_part(alloc, files, &positions, readers, below, &mut window)?;
-    Ok(spans)
+    let mut started = StartedPart::begin(alloc, files, from)?;
+    for _ in 0..u64::MAX {
+        started.taker.take(files, least_token(), below, TAKEN_TAPS)?;
+        if started.taker.taps.is_empty() {
+            return started.end(alloc, files, below);
+        }
+    }
+    Err(SortedFault::Unread)
 }
 
 /// Where a part is in each file: its taps with tokens from one on and below another. All its taps
@@ -215,13 +165,6 @@ pub fn part_spans<F: Placed>(
     ensures unwritten { IfErr result (λ fault. fault ≢ BillFault.Write) }
 {
     let stamps = stamps_of(alloc, files)?;
-    match spans_of_part(alloc, files, from, below) {
-        Ok(spans) => {
-            if !have_stamps(files, &stamps) {
-                return Err(BillFault::Changed);
-            }
-            Ok(spans)
-        }
-        Err(met) => Err(first_fault(alloc, files, met)),
-    }
+    let spans = spans_of_part(alloc, files, from, below);
+    unless_changed(alloc, files, &stamps, spans)
 }

@@ -1,13 +1,12 @@
 -- Batches are read in one way: what is left of a file after some that were read.
-use Rattle.std.proofs.Common.{◌≡◌, ◌∙◌, ℕ, List, [], ◌∷◌, ◌++◌, arith, ap, drop}
-use Rattle.std.proofs.Common.{length, map, refl, subst, sym, length-append}
+use Rattle.std.proofs.Common.{◌≡◌, ◌∙◌, ℕ, List, [], ◌∷◌, ◌++◌, ap, drop, map, refl, subst, sym}
 use Rattle.tap_views.specs.Encoding.{fields_of}
 use Rattle.tap_views.specs.Files.{IsFile, taps_of_batches}
 use Rattle.tap_views.specs.Layout.{Tap}
 use Rattle.tap_views.specs.declared.encoder.TapFields.{TapFields}
-use Rattle.tap_views.proofs.Reading.{batch_some, one_batch}
+use Rattle.tap_views.proofs.Reading.{one_batch}
 use Rattle.sorted_taps.specs.Reading.{AreBatches, AreTapsBetween}
-use Rattle.sorted_taps.proofs.Batches.{taps_append}
+use Rattle.sorted_taps.proofs.Batches.{batches_of, none_taken, taps_append}
 
 -- a file that begins with batches goes on with the others
 file_split : (bytes back : List ℕ) (some all : List (List Tap)) → AreBatches bytes some back
@@ -27,12 +26,7 @@ file_split bytes back (batch ∷ some) (other ∷ all) (first, rest, is_batch, c
 
 -- no bytes are no batches
 pub none_of_nothing : (batches : List (List Tap)) → IsFile [] batches [] → batches ≡ []
-none_of_nothing [] file = refl
-none_of_nothing (batch ∷ batches) (front, back, is_batch, whole, file) =
-    let some = batch_some front batch is_batch in
-    let sizes = ap length whole in
-    let both = length-append front back in
-    absurd (omega (arith, some, sizes, both))
+none_of_nothing batches file = none_taken [] [] batches (batches_of [] [] batches file) refl
 
 -- after batches that were read, the others are left
 pub after_read : (all : List ℕ) (from to : ℕ) (read : List TapFields) (batches : List (List Tap))

@@ -1,35 +1,26 @@
 -- Files whose bytes are known.
-use Rattle.std.proofs.Common.{◌≡◌, ℕ, zero, suc, ◌<◌, ◌≤◌, ◌⊎◌, List, [], ◌∷◌, ◌++◌, length, map}
-use Rattle.std.proofs.Common.{get_or, refl, sym, ap, subst, ◌∙◌, arith, inl, inr, Some, IfSome}
-use Rattle.std.proofs.Common.{length-append}
+use Rattle.std.proofs.Common.{◌≡◌, ℕ, ◌<◌, ◌≤◌, ◌⊎◌, List, [], ◌∷◌, ◌++◌, length, map, get_or, sym}
+use Rattle.std.proofs.Common.{ap, subst, ◌∙◌, arith, inl, inr, None, Some, IfSome, length-append}
 use Rattle.std.specs.Prelude.{Option}
 use Rattle.std.proofs.Math.ListN.{get_or-append}
 use Rattle.std.proofs.Math.Seq.{get_or-append_seam}
 use Rattle.std.proofs.lemmas.Bool.{cases_lt}
+use Rattle.std.proofs.lemmas.List.{get_or-map, length-map}
+
+-- as many files as are known
+pub known_number : {X : Type 0} (known : X → Option (List ℕ)) (files : List X)
+    (all : List (List ℕ)) → map known files ≡ map Some all → length files ≡ length all
+known_number known files all are =
+    sym (length-map files known) ∙ ap length are ∙ length-map all Some
 
 -- the bytes of one of the files
 pub known_at : {X : Type 0} (known : X → Option (List ℕ)) (files : List X) (all : List (List ℕ))
     (k : ℕ) (file : X) → map known files ≡ map Some all → k < length files
     → file ≡ get_or files k file → known file ≡ Some (get_or all k [])
-known_at known [] all k file are within is = absurd (omega (arith, within))
-known_at known (x ∷ xs) [] k file are within is =
-    absurd (let long = ap length are in omega (arith, long))
-known_at known (x ∷ xs) (a ∷ bs) zero file are within is =
-    let here : known x ≡ Some a = cc in ap known is ∙ here
-known_at known (x ∷ xs) (a ∷ bs) (suc k) file are within is =
-    let rest : map known xs ≡ map Some bs = cc in
-    known_at known xs bs k file rest (omega (arith, within)) is
-
--- as many files as are known
-pub known_number : {X : Type 0} (known : X → Option (List ℕ)) (files : List X)
-    (all : List (List ℕ)) → map known files ≡ map Some all → length files ≡ length all
-known_number known [] [] are = refl
-known_number known [] (a ∷ bs) are = absurd (let long = ap length are in omega (arith, long))
-known_number known (x ∷ xs) [] are = absurd (let long = ap length are in omega (arith, long))
-known_number known (x ∷ xs) (a ∷ bs) are =
-    let rest : map known xs ≡ map Some bs = cc in
-    let same = known_number known xs bs rest in
-    omega (arith, same)
+known_at known files all k file are within is =
+    let number = known_number known files all are in
+    ap known is ∙ sym (get_or-map known files k file None within)
+    ∙ ap (λ l. get_or l k None) are ∙ get_or-map Some all k [] None (omega (arith, number, within))
 
 -- what holds of known bytes
 pub if_known : {A : Type 0} (P : A → Type 0) (known : Option A) (a : A) → known ≡ Some a

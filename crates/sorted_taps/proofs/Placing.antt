@@ -11,16 +11,17 @@ use Rattle.tap_views.specs.Layout.{Tap}
 use Rattle.tap_views.specs.declared.encoder.TapFields.{TapFields}
 use Rattle.tap_views.proofs.ParseLemmas.{no_bytes}
 use Rattle.tap_parts.specs.Canonical.{tap_cmp, IsCanonical}
-use Rattle.sorted_taps.specs.Merges.{AreTaken, IsPassed}
+use Rattle.sorted_taps.specs.Merges.{AreTaken}
 use Rattle.sorted_taps.specs.Positions.{ArePlaced, AreSpanned, DoSpan, IsAt, IsLeftAfter, IsPlaced}
 use Rattle.sorted_taps.specs.Positions.{IsSpanned, first_position}
-use Rattle.sorted_taps.specs.Readers.{ahead}
+use Rattle.sorted_taps.specs.Readers.{IsPassed, ahead}
 use Rattle.sorted_taps.specs.Reading.{AreBatches, AreTapsBetween}
 use Rattle.sorted_taps.specs.declared.positions.FileSpan.{FileSpan}
 use Rattle.sorted_taps.specs.declared.positions.Position.{Position}
 use Rattle.sorted_taps.specs.declared.reader.TapReader.{TapReader}
 use Rattle.sorted_taps.proofs.After.{after_read, none_of_nothing}
 use Rattle.sorted_taps.proofs.Batches.{batches_of, file_of, front_append}
+use Rattle.sorted_taps.proofs.Standing.{read_further}
 use Rattle.sorted_taps.proofs.Taking.{passed_lengths, some_of}
 
 -- ---- up to a file's end
@@ -78,18 +79,10 @@ goes_on all (Some position) reader rest at end left =
           (none_of_nothing batches (subst (λ l. IsFile l batches []) (end nothing) file));
     }
 
--- what follows begins with the tap at which the reader stands
-same_first : (all : List ℕ) (reader : TapReader) (rest : List TapFields)
-    → GoesOn all reader rest → take 1 (ahead reader) ≡ take 1 rest
-same_first all reader rest goes = by_list (ahead reader) refl
-  where
-    by_list : (holds : List TapFields) → ahead reader ≡ holds
-        → take 1 (ahead reader) ≡ take 1 rest
-    by_list [] e =
-        let none : rest ≡ [] = goes.is ∙ ap (λ l. l ++ goes.more) e ∙ goes.none e in
-        ap (take 1) e ∙ sym (ap (take 1) none)
-    by_list (tap ∷ trailing) e =
-        ap (take 1) e ∙ sym (ap (take 1) (goes.is ∙ ap (λ l. l ++ goes.more) e))
+first_of : (list more : List TapFields) → (list ≡ [] → more ≡ [])
+    → take 1 list ≡ take 1 (list ++ more)
+first_of [] more none = ap (take 1) (sym (none refl))
+first_of (tap ∷ list) more none = refl
 
 -- the reader began at the first place and came to the other
 spanned_one : (all : List ℕ) (span : FileSpan) (begin new : TapReader) (list : List TapFields)
@@ -97,35 +90,31 @@ spanned_one : (all : List ℕ) (span : FileSpan) (begin new : TapReader) (list :
     → IsSpanned all span list
 spanned_one all span begin new list placed passed at =
     let p = placed.passed in
-    let here = ahead new in
+    let here = read_further all span.from.offset p list begin new placed.holds passed in
     record {
       goes = λ rest left.
-          let on = goes_on all span.to new rest at (passed.end placed.holds.end) left in
-          let whole = ((p ++ ahead begin) ++ passed.read) ++ on.more in
-          let regroup : whole ≡ p ++ (list ++ (here ++ on.more)) =
-          append_assoc (p ++ ahead begin) passed.read on.more
-          ∙ append_assoc p (ahead begin) (passed.read ++ on.more)
-          ∙ ap (λ l. p ++ l) (sym (append_assoc (ahead begin) passed.read on.more)
-          ∙ ap (λ l. l ++ on.more) passed.goes_on ∙ append_assoc list here on.more) in
+          let on = goes_on all span.to new rest at here.end left in
+          let whole = ((p ++ list) ++ ahead new) ++ on.more in
+          let regroup : whole ≡ p ++ (list ++ (ahead new ++ on.more)) =
+          append_assoc (p ++ list) (ahead new) on.more
+          ∙ append_assoc p list (ahead new ++ on.more) in
           let long = ap length regroup in
-          let both = length-append p (list ++ (here ++ on.more)) in
+          let both = length-append p (list ++ (ahead new ++ on.more)) in
           let skip = placed.skip in
           record {
             taps = whole;
             between = front_append (drop span.from.offset all) (drop new.offset all)
-                (drop (length all) all) ((p ++ ahead begin) ++ passed.read) on.more
-                (front_append (drop span.from.offset all) (drop begin.offset all)
-                (drop new.offset all) (p ++ ahead begin) passed.read placed.holds.between
-                passed.between) on.between;
+                (drop (length all) all) ((p ++ list) ++ ahead new) on.more here.between on.between;
             skip = omega (arith, long, both, skip);
             rest_is = ap (λ l. list ++ l) on.is
-                ∙ sym (drop-append_seam p (list ++ (here ++ on.more)))
+                ∙ sym (drop-append_seam p (list ++ (ahead new ++ on.more)))
                 ∙ ap (drop (length p)) (sym regroup)
                 ∙ ap (λ n. drop n whole) (sym skip);
           };
       sorted = λ rest left.
-          let on = goes_on all span.to new rest at (passed.end placed.holds.end) left in
-          subst (λ l. IsSorted tap_cmp (list ++ l)) (same_first all new rest on) passed.sorted;
+          let on = goes_on all span.to new rest at here.end left in
+          subst (λ l. IsSorted tap_cmp (list ++ l))
+          (first_of (ahead new) on.more on.none ∙ ap (take 1) (sym on.is)) passed.sorted;
     }
 
 -- ---- all files

@@ -1,16 +1,14 @@
 -- Taps that are written in batches of 512.
-use Rattle.std.proofs.Common.{◌≡◌, ℕ, zero, suc, ◌+◌, ◌<◌, ◌≤◌, List, [], ◌∷◌, ◌++◌, flat_map}
+use Rattle.std.proofs.Common.{◌≡◌, ℕ, ◌+◌, ◌<◌, ◌≤◌, List, [], ◌∷◌, ◌++◌, flat_map}
 use Rattle.std.proofs.Common.{length, refl, sym, ap, subst, ◌∙◌, arith, append-nil, append_assoc}
-use Rattle.std.proofs.Common.{take, get_or, length-append, Ok, Err}
+use Rattle.std.proofs.Common.{take, get_or, Ok, Err}
 use Rattle.std.specs.Prelude.{IfErr, Option, Result}
-use Rattle.std.proofs.Math.ListN.{get_or-append}
-use Rattle.std.proofs.lemmas.List.{flat_map_more, get_or-append-add, take_more}
+use Rattle.std.proofs.lemmas.List.{flat_map_more, take_more}
 use Rattle.std.specs.List.{AllByRecursion}
 use Rattle.std.proofs.KnownBytes.{Appends-nil, Appends-trans}
 use Rattle.std.proofs.lemmas.List.Concat.{flat_map-append}
-use Rattle.tap_views.specs.Encoding.{AreEarly, Encodes}
+use Rattle.tap_views.specs.Encoding.{Encodes}
 use Rattle.tap_views.specs.Files.{IsFileOf}
-use Rattle.tap_views.specs.Layout.{moment_limit}
 use Rattle.tap_views.specs.declared.encoder.TapFields.{TapFields}
 use Rattle.tap_views.proofs.Texts.{more_text, no_text}
 use Rattle.tap_parts.proofs.FullBatches.{zip_more}
@@ -73,23 +71,6 @@ may_wait_none waiting none =
       most = omega (arith, size);
       early = λ k d inside. absurd (omega (arith, inside, size));
     }
-
--- the moments of one of the lists
-pub early_at : {X : Type 0} (items : X → List TapFields) (lists : List X) (i : ℕ) (d : X)
-    → AreEarly (λ (tap : TapFields). tap.moment) (flat_map items lists) → i < length lists
-    → AreEarly (λ (tap : TapFields). tap.moment) (items (get_or lists i d))
-early_at items [] i d early inside = absurd (omega (arith, inside))
-early_at items (x ∷ lists) zero d early inside = λ k e within.
-    let long = length-append (items x) (flat_map items lists) in
-    subst (λ (tap : TapFields). tap.moment < moment_limit)
-    (get_or-append (items x) (flat_map items lists) e k within)
-    (early k e (omega (arith, within, long)))
-early_at items (x ∷ lists) (suc i) d early inside =
-    early_at items lists i d (λ k e within.
-    let long = length-append (items x) (flat_map items lists) in
-    subst (λ (tap : TapFields). tap.moment < moment_limit)
-    (get_or-append-add (items x) (flat_map items lists) k e)
-    (early (length (items x) + k) e (omega (arith, within, long)))) (omega (arith, inside))
 
 -- the taps of one list more
 pub list_more : {X : Type 0} (items : X → List TapFields) (lists : List X) (i : ℕ) (d : X)

@@ -2,10 +2,10 @@
 use Rattle.std.proofs.Common.{◌≡◌, ◌⊎◌, ◌∙◌, ℕ, ◌+◌, ◌<◌, ◌≤◌, List, [], ◌++◌, ap, append_assoc}
 use Rattle.std.proofs.Common.{arith, drop, drop_at, drop-drop, inl, inr, length, length-append}
 use Rattle.std.proofs.Common.{None, Some, subst, sym, take, take_all, take-append-drop}
-use Rattle.std.proofs.Common.{length-take-le, ◌*◌, codes, length-drop, refl}
+use Rattle.std.proofs.Common.{length-take-le, ◌*◌, codes, refl}
 use Rattle.std.proofs.lemmas.Bool.{cases_lt}
-use Rattle.std.proofs.lemmas.List.{nil_from_length, take-append-le, drop-append-le}
-use Rattle.tap_views.specs.Faults.{IsFault, header, width, layout_in, count_in, flags_in, size_in}
+use Rattle.std.proofs.lemmas.List.{drop-take, nil_from_length, take-append-le, take-take}
+use Rattle.tap_views.specs.Faults.{IsFault, header, width, layout_in, count_in}
 use Rattle.tap_views.specs.Faults.{moment_in, Row, fault_order}
 use Rattle.tap_views.specs.Layout.{Tap, num, moment_limit, Layout, Tap1, Tap2}
 use Rattle.tap_views.specs.declared.encoder.TapFields.{TapFields}
@@ -36,108 +36,71 @@ moment_within : (layout : Layout) (index : ℕ) → index < 4096
 moment_within Tap1 index few = omega (arith, few)
 moment_within (Tap2 validator) index few = omega (arith, few)
 
-module _ (front more : List ℕ) (long : 114696 ≤ length front) where
-  abbrev whole : List ℕ
-  whole = front ++ more
-
-  same_part : (at n : ℕ) → at + n ≤ 114696 → take n (drop at whole) ≡ take n (drop at front)
+-- bytes with the same first ones, as many as the longest batch has
+module _ (xs ys : List ℕ) (long : 114696 ≤ length xs) (same : take 114696 xs ≡ take 114696 ys) where
+  same_part : (at n : ℕ) → at + n ≤ 114696 → take n (drop at xs) ≡ take n (drop at ys)
   same_part at n within =
-      let left = length-drop at front in
-      ap (take n) (drop-append-le at front more (omega (arith, within, long)))
-      ∙ take-append-le n (drop at front) more (omega (arith, left, within, long))
+      sym (drop-take at n xs)
+      ∙ ap (drop at) (sym (take-take (at + n) 114696 xs within) ∙ ap (take (at + n)) same
+      ∙ take-take (at + n) 114696 ys within)
+      ∙ drop-take at n ys
 
-  magic : take 4 whole ≡ take 4 front
-  magic = take-append-le 4 front more (omega (arith, long))
-
-  begins : starts_with nat_eq whole (codes "TAP2") ≡ starts_with nat_eq front (codes "TAP2")
-  begins = ap (pointwise nat_eq (codes "TAP2")) magic
-
-  layout : layout_in whole ≡ layout_in front
+  layout : layout_in xs ≡ layout_in ys
   layout =
-      ap (λ b. if b then Tap2 (take 4 (drop 8 whole)) else Tap1) begins
-      ∙ ap (λ name. if starts_with nat_eq front (codes "TAP2") then Tap2 name else Tap1)
+      ap (λ b. if b then Tap2 (take 4 (drop 8 xs)) else Tap1)
+      (ap (pointwise nat_eq (codes "TAP2")) (same_part 0 4 (omega arith)))
+      ∙ ap (λ name. if starts_with nat_eq ys (codes "TAP2") then Tap2 name else Tap1)
       (same_part 8 4 (omega arith))
 
-  flags : flags_in whole ≡ flags_in front
-  flags = ap num (same_part 6 2 (omega arith))
-
-  count : count_in whole ≡ count_in front
+  count : count_in xs ≡ count_in ys
   count = ap num (same_part 4 2 (omega arith))
 
-  size : size_in whole ≡ size_in front
-  size = ap (λ l. header l + width l * count_in whole) layout
-      ∙ ap (λ n. header (layout_in front) + width (layout_in front) * n) count
-
-  moment : (index : ℕ) → index < 4096 → moment_in whole index ≡ moment_in front index
+  moment : (index : ℕ) → index < 4096 → moment_in xs index ≡ moment_in ys index
   moment index few =
-      ap (λ l. num (take 8 (drop (28 + width l * index) whole))) layout
-      ∙ ap num (same_part (28 + width (layout_in front) * index) 8
-      (moment_within (layout_in front) index few))
+      ap (λ l. num (take 8 (drop (28 + width l * index) xs))) layout
+      ∙ ap num (same_part (28 + width (layout_in ys) * index) 8
+      (moment_within (layout_in ys) index few))
 
-  few_of : (fault : LayoutFault) → 4 < fault_order fault → IsFault front fault
-      → count_in front ≤ 4096
-  few_of fault late is = by_count (cases_lt 4096 (count_in front))
-    where
-      by_count : (4096 < count_in front) ⊎ (count_in front ≤ 4096) → count_in front ≤ 4096
-      by_count (inl many) = absurd (is.first (TooMany (count_in front)) late (refl, many))
-      by_count (inr few) = few
-
-  -- an earlier row of the whole is one of the front
-  back : (other : LayoutFault) → fault_order other < 6
-      → (4 < fault_order other → count_in front ≤ 4096) → Row other whole → Row other front
-  back (Short have) before few row =
-      let most = header_most (layout_in whole) in
-      let all = length-append front more in
-      let less = row.1 in
-      absurd (omega (arith, less, most, all, long))
-  back Magic before few row = subst (λ t. ¬ (t ≡ codes "TAP1") × ¬ (t ≡ codes "TAP2")) magic row
-  back Flags before few row = subst (λ n. ¬ (n ≡ 0)) flags row
-  back (TooMany n) before few row = (row.0 ∙ count, row.1)
-  back (Length want have) before few row =
-      let most = size_most (layout_in front) (count_in front) (few (omega arith)) in
-      let all = length-append front more in
-      let same = size in
-      let (wanted, had, less) = row in
-      absurd (omega (arith, wanted, had, less, same, most, all, long))
-  back (Moment index) before few row = absurd (omega (arith, before))
-
-  pub fault_of_front : (fault : LayoutFault) → IsFault front fault → IsFault whole fault
-  fault_of_front (Short have) is =
-      let most = header_most (layout_in front) in
-      let less = is.holds.1 in
-      absurd (omega (arith, less, most, long))
-  fault_of_front (Length want have) is =
-      let most = size_most (layout_in front) (count_in front)
-      (few_of (Length want have) (omega arith) is) in
-      let (wanted, had, less) = is.holds in
+  same_row : (fault : LayoutFault) → (4 < fault_order fault → count_in xs ≤ 4096) → Row fault xs
+      → Row fault ys
+  same_row (Short have) few (is, less) =
+      let most = header_most (layout_in xs) in absurd (omega (arith, less, most, long))
+  same_row Magic few row =
+      subst (λ t. ¬ (t ≡ codes "TAP1") × ¬ (t ≡ codes "TAP2")) (same_part 0 4 (omega arith)) row
+  same_row Flags few row = subst (λ n. ¬ (n ≡ 0)) (ap num (same_part 6 2 (omega arith))) row
+  same_row (TooMany n) few (is, many) = (is ∙ count, many)
+  same_row (Length want have) few (wanted, had, less) =
+      let most = size_most (layout_in xs) (count_in xs) (few (omega arith)) in
       absurd (omega (arith, wanted, had, less, most, long))
-  fault_of_front Magic is = record {
-    holds = subst (λ t. ¬ (t ≡ codes "TAP1") × ¬ (t ≡ codes "TAP2")) (sym magic) is.holds;
-    first = λ other before row. is.first other before
-        (back other (omega (arith, before)) (λ late. absurd (omega (arith, before, late))) row);
-  }
-  fault_of_front Flags is = record {
-    holds = subst (λ n. ¬ (n ≡ 0)) (sym flags) is.holds;
-    first = λ other before row. is.first other before
-        (back other (omega (arith, before)) (λ late. absurd (omega (arith, before, late))) row);
-  }
-  fault_of_front (TooMany n) is = record {
-    holds = (is.holds.0 ∙ sym count, is.holds.1);
-    first = λ other before row. is.first other before
-        (back other (omega (arith, before)) (λ late. absurd (omega (arith, before, late))) row);
-  }
-  fault_of_front (Moment index) is =
-      let few = few_of (Moment index) (omega arith) is in
-      let (inside, at, earlier) = is.holds in
-      record {
-        holds = (
-          subst (λ n. index < n) (sym count) inside,
-          subst (λ n. moment_limit ≤ n) (sym (moment index (omega (arith, inside, few)))) at,
-          λ k before. subst (λ n. n < moment_limit)
-              (sym (moment k (omega (arith, before, inside, few)))) (earlier k before),
-        );
-        first = λ other before row. is.first other before (back other before (λ late. few) row);
-      }
+  same_row (Moment index) few (inside, at, earlier) =
+      let most = few (omega arith) in (
+        subst (λ n. index < n) count inside,
+        subst (λ n. moment_limit ≤ n) (moment index (omega (arith, inside, most))) at,
+        λ k before. subst (λ n. n < moment_limit)
+            (moment k (omega (arith, before, inside, most))) (earlier k before),
+      )
+
+few_of : (front : List ℕ) (fault : LayoutFault) → IsFault front fault → 4 < fault_order fault
+    → count_in front ≤ 4096
+few_of front fault is late = by_count (cases_lt 4096 (count_in front))
+  where
+    by_count : (4096 < count_in front) ⊎ (count_in front ≤ 4096) → count_in front ≤ 4096
+    by_count (inl many) = absurd (is.first (TooMany (count_in front)) late (refl, many))
+    by_count (inr few) = few
+
+fault_of_front : (front more : List ℕ) → 114696 ≤ length front → (fault : LayoutFault)
+    → IsFault front fault → IsFault (front ++ more) fault
+fault_of_front front more long fault is =
+    let same = take-append-le 114696 front more long in
+    let all = length-append front more in
+    let few = few_of front fault is in
+    record {
+      holds = same_row front (front ++ more) long (sym same) fault few is.holds;
+      first = λ other before row. is.first other before
+          (same_row (front ++ more) front (omega (arith, all, long)) same other
+          (λ late. subst (λ n. n ≤ 4096) (count front (front ++ more) long (sym same))
+          (few (omega (arith, before, late)))) row);
+    }
 
 -- ---- what was decoded at an offset
 module _ (all : List ℕ) (offset room : ℕ) (taps : List TapFields) (decoded : Decoded)

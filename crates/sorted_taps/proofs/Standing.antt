@@ -1,11 +1,10 @@
 -- Where a reader is in its file, and its steps.
-use Rattle.std.proofs.Common.{◌≡◌, ℕ, ◌-◌, ◌<◌, List, [], ◌∷◌, ◌++◌, length, take, drop, refl, sym}
-use Rattle.std.proofs.Common.{ap, subst, ◌∙◌, arith, false, append-nil, append_assoc, get_or}
-use Rattle.std.proofs.Common.{length-append, suc, zero, ◌+◌, ◌≤◌}
-use Rattle.std.proofs.lemmas.List.{get_or_push, length-drop, drop-drop, nil_from_length}
-use Rattle.std.proofs.lemmas.List.Kept.{IsSortedBy-push}
+use Rattle.std.proofs.Common.{◌≡◌, ℕ, ◌+◌, ◌-◌, ◌<◌, ◌≤◌, List, [], ◌∷◌, ◌++◌, length, take, drop}
+use Rattle.std.proofs.Common.{refl, sym, ap, subst, ◌∙◌, arith, append-nil, append_assoc, get_or}
+use Rattle.std.proofs.Common.{length-append, length-take-le, suc, zero, take_all, take-append-drop}
+use Rattle.std.proofs.lemmas.List.{length-drop, drop-drop}
+use Rattle.std.specs.Prelude.{IfSome, None, Option, Some}
 use Rattle.std.specs.List.Sorted.{IsSorted}
-use Rattle.std.specs.Ordering.{is_lt}
 use Rattle.tap_views.specs.Faults.{IsFault}
 use Rattle.tap_views.specs.Files.{IsFileOf}
 use Rattle.tap_views.specs.declared.encoder.TapFields.{TapFields}
@@ -15,85 +14,49 @@ use Rattle.tap_views.proofs.ParseLemmas.{no_bytes}
 use Rattle.tap_parts.specs.Canonical.{tap_cmp}
 use Rattle.sorted_taps.specs.Merged.{BeginsNotBefore}
 use Rattle.sorted_taps.specs.Reading.{AreBatches, AreTapsBetween}
-use Rattle.sorted_taps.specs.Readers.{ahead, IsPositionedIn, IsAdvanced, IsStepFault, IsAfterFault}
-use Rattle.sorted_taps.specs.Readers.{IsNextBefore}
+use Rattle.sorted_taps.specs.Readers.{AreRead, ahead, IsPositionedIn, IsPassed, IsStepFault}
+use Rattle.sorted_taps.specs.Readers.{IsAfterFault, IsNextBefore}
 use Rattle.sorted_taps.specs.Sorted.{IsSortedFile, IsDamagedAt, IsSortedFault}
 use Rattle.sorted_taps.specs.declared.fault.SortedFault.{SortedFault}
 use Rattle.sorted_taps.specs.declared.fault.SortedFault.TheVariants.{Layout, OutOfOrder, Unread}
 use Rattle.sorted_taps.specs.declared.fault.SortedFault.TheVariants.{NoMemory}
 use Rattle.sorted_taps.specs.declared.reader.TapReader.{TapReader}
 use Rattle.sorted_taps.proofs.Batches.{file_of, front_append, front_none}
+use Rattle.sorted_taps.proofs.Joining.{last_taken, sorted_more, sorted_then}
 use Rattle.sorted_taps.specs.inside.Steps.{BeginsBefore, IsMovedOn, IsRefilled}
 
-last_of : (xs : List TapFields) (tap d : TapFields)
-    → get_or (xs ++ tap ∷ []) (length (xs ++ tap ∷ []) - 1) d ≡ tap
-last_of xs tap d =
-    let long = length-append xs (tap ∷ []) in
-    get_or_push xs tap d (length (xs ++ tap ∷ []) - 1) (omega (arith, long))
-
--- one more tap, which is not before the last
-pub sorted_more : (xs : List TapFields) (tap : TapFields) (rest : List TapFields)
-    → IsSorted tap_cmp (xs ++ tap ∷ []) → BeginsNotBefore tap rest
-    → IsSorted tap_cmp ((xs ++ tap ∷ []) ++ take 1 rest)
-sorted_more xs tap [] sorted order =
-    subst (λ l. IsSorted tap_cmp l) (sym (append-nil (xs ++ tap ∷ []))) sorted
-sorted_more xs tap (next ∷ rest) sorted order =
-    IsSortedBy-push (λ a b. is_lt (tap_cmp a b)) (xs ++ tap ∷ []) next sorted
-    (λ d some. subst (λ t. is_lt (tap_cmp next t) ≡ false) (sym (last_of xs tap d)) order)
-
--- what was passed, what stands in memory and what was read behind it, in another grouping
-regroup : (passed trailing read next : List TapFields) (tap : TapFields) → next ≡ trailing ++ read
-    → (passed ++ (tap ∷ trailing)) ++ read ≡ (passed ++ tap ∷ []) ++ next
-regroup passed trailing read next tap goes_on =
-    append_assoc passed (tap ∷ trailing) read
-    ∙ ap (λ l. passed ++ tap ∷ l) (sym goes_on)
-    ∙ sym (append_assoc passed (tap ∷ []) next)
-
--- the reader has passed these taps since an offset, whatever it has counted
-abbrev pub LiesIn : List ℕ → ℕ → List TapFields → TapReader → Type 0
-LiesIn all from passed reader =
-    IsPositionedIn all from passed (record reader { passed = length passed })
-
-pub lies_of : (all : List ℕ) (from : ℕ) (passed : List TapFields) (reader : TapReader)
-    → IsPositionedIn all from passed reader → LiesIn all from passed reader
-lies_of all from passed reader holds = record {
-  between = holds.between;
-  sorted = holds.sorted;
-  end = holds.end;
-  number = refl;
+-- what is in memory after a run that was passed
+pub read_further : (all : List ℕ) (from : ℕ) (passed run : List TapFields) (old new : TapReader)
+    → AreRead all from old.offset passed (ahead old) → IsPassed all old run new
+    → AreRead all from new.offset (passed ++ run) (ahead new)
+read_further all from passed run old new holds is = record {
+  between = subst (λ l. AreTapsBetween all from new.offset l)
+      (append_assoc passed (ahead old) is.read ∙ ap (λ l. passed ++ l) is.goes_on
+      ∙ sym (append_assoc passed run (ahead new)))
+      (front_append (drop from all) (drop old.offset all) (drop new.offset all)
+      (passed ++ ahead old) is.read holds.between is.between);
+  sorted = sorted_then passed run (ahead new)
+      (subst (λ l. IsSorted tap_cmp (passed ++ l)) (sym is.first) holds.sorted) is.sorted;
+  end = is.end holds.end;
 }
 
 -- a reader that goes on is in its file
-pub lies_on : (all : List ℕ) (from : ℕ) (passed : List TapFields) (old new : TapReader)
-    → LiesIn all from passed old → (is : IsAdvanced all old new)
-    → LiesIn all from (passed ++ is.tap ∷ []) new
-lies_on all from passed old new lies is = record {
-  between = subst (λ l. AreTapsBetween all from new.offset l)
-      (regroup passed is.trailing is.read (ahead new) is.tap is.goes_on)
-      (front_append (drop from all) (drop old.offset all) (drop new.offset all)
-      (passed ++ is.tap ∷ is.trailing) is.read
-      (subst (λ l. AreTapsBetween all from old.offset (passed ++ l)) is.stood lies.between)
-      is.between);
-  sorted = sorted_more passed is.tap (ahead new)
-      (subst (λ l. IsSorted tap_cmp (passed ++ take 1 l)) is.stood lies.sorted) is.order;
-  end = is.end;
-  number = refl;
-}
-
-pub holds_on : (all : List ℕ) (from : ℕ) (passed : List TapFields) (old new : TapReader)
-    → IsPositionedIn all from passed old → (is : IsAdvanced all old new)
-    → IsPositionedIn all from (passed ++ is.tap ∷ []) new
-holds_on all from passed old new holds is =
-    let lies = lies_on all from passed old new (lies_of all from passed old holds) is in
-    let long = length-append passed (is.tap ∷ []) in
-    let before = holds.number in
+pub positioned_further : (all : List ℕ) (from : ℕ) (passed run : List TapFields)
+    (old new : TapReader) → IsPositionedIn all from passed old → IsPassed all old run new
+    → IsPositionedIn all from (passed ++ run) new
+positioned_further all from passed run old new (holds, before) is =
+    let long = length-append passed run in
     let after = is.number in
-    record {
-      between = lies.between;
-      sorted = lies.sorted;
-      end = lies.end;
-      number = omega (arith, long, before, after);
-    }
+    (read_further all from passed run old new holds is, omega (arith, long, before, after))
+
+pub positioned_on : (from : ℕ) (old new : TapReader) (known : Option (List ℕ))
+    (run : List TapFields)
+    → IfSome known (λ all. (passed : List TapFields) × IsPositionedIn all from passed old)
+    → IfSome known (λ all. IsPassed all old run new)
+    → IfSome known (λ all. (passed : List TapFields) × IsPositionedIn all from passed new)
+positioned_on from old new None run holds is = tt
+positioned_on from old new (Some all) run (passed, holds) is =
+    (passed ++ run, positioned_further all from passed run old new holds is)
 
 -- taps up to the file's end are the file's
 pub whole_file : (all : List ℕ) (to : ℕ) (taps : List TapFields) → AreTapsBetween all 0 to taps
@@ -108,7 +71,7 @@ whole_file all to taps between end = record {
 -- a reader that came to the end of its file has passed all taps
 pub sorted_at_end : (all : List ℕ) (passed : List TapFields) (reader : TapReader)
     → IsPositionedIn all 0 passed reader → ahead reader ≡ [] → IsSortedFile all passed
-sorted_at_end all passed reader holds none = record {
+sorted_at_end all passed reader (holds, number) none = record {
   read = whole_file all reader.offset passed
       (subst (λ l. AreTapsBetween all 0 reader.offset l)
       (ap (λ l. passed ++ l) none ∙ append-nil passed) holds.between) (holds.end none);
@@ -147,21 +110,10 @@ opening_fault all (Layout at fault) is =
 opening_fault all Unread is = tt
 opening_fault all NoMemory is = tt
 
-one_tap : (taps : List TapFields) → length taps ≡ 1 → take 1 taps ≡ taps
-one_tap [] one = absurd (omega (arith, one))
-one_tap (tap ∷ []) one = refl
-one_tap (tap ∷ next ∷ rest) one = absurd (omega (arith, one))
-
 -- the fault of a reader that does not go on is the file's
 pub step_fault : (all : List ℕ) (passed : List TapFields) (old : TapReader) (fault : SortedFault)
     → IsPositionedIn all 0 passed old → IsStepFault all old fault → IsSortedFault all fault
-step_fault all passed old (OutOfOrder number) holds is =
-    let whole : AreTapsBetween all 0 is.to ((passed ++ is.tap ∷ is.trailing) ++ is.read) =
-    front_append all (drop old.offset all) (drop is.to all)
-    (passed ++ is.tap ∷ is.trailing) is.read
-    (subst (λ l. AreTapsBetween all 0 old.offset (passed ++ l)) is.stood holds.between)
-    is.between in
-    let before = holds.number in
+step_fault all passed old (OutOfOrder number) (holds, before) is =
     let counted = is.counted in
     record {
       to = is.to;
@@ -170,101 +122,112 @@ step_fault all passed old (OutOfOrder number) holds is =
       next = is.next;
       later = is.later;
       between = subst (λ l. AreTapsBetween all 0 is.to l)
-          (append_assoc passed (is.tap ∷ is.trailing) is.read
-          ∙ ap (λ l. passed ++ is.tap ∷ l) is.goes_on) whole;
-      sorted = subst (λ l. IsSorted tap_cmp (passed ++ take 1 l)) is.stood holds.sorted;
+          (append_assoc passed (ahead old) is.read ∙ ap (λ l. passed ++ l) is.goes_on)
+          (front_append all (drop old.offset all) (drop is.to all) (passed ++ ahead old) is.read
+          holds.between is.between);
+      sorted = subst (λ l. IsSorted tap_cmp (passed ++ l)) is.stood holds.sorted;
       before = is.before;
       number = omega (arith, before, counted);
     }
-step_fault all passed old (Layout at fault) holds (one, is) =
+step_fault all passed old (Layout at fault) (holds, before) (one, is) =
     damaged all at ((passed ++ ahead old) ++ []) fault
     (front_append all (drop old.offset all) (drop at all) (passed ++ ahead old) [] holds.between
     is.between)
     (subst (λ l. IsSorted tap_cmp l)
-    (ap (λ l. passed ++ l) (one_tap (ahead old) one) ∙ sym (append-nil (passed ++ ahead old)))
-    holds.sorted) is.some is.is_fault
+    (ap (λ l. passed ++ l) (take_all 1 (ahead old) (omega (arith, one)))
+    ∙ sym (append-nil (passed ++ ahead old))) holds.sorted) is.some is.is_fault
 step_fault all passed old Unread holds is = tt
 step_fault all passed old NoMemory holds is = tt
 
 -- ---- Steps of a reader.
--- to the next tap in memory
-pub next_moved : (all : List ℕ) (reader : TapReader) → reader.next + 1 < length reader.taps.items
-    → IsMovedOn all reader (record reader { next = reader.next + 1 })
-next_moved all reader more =
+-- to a tap in memory
+pub next_moved : (all : List ℕ) (reader : TapReader) (count : ℕ)
+    → reader.next + count < length reader.taps.items
+    → IsMovedOn all reader count (record reader { next = reader.next + count })
+next_moved all reader count more =
     let items = reader.taps.items in
     record {
       read = [];
       between = front_none (drop reader.offset all);
-      goes_on = sym (drop-drop 1 reader.next items) ∙ sym (append-nil (drop 1 (ahead reader)));
+      goes_on = append-nil (ahead reader) ∙ sym (take-append-drop count (ahead reader))
+          ∙ ap (λ l. take count (ahead reader) ++ l) (drop-drop count reader.next items);
       end = λ none.
           let zero_left = ap length none in
-          let left = length-drop (reader.next + 1) items in
+          let left = length-drop (reader.next + count) items in
           absurd (omega (arith, zero_left, left, more));
       number = refl;
     }
 
 -- to the first tap that was read behind the last one in memory
-pub refill_moved : (all : List ℕ) (old mid new : TapReader) → mid.offset ≡ old.offset
-    → mid.passed ≡ old.passed
-    → length old.taps.items ≤ old.next + 1 → IsRefilled all mid new → IsMovedOn all old new
-refill_moved all old mid new same passed last is =
-    let items = old.taps.items in
+pub refill_moved : (all : List ℕ) (old new : TapReader) (count : ℕ)
+    → length old.taps.items ≤ old.next + count
+    → IsRefilled all (record old { next = old.next + count }) new → IsMovedOn all old count new
+refill_moved all old new count last is =
     let here : ahead new ≡ new.taps.items = ap (λ n. drop n new.taps.items) is.first in
-    let none : drop 1 (ahead old) ≡ [] =
-    drop-drop 1 old.next items
-    ∙ nil_from_length (drop (old.next + 1) items)
-    (let left = length-drop (old.next + 1) items in omega (arith, left, last)) in
+    let left = length-drop old.next old.taps.items in
     record {
       read = new.taps.items;
-      between = subst (λ n. AreTapsBetween all n new.offset new.taps.items) same is.between;
-      goes_on = here ∙ ap (λ l. l ++ new.taps.items) (sym none);
+      between = is.between;
+      goes_on = ap (λ l. l ++ new.taps.items)
+          (sym (take_all count (ahead old) (omega (arith, left, last))))
+          ∙ ap (λ l. take count (ahead old) ++ l) (sym here);
       end = λ empty. is.end (sym here ∙ empty);
-      number = is.number ∙ passed;
+      number = is.number;
     }
 
--- the tap at which the reader stands, and those behind it in memory
-pub head_of : (items : List TapFields) (at : ℕ) (tap d : TapFields) → at < length items
-    → tap ≡ get_or items at d → drop at items ≡ tap ∷ drop 1 (drop at items)
-head_of (x ∷ xs) zero tap d within is = ap (λ t. t ∷ xs) (sym is)
-head_of (x ∷ xs) (suc at) tap d within is = head_of xs at tap d (omega (arith, within)) is
-head_of [] at tap d within is = absurd (omega (arith, within))
+first_run : (n : ℕ) (list rest : List TapFields) → 0 < n → n ≤ length list
+    → take 1 (take n list ++ rest) ≡ take 1 list
+first_run zero list rest some within = absurd (omega (arith, some))
+first_run (suc n) [] rest some within = absurd (omega (arith, within))
+first_run (suc n) (x ∷ list) rest some within = refl
 
--- a reader that has passed its tap, which is in order with the next one
-pub advanced : (all : List ℕ) (old mid : TapReader) (number : ℕ) (tap : TapFields)
-    → ahead old ≡ tap ∷ drop 1 (ahead old) → IsMovedOn all old mid
-    → BeginsNotBefore tap (ahead mid) → number ≡ old.passed + 1
-    → IsAdvanced all old (record mid { passed = number })
-advanced all old mid number tap head is order counted = record {
-  tap = tap;
-  trailing = drop 1 (ahead old);
-  read = is.read;
-  stood = head;
-  between = is.between;
-  goes_on = is.goes_on;
-  order = order;
-  end = is.end;
-  number = counted;
-}
+-- a reader that has passed taps in order, the last of which is in order with the next one
+pub run_passed : (all : List ℕ) (old mid : TapReader) (count number : ℕ) → 0 < count
+    → count ≤ length (ahead old) → IsSorted tap_cmp (take count (ahead old))
+    → IsMovedOn all old count mid
+    → ((d : TapFields) → BeginsNotBefore (get_or (ahead old) (count - 1) d) (ahead mid))
+    → number ≡ old.passed + count
+    → IsPassed all old (take count (ahead old)) (record mid { passed = number })
+run_passed all old mid count number some within up is order counted =
+    let long = length-take-le count (ahead old) within in
+    record {
+      read = is.read;
+      between = is.between;
+      goes_on = is.goes_on;
+      first = first_run count (ahead old) (ahead mid) some within;
+      sorted = sorted_more (take count (ahead old)) (ahead mid) up (λ d _.
+          subst (λ t. BeginsNotBefore t (ahead mid))
+          (sym (last_taken count (ahead old) d d some within)) (order d));
+      end = λ was. is.end;
+      number = omega (arith, counted, long);
+    }
 
 -- the next tap is before the one at which the reader stood
 pub out_of_order : (all : List ℕ) (old mid : TapReader) (number : ℕ) (tap : TapFields)
-    → ahead old ≡ tap ∷ drop 1 (ahead old) → IsMovedOn all old mid
+    → 0 < length (ahead old) → get_or (ahead old) 0 tap ≡ tap → IsMovedOn all old 1 mid
     → BeginsBefore tap (ahead mid) → number ≡ old.passed + 1 → IsNextBefore all old number
-out_of_order all old mid number tap head is earlier counted = by_list (ahead mid) refl earlier
+out_of_order all old mid number tap some is_tap is earlier counted =
+    by_list (ahead mid) refl earlier
   where
+    head : (list : List TapFields) → 0 < length list → get_or list 0 tap ≡ tap
+        → take 1 list ≡ tap ∷ []
+    head [] some is = absurd (omega (arith, some))
+    head (x ∷ list) some is = ap (λ t. t ∷ []) is
+
     by_list : (list : List TapFields) → ahead mid ≡ list → BeginsBefore tap list
         → IsNextBefore all old number
     by_list [] e before = absurd before
-    by_list (next ∷ later) e before = record {
-      to = mid.offset;
-      tap = tap;
-      trailing = drop 1 (ahead old);
-      read = is.read;
-      next = next;
-      later = later;
-      stood = head;
-      between = is.between;
-      goes_on = sym is.goes_on ∙ e;
-      before = before;
-      counted = counted;
-    }
+    by_list (next ∷ later) e before =
+        let stood = head (ahead old) some is_tap in
+        record {
+          to = mid.offset;
+          tap = tap;
+          read = is.read;
+          next = next;
+          later = later;
+          stood = stood;
+          between = is.between;
+          goes_on = is.goes_on ∙ ap (λ l. l ++ ahead mid) stood ∙ ap (λ l. tap ∷ l) e;
+          before = before;
+          counted = counted;
+        }

@@ -13,14 +13,13 @@ use Rattle.tap_views.specs.declared.encoder.TapFields.{TapFields}
 use Rattle.tap_views.proofs.Lists.{All-back, All-front}
 use Rattle.tap_parts.specs.Canonical.{tap_cmp, IsCanonical}
 use Rattle.sorted_taps.specs.Merged.{BeginsNotBefore, IsNotBefore}
-use Rattle.sorted_taps.specs.Merges.{AreAtEnd, AreStarted, AreSortedFiles, AreTaken, IsPassed}
-use Rattle.sorted_taps.specs.Reading.{AreTapsBetween}
-use Rattle.sorted_taps.specs.Readers.{ahead, IsPositionedIn}
-use Rattle.sorted_taps.specs.Sorted.{IsSortedFile}
+use Rattle.sorted_taps.specs.Merges.{AreAtEnd, AreStarted, AreSortedFiles, AreTaken}
+use Rattle.sorted_taps.specs.Readers.{IsPassed, ahead}
 use Rattle.sorted_taps.specs.declared.reader.TapReader.{TapReader}
 use Rattle.sorted_taps.proofs.Batches.{front_append, front_none}
-use Rattle.sorted_taps.proofs.Joining.{inner_swap, none_before, sorted_across, sorted_glue}
-use Rattle.sorted_taps.proofs.Standing.{whole_file}
+use Rattle.sorted_taps.proofs.Joining.{first_only, inner_swap, none_before, one_sorted}
+use Rattle.sorted_taps.proofs.Joining.{sorted_across, sorted_then}
+use Rattle.sorted_taps.proofs.Standing.{positioned_further, sorted_at_end}
 
 -- the taps of all lists
 abbrev pub all_of : List (List TapFields) → List TapFields
@@ -35,7 +34,7 @@ all_of_each P (list ∷ lists) each =
     (all_of_each P lists (λ k inside. each (suc k) (omega (arith, inside))))
 
 -- ---- lists that go on, each with the one at its index
-abbrev both : List (List TapFields) → List (List TapFields) → List (List TapFields)
+abbrev pub both : List (List TapFields) → List (List TapFields) → List (List TapFields)
 both [] ys = ys
 both (x ∷ xs) [] = x ∷ xs
 both (x ∷ xs) (y ∷ ys) = (x ++ y) ∷ both xs ys
@@ -54,7 +53,7 @@ both_at (x ∷ xs) [] k = sym (append-nil (get_or (x ∷ xs) k []))
 both_at (x ∷ xs) (y ∷ ys) zero = refl
 both_at (x ∷ xs) (y ∷ ys) (suc k) = both_at xs ys k
 
-both_moved : (xs ys : List (List TapFields))
+pub both_moved : (xs ys : List (List TapFields))
     → IsPermutation (all_of (both xs ys)) (all_of xs ++ all_of ys)
 both_moved [] ys = IsPermutation-refl (all_of ys)
 both_moved (x ∷ xs) [] =
@@ -74,11 +73,6 @@ begins_alike a [] ys same begins = tt
 begins_alike a (x ∷ xs) [] same begins = absurd (cc)
 begins_alike a (x ∷ xs) (y ∷ ys) same begins =
     let one : y ≡ x = cc in subst (IsNotBefore a) one begins
-
-pub first_only : (run rest : List TapFields) → take 1 (run ++ take 1 rest) ≡ take 1 (run ++ rest)
-first_only [] [] = refl
-first_only [] (x ∷ rest) = refl
-first_only (x ∷ run) rest = refl
 
 first_both : (one mid two rest old : List TapFields) → take 1 (one ++ mid) ≡ take 1 old
     → take 1 (two ++ rest) ≡ take 1 mid → take 1 ((one ++ two) ++ rest) ≡ take 1 old
@@ -100,10 +94,6 @@ passed_none all reader = record {
   end = λ was. was;
   number = omega arith;
 }
-  where
-    one_sorted : (list : List TapFields) → IsSorted tap_cmp (take 1 list)
-    one_sorted [] = λ k d low high. absurd (omega (arith, high))
-    one_sorted (x ∷ list) = λ k d low high. absurd (omega (arith, high))
 
 passed_both : (all : List ℕ) (old mid new : TapReader) (one two : List TapFields)
     → IsPassed all old one mid → IsPassed all mid two new → IsPassed all old (one ++ two) new
@@ -119,10 +109,8 @@ passed_both all old mid new one two p q =
           ∙ ap (λ l. l ++ q.read) p.goes_on ∙ append_assoc one (ahead mid) q.read
           ∙ ap (λ l. one ++ l) q.goes_on ∙ sym (append_assoc one two (ahead new));
       first = first_both one (ahead mid) two (ahead new) (ahead old) p.first q.first;
-      sorted = subst (λ l. IsSorted tap_cmp l) (sym (append_assoc one two (take 1 (ahead new))))
-          (sorted_glue one (two ++ take 1 (ahead new))
-          (subst (λ l. IsSorted tap_cmp (one ++ l))
-          (sym (first_only two (ahead new) ∙ q.first)) p.sorted) q.sorted);
+      sorted = sorted_then one two (ahead new)
+          (subst (λ l. IsSorted tap_cmp (one ++ l)) (sym q.first) p.sorted) q.sorted;
       end = λ was none. q.end (p.end was) none;
       number = omega (arith, first, then, long);
     }
@@ -215,20 +203,6 @@ pub same_head : (was : List TapFields) (one other : TapFields) (rest more : List
     → was ≡ one ∷ rest → was ≡ other ∷ more → one ≡ other
 same_head was one other rest more e f = let h : one ∷ rest ≡ other ∷ more = sym e ∙ f in cc
 
--- a reader that began at its file's begin and came to its end has passed all its taps
-passed_file : (all : List ℕ) (old new : TapReader) (run : List TapFields)
-    → IsPositionedIn all 0 [] old → IsPassed all old run new → ahead new ≡ []
-    → IsSortedFile all run
-passed_file all old new run is p none = record {
-  read = whole_file all new.offset run
-      (subst (λ l. AreTapsBetween all 0 new.offset l)
-      (p.goes_on ∙ ap (λ l. run ++ l) none ∙ append-nil run)
-      (front_append all (drop old.offset all) (drop new.offset all) (ahead old) p.read is.between
-      p.between)) (p.end is.end none);
-  sorted = subst (λ l. IsSorted tap_cmp l) (ap (λ l. run ++ take 1 l) none ∙ append-nil run)
-      p.sorted;
-}
-
 pub passed_lengths : (end : List TapReader) (lists : List (List TapFields))
     → length lists ≡ length end
     → ((k : ℕ) (d : TapReader) → k < length end
@@ -268,22 +242,16 @@ taken_merged files started end taps is taken at_end =
         each = λ k inside.
             let here : k < length started = omega (arith, inside, number) in
             let d = some_of started k here in
-            passed_file (get_or files k []) (get_or started k d) (get_or end k d)
-            (get_or lists k []) (is.each k d here) (taken.each k d here)
-            (at_end k d (omega (arith, here, end_many)));
+            let all = get_or files k [] in
+            let run = get_or lists k [] in
+            sorted_at_end all run (get_or end k d)
+            (positioned_further all 0 [] run (get_or started k d) (get_or end k d)
+            (is.each k d here) (taken.each k d here)) (at_end k d (omega (arith, here, end_many)));
       };
       counted = passed_lengths end lists (omega (arith, many, end_many)) (λ k d inside.
           let here : k < length started = omega (arith, inside, end_many) in
           let all = (taken.each k d here).number in
-          let none : (get_or started k d).passed ≡ 0 = (is.each k d here).number in
+          let none : (get_or started k d).passed ≡ 0 = (is.each k d here).1 in
           omega (arith, all, none));
       canonical = taken.canonical;
     }
-
-pub taken_canonical : (files : List (List ℕ)) (started end : List TapReader) (taps : List TapFields)
-    → AreStarted files started → AreTaken files started taps end → AreAtEnd end
-    → (lists : List (List TapFields)) × AreSortedFiles files lists
-    × IsCanonical (flat_map (λ list. list) lists) taps
-taken_canonical files started end taps is taken at_end =
-    let merged = taken_merged files started end taps is taken at_end in
-    (merged.lists, merged.sorted, merged.canonical)

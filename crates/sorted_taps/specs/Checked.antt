@@ -14,11 +14,15 @@ pub record AreCountedFiles (files : List (List ℕ)) (numbers : List ℕ) : Type
   pub sorted : AreSortedFiles files lists
   pub counted : numbers ≡ map length lists
 
+-- the files below the index are sorted
+abbrev pub AreSortedBelow : List (List ℕ) → ℕ → Type 0
+AreSortedBelow files index =
+    (k : ℕ) → k < index → (taps : List TapFields) × IsSortedFile (get_or files k []) taps
+
 -- the file at the index is the first that is not sorted, for this reason
 pub record IsFirstFault (files : List (List ℕ)) (fault : FileFault) : Type 0 where
   pub within : fault.index < length files
-  pub earlier : (k : ℕ) → k < fault.index
-      → (taps : List TapFields) × IsSortedFile (get_or files k []) taps
+  pub earlier : AreSortedBelow files fault.index
   pub is_fault : IsSortedFault (get_or files fault.index []) fault.fault
 
 -- Of files under these names, of which this is known, the one of this name is the first that is not

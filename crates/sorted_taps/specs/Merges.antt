@@ -1,12 +1,9 @@
 -- Readers of several files whose taps are merged.
-use Rattle.std.specs.Prelude.{◌≡◌, ℕ, ◌+◌, ◌<◌, All, List, [], ◌++◌, drop, flat_map, get_or, length}
-use Rattle.std.specs.Prelude.{take}
-use Rattle.std.specs.List.Sorted.{IsSorted}
+use Rattle.std.specs.Prelude.{◌≡◌, ℕ, ◌<◌, All, List, [], flat_map, get_or, length}
 use Rattle.tap_views.specs.declared.encoder.TapFields.{TapFields}
-use Rattle.tap_parts.specs.Canonical.{IsCanonical, tap_cmp}
+use Rattle.tap_parts.specs.Canonical.{IsCanonical}
 use Rattle.sorted_taps.specs.Merged.{BeginsNotBefore}
-use Rattle.sorted_taps.specs.Reading.{AreTapsBetween}
-use Rattle.sorted_taps.specs.Readers.{ahead, IsPositionedIn}
+use Rattle.sorted_taps.specs.Readers.{ahead, IsPassed, IsPositionedIn}
 use Rattle.sorted_taps.specs.Sorted.{IsSortedFile}
 use Rattle.sorted_taps.specs.declared.reader.TapReader.{TapReader}
 
@@ -19,18 +16,6 @@ pub record AreStarted (files : List (List ℕ)) (readers : List TapReader) : Typ
   pub number : length readers ≡ length files
   pub each : (k : ℕ) (d : TapReader) → k < length readers
       → IsPositionedIn (get_or files k []) 0 [] (get_or readers k d)
-
--- the reader has passed this run of its file's taps, which are in order up to the tap at which it
--- is now
-pub record IsPassed (all : List ℕ) (old : TapReader) (run : List TapFields) (new : TapReader)
-    : Type 0 where
-  pub read : List TapFields
-  pub between : AreTapsBetween all old.offset new.offset read
-  pub goes_on : ahead old ++ read ≡ run ++ ahead new
-  pub first : take 1 (run ++ ahead new) ≡ take 1 (ahead old)
-  pub sorted : IsSorted tap_cmp (run ++ take 1 (ahead new))
-  pub end : (ahead old ≡ [] → drop old.offset all ≡ []) → ahead new ≡ [] → drop new.offset all ≡ []
-  pub number : new.passed ≡ old.passed + length run
 
 -- these taps were taken: each reader has passed a run of them, the taps are those of all runs in
 -- canonical order, and none of them is after a tap at which a reader is now

@@ -6,7 +6,7 @@ use Rattle.std.specs.List.Sorted.{IsSorted}
 use Rattle.tap_views.specs.declared.encoder.TapFields.{TapFields}
 use Rattle.tap_parts.specs.Canonical.{tap_cmp}
 use Rattle.sorted_taps.specs.Reading.{AreTapsBetween}
-use Rattle.sorted_taps.specs.Readers.{ahead, IsPositionedIn}
+use Rattle.sorted_taps.specs.Readers.{AreRead, ahead}
 use Rattle.sorted_taps.specs.declared.positions.FileSpan.{FileSpan}
 use Rattle.sorted_taps.specs.declared.positions.Position.{Position}
 use Rattle.sorted_taps.specs.declared.reader.TapReader.{TapReader}
@@ -60,7 +60,7 @@ AreWhole (spans ∷ parts) =
 pub record IsPlaced (all : List ℕ) (position : Position) (reader : TapReader) : Type 0 where
   pub passed : List TapFields
   pub skip : position.skip ≡ length passed
-  pub holds : IsPositionedIn all position.offset passed (record reader { passed = length passed })
+  pub holds : AreRead all position.offset reader.offset passed (ahead reader)
 
 -- the reader is at the place, and counts the taps that it passes from there on
 abbrev pub IsPlacedAnew : List ℕ → Position → TapReader → Type 0

@@ -6,7 +6,6 @@ use Rattle.tap_views.specs.Faults.{IsFault}
 use Rattle.tap_views.specs.declared.encoder.TapFields.{TapFields}
 use Rattle.tap_views.specs.declared.fault.LayoutFault.{LayoutFault}
 use Rattle.tap_parts.specs.Canonical.{tap_cmp}
-use Rattle.sorted_taps.specs.Merged.{BeginsNotBefore}
 use Rattle.sorted_taps.specs.Reading.{AreTapsBetween}
 use Rattle.sorted_taps.specs.declared.fault.SortedFault.{SortedFault}
 use Rattle.sorted_taps.specs.declared.fault.SortedFault.TheVariants.{Layout, OutOfOrder}
@@ -16,41 +15,41 @@ use Rattle.sorted_taps.specs.declared.reader.TapReader.{TapReader}
 abbrev pub ahead : TapReader → List TapFields
 ahead reader = drop reader.next reader.taps.items
 
--- the reader began at an offset and has passed these taps: they and those in memory are the taps of
--- the file up to the reader's offset, and none is before its predecessor up to the one at which it
--- is; it is at none only at the file's end
-pub record IsPositionedIn (all : List ℕ) (from : ℕ) (passed : List TapFields) (reader : TapReader)
-    : Type 0 where
-  pub between : AreTapsBetween all from reader.offset (passed ++ ahead reader)
-  pub sorted : IsSorted tap_cmp (passed ++ take 1 (ahead reader))
-  pub end : ahead reader ≡ [] → drop reader.offset all ≡ []
-  pub number : reader.passed ≡ length passed
+-- the file's taps between two offsets are those that were passed and those in memory, and none is
+-- before its predecessor up to the first in memory; there is none only at the file's end
+pub record AreRead (all : List ℕ) (from to : ℕ) (passed next : List TapFields) : Type 0 where
+  pub between : AreTapsBetween all from to (passed ++ next)
+  pub sorted : IsSorted tap_cmp (passed ++ take 1 next)
+  pub end : next ≡ [] → drop to all ≡ []
 
--- the reader has passed the tap at which it was, which is in order with the next one; after the
--- taps in memory come those of the file
-pub record IsAdvanced (all : List ℕ) (old new : TapReader) : Type 0 where
-  pub tap : TapFields
-  pub trailing : List TapFields
+-- the reader began at an offset, and has passed these taps
+abbrev pub IsPositionedIn : List ℕ → ℕ → List TapFields → TapReader → Type 0
+IsPositionedIn all from passed reader =
+    AreRead all from reader.offset passed (ahead reader) × (reader.passed ≡ length passed)
+
+-- the reader has passed this run of its file's taps, which are in order up to the tap at which it
+-- is now
+pub record IsPassed (all : List ℕ) (old : TapReader) (run : List TapFields) (new : TapReader)
+    : Type 0 where
   pub read : List TapFields
-  pub stood : ahead old ≡ tap ∷ trailing
   pub between : AreTapsBetween all old.offset new.offset read
-  pub goes_on : ahead new ≡ trailing ++ read
-  pub order : BeginsNotBefore tap (ahead new)
-  pub end : ahead new ≡ [] → drop new.offset all ≡ []
-  pub number : new.passed ≡ old.passed + 1
+  pub goes_on : ahead old ++ read ≡ run ++ ahead new
+  pub first : take 1 (run ++ ahead new) ≡ take 1 (ahead old)
+  pub sorted : IsSorted tap_cmp (run ++ take 1 (ahead new))
+  pub end : (ahead old ≡ [] → drop old.offset all ≡ []) → ahead new ≡ [] → drop new.offset all ≡ []
+  pub number : new.passed ≡ old.passed + length run
 
 -- the file goes on after the tap at which the reader was with one that is before it, and which
 -- has this number
 pub record IsNextBefore (all : List ℕ) (old : TapReader) (number : ℕ) : Type 0 where
   pub to : ℕ
   pub tap : TapFields
-  pub trailing : List TapFields
   pub read : List TapFields
   pub next : TapFields
   pub later : List TapFields
-  pub stood : ahead old ≡ tap ∷ trailing
+  pub stood : take 1 (ahead old) ≡ tap ∷ []
   pub between : AreTapsBetween all old.offset to read
-  pub goes_on : trailing ++ read ≡ next ∷ later
+  pub goes_on : ahead old ++ read ≡ tap ∷ next ∷ later
   pub before : is_lt (tap_cmp next tap) ≡ true
   pub counted : number ≡ old.passed + 1
 

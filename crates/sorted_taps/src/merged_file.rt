@@ -1,8 +1,6 @@
 //! Sorted files, merged to one.
 
-ghost use Rattle.std.specs.Prelude.{◌≡◌, ◌≢◌, ◌≤◌, List, ℕ, IfErr, IfOk, IsTrue, Some, length};
-ghost use Rattle.std.specs.Prelude.{map};
-ghost use Rattle.tap_views.specs.Encoding.{AreEarly};
+ghost use Rattle.std.specs.Prelude.{◌≡◌, ◌≢◌, ◌≤◌, List, ℕ, IfErr, IfOk, Some, length, map};
 ghost use Rattle.sorted_taps.specs.Checked.{IsMergeFault};
 ghost use Rattle.sorted_taps.specs.Reading.{window_bytes};
 ghost use Rattle.sorted_taps.specs.Written.{IsPartlyWritten, IsMergedFile};
@@ -10,13 +8,12 @@ ghost use Rattle.sorted_taps.specs.Written.{IsPartlyWritten, IsMergedFile};
 use crate::check::check_files;
 use crate::fault::{MergeFault, SortedFault, WriteFault};
 use crate::file_batches::WINDOW_BYTES;
-use crate::merge::Merge;
+use crate::merge::{Merge, are_at_end};
 use crate::stamps::{have_stamps, stamps_of};
 use crate::writer::{BATCH_TAPS, put_all, put_rest};
 use placed_files::Placed;
 use std::alloc::{AllocError, Global};
 use std::io::Write;
-use tap_views::{MOMENT_LIMIT_MS, TapFields};
 
 #[derive(Clone, Copy, Debug, PartialEq, Eq)]
 enum MergeStop {
@@ -58,17 +55,6 @@ impl From<WriteFault> for MergeStop {
     }
 }
 
-fn are_early(taps: &[TapFields]) -> bool
-    ensures { IsTrue result → AreEarly (λ tap. tap.moment) taps.now }
-{
-    for tap in taps {
-        if tap.moment >= MOMENT_LIMIT_MS {
-            return false;
-        }
-    }
-    true
-}
-
 /// A file with another stamp than at the begin is refused before the last taps are written.
 fn write_merged<F: Placed, W: Write>(
     alloc: Global,
@@ -84,23 +70,22 @@ fn write_merged<F: Placed, W: Write>(
         → IsPartlyWritten (W.contents out.old) (W.contents out.new)) }
 {
     let stamps = stamps_of(alloc, files)?;
-    let mut waiting = Vec::with_capacity(alloc, BATCH_TAPS)?;
-    let mut run = Vec::with_capacity(alloc, BATCH_TAPS)?;
+    let mut waiting = Vec::new(alloc);
+    let mut run = Vec::new(alloc);
     let mut merge = Merge::begin(alloc, files, window)?;
     for _ in 0..u64::MAX {
         merge.take(files, window, None, BATCH_TAPS, &mut run)?;
         if run.is_empty() {
             let numbers = merge.numbers(alloc)?;
             // a file that was cut short on the way reads as one that ends there
+            if !are_at_end(merge.readers()) {
+                return Err(MergeStop::Refused);
+            }
             if !have_stamps(files, &stamps) {
                 return Err(MergeStop::Refused);
             }
             put_rest(alloc, &waiting, out)?;
             return Ok(numbers);
-        }
-        // no batch has such a tap
-        if !are_early(&run) {
-            return Err(MergeStop::Refused);
         }
         put_all(alloc, &run, &mut waiting, out)?;
     }
@@ -131,7 +116,7 @@ pub fn merge_sorted<F: Placed, W: Write>(
         Err(MergeStop::Write) => Err(MergeFault::Write),
         Err(MergeStop::NoMemory) => Err(MergeFault::NoMemory),
         Err(MergeStop::Refused) => match check_files(alloc, files, &mut window) {
-            Ok(_) => Err(MergeFault::Changed),
+            Ok(()) => Err(MergeFault::Changed),
             Err(fault) => Err(MergeFault::File(fault)),
         },
     }

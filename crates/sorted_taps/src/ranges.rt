@@ -14,17 +14,16 @@ use tap_views::{TAP1_HEADER_BYTES, TAP1_TAP_BYTES, Token};
 
 pub(crate) const BATCH_TAPS: u64 = 512;
 
-const BATCH_BYTES: u64 = FIRST_READ_BYTES as u64;
+pub(crate) const BATCH_BYTES: u64 = FIRST_READ_BYTES as u64;
 
 /// The header of a `TAP1` batch of 512 taps.
 const FULL_HEADER: [u8; TAP1_HEADER_BYTES] = *b"TAP1\x02\x00\x00\x00";
 
 const TOKEN_BYTES: usize = 16;
 
-/// If all have 512 taps but for the last.
-fn batches_in<F: Placed>(file: &F) -> Result<u64, SortedFault> {
+pub(crate) fn length_of<F: Placed>(file: &F) -> Result<u64, SortedFault> {
     match file.stamp() {
-        Ok(stamp) => Ok(stamp.bytes / BATCH_BYTES + 1),
+        Ok(stamp) => Ok(stamp.bytes),
         Err(_) => Err(SortedFault::Unread),
     }
 }
@@ -60,7 +59,7 @@ fn first_token<F: Placed>(file: &F, batch: u64) -> Result<Option<Token>, SortedF
 /// at most one such batch follows. 0 if there is none.
 fn offset_below<F: Placed>(file: &F, token: Token) -> Result<u64, SortedFault> {
     let mut low = 0u64;
-    let mut high = batches_in(file)?;
+    let mut high = length_of(file)? / BATCH_BYTES + 1;
     while high - low > 1 {
         let middle = low + (high - low) / 2;
         match first_token(file, middle)? {

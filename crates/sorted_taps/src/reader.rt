@@ -1,11 +1,13 @@
 //! A reader of a file's taps.
 
-ghost use Rattle.std.specs.Prelude.{◌≡◌, ◌+◌, ◌<◌, ◌≤◌, ◌∷◌, [], List, length, IfOk, IfErr, OnOk};
-ghost use Rattle.std.specs.Prelude.{IfSome, IsTrue, MatchOption, true, false};
+ghost use Rattle.std.specs.Prelude.{◌≡◌, ◌-◌, ◌<◌, ◌≤◌, ◌∷◌, [], List, get_or, length, take};
+ghost use Rattle.std.specs.Prelude.{IfErr, IfOk, IfSome, IsTrue, MatchOption, OnOk, true, false};
+ghost use Rattle.std.specs.List.Sorted.{IsSorted};
 ghost use Rattle.tap_views.specs.declared.encoder.TapFields.{TapFields};
+ghost use Rattle.tap_parts.specs.Canonical.{tap_cmp};
 ghost use Rattle.sorted_taps.specs.Reading.{window_bytes};
 ghost use Rattle.sorted_taps.specs.Merged.{BeginsNotBefore};
-ghost use Rattle.sorted_taps.specs.Readers.{ahead, IsPositionedIn, IsAdvanced, IsAfterFault};
+ghost use Rattle.sorted_taps.specs.Readers.{ahead, IsAfterFault, IsPassed, IsPositionedIn};
 ghost use Rattle.sorted_taps.specs.Readers.{IsStepFault};
 ghost use Rattle.sorted_taps.specs.inside.Steps.{BeginsBefore, IsAlike, IsMovedOn, IsRefilled};
 
@@ -13,8 +15,7 @@ use crate::fault::SortedFault;
 use crate::file_batches::read_batches;
 use placed_files::Placed;
 use std::alloc::Global;
-use std::cmp::Ordering;
-use tap_parts::{compare, is_before};
+use tap_parts::is_before;
 use tap_views::TapFields;
 
 /// A position in a file's taps: at a tap, or at the end. It stores the batches that it read last,
@@ -27,23 +28,6 @@ pub struct TapReader {
     /// The index among them of its tap: their number at the file's end.
     next: usize,
     passed: u64,
-}
-
-fn are_same(one: &[TapFields], other: &[TapFields]) -> bool
-    ensures { IsTrue result → one.now ≡ other.now }
-{
-    if one.len() != other.len() {
-        return false;
-    }
-    for at in 0..one.len() {
-        let tap = &one[at];
-        let next = &other[at];
-        match compare(tap, next) {
-            Ordering::Equal => {}
-            Ordering::Less | Ordering::Greater => return false,
-        }
-    }
-    true
 }
 
 impl TapReader {
@@ -101,12 +85,7 @@ impl TapReader {
     pub(crate) fn is_at(&self, other: &TapReader) -> bool
         ensures { IsTrue result → IsAlike self.now other.now }
     {
-        if self.offset != other.offset {
-            return false;
-        }
-        let here = self.ahead();
-        let there = other.ahead();
-        are_same(here, there)
+        self.offset == other.offset && self.ahead() == other.ahead()
     }
 
     /// Goes on to the next tap, or to the file's end. A tap before the last one, or no batch, is a
@@ -115,15 +94,36 @@ impl TapReader {
         requires window { window_bytes ≤ length window.old }
         requires head { 0 < length (ahead self.old) }
         ensures kept { OnOk result (IfSome (F.bytes file.now)
-            (λ all. IsAdvanced all self.old self.new)) }
+            (λ all. IsPassed all self.old (take 1 (ahead self.old)) self.new)) }
         ensures fault { IfErr result (λ fault. IfSome (F.bytes file.now)
             (λ all. IsStepFault all self.old fault)) }
     {
-        let last = self.taps[self.next];
-        let Some(passed) = self.passed.checked_add(1) else {
+        self.pass(1, file, window)
+    }
+
+    /// Passes this many taps in memory.
+    pub(crate) fn pass<F: Placed>(
+        &mut self,
+        number: usize,
+        file: &F,
+        window: &mut [u8],
+    ) -> Result<(), SortedFault>
+        requires window { window_bytes ≤ length window.old }
+        requires some { 0 < number }
+        requires within { number ≤ length (ahead self.old) }
+        requires order { IsSorted tap_cmp (take number (ahead self.old)) }
+        ensures kept { OnOk result (IfSome (F.bytes file.now)
+            (λ all. IsPassed all self.old (take number (ahead self.old)) self.new)) }
+        ensures next { OnOk result ((tap : TapFields)
+            → BeginsNotBefore (get_or (ahead self.old) (number - 1) tap) (ahead self.new)) }
+        ensures fault { number ≡ 1 → IfErr result (λ fault. IfSome (F.bytes file.now)
+            (λ all. IsStepFault all self.old fault)) }
+    {
+        let last = self.taps[self.next + (number - 1)];
+        let Some(passed) = self.passed.checked_add(number as u64) else {
             return Err(SortedFault::Unread);
         };
-        self.move_on(file, window)?;
+        self.move_on(number, file, window)?;
         if self.is_before(&last) {
             return Err(SortedFault::OutOfOrder { tap: passed });
         }
@@ -131,31 +131,20 @@ impl TapReader {
         Ok(())
     }
 
-    /// Passes taps in memory that are known to be in order.
-    pub(crate) fn pass(&mut self, number: usize) -> Result<(), SortedFault>
-        requires { number ≤ length (ahead self.old) }
-        ensures { OnOk result (self.new ≡ record self.old {
-          next = self.old.next + number;
-          passed = self.old.passed + number;
-        }) }
-    {
-        let Some(passed) = self.passed.checked_add(number as u64) else {
-            return Err(SortedFault::Unread);
-        };
-        self.next += number;
-        self.passed = passed;
-        Ok(())
-    }
-
-    fn move_on<F: Placed>(&mut self, file: &F, window: &mut [u8]) -> Result<(), SortedFault>
+    fn move_on<F: Placed>(
+        &mut self,
+        number: usize,
+        file: &F,
+        window: &mut [u8],
+    ) -> Result<(), SortedFault>
         requires window { window_bytes ≤ length window.old }
-        requires head { 0 < length (ahead self.old) }
+        requires within { number ≤ length (ahead self.old) }
         ensures kept { OnOk result (IfSome (F.bytes file.now)
-            (λ all. IsMovedOn all self.old self.new)) }
+            (λ all. IsMovedOn all self.old number self.new)) }
         ensures fault { IfErr result (λ fault. IfSome (F.bytes file.now)
-            (λ all. (length (ahead self.old) ≡ 1) × IsAfterFault all self.old.offset fault)) }
+            (λ all. (length (ahead self.old) ≡ number) × IsAfterFault all self.old.offset fault)) }
     {
-        self.next += 1;
+        self.next += number;
         if self.next < self.taps.len() {
             return Ok(());
         }

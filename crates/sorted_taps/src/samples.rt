@@ -2,17 +2,12 @@
 //! taps.
 //! Nothing but speed rests on it.
 
-ghost use Rattle.std.specs.Prelude.{◌≡◌, ◌+◌, ◌-◌, ◌<◌, ◌≤◌, IfOk, IsTrue, OnOk, get_or, length};
-ghost use Rattle.std.specs.declared.cmp.Ordering.TheVariants.{Less};
-ghost use Rattle.tap_views.specs.Token.{token_cmp};
-ghost use Rattle.tap_views.specs.declared.token.Token.{Token as AToken};
-ghost use Rattle.sorted_taps.specs.Ranges.{AreTokensIncreasing};
+ghost use Rattle.std.specs.Prelude.{◌≤◌, IfOk, length};
 
 use crate::fault::SortedFault;
-use crate::file_batches::FIRST_READ_BYTES;
-use crate::ranges::{BATCH_TAPS, token_at};
+use crate::ranges::{BATCH_BYTES, BATCH_TAPS, length_of, token_at};
 use placed_files::Placed;
-use std::alloc::{AllocError, Global};
+use std::alloc::Global;
 use tap_views::{TAP1_HEADER_BYTES, TAP1_TAP_BYTES, Token};
 
 /// Files of fewer taps together are not worth ranges.
@@ -29,12 +24,9 @@ const MOST_TOKENS: u64 = 65_536;
 
 /// If all batches have 512 but for the last.
 fn taps_in<F: Placed>(file: &F) -> Result<u64, SortedFault> {
-    let Ok(stamp) = file.stamp() else {
-        return Err(SortedFault::Unread);
-    };
-    let batch = FIRST_READ_BYTES as u64;
-    let full = (stamp.bytes / batch).saturating_mul(BATCH_TAPS);
-    let last = (stamp.bytes % batch).saturating_sub(TAP1_HEADER_BYTES as u64);
+    let bytes = length_of(file)?;
+    let full = (bytes / BATCH_BYTES).saturating_mul(BATCH_TAPS);
+    let last = (bytes % BATCH_BYTES).saturating_sub(TAP1_HEADER_BYTES as u64);
     Ok(full.saturating_add(last / TAP1_TAP_BYTES as u64))
 }
 
@@ -81,40 +73,28 @@ fn sample_of<F: Placed>(alloc: Global, files: &[F], most: u64) -> Result<Vec<Tok
     Ok(tokens)
 }
 
-fn is_above(bounds: &[Token], least: Token, token: Token) -> bool
-    ensures { IsTrue result → (d : AToken) → 0 < length bounds.now
-        → token_cmp (get_or bounds.now (length bounds.now - 1) d) token ≡ Less }
+/// Of a sample of so many tokens those at equal distances, each once, and not the first one.
+fn bounds_by<F: Placed>(
+    alloc: Global,
+    files: &[F],
+    most: u32,
+    wanted: u64,
+) -> Result<Vec<Token>, SortedFault>
+    requires { 1 ≤ wanted }
+    ensures { IfOk result (λ bounds. length bounds.items ≤ most) }
 {
-    match bounds.last() {
-        Some(last) => *last < token,
-        None => least < token,
-    }
-}
-
-fn push_above(bounds: &mut Vec<Token>, least: Token, token: Token) -> Result<(), AllocError>
-    requires { AreTokensIncreasing bounds.old.items }
-    ensures few { OnOk result (length bounds.new.items ≤ length bounds.old.items + 1) }
-    ensures increase { OnOk result (AreTokensIncreasing bounds.new.items) }
-{
-    if is_above(bounds, least, token) {
-        bounds.push(token)?;
-    }
-    Ok(())
-}
-
-/// At equal distances: each once, and not the first one.
-fn picked(alloc: Global, tokens: &[Token], most: u32) -> Result<Vec<Token>, AllocError>
-    ensures few { IfOk result (λ bounds. length bounds.items ≤ most) }
-    ensures increase { IfOk result (λ bounds. AreTokensIncreasing bounds.items) }
-{
+    let tokens = sample_of(alloc, files, wanted.min(MOST_TOKENS))?;
     let mut bounds = Vec::new(alloc);
-    let Some(least) = tokens.first() else {
+    let Some(first) = tokens.first() else {
         return Ok(bounds);
     };
+    let mut last = *first;
     for bound in 0..most {
         let at = (tokens.len() as u64).saturating_mul(bound as u64 + 1) / (most as u64 + 1);
-        if let Some(token) = tokens.get(at as usize) {
-            push_above(&mut bounds, *least, *token)?;
+        let token = *tokens.get(at as usize).unwrap_or(&last);
+        if last < token {
+            bounds.push(token)?;
+            last = token;
         }
     }
     Ok(bounds)
@@ -127,12 +107,9 @@ pub fn bounds_of_parts<F: Placed>(
     files: &[F],
     most: u32,
 ) -> Result<Vec<Token>, SortedFault>
-    ensures few { IfOk result (λ bounds. length bounds.items ≤ most) }
-    ensures increase { IfOk result (λ bounds. AreTokensIncreasing bounds.items) }
+    ensures { IfOk result (λ bounds. length bounds.items ≤ most) }
 {
-    let wanted = (most as u64 + 1) * PART_TOKENS;
-    let tokens = sample_of(alloc, files, wanted.min(MOST_TOKENS))?;
-    Ok(picked(alloc, &tokens, most)?)
+    bounds_by(alloc, files, most, (most as u64 + 1) * PART_TOKENS)
 }
 
 /// At most `most` tokens, increasing, between which the files' taps are in ranges of about equal
@@ -147,7 +124,5 @@ pub fn bounds_of<F: Placed>(
     if all_taps(files)? < FEW_TAPS {
         return Ok(Vec::new(alloc));
     }
-    let wanted = (most as u64 + 1) * RANGE_TOKENS;
-    let tokens = sample_of(alloc, files, wanted.min(MOST_TOKENS))?;
-    Ok(picked(alloc, &tokens, most)?)
+    bounds_by(alloc, files, most, (most as u64 + 1) * RANGE_TOKENS)
 }

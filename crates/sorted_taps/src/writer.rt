@@ -1,9 +1,7 @@
 //! Taps written in batches of 512.
 
-ghost use Rattle.std.specs.Prelude.{◌≡◌, ◌<◌, ◌++◌, ◌∷◌, [], List, ℕ, Option, IfErr, OnOk};
+ghost use Rattle.std.specs.Prelude.{◌≡◌, ◌++◌, ◌∷◌, [], List, ℕ, Option, IfErr, OnOk};
 ghost use Rattle.std.specs.Prelude.{flat_map};
-ghost use Rattle.tap_views.specs.Encoding.{AreEarly};
-ghost use Rattle.tap_views.specs.Layout.{moment_limit};
 ghost use Rattle.tap_views.specs.declared.encoder.TapFields.{TapFields};
 ghost use Rattle.sorted_taps.specs.Written.{IsPartlyWritten, IsWritten};
 ghost use Rattle.sorted_taps.specs.inside.Waiting.{HasPut, IsBatchWritten, MayWait};
@@ -11,7 +9,7 @@ ghost use Rattle.sorted_taps.specs.inside.Waiting.{HasPut, IsBatchWritten, MayWa
 use crate::fault::WriteFault;
 use std::alloc::Global;
 use std::io::Write;
-use tap_views::{TAP1_HEADER_BYTES, TAP1_TAP_BYTES, TapFields, put_batch};
+use tap_views::{MOMENT_LIMIT_MS, TAP1_HEADER_BYTES, TAP1_TAP_BYTES, TapFields, put_batch};
 
 /// The taps of a batch. A reader of a file stores one: 16 KiB.
 pub(crate) const BATCH_TAPS: usize = 512;
@@ -38,8 +36,7 @@ fn put<W: Write>(
     waiting: &mut Vec<TapFields>,
     out: &mut W,
 ) -> Result<(), WriteFault>
-    requires early { tap.now.moment < moment_limit }
-    requires waiting { MayWait waiting.old.items }
+    requires { MayWait waiting.old.items }
     ensures waiting { OnOk result (MayWait waiting.new.items) }
     ensures put { OnOk result ((begin : Option (List ℕ)) (taps : List TapFields)
         → HasPut begin (W.contents out.old) taps waiting.old.items
@@ -49,6 +46,9 @@ fn put<W: Write>(
         → HasPut begin (W.contents out.old) taps waiting.old.items
         → IsPartlyWritten begin (W.contents out.new)) }
 {
+    if tap.moment >= MOMENT_LIMIT_MS {
+        return Err(WriteFault::Write);
+    }
     if waiting.len() == BATCH_TAPS {
         write_batch(alloc, waiting, out)?;
         waiting.clear();
@@ -80,8 +80,7 @@ pub(crate) fn put_all<W: Write>(
     waiting: &mut Vec<TapFields>,
     out: &mut W,
 ) -> Result<(), WriteFault>
-    requires early { AreEarly (λ tap. tap.moment) taps.now }
-    requires waiting { MayWait waiting.old.items }
+    requires { MayWait waiting.old.items }
     ensures waiting { OnOk result (MayWait waiting.new.items) }
     ensures put { OnOk result ((begin : Option (List ℕ)) (earlier : List TapFields)
         → HasPut begin (W.contents out.old) earlier waiting.old.items
@@ -98,20 +97,19 @@ pub(crate) fn put_all<W: Write>(
 }
 
 /// Writes the taps of the lists, one after the other, as a file of `TAP1` batches of 512 taps, the
-/// last of fewer. Moments are before 2100. After an allocation failure whole batches may have been
-/// written, and after a failed write anything.
+/// last of fewer. A tap from 2100 on is not written. After an allocation failure whole batches may
+/// have been written, and after a failed write anything.
 pub fn write_taps<W: Write>(
     alloc: Global,
     lists: &[Vec<TapFields>],
     out: &mut W,
 ) -> Result<(), WriteFault>
-    requires { AreEarly (λ tap. tap.moment) (flat_map (λ list. list.items) lists.now) }
     ensures written { OnOk result (IsWritten (W.contents out.old) (W.contents out.new)
         (flat_map (λ list. list.items) lists.now)) }
     ensures started { IfErr result (λ fault. fault ≡ WriteFault.NoMemory
         → IsPartlyWritten (W.contents out.old) (W.contents out.new)) }
 {
-    let mut waiting = Vec::with_capacity(alloc, BATCH_TAPS)?;
+    let mut waiting = Vec::new(alloc);
     for list in lists {
         put_all(alloc, list, &mut waiting, out)?;
     }

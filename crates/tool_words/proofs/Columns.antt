@@ -3,17 +3,15 @@ use Rattle.std.proofs.Common.{◌≡◌, ◌∙◌, ◌<◌, ◌+◌, ◌++◌, 
 use Rattle.std.proofs.Common.{ap, arith, false, get_or, length, lt-ltb, map, refl, sym, take}
 use Rattle.std.proofs.Common.{true}
 use Rattle.std.specs.Prelude.{MatchOption, filter_map, is_some, nat_lt, option_map}
-use Rattle.std.specs.List.{after_first, before_first, cons_option, find, position_or_len}
+use Rattle.std.specs.List.{after_first, before_first, cons_option, position_or_len}
 use Rattle.std.specs.Option.{option_to_list}
 use Rattle.std.proofs.lemmas.Bool.{le-ltb}
 use Rattle.std.proofs.lemmas.List.{length-map, map-append, take_more}
 use Rattle.std.proofs.lemmas.List.Elements.{filter_map-append}
 use Rattle.std.proofs.lemmas.List.Folds.{list_all-append, list_all-map, list_all_at}
-use Rattle.std.specs.Str.{bytes_eq}
-use Rattle.clap.proofs.WalkLemmas.{find-map}
 use Rattle.clap.specs.Words.{Text}
 use Rattle.tap_rows.specs.declared.agency.choice.Condition.{Condition}
-use Rattle.tool_words.specs.Columns.{conditions_in, have_parts, is_equals, parts_of, value_of}
+use Rattle.tool_words.specs.Columns.{conditions_in, have_parts, is_equals, parts_of}
 use Rattle.tool_words.specs.Tasks.{condition_of, texts_of}
 
 -- the parts round the first `=` are those of the word
@@ -97,22 +95,3 @@ pub many_named : (words : List (Bor Text)) (names : List Text) → texts_of word
     → nat_lt 1 (length words) ≡ nat_lt 1 (length names)
 many_named words names is =
     ap (nat_lt 1) (sym (length-map words (λ (word : Bor Text). word.now)) ∙ ap length is)
-
--- what is found among the pairs is their value of the column
-pub value_found : (column : Text) (pairs : List Condition) (found : Option (Bor Condition))
-    → option_map (λ p. p.now) found ≡ find (λ p. bytes_eq p.column.now column) pairs
-    → option_map (λ p. p.now.value.now) found ≡ value_of column (map condition_of pairs)
-value_found column pairs found is =
-    by found ∙ ap (option_map (λ (p : Condition). p.value.now)) is ∙ valued (find _ pairs)
-    ∙ ap (option_map (λ (p : Text × Text). p.1))
-    (find-map (λ (p : Text × Text). bytes_eq p.0 column) condition_of pairs)
-  where
-    by : (o : Option (Bor Condition)) → option_map (λ p. p.now.value.now) o
-        ≡ option_map (λ (p : Condition). p.value.now) (option_map (λ p. p.now) o)
-    by None = refl
-    by (Some p) = refl
-
-    valued : (o : Option Condition) → option_map (λ (p : Condition). p.value.now) o
-        ≡ option_map (λ (p : Text × Text). p.1) (option_map condition_of o)
-    valued None = refl
-    valued (Some p) = refl

@@ -4,7 +4,8 @@ use Rattle.std.specs.Prelude.{fold}
 use Rattle.std.proofs.lemmas.List.{map_more}
 use Rattle.std.proofs.lemmas.List.Sums.{fold_more}
 use Rattle.clap.specs.Words.{App, Text, with_rule, with_subcommand}
-use Rattle.tool_words.specs.inside.Rows.{leaf, rule_in, shape_of_table}
+use Rattle.tool_words.specs.ToolLine.{rule_in, shape_of}
+use Rattle.tool_words.specs.inside.Rows.{leaf}
 use Rattle.tool_words.specs.declared.arguments.Row.{Row}
 use Rattle.tool_words.specs.declared.arguments.Subcommand.{Subcommand}
 
@@ -18,7 +19,7 @@ row_more name rows i d before after within adds is =
     ∙ ap (leaf name) (sym (map_more rule_in rows i d within))
 
 abbrev pub with_table : App → Subcommand → App
-with_table app table = with_subcommand app (shape_of_table table)
+with_table app table = with_subcommand app (shape_of table)
 
 -- the subcommand at a place is added
 pub table_more : (tables : List Subcommand) (i : ℕ) (d : Subcommand) (start before after : App)

@@ -1,15 +1,22 @@
 -- The command line of the tools, as clap reads it: the subcommands, and what each takes.
 use Rattle.std.specs.Prelude.{◌≡◌, ◌⊎◌, ℤ, Bool, ◌&&◌, ◌||◌, if◌then◌else◌, not, true, false}
-use Rattle.std.specs.Prelude.{List, [], ◌∷◌, Option, Some, None, codes, is_some, pos}
+use Rattle.std.specs.Prelude.{List, [], ◌∷◌, ◌++◌, Option, Some, None, codes, fold, is_some, map}
 use Rattle.std.specs.Str.{bytes_eq}
 use Rattle.clap.specs.Simple.{new_shape}
 use Rattle.clap.specs.Words.{App, IsAmong, Row, Rule, Shape, Text, fault_of, first_of}
-use Rattle.clap.specs.Words.{subcommand_of}
+use Rattle.clap.specs.Words.{subcommand_of, with_subcommand}
 use Rattle.clap.specs.declared.builder.action.ArgAction.TheVariants.{Append, Set}
 use Rattle.clap.specs.declared.builder.value_parser.ValueParser.TheVariants.{Signed}
 use Rattle.clap.specs.declared.error.kind.ErrorKind.TheVariants.{DisplayHelp, DisplayVersion}
 use Rattle.program_manners.specs.Words.{flag_rule, is_given, list_option, named_app}
 use Rattle.program_manners.specs.Words.{null_flag, option_rule, positional_rule, repeated_rule}
+use Rattle.tool_words.specs.declared.arguments.Files.{Files}
+use Rattle.tool_words.specs.declared.arguments.Files.TheVariants.{Listed, Unlisted, Wanted}
+use Rattle.tool_words.specs.declared.arguments.Row.{Row as Argument}
+use Rattle.tool_words.specs.declared.arguments.Subcommand.{Subcommand}
+use Rattle.tool_words.specs.declared.arguments.Takes.{Takes}
+use Rattle.tool_words.specs.declared.arguments.Takes.TheVariants as takes
+use Rattle.tool_words.specs.declared.program.TheConstants.{SUBCOMMANDS}
 
 -- the argument must be there
 abbrev pub needed : Rule → Rule
@@ -19,64 +26,30 @@ needed rule = record rule { required = true }
 abbrev pub range_rule : Text → ℤ → ℤ → Rule
 range_rule name first last = record (option_rule name) { parser = Some (Signed first last) }
 
--- a word at its place, which must be there
-abbrev pub word_rule : Text → Rule
-word_rule name = needed (positional_rule name Set)
+-- the rule of an argument of this name
+abbrev pub taken_rule : Text → Takes → Rule
+taken_rule name takes.Flag = flag_rule name
+taken_rule name (takes.Value value) = option_rule name
+taken_rule name (takes.Needed value) = needed (option_rule name)
+taken_rule name (takes.Values value) = repeated_rule name
+taken_rule name (takes.Number value first last) = range_rule name first last
+taken_rule name (takes.NeededNumber value first last) = needed (range_rule name first last)
+taken_rule name takes.Word = needed (positional_rule name Set)
+taken_rule name takes.Words = positional_rule name Append
 
--- words at their place
-abbrev pub words_rule : Text → Rule
-words_rule name = positional_rule name Append
+abbrev pub rule_in : Argument → Rule
+rule_in row = taken_rule row.0.now row.1
 
--- `encode [--columns NAMES] [--from EXPORT] [--validators DEVICES] [--validators-make DEVICES]
--- [--only COLUMN=VALUE].. [--drop COLUMN=VALUE].. [--count COLUMN] [--token-hash] [--token-key KEY]
--- [--separator S] [--unit UNIT] [--moment-format FORMAT] [--zone ZONE] [--fold FOLD]
--- [--refused REFUSED] [--out OUT] [FILE]..`
-abbrev pub encode_rules : List Rule
-encode_rules = option_rule (codes "columns") ∷ option_rule (codes "from")
-    ∷ option_rule (codes "validators") ∷ option_rule (codes "validators-make")
-    ∷ repeated_rule (codes "only") ∷ repeated_rule (codes "drop")
-    ∷ option_rule (codes "count") ∷ flag_rule (codes "token-hash")
-    ∷ option_rule (codes "token-key") ∷ option_rule (codes "separator")
-    ∷ option_rule (codes "unit") ∷ option_rule (codes "moment-format")
-    ∷ option_rule (codes "zone") ∷ option_rule (codes "fold")
-    ∷ option_rule (codes "refused") ∷ option_rule (codes "out") ∷ words_rule (codes "FILE") ∷ []
+-- these rules, and those of a list of files: `[--files-from LIST [-0]]`
+abbrev pub with_list : Files → List Rule → List Rule
+with_list Unlisted rules = rules
+with_list _ rules = (rules ++ list_option ∷ []) ++ null_flag ∷ []
 
--- words under this name, or in the files that a list names: `[--files-from LIST [-0]] [NAME]..`
-abbrev pub listed_words : Text → List Rule
-listed_words name = words_rule name ∷ list_option ∷ null_flag ∷ []
-
--- `uploads [--good-part OUT] [--tokens] [--look] [--within S] [--from MOMENT] [--until MOMENT]
--- [--table F] [--list] [--format FORM] ..`
-abbrev pub uploads_rules : List Rule
-uploads_rules = option_rule (codes "good-part") ∷ flag_rule (codes "tokens")
-    ∷ flag_rule (codes "look") ∷ range_rule (codes "within") (pos 0) (pos 4294967)
-    ∷ option_rule (codes "from") ∷ option_rule (codes "until") ∷ option_rule (codes "table")
-    ∷ flag_rule (codes "list") ∷ option_rule (codes "format") ∷ listed_words (codes "FILE")
-
--- `table [--strict] [--riders] [--from MOMENT] [--sql] [--table G@YYYY-MM-DD].. F [UPLOAD]..`
-abbrev pub table_rules : List Rule
-table_rules = flag_rule (codes "strict") ∷ flag_rule (codes "riders") ∷ option_rule (codes "from")
-    ∷ flag_rule (codes "sql") ∷ repeated_rule (codes "table") ∷ word_rule (codes "F")
-    ∷ words_rule (codes "UPLOAD") ∷ []
-
--- `sort [--merge] --out OUT [--ends ENDS] ..`
-abbrev pub sort_rules : List Rule
-sort_rules = flag_rule (codes "merge") ∷ needed (option_rule (codes "out"))
-    ∷ option_rule (codes "ends") ∷ listed_words (codes "UPLOAD")
-
--- `bounds --parts N ..`
-abbrev pub bounds_rules : List Rule
-bounds_rules =
-    needed (range_rule (codes "parts") (pos 1) (pos 65536)) ∷ listed_words (codes "FILE")
-
--- `corrections [--tokens] OLD NEW`
-abbrev pub corrections_rules : List Rule
-corrections_rules =
-    flag_rule (codes "tokens") ∷ word_rule (codes "OLD") ∷ word_rule (codes "NEW") ∷ []
-
--- a subcommand of this name, with these arguments
-abbrev pub subcommand : Text → List Rule → Shape
-subcommand name rules = record (new_shape name) { rules = rules }
+-- the subcommand of this table, without the rules between its arguments
+abbrev pub shape_of : Subcommand → Shape
+shape_of table = record (new_shape table.name.now) {
+  rules = with_list table.files (map rule_in table.rows.now);
+}
 
 -- the program's name, and that a subcommand is wanted
 abbrev pub app_of_name : App
@@ -89,15 +62,7 @@ app_of_name = record (named_app (codes "omny_tools")) {
 
 -- all words that the program takes, but for the rules between arguments
 unfoldable pub program : App
-program = record {
-  top = record app_of_name.top { is_leaf = false };
-  subs = subcommand (codes "encode") encode_rules
-      ∷ subcommand (codes "decode") (listed_words (codes "FILE"))
-      ∷ subcommand (codes "uploads") uploads_rules ∷ subcommand (codes "table") table_rules
-      ∷ subcommand (codes "sort") sort_rules ∷ subcommand (codes "bounds") bounds_rules
-      ∷ subcommand (codes "merge") (listed_words (codes "PART"))
-      ∷ subcommand (codes "corrections") corrections_rules ∷ [];
-}
+program = fold (λ app table. with_subcommand app (shape_of table)) app_of_name SUBCOMMANDS
 
 -- whether a value is given under this name
 abbrev pub has_value : Text → List Row → Bool

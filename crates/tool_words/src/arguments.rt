@@ -1,7 +1,8 @@
 //! The arguments of a subcommand, as rows of a table.
 ghost use Rattle.std.specs.Prelude.{◌≡◌, IfOk, false};
 ghost use Rattle.clap.specs.Words.{app_of, rule_of, with_rule};
-ghost use Rattle.tool_words.specs.inside.Rows.{leaf_of, rule_in};
+ghost use Rattle.tool_words.specs.ToolLine.{rule_in};
+ghost use Rattle.tool_words.specs.inside.Rows.{leaf_of};
 
 use clap::builder::ValueParser;
 use clap::{Arg, ArgAction, Command};

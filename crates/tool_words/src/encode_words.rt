@@ -11,10 +11,10 @@ ghost use Rattle.tool_words.specs.Columns.{tides, unit_in, value_of};
 ghost use Rattle.tool_words.specs.Tasks.{request_of, condition_of, text_in, texts_of};
 ghost use Rattle.tool_words.specs.inside.Columns.{export_by};
 
-use crate::reading::{INPUT_TWICE, has_value, inputs_in, value_in};
+use crate::reading::{INPUT_TWICE, has_value, inputs_in};
 use crate::task::{RowsWords, Task};
 use clap::ArgMatches;
-use program_manners::{flag_in, names_in};
+use program_manners::{flag_in, names_in, value_in};
 use std::alloc::{AllocError, Global};
 use tap_rows::{Columns, Condition, Fold, Separator, Unit};
 
@@ -96,10 +96,12 @@ fn conditions_in<'a>(
 fn value_of<'a>(column: &str, pairs: &[Condition<'a>]) -> Option<&'a str>
     ensures { text_in result ≡ value_of column.now (map condition_of pairs.now) }
 {
-    match pairs.iter().find(|pair| pair.column == column) {
-        Some(pair) => Some(pair.value),
-        None => None,
+    for pair in pairs {
+        if pair.column == column {
+            return Some(pair.value);
+        }
     }
+    None
 }
 
 fn columns_among<'a>(pairs: &[Condition<'a>]) -> Option<Export<'a>>

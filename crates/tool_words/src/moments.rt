@@ -1,8 +1,8 @@
 //! Moments that words give.
 
-use crate::reading::value_in;
 use clap::ArgMatches;
 use jiff::Timestamp;
+use program_manners::value_in;
 
 const MILLISECOND_NANOS: u128 = 1_000_000;
 

@@ -1,8 +1,7 @@
 //! The whole command line, as `clap` reads it.
 ghost use Rattle.std.specs.Prelude.{◌≡◌, IfOk, false, fold};
 ghost use Rattle.clap.specs.Words.{app_of, with_subcommand};
-ghost use Rattle.tool_words.specs.ToolLine.{app_of_name, program};
-ghost use Rattle.tool_words.specs.inside.Rows.{shape_of_table};
+ghost use Rattle.tool_words.specs.ToolLine.{app_of_name, program, shape_of};
 
 use crate::arguments::Subcommand;
 use crate::bounds::BOUNDS;
@@ -49,7 +48,7 @@ fn with_leaf<'a>(
     is_whole: bool,
 ) -> Result<Command<'a>, AllocError>
     ensures { is_whole ≡ false → IfOk result
-        (λ more. app_of more ≡ with_subcommand (app_of command.entry) (shape_of_table table.now)) }
+        (λ more. app_of more ≡ with_subcommand (app_of command.entry) (shape_of table.now)) }
 {
     command.subcommand(table.command(alloc, is_whole)?)
 }
@@ -68,7 +67,7 @@ fn with_leaves<'a>(
     is_whole: bool,
 ) -> Result<Command<'a>, AllocError>
     ensures { is_whole ≡ false → IfOk result (λ command. app_of command
-        ≡ fold (λ app table. with_subcommand app (shape_of_table table)) app_of_name tables.now) }
+        ≡ fold (λ app table. with_subcommand app (shape_of table)) app_of_name tables.now) }
 {
     let mut command = name_command(alloc);
     for table in tables {

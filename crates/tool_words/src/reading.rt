@@ -1,11 +1,12 @@
 //! What is given to a subcommand.
-ghost use Rattle.std.specs.Prelude.{◌≡◌, ◌≤◌, map, option_map};
+ghost use Rattle.std.specs.Prelude.{◌≡◌, ◌≤◌, map};
 ghost use Rattle.std.specs.List.{list_any};
-ghost use Rattle.clap.specs.Words.{first_of, found_of, rows_of};
+ghost use Rattle.clap.specs.Words.{found_of, rows_of};
 ghost use Rattle.tool_words.specs.Request.{has_input_twice, inputs_in, is_input, names_input};
 ghost use Rattle.tool_words.specs.ToolLine.{has_value};
 
 use clap::ArgMatches;
+use program_manners::value_in;
 
 const INPUT_WORD: &str = "-";
 
@@ -30,13 +31,6 @@ pub(crate) fn inputs_in(words: &[&str]) -> usize
         }
     }
     inputs
-}
-
-pub(crate) fn value_in<'a>(matches: &ArgMatches<'a>, name: &str) -> Option<&'a str>
-    ensures { option_map (λ v. v.now) result
-        ≡ first_of name.now (rows_of (found_of matches.now)) }
-{
-    matches.get_str(name)
 }
 
 pub(crate) fn has_value(matches: &ArgMatches<'_>, name: &str) -> bool

@@ -5,10 +5,10 @@ ghost use Rattle.tool_words.specs.Tasks.{request_of};
 
 use crate::later_table::LaterTable;
 use crate::moments::{WRONG_FROM, moment_given};
-use crate::reading::{INPUT_TWICE, has_value, inputs_in, is_input, value_in};
+use crate::reading::{INPUT_TWICE, has_value, inputs_in, is_input};
 use crate::task::{TableQuestion, Task};
 use clap::ArgMatches;
-use program_manners::{WrongWord, flag_in, names_in};
+use program_manners::{WrongWord, flag_in, names_in, value_in};
 use std::alloc::{AllocError, Global};
 
 const TABLES_AS_SQL: &str = "error: --table cannot be used with --sql";

@@ -4,11 +4,11 @@ ghost use Rattle.tool_words.specs.Request.{valid_prefix_request, shows};
 ghost use Rattle.tool_words.specs.Tasks.{request_of, texts_of};
 
 use crate::moments::span_given;
-use crate::reading::{INPUT_TWICE, inputs_in, is_input, number_in, value_in};
+use crate::reading::{INPUT_TWICE, inputs_in, is_input, number_in};
 use crate::task::{LookWords, Task, ValidPrefixWords};
 use crate::words::{entered, matched};
 use clap::ArgMatches;
-use program_manners::{flag_in, names_in};
+use program_manners::{flag_in, names_in, value_in};
 use std::alloc::{AllocError, Global};
 
 const NOT_ONE_UPLOAD: &str = "error: --good-part needs one FILE";

@@ -14,7 +14,7 @@ ghost use Rattle.tool_words.specs.ToolLine.{AsksForText, Parses, program};
 use crate::encode_words::{encoded_file, files_in, rows_task};
 use crate::program::command;
 use crate::reading::{
-    INPUT_TWICE, as_parts, has_input_twice, has_value, inputs_in, is_input, number_in, value_in,
+    INPUT_TWICE, as_parts, has_input_twice, has_value, inputs_in, is_input, number_in,
 };
 use crate::rules::{breaks_rule, looks};
 use crate::table_words::table_task;
@@ -22,7 +22,7 @@ use crate::task::{BoundsWords, CorrectionsWords, SortingWords, Task};
 use crate::uploads_words::{look_task, valid_prefix_task};
 use clap::error::ErrorKind;
 use clap::{ArgMatches, Error};
-use program_manners::{flag_in, names_in};
+use program_manners::{flag_in, names_in, value_in};
 use std::alloc::{AllocError, Global};
 
 const COLUMNS_TWICE: &str = "error: --columns cannot be used with --from";

@@ -1,5 +1,5 @@
 -- How the writing of a text ends: what private functions alone cite.
-use Rattle.std.specs.Prelude.{◌≡◌, ℕ, List, Bool, Option, None, Some, Result, Ok, Err, false, map, true}
+use Rattle.std.specs.Prelude.{◌≡◌, ℕ, List, Bool, Option, Some, Result, Ok, Err, false, map, true}
 use Rattle.std.specs.Io.KnownBytes.{Appends, Keeps}
 use Rattle.tariffs.specs.Fares.{Fares}
 use Rattle.tap_views.specs.declared.token.Token.{Token}
@@ -9,7 +9,6 @@ use Rattle.fare_program.specs.Parts.{IsPartText}
 use Rattle.fare_program.specs.Settling.{ShowsSettled}
 use Rattle.fare_program.specs.declared.fault.Fault.{Fault}
 use Rattle.fare_program.specs.declared.fault.Fault.TheVariants.{Late, Write}
-use Rattle.sorted_bills.specs.Ledgers.{KnownAreBytes}
 
 -- the text of sorted files was broken off: one of them was refused after all were checked
 abbrev pub IsLate : Fault → Type 0
@@ -35,9 +34,7 @@ GivesIf Given Right out out' (Err fault) =
 -- The same where nothing need be given.
 abbrev pub Gives : (List ℕ → Bool → Type 0) → Option (List ℕ) → Option (List ℕ)
     → Result Bool Fault → Type 0
-Gives Right out out' (Ok success) = (text : List ℕ) × Right text success × Appends out out' text
-Gives Right out out' (Err fault) =
-    Stops (λ text. (success : Bool) × Right text success) out out' fault
+Gives = GivesIf (Unit {0})
 
 -- what is right of files of which this is known
 abbrev pub IfKnown : List (Option (List ℕ)) → (List (List ℕ) → List ℕ → Type 0) → List ℕ → Type 0
@@ -50,13 +47,11 @@ abbrev pub GivesKnown : Type 0 → List (Option (List ℕ)) → (List (List ℕ)
 GivesKnown Given known Right =
     GivesIf Given (λ text success. (success ≡ true) × IfKnown known Right text)
 
--- So is what is requested of settled files. A prefix of the ledger of all tokens is one of the right
--- text if what is known of the files is bytes.
+-- So is what is requested of settled files.
 abbrev pub GivesSettled : Request → List (Option (List ℕ)) → Fares → Option Token
     → Option (List ℕ) → Option (List ℕ) → Result Bool Fault → Type 0
-GivesSettled request known fares token =
-    GivesKnown (request.ledger ≡ true → token ≡ None → KnownAreBytes known) known
-    (λ files text. ShowsSettled request fares files token text true)
+GivesSettled request known fares token = Gives (λ text success. (success ≡ true)
+    × IfKnown known (λ files text. ShowsSettled request fares files token text true) text)
 
 -- So is the text of a part. Nothing is said of a prefix of its ledger.
 abbrev pub GivesPart : Bool → List (Option (List ℕ)) → Fares → Option (List ℕ) → Option (List ℕ)

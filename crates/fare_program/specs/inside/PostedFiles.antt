@@ -1,10 +1,12 @@
--- Posted files: what private functions alone cite.
+-- Files that are posted or settled: what private functions alone cite.
 use Rattle.std.specs.Prelude.{◌≡◌, ℕ, Bool, List, Option}
 use Rattle.tariffs.specs.Fares.{Fares}
 use Rattle.tap_views.specs.declared.token.Token.{Token}
+use Rattle.settlement.specs.Reading.{AreRead}
 use Rattle.fare_service.specs.Lending.{AreProvidedAs}
 use Rattle.fare_program.specs.Options.{Request}
 use Rattle.fare_program.specs.Program.{ShowsRequest}
+use Rattle.fare_program.specs.Settling.{ShowsSettled}
 use Rattle.fare_service.specs.Headline.{AreLoaded}
 use Rattle.world.specs.Origins.{Origin, anywhere, file, memory, nowhere}
 use Rattle.world.specs.Run.{Run, with_all}
@@ -31,3 +33,10 @@ abbrev pub Posts : Request → Fares → Option Token → List Origin → Run �
 Posts request fares token uploads old new text success =
     (files : List (List ℕ)) × (drawn : List ℕ) × AreProvided uploads files drawn old new
     × ShowsRequest request fares files drawn token text success
+
+-- This number of uploads was read in their order, and the text is what is asked for of them.
+abbrev pub Settles : Request → Fares → Option Token → (ℕ → Origin) → ℕ → Run → Run → List ℕ → Bool
+    → Type 0
+Settles request fares token origin number old new text success = (files : List (List ℕ))
+    × AreRead origin 0 number files old new
+    × ShowsSettled request fares files token text success

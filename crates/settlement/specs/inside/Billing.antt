@@ -1,5 +1,6 @@
 -- What is known of parts and of their bill while more taps are posted.
 use Rattle.std.specs.Prelude.{◌≡◌, ◌+◌, ◌<◌, ◌≤◌, ◌^◌, ℕ, List, All, length, slice_index_or, []}
+use Rattle.std.specs.Prelude.{flat_map}
 use Rattle.tariffs.specs.Fares.{Fares}
 use Rattle.tap_views.specs.Layout.{moment_limit}
 use Rattle.tap_views.specs.declared.encoder.TapFields.{TapFields}
@@ -24,6 +25,12 @@ abbrev pub AreRangesFrom : List ℕ → ℕ → List (List TapFields) → Type 0
 AreRangesFrom bounds start parts =
     (part : ℕ) → part < length parts
     → All (IsSoundTap bounds (start + part) (start + part + 1)) (slice_index_or parts part [])
+
+-- the parts are ranges of tokens, one after the other, and their taps can be counted
+abbrev pub AreFewInRanges : List (List TapFields) → Type 0
+AreFewInRanges parts =
+    (bounds : List ℕ) × (start : ℕ) × AreRangesFrom bounds start parts
+    × (length (flat_map (λ part. part) parts) < 2 ^ 64)
 
 -- the taps were added to the bill in canonical order, from the least token on
 pub record AreAdded (fares : Fares) (taps : List TapFields) (bill : OpenBill) : Type 0 where

@@ -1,5 +1,5 @@
 -- Bills of ranges of the taps: what private functions alone cite.
-use Rattle.std.specs.Prelude.{◌≡◌, ℕ, ◌^◌, ◌≤◌, All, List, [], ◌∷◌, Option, Some, IfSome, flat_map}
+use Rattle.std.specs.Prelude.{◌≡◌, ℕ, ◌^◌, ◌<◌, All, List, [], ◌∷◌, Option, Some, IfSome, flat_map}
 use Rattle.std.specs.Prelude.{length, map}
 use Rattle.tariffs.specs.Fares.{Fares}
 use Rattle.tap_views.specs.declared.encoder.TapFields.{TapFields}
@@ -17,15 +17,16 @@ use Rattle.sorted_bills.specs.inside.Taken.{AreTapsTaken}
 use Rattle.settlement.specs.declared.open_bill.OpenBill.{OpenBill}
 use Rattle.sorted_bills.specs.declared.part.Part.{Part}
 
--- taps whose tokens do not fall from this one on were taken, and the bill is theirs
+-- so many taps whose tokens do not fall from this one on were taken, and the bill is theirs
 pub record IsCharged (fares : Fares) (known : List (Option (List ℕ))) (old : List TapReader)
-    (from : Token) (new : List TapReader) (bill : OpenBill) : Type 0 where
+    (from : Token) (new : List TapReader) (bill : OpenBill) (count : ℕ) : Type 0 where
   pub taps : List TapFields
   pub taken : AreTapsTaken known old taps new
   pub bill_is : IsOpenBill fares taps bill
   pub nondecreasing : TapsNondecreasingFrom from taps
   pub last : bill.replay.token ≡ last_token from taps
-  pub few : length taps ≤ 2 ^ 73
+  pub counted : length taps ≡ count
+  pub few : count < 2 ^ 64
 
 -- the spans of files from where one begins to where another ends
 abbrev pub joined_spans : List FileSpan → List FileSpan → List FileSpan
@@ -42,10 +43,9 @@ pub record HaveTaps (files : List (List ℕ)) (spans : List FileSpan) (numbers :
   pub counted : numbers ≡ map length lists
   pub canonical : IsCanonical (flat_map (λ list. list) lists) taps
 
--- the part has the taps of its spans, at most `most`, and the bill is theirs; no token is below its
--- first one or above its last one
-pub record IsPart (fares : Fares) (known : List (Option (List ℕ))) (most : ℕ) (part : Part)
-    : Type 0 where
+-- the part has the taps of its spans, and the bill is theirs; no token is below its first one or
+-- above its last one
+pub record IsPart (fares : Fares) (known : List (Option (List ℕ))) (part : Part) : Type 0 where
   pub taps : List TapFields
   pub in_files : (files : List (List ℕ)) → known ≡ map Some files
       → HaveTaps files part.spans.items part.numbers.items taps
@@ -54,8 +54,9 @@ pub record IsPart (fares : Fares) (known : List (Option (List ℕ))) (most : ℕ
   pub range : IsUpTo part.first part.last
   pub from : All (λ tap. IsUpTo part.first (token_of_tap tap)) taps
   pub up : All (λ tap. IsUpTo (token_of_tap tap) part.last) taps
-  pub few : length taps ≤ most
+  pub counted : length taps ≡ part.count
+  pub few : part.count < 2 ^ 64
 
 -- each of the parts that were made is a part of the files
 abbrev pub AreParts : Fares → List (Option (List ℕ)) → List (Option Part) → Type 0
-AreParts fares known parts = All (λ part. IfSome part (IsPart fares known (2 ^ 73))) parts
+AreParts fares known parts = All (λ part. IfSome part (IsPart fares known)) parts

@@ -37,9 +37,11 @@ pub record AreOwnOf (token : Option Token) (files : List (List ℕ)) (own : List
   pub are : own ≡ own_of token (flat_map (λ list. list) lists)
   pub counted : numbers ≡ map length lists
 
--- if the bytes of the file at the place are known, these are the token's taps of it, or why it is
--- not sorted
+-- these are the token's taps of the file, or why it is not sorted
+abbrev pub IsOwnResult : Option Token → Result OwnTaps SortedFault → List ℕ → Type 0
+IsOwnResult token own all = IfOk own (IsOwnOf token all) × IfErr own (IsSortedFault all)
+
+-- so they are of the file at the place, if its bytes are known
 abbrev pub IsOwnAt : Option Token → List (Option (List ℕ)) → ℕ → Result OwnTaps SortedFault → Type 0
-IsOwnAt token known position own =
-    (bytes : Option (List ℕ)) → slice_get known position ≡ Some bytes
-    → IfSome bytes (λ all. IfOk own (IsOwnOf token all) × IfErr own (IsSortedFault all))
+IsOwnAt token known position own = (bytes : Option (List ℕ)) → slice_get known position ≡ Some bytes
+    → IfSome bytes (IsOwnResult token own)

@@ -1,13 +1,14 @@
 -- Taps up to a limit, which readers pass in a step of a merge: what private functions alone cite.
 use Rattle.std.specs.Prelude.{◌≡◌, ℕ, ◌-◌, ◌<◌, ◌≤◌, All, List, [], ◌++◌, flat_map, get_or, length}
-use Rattle.std.specs.Prelude.{map, IfSome, Option, Some, take, drop}
-use Rattle.std.specs.List.Sorted.{IsSortedWithin}
-use Rattle.std.specs.Ordering.{is_lt}
+use Rattle.std.specs.Prelude.{map, IfSome, Option, None, Some, take, drop}
+use Rattle.std.specs.List.Sorted.{IsSorted}
 use Rattle.tap_views.specs.declared.encoder.TapFields.{TapFields}
 use Rattle.tap_parts.specs.Canonical.{IsCanonical, tap_cmp}
+use Rattle.tap_parts.specs.Keys.{tap_of_key}
 use Rattle.sorted_taps.specs.Merged.{BeginsNotBefore, IsNotBefore}
-use Rattle.sorted_taps.specs.Merges.{AreTaken, IsPassed}
-use Rattle.sorted_taps.specs.Readers.{ahead}
+use Rattle.sorted_taps.specs.Merges.{AreTaken}
+use Rattle.sorted_taps.specs.Readers.{IsPassed, ahead}
+use Rattle.sorted_taps.specs.declared.limit.Front.{Front}
 use Rattle.sorted_taps.specs.declared.reader.TapReader.{TapReader}
 
 -- what a place past the end of a list is read as
@@ -24,11 +25,16 @@ abbrev pub IsLimitOf : List TapReader → TapFields → Type 0
 IsLimitOf readers limit = (k : ℕ) (d : TapReader) → k < length readers
     → EndsNotBefore limit (ahead (get_or readers k d))
 
+-- without a front the list has no tap; else its last tap is not before the front's
+abbrev pub IsFrontOf : Option Front → List TapFields → Type 0
+IsFrontOf None list = list ≡ []
+IsFrontOf (Some front) list = EndsNotBefore (tap_of_key front.last) list
+
 -- this many taps in front are in order, and none is after the limit
 pub record IsRunIn (limit : TapFields) (list : List TapFields) (number : ℕ) : Type 0 where
   pub within : number ≤ length list
-  pub not_after : (k : ℕ) (d : TapFields) → k < number → IsNotBefore (get_or list k d) limit
-  pub sorted : IsSortedWithin (λ a b. is_lt (tap_cmp a b)) list 0 number
+  pub not_after : All (λ tap. IsNotBefore tap limit) (take number list)
+  pub sorted : IsSorted tap_cmp (take number list)
 
 -- and the one that follows them is after the limit, or before the last of them
 pub record IsRunUpTo (limit : TapFields) (list : List TapFields) (number : ℕ) : Type 0 where

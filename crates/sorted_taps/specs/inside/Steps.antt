@@ -1,5 +1,5 @@
 -- Steps of a reader: what private functions alone cite.
-use Rattle.std.specs.Prelude.{◌≡◌, ℕ, List, [], ◌∷◌, ◌++◌, drop, true}
+use Rattle.std.specs.Prelude.{◌≡◌, ℕ, List, [], ◌∷◌, ◌++◌, drop, take, true}
 use Rattle.std.specs.Ordering.{is_lt}
 use Rattle.tap_views.specs.declared.encoder.TapFields.{TapFields}
 use Rattle.tap_parts.specs.Canonical.{tap_cmp}
@@ -25,10 +25,10 @@ pub record IsRefilled (all : List ℕ) (old new : TapReader) : Type 0 where
   pub end : new.taps.items ≡ [] → drop new.offset all ≡ []
   pub number : new.passed ≡ old.passed
 
--- the reader goes on after the tap at which it was, with taps of the file from its old offset on
-pub record IsMovedOn (all : List ℕ) (old new : TapReader) : Type 0 where
+-- the reader goes on after this many taps in memory, with taps of the file from its old offset on
+pub record IsMovedOn (all : List ℕ) (old : TapReader) (count : ℕ) (new : TapReader) : Type 0 where
   pub read : List TapFields
   pub between : AreTapsBetween all old.offset new.offset read
-  pub goes_on : ahead new ≡ drop 1 (ahead old) ++ read
+  pub goes_on : ahead old ++ read ≡ take count (ahead old) ++ ahead new
   pub end : ahead new ≡ [] → drop new.offset all ≡ []
   pub number : new.passed ≡ old.passed

@@ -13,13 +13,14 @@ returns-in-Ok-clause-ends g c =
 
 pub returns-in-Err-Write-clause-ends : goal.returns-in-Err-Write-clause-ends
 returns-in-Err-Write-clause-ends g c =
-    let (text, (success, is), started) = started_of _ _ _ _ c.in-Err-Write.field-0-is
-    c.in-Err-Write.ensures.ends in (
+    let (text, right, started) = started_of _ _ _ _ c.in-Err-Write.field-0-is
+    c.in-Err-Write.ensures.ends in
+    let (success, is) = right tt in (
       text,
-      (
+      (λ given. (
         success,
         charged_joined _ _ _ _ _ _ _ c.charge_named.new.calls.run text success
             c.new-calls.ensures c.join-in-Err-Write.ensures.loaded is,
-      ),
+      )),
       started,
     )

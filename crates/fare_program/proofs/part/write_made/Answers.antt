@@ -14,7 +14,7 @@ returns-in-Err-clause-ends g c history is =
     rw c.of_print.ensures (printed g.W.Write.contents _ _ _ c.in-Err.fault c.in-Err.ensures.fault
     (λ write. (
       part_head made.spans.items ++ report_over made.billed.ends.items history,
-      (true, (refl, refl)),
+      (λ given. (true, (refl, refl))),
       begins_front old new (part_head made.spans.items) _
           (rw c.deref.ensures.value at (c.in-Err.ensures.started write)),
     )))
@@ -38,10 +38,11 @@ returns-in-Err-Write-clause-ends g c history is =
     let mid = g.W.Write.contents c.write_part_head.new.out in
     let new = g.W.Write.contents c.write_billed.new.out in
     let head = part_head c.args.made.spans.items in
-    let (text, (success, (succeeded, report)), started) = started_of _ _ _ _
-    c.in-Err-Write.field-0-is c.in-Err-Write.ensures.ends in (
+    let (text, right, started) = started_of _ _ _ _ c.in-Err-Write.field-0-is
+    c.in-Err-Write.ensures.ends in
+    let (success, (succeeded, report)) = right tt in (
       head ++ text,
-      (true, (refl, ap (λ body. head ++ body) (report history is))),
+      (λ given. (true, (refl, ap (λ body. head ++ body) (report history is)))),
       begins_after old mid new head text
           (rw c.deref.ensures.value at c.in_default.ensures.ok) started,
     )

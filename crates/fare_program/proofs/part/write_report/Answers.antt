@@ -2,14 +2,14 @@ use Rattle.std.proofs.Common.{ap, map}
 use Rattle.std.proofs.lemmas.Result.{IfErr-weaker}
 use Rattle.fare_program.specs.inside.Options.{request_of}
 use Rattle.fare_program.specs.Parts.{report_over}
-use Rattle.fare_program.proofs.Ends.{gives_if, unwritten}
+use Rattle.fare_program.proofs.Ends.{gives_by, unwritten}
 use Rattle.fare_program.proofs.part.write_report.Goals as goal
 
 pub returns-in-Ok-part_bill-clause-ends : goal.returns-in-Ok-part_bill-clause-ends
 returns-in-Ok-part_bill-clause-ends g c =
     let (history, is, few, part) = c.in-Ok-part_bill.ensures.billed in
     let made = c.in-Ok-part_bill.made in
-    gives_if _ _ _ _ _ c.write_made.result
+    gives_by c.write_made.result (λ given. tt)
     (λ text success right. (
       right.0,
       λ all are.

@@ -1,12 +1,11 @@
 use Rattle.std.proofs.Common.{◌∙◌, ap}
 use Rattle.std.proofs.lemmas.Result.{IfErr-weaker}
 use Rattle.fare_service.specs.Headline.{drawn_by}
-use Rattle.fare_program.specs.inside.Causes.{IsRightOfUploads}
+use Rattle.fare_program.specs.inside.Fault.{IsRightOfUploads, ended_as}
 use Rattle.fare_program.specs.inside.Options.{request_of}
 use Rattle.tap_views.specs.UploadEnds.{are_posted}
 use Rattle.world.specs.Run.{Calls, Run, with_all}
 use Rattle.fare_program.proofs.Causes.{of_output}
-use Rattle.fare_program.specs.inside.Fault.{ended_as}
 use Rattle.fare_program.proofs.Ends.{gives_by, gives_printed, unwritten}
 use Rattle.fare_program.proofs.PostedTexts.{live_request}
 use Rattle.fare_program.proofs.posting.charge_provided.Goals as goal
@@ -17,7 +16,7 @@ returns-clause-ends g c =
     let live = c.in-Ok.ensures.run in
     let posted = c.are_posted-success.result in
     rw c.ended.ensures.ended
-    (gives_by _ _ _ _ (ended_as c.print_requested-printed.result posted)
+    (gives_by (ended_as c.print_requested-printed.result posted) (λ given. given)
     (λ text success is. (
       live.files,
       drawn_by live.run.0,

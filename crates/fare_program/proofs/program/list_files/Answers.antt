@@ -15,13 +15,13 @@ returns-in-Ok-write_bytes-clause-ends g c = (
 pub returns-clause-ends : goal.returns-clause-ends
 returns-clause-ends g c = (
   _,
-  (
+  (λ given. (
     _,
     record {
       files = map (λ f. f.items) c.in-Ok.files.items;
       loads_files = c.in-Ok.ensures.ok;
       listing = rw c.deref.ensures.value at c.in-Ok-listing_text.ensures;
     },
-  ),
+  )),
   rw c.as_bytes.ensures.value at c.in-Err-write_bytes.ensures.started,
 )

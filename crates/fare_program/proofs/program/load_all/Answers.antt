@@ -3,7 +3,7 @@ use Rattle.std.proofs.Common.{ap, get_or, Bor, nat_eq, ◌+◌, inl, sym}
 use Rattle.std.proofs.lemmas.Bool.Decides.{nat_tests}
 use Rattle.std.proofs.lemmas.List.{map-append, take_all, take_more}
 use Rattle.fare_program.proofs.Loads.{loads_push, names_to_load_are}
-use Rattle.program_manners.proofs.Refusals.{is_one_at}
+use Rattle.program_manners.proofs.Refusals.{has_refused, is_one_at}
 use Rattle.fare_program.proofs.Causes.{named_one, none_named}
 use Rattle.fare_program.proofs.program.load_all.Goals as goal
 
@@ -20,7 +20,7 @@ loop-name-preserved g c =
     ∙ map-append (λ n. Some n.now) (take index names) _ in
     let bytes : map (λ f. f.items) c.push-in-loop-name.new.files.items
     ≡ map (λ f. f.items) c.loop-name.files.items ++ c.in-Ok-load_named.bytes.items ∷ [] =
-    ap (map (λ f. f.items)) c.in_default-push.ensures.ok
+    ap (map (λ f. f.items)) c.in-Ok-push.ensures
     ∙ map-append (λ f. f.items) c.loop-name.files.items _ in
     rw (more, bytes) (loads_push _ _ _ _ _ _ _ c.loop-name.invariant c.in-Ok-load_named.ensures.ok)
 
@@ -40,8 +40,9 @@ returns-in-Err-clause-fault g c = λ other.
 
 pub returns-in-Err-load_named-clause-fault : goal.returns-in-Err-load_named-clause-fault
 returns-in-Err-load_named-clause-fault g c = λ other.
-    let (named, refused) = c.in-Err-load_named.ensures.fault in (
-      named_one _ _
-          (is_one_at c.args.names.now c.loop-name.name-index no_name _ c.loop-name-test.true named),
-      refused,
+    let name = c.loop-name.name-index in
+    let refused = c.in-Err-load_named.ensures.refused in
+    let named = c.in-Err-load_named.ensures.named in (
+      named_one _ _ (is_one_at c.args.names.now name no_name _ c.loop-name-test.true named),
+      rw named (has_refused (g.S.FileSource.refused c.load_named.new.source) (Some _) _ refused),
     )

@@ -6,7 +6,7 @@ use Rattle.clap.specs.Words.{IsAmong, Text, fault_of, kind_of}
 use Rattle.clap.specs.declared.error.kind.ErrorKind.{ErrorKind}
 use Rattle.clap.specs.declared.error.kind.ErrorKind.TheVariants.{OutOfMemory}
 use Rattle.fare_program.specs.Causes.{IsRightFault}
-use Rattle.fare_program.specs.Ends.{AreOfBytes, Did, Ends, EndsAnswer, EndsCommand, Leaves}
+use Rattle.fare_program.specs.Ends.{Did, Ends, EndsAnswer, EndsCommand, IsPartLedger, Leaves}
 use Rattle.fare_program.specs.Ends.{did_over}
 use Rattle.fare_program.specs.inside.Options.{request_of}
 use Rattle.fare_texts.proofs.Beginnings.{begins_whole}
@@ -78,7 +78,7 @@ module _ (request : Request) (did : Did) where
   right_remembered None fault right = right
 
   abbrev Requested : List ℕ → Type 0
-  Requested text = AreOfBytes request did.under → (success : Bool)
+  Requested text = ¬ IsPartLedger request → (success : Bool)
       × Does request did.under did.origin did.loaded did.loaded' text success
 
   left_by : (fault : Fault) → Stops Requested did.out did.out' fault → Leaves request did fault

@@ -1,9 +1,9 @@
-use Rattle.std.proofs.Common.{ap, option_map}
+use Rattle.std.proofs.Common.{None, Some, ap, option_map}
 use Rattle.std.proofs.lemmas.Result.{IfErr-weaker}
 use Rattle.program_manners.specs.TableViews.{names_of}
 use Rattle.fare_program.specs.inside.Options.{request_of}
-use Rattle.fare_program.proofs.Ends.{gives_given, gives_if}
-use Rattle.fare_program.proofs.Works.{does_list, does_with}
+use Rattle.fare_program.proofs.Ends.{gives_by}
+use Rattle.fare_program.proofs.Works.{does_of}
 use Rattle.fare_program.proofs.program.work.Goals as goal
 
 pub load_tables-requires : goal.load_tables-requires
@@ -21,15 +21,15 @@ returns-in_default-clause-right g c =
 
 pub returns-in_default-clause-ends : goal.returns-in_default-clause-ends
 returns-in_default-clause-ends g c =
-    gives_if _ _ _ _ _ c.list_files.result
-    (λ text success lists. does_list (request_of c.args.options.now) _ _ _ _ text success
-    (ap (option_map names_of) c.in_default.is) lists) c.list_files.ensures.ends
+    gives_by c.list_files.result (λ given. tt)
+    (λ text success lists. does_of (request_of c.args.options.now) _ _ _ _ text success
+    None (ap (option_map names_of) c.in_default.is) lists) c.list_files.ensures.ends
 
 pub returns-in-Ok-clause-ends : goal.returns-in-Ok-clause-ends
 returns-in-Ok-clause-ends g c =
-    gives_given _ _ _ _ _ _ c.work_by.result (λ given. given)
-    (λ text success does. does_with (request_of c.args.options.now) _ _ _ _ text success
-    (names_of c.in-Some.words) (ap (option_map names_of) c.in-Some.is) (record {
+    gives_by c.work_by.result (λ given. given)
+    (λ text success does. does_of (request_of c.args.options.now) _ _ _ _ text success
+    (Some (names_of c.in-Some.words)) (ap (option_map names_of) c.in-Some.is) (record {
       texts = _;
       fares = c.in-Ok.tables.fares;
       between = _;

@@ -1,16 +1,16 @@
-use Rattle.std.proofs.Common.{refl}
+use Rattle.std.proofs.Common.{false, refl, true}
 use Rattle.std.proofs.lemmas.Result.{IfErr-weaker}
 use Rattle.fare_program.specs.inside.Options.{request_of}
 use Rattle.fare_program.proofs.Causes.{right_sorted}
-use Rattle.fare_program.proofs.Ends.{gives_given, gives_if, gives_kept}
-use Rattle.fare_program.proofs.Works.{by_charge, by_list, by_merge, by_trace}
+use Rattle.fare_program.proofs.Ends.{gives_by, gives_kept}
+use Rattle.fare_program.proofs.Works.{does_by}
 use Rattle.fare_program.proofs.program.work_by.Goals as goal
 
 pub returns-then-options-clause-ends : goal.returns-then-options-clause-ends
 returns-then-options-clause-ends g c =
-    gives_if _ _ _ _ _ c.list_files.result (λ text success lists.
-    by_list (request_of c.args.options.now) _ _ _ _ text success _ _ c.args.token c.if-options.true
-    lists)
+    gives_by c.list_files.result (λ given. tt) (λ text success lists.
+    does_by (request_of c.args.options.now) _ _ _ _ text success _ _ c.args.token true _ _
+    c.if-options.true refl refl lists)
     c.list_files.ensures.ends
 
 pub returns-then-options-clause-right : goal.returns-then-options-clause-right
@@ -20,18 +20,18 @@ returns-then-options-clause-right g c =
 
 pub returns-then-options-2-clause-ends : goal.returns-then-options-2-clause-ends
 returns-then-options-2-clause-ends g c =
-    gives_if _ _ _ _ _ c.write_traced.result
+    gives_by c.write_traced.result (λ given. tt)
     (λ text success traces.
-    by_trace (request_of c.args.options.now) _ _ _ _ text success _ _ c.args.token
-    c.if-options.false c.if-options-2.true traces)
+    does_by (request_of c.args.options.now) _ _ _ _ text success _ _ c.args.token false true _
+    c.if-options.false c.if-options-2.true refl traces)
     c.write_traced.ensures.ends
 
 pub returns-then-options-3-clause-ends : goal.returns-then-options-3-clause-ends
 returns-then-options-3-clause-ends g c =
-    gives_given _ _ _ _ _ _ c.work_sorted.result (λ given. given)
+    gives_by c.work_sorted.result (λ given. given)
     (λ text success merges.
-    by_merge (request_of c.args.options.now) _ _ _ _ text success _ _ c.args.token
-    c.if-options.false c.if-options-2.false c.if-options-3.true refl merges)
+    does_by (request_of c.args.options.now) _ _ _ _ text success _ _ c.args.token false false true
+    c.if-options.false c.if-options-2.false c.if-options-3.true (refl, merges))
     c.work_sorted.ensures.ends
 
 pub returns-then-options-3-clause-right : goal.returns-then-options-3-clause-right
@@ -45,20 +45,20 @@ returns-then-options-3-clause-right g c =
 
 pub returns-in-Some-clause-ends : goal.returns-in-Some-clause-ends
 returns-in-Some-clause-ends g c =
-    gives_if _ _ _ _ _ c.in-Some.ended
+    gives_by c.in-Some.ended (λ given. tt)
     (λ text success charges.
-    by_charge (request_of c.args.options.now) _ _ _ _ text success _ _ c.args.token
-    c.if-options.false c.if-options-2.false c.if-options-3.false charges)
+    does_by (request_of c.args.options.now) _ _ _ _ text success _ _ c.args.token false false
+    false c.if-options.false c.if-options-2.false c.if-options-3.false charges)
     c.in-Some.ensures.ends
 
 -- files that are loaded in their turns
 pub returns-clause-ends : goal.returns-clause-ends
 returns-clause-ends g c =
     let unloaded = c.in-None.ensures.unloaded refl in
-    gives_if _ _ _ _ _ c.charge_loaded.result
+    gives_by c.charge_loaded.result (λ given. tt)
     (λ text success charges.
-    by_charge (request_of c.args.options.now) _ _ _ _ text success _ _ c.args.token
-    c.if-options.false c.if-options-2.false c.if-options-3.false (rw unloaded at charges))
+    does_by (request_of c.args.options.now) _ _ _ _ text success _ _ c.args.token false false
+    false c.if-options.false c.if-options-2.false c.if-options-3.false (rw unloaded at charges))
     (gives_kept _ _ _ _ c.charge_loaded.result (c.in-None.ensures.none refl)
     c.charge_loaded.ensures.ends)
 

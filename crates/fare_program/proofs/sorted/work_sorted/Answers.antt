@@ -1,22 +1,14 @@
 use Rattle.std.proofs.Common.{◌≡◌, ◌∙◌, Bool, Bor, List, Option, None, Some, ap, false, map}
 use Rattle.std.proofs.Common.{option_map, refl, subst, sym, true, ℕ}
 use Rattle.std.specs.Prelude.{MatchOption, is_some}
-use Rattle.tap_views.specs.declared.token.Token.{Token}
 use Rattle.fare_program.specs.Parts.{IsPartText}
-use Rattle.fare_program.specs.Program.{IsTokenIn}
 use Rattle.fare_program.specs.Settling.{ShowsSettled}
 use Rattle.fare_program.specs.inside.Options.{request_of}
-use Rattle.fare_program.proofs.Ends.{gives_given}
+use Rattle.fare_program.proofs.Ends.{gives_by}
 use Rattle.fare_program.proofs.sorted.work_sorted.Goals as goal
 
 abbrev name_in : Bor (List ℕ) → List ℕ
 name_in name = name.now
-
-no_token : (digits : Option (List ℕ)) (token : Option Token) → token ≡ None
-    → IsTokenIn digits token → digits ≡ None
-no_token None token none is = refl
-no_token (Some digits) None none is = absurd is
-no_token (Some digits) (Some token) none is = cc
 
 not_true : (b : Bool) → (b ≡ true → ⊥) → b ≡ false
 not_true true never = absurd (never refl)
@@ -33,9 +25,9 @@ returns-in-Some-clause-ends g c =
     let opened = ap (map g.D.File.Placed.bytes) c.deref-in-Some.ensures.value
     ∙ (rw c.deref.ensures.value at c.in-Ok.ensures.opened) in
     let named = ap (option_map name_in) c.in-Some.is in
-    gives_given _ _ _ _ _ _ c.charge_part.result
+    gives_by c.charge_part.result
     (λ given. not_true (request_of c.args.options.now).ledger
-    (λ ledger. given.0 (ap is_some named, ledger)))
+    (λ ledger. given (ap is_some named, ledger)))
     (λ text success is. (is.0, λ files are. rw named (is.1 files (opened ∙ are))))
     c.charge_part.ensures.ends
 
@@ -45,9 +37,7 @@ returns-clause-ends g c =
     let opened = ap (map g.D.File.Placed.bytes) c.deref-in-None.ensures.value
     ∙ (rw c.deref.ensures.value at c.in-Ok.ensures.opened) in
     let named = ap (option_map name_in) c.in-None.is in
-    gives_given _ _ _ _ _ _ c.charge_sorted.result
-    (λ given ledger none. rw opened
-    (given.1 (c.requires.sorted, ledger, no_token request.token c.args.token none c.requires.token)))
+    gives_by c.charge_sorted.result (λ given. tt)
     (λ text success is. (
       is.0,
       λ files are. subst (λ (tokens : Option (List ℕ)). MatchOption tokens

@@ -30,12 +30,12 @@ returns-in-Err-clause-ends g c =
     let unwritten = c.of_bill.ensures.write write in
     let (text, is, started) = c.in-Err.ensures.started unwritten in (
       text,
-      λ given. (
+      (
         true,
         (
           refl,
           λ all are.
-              let made = is all are (given c.requires refl all are) in
+              let made = is all are in
               let (ends, plain, success) = c.in-Err.ensures.sorted unwritten all are in
               shows_ledger (request_of c.args.options.now) c.args.table.now all text true
               made.history made.is_settled ends plain (sym success) c.requires made.over,

@@ -4,7 +4,7 @@ use Rattle.fare_program.specs.Causes.{IsRightOfSorted}
 use Rattle.fare_program.specs.inside.Options.{request_of}
 use Rattle.fare_program.proofs.Billed.{shows_bill}
 use Rattle.fare_program.proofs.Causes.{of_output}
-use Rattle.fare_program.proofs.Ends.{gives_if, unwritten}
+use Rattle.fare_program.proofs.Ends.{gives_by, unwritten}
 use Rattle.fare_program.proofs.sorted.write_report.Goals as goal
 
 pub write_billed-requires : goal.write_billed-requires
@@ -15,7 +15,7 @@ write_billed-requires g c =
 pub returns-in-Ok-sorted_bill-clause-ends : goal.returns-in-Ok-sorted_bill-clause-ends
 returns-in-Ok-sorted_bill-clause-ends g c =
     let (history, is, few, settled) = c.in-Ok-sorted_bill.ensures.billed in
-    gives_if _ _ _ _ _ c.write_billed.result
+    gives_by c.write_billed.result (λ given. tt)
     (λ text success right. (
       right.0 ∙ c.in-Ok-sorted_bill.ensures.posted,
       λ all are. shows_bill (request_of c.args.options.now) c.args.table.now all text true history

@@ -4,14 +4,14 @@ use Rattle.settlement.specs.Posted.{posted}
 use Rattle.fare_program.specs.Causes.{IsRightOfSorted}
 use Rattle.fare_program.specs.inside.Fault.{ended_as}
 use Rattle.fare_program.proofs.Causes.{of_output}
-use Rattle.fare_program.proofs.Ends.{gives_if, gives_printed, unwritten}
+use Rattle.fare_program.proofs.Ends.{gives_by, gives_printed, unwritten}
 use Rattle.fare_program.proofs.sorted.write_token.Goals as goal
 
 pub returns-in-Ok-clause-ends : goal.returns-in-Ok-clause-ends
 returns-in-Ok-clause-ends g c =
     let fares = c.args.table.now in
     rw c.ended.ensures.ended
-    (gives_if _ _ _ _ _ (ended_as c.write_text.result true)
+    (gives_by (ended_as c.write_text.result true) (λ given. tt)
     (λ text success is. (
       is.0,
       λ all are.

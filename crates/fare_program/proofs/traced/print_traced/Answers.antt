@@ -6,4 +6,4 @@ returns-in-Err-clause-ends g c = rw c.of_print.ensures
     (printed g.W.Write.contents _ _ _ c.in-Err.fault c.in-Err.ensures.fault
     (λ write.
     let (text, whole, traced, started) = c.in-Err.ensures.started write in
-    (text, (whole, traced), started)))
+    (text, (λ given. (whole, traced)), started)))

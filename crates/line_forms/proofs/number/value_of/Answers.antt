@@ -1,21 +1,29 @@
-use Rattle.std.proofs.Common.{◌≤◌, ◌<◌, ◌+◌, ◌*◌, ◌^◌, ℕ, Fits, w64, arith}
-use Rattle.std.proofs.Math.Nat.{pow-le-pow_right}
+use Rattle.std.proofs.Common.{◌≡◌, ◌≤◌, ◌<◌, ◌+◌, ◌*◌, ℕ, List, [], ◌∷◌, arith, drop, get_or, length}
+use Rattle.std.proofs.lemmas.List.{at_drop_more}
+use Rattle.std.specs.Char.{digit_value}
+use Rattle.std.specs.Str.Parse.{digits_value, digits_value_after}
 use Rattle.line_forms.proofs.number.value_of.Goals as goal
 
--- what at most 18 digits write has room for one more
-has_room : (number read digit : ℕ) → number < 10 ^ read → read < 19 → digit < 10
-    → Fits w64 (number * 10 + digit)
-has_room number read digit small few one =
-    let most : 10 ^ read ≤ 10 ^ 18 =
-    pow-le-pow_right (omega arith) {i = read} {j = 18} (omega (arith, few)) in
-    omega (arith, most, small, one)
+-- a value does not fall as digits follow
+grows : (n : ℕ) (digits : List ℕ) → n ≤ digits_value_after 10 n digits
+grows n [] = omega arith
+grows n (digit ∷ digits) =
+    let more = grows (n * 10 + digit_value digit) digits in omega (arith, more)
 
-pub overflow_mul-number : goal.overflow_mul-number
-overflow_mul-number c =
-    let h = has_room c.loop-byte.number c.loop-byte.byte-index 0 c.loop-byte.invariant.small
-    (omega (arith, c.requires, c.loop-byte-test.true)) (omega arith) in omega (arith, h)
+over : (n : ℕ) (digits : List ℕ) (i : ℕ) → i < length digits
+    → digits_value_after 10 n (drop i digits) ≡ digits_value 10 digits
+    → n * 10 + digit_value (get_or digits i 0) ≤ digits_value 10 digits
+over n digits i low is =
+    let step = at_drop_more (digits_value_after 10 n) digits i 0 low in
+    let more = grows (n * 10 + digit_value (get_or digits i 0)) (drop (i + 1) digits) in
+    omega (arith, is, step, more)
 
-pub overflow_add-number : goal.overflow_add-number
-overflow_add-number c =
-    has_room c.loop-byte.number c.loop-byte.byte-index c.from.result c.loop-byte.invariant.small
-    (omega (arith, c.requires, c.loop-byte-test.true)) (grind arith)
+pub returns-in_default : goal.returns-in_default
+returns-in_default c = λ all.
+    let h = over c.loop-byte.number c.args.digits.now c.loop-byte.byte-index c.loop-byte-test.true
+    c.loop-byte.invariant.1 in grind (arith, h)
+
+pub returns-in_default-checked_add : goal.returns-in_default-checked_add
+returns-in_default-checked_add c = λ all.
+    let h = over c.loop-byte.number c.args.digits.now c.loop-byte.byte-index c.loop-byte-test.true
+    c.loop-byte.invariant.1 in grind (arith, h)

@@ -1,6 +1,10 @@
-use Rattle.std.proofs.Common.{drop}
-use Rattle.line_forms.specs.inside.Narrow.{IsValueBefore}
+use Rattle.std.proofs.Common.{◌≡◌, ◌<◌, ◌^◌, drop}
+use Rattle.std.specs.Str.{all_ascii_digits}
+use Rattle.std.specs.Str.Parse.{digits_value, digits_value_after}
 use Rattle.line_forms.proofs.number.value_of.Given as goal
 
 abbrev pub invariant-loop-byte : goal.invariant-loop-byte
-invariant-loop-byte l = IsValueBefore l.digits (drop l.byte-index l.digits) l.number l.byte-index
+invariant-loop-byte l =
+    (all_ascii_digits (drop l.byte-index l.digits) ≡ all_ascii_digits l.digits)
+    × (digits_value_after 10 l.number (drop l.byte-index l.digits) ≡ digits_value 10 l.digits)
+    × (l.number < 2 ^ 64)

@@ -1,23 +1,31 @@
 -- The explainer goes on to the tap's token, and posts the tap.
-use Rattle.std.proofs.Common.{sym, subst, ◌∙◌, arith}
+use Rattle.std.proofs.Common.{◌<◌, [], sym, subst, ◌∙◌, arith}
+use Rattle.std.proofs.lemmas.List.Elements.{All-head}
+use Rattle.tap_views.specs.Layout.{moment_limit}
+use Rattle.tap_views.specs.declared.encoder.TapFields.{TapFields}
 use Rattle.tap_views.specs.declared.token.Token.{Token}
 use Rattle.histories.specs.Entry.{own}
 use Rattle.tap_views.specs.TokenOrder.{IsUpTo}
 use Rattle.settled_texts.proofs.TapsExplained.{one_reported}
 use Rattle.settled_texts.proofs.lines.explain_tap.Goals as goal
 
+pub write_posted-requires-clause-early : goal.write_posted-requires-clause-early
+write_posted-requires-clause-early c =
+    All-head (λ (tap : TapFields). tap.moment < moment_limit) c.args.tap.now []
+    c.requires.may.early
+
 pub write_posted-requires-clause-explained : goal.write_posted-requires-clause-explained
 write_posted-requires-clause-explained c =
+    let may = c.requires.may in
     let up = subst (λ (t : Token). IsUpTo c.args.explainer.now.token t) (sym c.token_of.ensures)
-    c.requires.up in
-    let consumed = c.go_on_to.ensures.consumed c.args.table.now c.requires.consumed.0
-    c.requires.consumed.1 up in
-    (own c.go_on_to.new.explainer.token c.requires.consumed.0, consumed.explained)
+    may.nondecreasing.0 in
+    let consumed = c.go_on_to.ensures.consumed c.args.table.now may.earlier may.consumed up in
+    (own c.go_on_to.new.explainer.token may.earlier, consumed.explained)
 
 pub returns : goal.returns
 returns c =
     let up = subst (λ (t : Token). IsUpTo c.args.explainer.now.token t) (sym c.token_of.ensures)
-    c.requires.up in
+    c.requires.may.nondecreasing.0 in
     let few = c.go_on_to.ensures.few in
     let number = c.write_posted.ensures.number in
     let token = c.go_on_to.ensures.token ∙ c.token_of.ensures in

@@ -1,11 +1,10 @@
 -- Each round explains one tap more.
-use Rattle.std.proofs.Common.{◌≡◌, List, [], ◌∷◌, ◌++◌, take, string_bytes}
+use Rattle.std.proofs.Common.{◌≡◌, ◌+◌, ◌++◌, ◌∷◌, List, [], drop, string_bytes}
 use Rattle.std.proofs.Common.{sym, ap, subst, ◌∙◌, append_assoc, append-nil}
 use Rattle.std.proofs.lemmas.List.{take_more}
 use Rattle.tap_views.specs.declared.encoder.TapFields.{TapFields}
-use Rattle.settlement.specs.Posted.{posted_after}
-use Rattle.settlement.proofs.Nondecreasing.{nondecreasing_here}
 use Rattle.settled_texts.specs.ExplainedTaps.{Explains}
+use Rattle.settled_texts.proofs.Joined.{around, may_next}
 use Rattle.settled_texts.proofs.TapsExplained.{explains_none, explains_then}
 use Rattle.settled_texts.proofs.lines.explain_taps.Goals as goal
 
@@ -15,19 +14,11 @@ loop-tap-init c =
     (λ lines. string_bytes c.args.text.now ≡ string_bytes c.args.text.now ++ lines)
     (sym (append-nil (string_bytes c.args.text.now)))
 
-pub explain_tap-requires-clause-up : goal.explain_tap-requires-clause-up
-explain_tap-requires-clause-up c =
-    nondecreasing_here c.args.explainer.now.token c.loop-tap.explainer.token c.args.taps.now
-    c.loop-tap.tap-index _
-    c.loop-tap-test.true c.requires.may.nondecreasing c.loop-tap.invariant.token
-
-pub explain_tap-requires-clause-consumed : goal.explain_tap-requires-clause-consumed
-explain_tap-requires-clause-consumed c =
-    let earlier = c.requires.may.earlier in
-    let done = take c.loop-tap.tap-index c.args.taps.now in (
-      earlier ++ posted_after c.args.table.now earlier done,
-      (c.loop-tap.invariant.lines earlier c.requires.may.consumed).1.consumed,
-    )
+pub explain_tap-requires-clause-may : goal.explain_tap-requires-clause-may
+explain_tap-requires-clause-may c =
+    may_next (_ ∷ []) (drop (c.loop-tap.tap-index + 1) c.args.taps.now)
+    (around c.args.taps.now c.loop-tap.tap-index _ c.loop-tap-test.true) c.loop-tap.invariant
+    c.requires.may
 
 pub loop-tap-preserved : goal.loop-tap-preserved
 loop-tap-preserved c =

@@ -1,18 +1,11 @@
-use Rattle.std.proofs.Common.{◌≡◌, List, ◌++◌, length, string_bytes}
-use Rattle.tap_views.specs.declared.encoder.TapFields.{TapFields}
+use Rattle.std.proofs.Common.{string_bytes, take}
 use Rattle.fare_texts.specs.WrittenOut.{GoesOut}
 use Rattle.settled_texts.specs.ExplainedTaps.{Explains}
 use Rattle.settled_texts.proofs.lines.write_taps.Given as goal
 
--- the explainer went on by the taps before the rest
-abbrev pub invariant-loop-rest : goal.invariant-loop-rest
-invariant-loop-rest g l = record {
-  done : List TapFields;
-  whole : done ++ l.rest ≡ l.fn.taps;
-  explained : Explains l.table l.fn.explainer done l.explainer
-      (GoesOut (g.W.Write.contents l.fn.out) (string_bytes l.fn.text) (g.W.Write.contents l.out)
-      (string_bytes l.text));
-}
-
-abbrev pub decreases-loop-rest : goal.decreases-loop-rest
-decreases-loop-rest g l = length l.rest
+-- the explainer went on by the taps so far
+abbrev pub invariant-loop-tap : goal.invariant-loop-tap
+invariant-loop-tap g l =
+    Explains l.table l.fn.explainer (take l.tap-index l.taps) l.explainer
+    (GoesOut (g.W.Write.contents l.fn.out) (string_bytes l.fn.text) (g.W.Write.contents l.out)
+    (string_bytes l.text))

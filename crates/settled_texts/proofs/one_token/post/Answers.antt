@@ -1,12 +1,11 @@
-use Rattle.std.proofs.Common.{◌≡◌, ◌+◌, List, [], ◌∷◌, ◌++◌, get_or, take, refl, ap, sym}
+use Rattle.std.proofs.Common.{◌≡◌, ◌+◌, List, [], ◌∷◌, ◌++◌, take, refl, ap, sym}
 use Rattle.std.proofs.Common.{subst, ◌∙◌}
-use Rattle.std.proofs.lemmas.List.{get_or_default}
 use Rattle.histories.specs.Entry.{own}
 use Rattle.histories.specs.declared.entry.Entry.{Entry}
 use Rattle.histories.specs.Plain.{answered}
 use Rattle.settlement.specs.Posted.{posted, posted_after, unposted}
 use Rattle.settlement.specs.Replays.{HasPosted}
-use Rattle.settlement.proofs.TokenRuns.{no_tap, posted_more}
+use Rattle.settlement.proofs.TokenRuns.{posted_more}
 use Rattle.settled_texts.proofs.one_token.post.Goals as goal
 
 pub loop-tap-init : goal.loop-tap-init
@@ -23,13 +22,11 @@ loop-tap-preserved c =
     let taps = c.args.taps.now in
     let i = c.loop-tap.tap-index in
     let inv = c.loop-tap.invariant in
-    let inside = c.loop-tap-test.true in
     let done = posted fares (take i taps) in
-    let tap = get_or taps i no_tap in
     let entry = c.next.result in
-    let is : entry ≡ answered fares done (unposted tap) = c.next.ensures.entry done inv.holds in
+    let is : entry ≡ answered fares done (unposted _) = c.next.ensures.entry done inv.holds in
     let more : posted fares (take (i + 1) taps) ≡ done ++ entry ∷ [] =
-    posted_more fares taps i tap inside (get_or_default taps i tap no_tap inside)
+    posted_more fares taps i _ c.loop-tap-test.true
     ∙ ap (λ (e : Entry). done ++ e ∷ []) (sym is) in
     record {
       token = c.next.ensures.token ∙ inv.token;

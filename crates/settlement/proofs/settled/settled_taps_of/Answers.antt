@@ -25,15 +25,10 @@ returns-clause-order g c =
           c.in_ok-lists.field-0.calls.run c.join.new.self.run run.read
           (ap (λ (calls : Calls). calls.run) c.join.ensures)),
       run.ended,
-      own_settled run.files token (flat_map taps_in lists) c.in_ok-taps.taps.items
-          c.in_ok-lists.field-0.ends.items
-          (record {
-            taps = run.taps;
-            of_uploads = run.of_files;
-            are = own_runs token run.holds.runs lists run.holds.each
-                ∙ ap (λ taps. only token (map fields_of taps)) (sym run.holds.whole);
-            ended = run.ended;
-          })
+      own_settled run.files token (flat_map taps_in lists) c.in_ok-taps.taps.items run.taps
+          run.of_files
+          (own_runs token run.holds.runs lists run.holds.each
+          ∙ ap (λ taps. only token (map fields_of taps)) (sym run.holds.whole))
           (All-map HasTokenBytes fields_of (taps_of_uploads run.taps) run.tokens)
           (subst (λ ls. IsCanonical (flat_map taps_in ls) c.in_ok-taps.taps.items)
           c.deref.ensures.value c.in_ok-taps.ensures),

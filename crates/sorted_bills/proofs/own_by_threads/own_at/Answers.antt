@@ -1,10 +1,9 @@
 use Rattle.std.proofs.Common.{ℕ, List, arith, subst}
-use Rattle.std.specs.Prelude.{IfErr, IfOk, IfSome, Option}
+use Rattle.std.specs.Prelude.{IfSome, Option}
 use Rattle.std.proofs.lemmas.Result.{err_from_is_err_and}
-use Rattle.sorted_taps.specs.Sorted.{IsSortedFault}
 use Rattle.sorted_taps.proofs.Known.{known_all}
-use Rattle.sorted_bills.specs.inside.OwnTaps.{IsOwnOf}
-use Rattle.sorted_bills.proofs.OwnTaps.{both_known, known_there}
+use Rattle.sorted_bills.specs.inside.OwnTaps.{IsOwnResult}
+use Rattle.sorted_bills.proofs.OwnTaps.{known_there}
 use Rattle.sorted_bills.proofs.own_by_threads.own_at.Goals as goal
 
 pub returns-then-position-files : goal.returns-then-position-files
@@ -17,11 +16,7 @@ returns-in_err-window g c =
 
 pub returns : goal.returns
 returns g c = λ bytes there.
-    let file = c.index-files-position.result in
     let within = c.if-position-files.false in
-    subst (λ (o : Option (List ℕ)). IfSome o (λ all. IfOk c.own_of_file.result
-    (IsOwnOf c.args.token all) × IfErr c.own_of_file.result (IsSortedFault all)))
-    (known_there g.F.Placed.bytes c.args.files.now c.args.position file bytes
-    (omega (arith, within)) c.index-files-position.is there)
-    (both_known (g.F.Placed.bytes file) c.own_of_file.result (IsOwnOf c.args.token) IsSortedFault
-    c.own_of_file.ensures.own c.own_of_file.ensures.fault)
+    subst (λ (o : Option (List ℕ)). IfSome o (IsOwnResult c.args.token c.own_of_file.result))
+    (known_there g.F.Placed.bytes c.args.files.now c.args.position c.index-files-position.result
+    bytes (omega (arith, within)) c.index-files-position.is there) c.own_of_file.ensures

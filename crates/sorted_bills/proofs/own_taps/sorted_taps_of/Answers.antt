@@ -1,12 +1,10 @@
 use Rattle.std.proofs.Common.{◌≡◌, ◌∙◌, All, List, Some, map, sym, ap, subst}
 use Rattle.std.proofs.lemmas.Bool.{not-false}
-use Rattle.std.proofs.lemmas.Result.{err_from_is_err_and}
 use Rattle.tap_views.specs.Token.{token_eq}
 use Rattle.tap_views.specs.UploadEnds.{ArePlainEnds}
 use Rattle.tap_views.specs.declared.encoder.TapFields.{TapFields}
 use Rattle.tap_views.specs.declared.upload_end.UploadEnd.{UploadEnd}
 use Rattle.tap_views.specs.declared.upload_end.UploadEnd.TheVariants.{Posted}
-use Rattle.sorted_bills.proofs.Counted.{late_no_write, late_says_nothing}
 use Rattle.tap_views.proofs.TokenLemmas.{same_token}
 use Rattle.settlement.specs.Posted.{token_of_tap}
 use Rattle.sorted_bills.specs.inside.Taken.{AreFollowing}
@@ -39,15 +37,3 @@ returns-clause-its g c =
     (same_token c.in-Some.last c.args.token
     (not-false (token_eq c.in-Some.last c.args.token) (sym c.ne.ensures ∙ c.if-ne.false)))
     c.in-Some.ensures))
-
-pub returns-in_err-stamps-clause-fault : goal.returns-in_err-stamps-clause-fault
-returns-in_err-stamps-clause-fault g c =
-    let p = err_from_is_err_and c.from_residual.result
-    c.from_residual.ensures.1 in
-    rw (p.1, p.2) (λ all are. late_says_nothing all c.in_err-stamps.field-0.0)
-
-pub returns-in_err-stamps-clause-unwritten : goal.returns-in_err-stamps-clause-unwritten
-returns-in_err-stamps-clause-unwritten g c =
-    let p = err_from_is_err_and c.from_residual.result
-    c.from_residual.ensures.1 in
-    rw (p.1, p.2) (late_no_write c.in_err-stamps.field-0.0)

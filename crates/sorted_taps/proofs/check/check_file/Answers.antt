@@ -1,10 +1,10 @@
-use Rattle.std.proofs.Common.{◌≡◌, List, arith, ◌∙◌, ◌++◌, ◌∷◌, []}
+use Rattle.std.proofs.Common.{◌≡◌, List, [], arith, take}
 use Rattle.std.proofs.lemmas.Result.{err_from_is_err_and}
 use Rattle.tap_views.specs.declared.encoder.TapFields.{TapFields}
-use Rattle.sorted_taps.specs.Readers.{ahead, IsPositionedIn, IsAdvanced, IsAfterFault, IsStepFault}
+use Rattle.sorted_taps.specs.Readers.{ahead, IsPositionedIn, IsAfterFault, IsStepFault}
 use Rattle.sorted_taps.specs.Sorted.{IsSortedFault}
 use Rattle.sorted_taps.proofs.Known.{at_none, known_map, known_map2}
-use Rattle.sorted_taps.proofs.Standing.{holds_on, sorted_at_end, opening_fault, step_fault}
+use Rattle.sorted_taps.proofs.Standing.{opening_fault, positioned_on, sorted_at_end, step_fault}
 use Rattle.sorted_taps.proofs.check.check_file.Goals as goal
 
 pub returns-in_err-reader-clause-fault : goal.returns-in_err-reader-clause-fault
@@ -21,11 +21,8 @@ returns-then-is_none-clause-sorted g c =
     let none = at_none (ahead reader ≡ []) _ c.head.result c.if-is_none.ensures c.head.ensures in
     known_map (λ all. (passed : List TapFields) × IsPositionedIn all 0 passed reader) _
     (g.F.Placed.bytes c.args.file.now)
-    (λ all holds. (
-      holds.0,
-      sorted_at_end all holds.0 reader holds.1 none,
-      c.passed.ensures ∙ holds.1.number,
-    )) c.loop.invariant.holds
+    (λ all (passed, holds). (passed, sorted_at_end all passed reader holds none))
+    c.loop.invariant.holds
 
 pub returns-in_err-advance-clause-fault : goal.returns-in_err-advance-clause-fault
 returns-in_err-advance-clause-fault g c =
@@ -47,10 +44,6 @@ loop-preserved g c =
     let room = c.loop.invariant.room in
     record {
       room = omega (arith, long, room);
-      holds = known_map2 (λ all. (passed : List TapFields) × IsPositionedIn all 0 passed old)
-          (λ all. IsAdvanced all old new)
-          (λ all. (passed : List TapFields) × IsPositionedIn all 0 passed new)
-          (g.F.Placed.bytes c.args.file.now)
-          (λ all holds is. (holds.0 ++ is.tap ∷ [], holds_on all 0 holds.0 old new holds.1 is))
+      holds = positioned_on 0 old new (g.F.Placed.bytes c.args.file.now) (take 1 (ahead old))
           c.loop.invariant.holds c.in_ok-advance.ensures.kept;
     }

@@ -1,11 +1,11 @@
 use Rattle.std.proofs.Common.{◌≡◌, ◌≤◌, ℕ, List, Some, map, length}
+use Rattle.sorted_taps.specs.Checked.{AreSortedBelow}
 use Rattle.sorted_taps.specs.Reading.{window_bytes}
-use Rattle.sorted_taps.proofs.Checking.{AreCounted}
 use Rattle.sorted_taps.proofs.check.check_files.Given as goal
 
 abbrev pub invariant-loop-index : goal.invariant-loop-index
 invariant-loop-index g l = record {
   room : window_bytes ≤ length l.window;
-  counted : (all : List (List ℕ)) → map g.F.Placed.bytes l.files ≡ map Some all
-      → AreCounted all l.index l.numbers.items;
+  sorted : (all : List (List ℕ)) → map g.F.Placed.bytes l.files ≡ map Some all
+      → AreSortedBelow all l.index;
 }

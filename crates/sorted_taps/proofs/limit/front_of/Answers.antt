@@ -1,13 +1,12 @@
-use Rattle.std.proofs.Common.{◌≤◌, ℕ, List, arith, length, subst, sym, ◌∙◌}
-use Rattle.std.specs.Prelude.{IfSome, MatchOption, None, Option, Some}
+use Rattle.std.proofs.Common.{ℕ, List, arith, below_more, length, subst, ◌<◌, ◌∙◌, get_or}
+use Rattle.std.specs.Prelude.{IfSome, None, Option, Some}
 use Rattle.std.proofs.lemmas.List.{get_or_default}
 use Rattle.tap_views.specs.declared.encoder.TapFields.{TapFields}
 use Rattle.tap_parts.specs.Keys.{tap_of_key}
-use Rattle.sorted_taps.specs.Merges.{AreAtEnd}
+use Rattle.sorted_taps.specs.Readers.{ahead}
 use Rattle.sorted_taps.specs.declared.limit.Front.{Front}
 use Rattle.sorted_taps.specs.declared.reader.TapReader.{TapReader}
-use Rattle.sorted_taps.specs.inside.Limits.{EndsNotBefore, IsLimitOf}
-use Rattle.sorted_taps.proofs.Limits.{AreLimited, limited_more}
+use Rattle.sorted_taps.specs.inside.Limits.{IsFrontOf, IsLimitOf}
 use Rattle.sorted_taps.proofs.limit.front_of.Goals as goal
 
 pub loop-reader-init : goal.loop-reader-init
@@ -18,23 +17,20 @@ loop-reader-preserved c =
     let readers = c.args.readers.now in
     let index = c.loop-reader.reader-index in
     let reader = c.reader-item.result in
-    let taken = c.least_front-front in
-    limited_more readers index reader c.loop-reader.front taken.result
-    (λ d. get_or_default readers index d reader c.loop-reader-test.true ∙ sym c.reader-item.is)
-    (λ none. (
-      (taken.ensures.none none).0,
-      sym c.ahead.ensures ∙ (taken.ensures.none none).1,
-    )) taken.ensures.kept
-    (subst (λ (list : List TapFields). IfSome taken.result
-    (λ least. EndsNotBefore (tap_of_key least.last) list)) c.ahead.ensures taken.ensures.last)
-    c.loop-reader.invariant
+    let least = c.least_front-front in
+    below_more (λ k. (d : TapReader) → IsFrontOf least.result (ahead (get_or readers k d))) index
+    (λ k low d. least.ensures.kept (ahead (get_or readers k d)) (c.loop-reader.invariant k low d))
+    (λ d. subst (λ (r : TapReader). IsFrontOf least.result (ahead r))
+    (c.reader-item.is ∙ get_or_default readers index reader d c.loop-reader-test.true)
+    (subst (λ (list : List TapFields). IsFrontOf least.result list) c.ahead.ensures
+    least.ensures.last))
 
-limited : (readers : List TapReader) (index : ℕ) (front : Option Front) → length readers ≤ index
-    → AreLimited readers index front → MatchOption front (AreAtEnd readers)
-    (λ front. IsLimitOf readers (tap_of_key front.last))
-limited readers index None all are = λ k d low. are k (omega (arith, low, all)) d
-limited readers index (Some front) all are = λ k d low. are k (omega (arith, low, all)) d
+limited : (readers : List TapReader) (front : Option Front) → ((k : ℕ) → k < length readers
+    → (d : TapReader) → IsFrontOf front (ahead (get_or readers k d)))
+    → IfSome front (λ front. IsLimitOf readers (tap_of_key front.last))
+limited readers None all = tt
+limited readers (Some front) all = λ k d low. all k low d
 
 pub returns : goal.returns
-returns c = limited c.args.readers.now c.loop-reader.reader-index c.loop-reader.front
-    (omega (arith, c.loop-reader-test.false)) c.loop-reader.invariant
+returns c = limited c.args.readers.now c.loop-reader.front
+    (λ k low. c.loop-reader.invariant k (omega (arith, low, c.loop-reader-test.false)))

@@ -1,5 +1,9 @@
-use Rattle.sorted_taps.proofs.Limits.{AreLimited}
+use Rattle.std.proofs.Common.{◌<◌, ℕ, get_or}
+use Rattle.sorted_taps.specs.Readers.{ahead}
+use Rattle.sorted_taps.specs.declared.reader.TapReader.{TapReader}
+use Rattle.sorted_taps.specs.inside.Limits.{IsFrontOf}
 use Rattle.sorted_taps.proofs.limit.front_of.Given as goal
 
 abbrev pub invariant-loop-reader : goal.invariant-loop-reader
-invariant-loop-reader l = AreLimited l.readers l.reader-index l.front
+invariant-loop-reader l = (k : ℕ) → k < l.reader-index → (d : TapReader)
+    → IsFrontOf l.front (ahead (get_or l.readers k d))

@@ -1,4 +1,4 @@
-use Rattle.std.proofs.Common.{◌≡◌, ◌≢◌, [], ◌++◌, ap, append-nil, sym, ◌∙◌, subst, refl, arith}
+use Rattle.std.proofs.Common.{◌≡◌, ◌≢◌, [], ◌++◌, ap, append-nil, sym, ◌∙◌, subst, arith}
 use Rattle.std.proofs.Common.{vec_len}
 use Rattle.std.proofs.lemmas.Bool.{eqb-true}
 use Rattle.std.proofs.lemmas.List.{nil_from_length}
@@ -9,17 +9,12 @@ use Rattle.sorted_taps.specs.declared.merged_file.MergeStop.TheVariants.{Write}
 use Rattle.sorted_taps.specs.inside.Waiting.{HasPut}
 use Rattle.sorted_taps.proofs.Putting.{if_any, may_wait_none, put_none}
 use Rattle.sorted_taps.proofs.Taking.{taken_append, taken_merged, taken_none}
-use Rattle.sorted_taps.specs.Merges.{AreTaken}
+use Rattle.sorted_taps.specs.Merges.{AreAtEnd, AreTaken}
 use Rattle.sorted_taps.proofs.merged_file.write_merged.Goals as goal
 
 pub returns-in_err-stamps-clause-started : goal.returns-in_err-stamps-clause-started
 returns-in_err-stamps-clause-started g c =
     if_any _ c.from_residual.result
-    (λ stop is. (put_none (g.W.Write.contents c.args.out.now)).part)
-
-pub returns-in_err-waiting-clause-started : goal.returns-in_err-waiting-clause-started
-returns-in_err-waiting-clause-started g c =
-    if_any _ c.from_residual-in_err-waiting.result
     (λ stop is. (put_none (g.W.Write.contents c.args.out.now)).part)
 
 pub returns-in_err-merge-clause-started : goal.returns-in_err-merge-clause-started
@@ -30,8 +25,8 @@ returns-in_err-merge-clause-started g c =
 pub loop-init : goal.loop-init
 loop-init g c =
     let old = g.W.Write.contents c.args.out.now in
-    let waiting = c.in_ok-waiting.waiting.items in
-    let none : waiting ≡ [] = c.in_ok-waiting.ensures.items in
+    let waiting = c.new-waiting.result.items in
+    let none : waiting ≡ [] = c.new-waiting.ensures.items in
     let long = c.begin.auto.window in
     let room = c.requires in
     record {
@@ -46,11 +41,6 @@ loop-init g c =
         taken_none all c.in_ok-merge.merge.readers.items,
       );
     }
-
-pub returns-in_err-run-clause-started : goal.returns-in_err-run-clause-started
-returns-in_err-run-clause-started g c =
-    if_any _ c.from_residual-in_err-run.result
-    (λ stop is. (put_none (g.W.Write.contents c.args.out.now)).part)
 
 pub returns-in_err-take-clause-started : goal.returns-in_err-take-clause-started
 returns-in_err-take-clause-started g c =
@@ -97,7 +87,7 @@ returns-then-is_empty-clause-merged g c = λ all are.
     (c.in_ok-take.ensures.taken all are) in
     let merged = taken_merged all started new taps earlier
     (subst (λ ts. AreTaken all started ts new) (ap (λ ts. taps ++ ts) none ∙ append-nil taps) both)
-    (c.in_ok-take.ensures.end refl none) in
+    (subst (λ rs. AreAtEnd rs) c.readers.ensures (c.are_at_end.ensures c.if-not-are_at_end.false)) in
     record {
       lists = merged.lists;
       sorted = merged.sorted;
@@ -122,7 +112,7 @@ loop-preserved g c =
       readers = c.in_ok-take.ensures.number;
       may_wait = c.in_ok-put_all.ensures.waiting;
       taps = taps ++ run.items;
-      put = rw c.deref-in-loop-2.ensures.value at
+      put = rw c.deref-in-loop.ensures.value at
           (c.in_ok-put_all.ensures.put old taps c.loop.invariant.put);
       taken = λ all are.
           let (started, earlier, taken) = c.loop.invariant.taken all are in (

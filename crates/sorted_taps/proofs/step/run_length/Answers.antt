@@ -1,10 +1,10 @@
-use Rattle.std.proofs.Common.{◌<◌, ◌-◌, arith, length, subst, sym, ◌∙◌}
+use Rattle.std.proofs.Common.{◌≡◌, arith, length, subst, sym, ◌∙◌}
 use Rattle.std.proofs.lemmas.List.{get_or_default}
 use Rattle.std.proofs.lemmas.Option.{get_or_from_slice_get}
 use Rattle.std.proofs.lemmas.Option.{slice_get_within}
 use Rattle.tap_parts.specs.Keys.{tap_of_key}
 use Rattle.sorted_taps.specs.Merged.{IsNotBefore}
-use Rattle.sorted_taps.specs.inside.Limits.{no_tap}
+use Rattle.sorted_taps.specs.inside.Limits.{IsRunIn, no_tap}
 use Rattle.sorted_taps.proofs.Joining.{ranked}
 use Rattle.sorted_taps.proofs.Limits.{none_before_limit, run_first, run_more}
 use Rattle.sorted_taps.proofs.step.run_length.Goals as goal
@@ -26,29 +26,23 @@ loop-position-init c =
       some = omega arith;
       run = run_first limit c.args.ahead.now
           (slice_get_within c.args.ahead.now 0 c.in-Some.first.now (sym c.in-Some.ensures.value))
-          (λ d. subst (λ t. IsNotBefore t limit)
-          (c.of.ensures ∙ sym (get_or_from_slice_get c.args.ahead.now 0 c.in-Some.first.now d
+          (subst (λ t. IsNotBefore t limit)
+          (c.of.ensures ∙ sym (get_or_from_slice_get c.args.ahead.now 0 c.in-Some.first.now no_tap
           (sym c.in-Some.ensures.value))) (sym c.is_before.ensures ∙ c.if-is_before.false));
     }
 
 pub loop-position-preserved : goal.loop-position-preserved
 loop-position-preserved c =
     let limit = tap_of_key c.args.limit in
-    let ahead = c.args.ahead.now in
     let position = c.loop-position.position in
-    let some = c.loop-position.invariant.some in
-    let within : position < length ahead =
-    omega (arith, c.loop-position-test.true, c.loop-position.auto.position-end) in
     record {
-      some = omega (arith, some);
-      run = run_more limit ahead position (omega (arith, some)) within c.loop-position.invariant.run
-          (λ d. subst (λ t. IsNotBefore t limit)
-          (c.of-in-loop-position.ensures ∙ sym (get_or_default ahead position d no_tap within))
+      some = omega arith;
+      run = run_more limit c.args.ahead.now position
+          (omega (arith, c.loop-position-test.true, c.loop-position.auto.position-end))
+          c.loop-position.invariant.run
+          (subst (λ t. IsNotBefore t limit) c.of-in-loop-position.ensures
           (sym c.is_before-in-loop-position.ensures ∙ c.if-is_before-2.false))
-          (λ d. rw (
-            get_or_default ahead position d no_tap within,
-            get_or_default ahead (position - 1) d no_tap (omega (arith, within)),
-          ) (sym c.is_before-in-loop-position-2.ensures ∙ c.if-is_before-3.false));
+          (λ _. sym c.is_before-in-loop-position-2.ensures ∙ c.if-is_before-3.false);
     }
 
 pub returns-then-is_before-2 : goal.returns-then-is_before-2
@@ -62,4 +56,16 @@ returns-then-is_before-2 c =
           (c.of-in-loop-position.ensures ∙ sym (get_or_default ahead position d no_tap within))
           (ranked.one_way limit (tap_of_key c.of-in-loop-position.result)
           (sym c.is_before-in-loop-position.ensures ∙ c.if-is_before-2.true));
+    }
+
+pub returns : goal.returns
+returns c =
+    let limit = tap_of_key c.args.limit in
+    let ahead = c.args.ahead.now in
+    let within = c.loop-position.invariant.run.within in
+    let whole : c.loop-position.position ≡ length ahead =
+    omega (arith, within, c.loop-position-test.false) in
+    record {
+      run = subst (IsRunIn limit ahead) whole c.loop-position.invariant.run;
+      stop = λ d more. absurd (omega (arith, more));
     }

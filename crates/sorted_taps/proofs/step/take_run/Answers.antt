@@ -1,8 +1,9 @@
-use Rattle.std.proofs.Common.{◌<◌, List, [], ◌++◌, append-nil, ap, arith, subst, sym, take, ◌∙◌}
-use Rattle.std.proofs.lemmas.Result.{on_ok_weaker}
+use Rattle.std.proofs.Common.{List, [], ◌++◌, append-nil, ap, arith, subst, sym, take, ◌∙◌}
+use Rattle.std.specs.List.Sorted.{IsSorted}
 use Rattle.tap_views.specs.declared.encoder.TapFields.{TapFields}
+use Rattle.tap_parts.specs.Canonical.{tap_cmp}
 use Rattle.tap_parts.specs.Keys.{tap_of_key}
-use Rattle.sorted_taps.specs.Readers.{ahead, IsAdvanced}
+use Rattle.sorted_taps.specs.Readers.{IsPassed, ahead}
 use Rattle.sorted_taps.specs.inside.Limits.{IsPassedUpTo, IsRunUpTo}
 use Rattle.sorted_taps.proofs.Known.{known_all, known_map}
 use Rattle.sorted_taps.proofs.Limits.{none_up_to, run_up_to}
@@ -21,24 +22,28 @@ returns-then-number-eq0 g c =
           c.run_length-number.ensures));
     }
 
+pub pass-requires-clause-order : goal.pass-requires-clause-order
+pass-requires-clause-order g c =
+    subst (λ l. IsSorted tap_cmp (take c.run_length-number.result l)) c.ahead-waiting.ensures
+    c.run_length-number.ensures.run.sorted
+
 pub returns : goal.returns
 returns g c =
     let limit = tap_of_key c.args.limit in
     let old = c.args.reader.now in
-    let mid = c.pass.new.self in
-    let new = c.advance.new.self in
+    let new = c.pass.new.self in
     let number = c.run_length-number.result in
-    let some : 0 < number = let not = c.if-number-eq0.false in omega (arith, not) in
-    on_ok_weaker c.advance.result
-    (λ kept. record {
+    let not = c.if-number-eq0.false in
+    record {
       run = take number (ahead old);
       items = c.in_ok-extend_from_slice.ensures.items
           ∙ ap (λ (l : List TapFields). c.args.taps.now.items ++ take number l)
           c.ahead-waiting.ensures;
-      passed = known_map (λ all. IsAdvanced all mid new)
+      passed = known_map (λ all. IsPassed all old (take number (ahead old)) new)
           (λ all. IsPassedUpTo all limit old (take number (ahead old)) new)
           (g.F.Placed.bytes c.args.file.now)
-          (λ all step. run_up_to all limit old mid new number
+          (λ all passed. run_up_to all limit old new number
           (subst (λ l. IsRunUpTo limit l number) c.ahead-waiting.ensures
-          c.run_length-number.ensures) some c.in_ok-pass.ensures step) kept;
-    }) c.advance.ensures.kept
+          c.run_length-number.ensures) (omega (arith, not)) passed c.in_ok-pass.ensures.next)
+          c.in_ok-pass.ensures.kept;
+    }

@@ -20,5 +20,5 @@ push-requires c =
 
 pub returns : goal.returns
 returns c = λ fares taps is.
-    closed_some fares taps c.args.self.now _ is c.if-not-self.false c.in_ok-push.ensures
+    closed_some fares taps c.args.self.now is _ c.if-not-self.false c.in_ok-push.ensures
     c.add_all.ensures refl

@@ -1,4 +1,4 @@
-use Rattle.std.proofs.Common.{◌∙◌, [], refl, sym, ap, subst}
+use Rattle.std.proofs.Common.{◌∙◌, refl, sym, ap, subst}
 use Rattle.std.proofs.lemmas.Bool.{false≢true}
 use Rattle.tap_views.specs.Token.{token_eq}
 use Rattle.tap_views.specs.declared.token.Token.{Token}
@@ -13,12 +13,12 @@ returns-then-eq-clause-token c =
     same_token c.args.self.now.replay.token c.args.token (sym c.eq.ensures ∙ c.if-eq.true)
 
 pub returns-clause-bill : goal.returns-clause-bill
-unfolding own
 returns-clause-bill c = λ fares taps is.
     let old = c.args.self.now.replay.token in
     let next = c.of-self.ensures.token in
-    gone_on fares taps c.args.self.now _ is (c.in_ok-close.ensures fares taps is)
+    gone_on fares taps c.args.self.now is _ (c.in_ok-close.ensures fares taps is)
     (subst (λ (t : Token). IsUpTo old t) (sym next) c.requires.up)
     (λ same. false≢true (sym (sym c.eq.ensures ∙ c.if-eq.false)
     ∙ ap (λ (t : Token). token_eq t c.args.token) (same ∙ next) ∙ token_eq-refl c.args.token))
-    (c.of-self.ensures.none fares [] refl) c.new-self.ensures refl
+    (λ earlier none. c.of-self.ensures.none fares earlier
+    (ap (λ (t : Token). own t earlier) (sym next) ∙ none)) c.new-self.ensures refl

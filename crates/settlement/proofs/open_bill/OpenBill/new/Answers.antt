@@ -2,10 +2,10 @@ use Rattle.std.proofs.Common.{◌≡◌, [], refl, true, false, All, ◌∷◌}
 use Rattle.std.proofs.lemmas.List.Elements.{All-nil}
 use Rattle.std.specs.declared.cmp.Ordering.TheVariants.{Less}
 use Rattle.tap_views.specs.Token.{token_cmp}
-use Rattle.tap_views.specs.declared.encoder.TapFields.{TapFields}
 use Rattle.tap_views.specs.declared.token.Token.{Token}
 use Rattle.histories.specs.Entry.{own}
-use Rattle.settlement.specs.Posted.{posted_after, token_of_tap}
+use Rattle.histories.specs.declared.entry.Entry.{Entry}
+use Rattle.settlement.specs.Posted.{posted_after}
 use Rattle.settlement.proofs.open_bill.OpenBill.new.Goals as goal
 
 pub returns-clause-bill : goal.returns-clause-bill
@@ -16,7 +16,7 @@ returns-clause-bill c = λ fares. record {
   both = refl;
   below = All-nil (λ (t : Token). All (λ (o : Token). token_cmp t o ≡ Less)
       (c.of.result.token ∷ []));
-  its = All-nil (λ (tap : TapFields). token_of_tap tap ≡ c.of.result.token);
+  its = All-nil (λ (entry : Entry). entry.token ≡ c.of.result.token);
   holds = c.of.ensures.none fares [] refl;
   tally = c.new-2.ensures;
   some = λ e. absurd (let wrong : false ≡ true = e in cc);

@@ -3,12 +3,10 @@ use Rattle.sorted_taps.specs.Merges.{AreTaken}
 use Rattle.sorted_taps.specs.Reading.{window_bytes}
 use Rattle.sorted_taps.proofs.merge.Merge.take.Given as goal
 
--- each step so far took a tap
-abbrev pub invariant-loop-step : goal.invariant-loop-step
-invariant-loop-step g l = record {
+abbrev pub invariant-loop : goal.invariant-loop
+invariant-loop g l = record {
   room : window_bytes ≤ length l.window;
   number : length l.self.readers.items ≡ length l.files;
-  some : l._step ≤ length l.taps.items;
   taken : (all : List (List ℕ)) → map g.F.Placed.bytes l.files ≡ map Some all
       → AreTaken all l.fn.self.readers.items l.taps.items l.self.readers.items;
 }

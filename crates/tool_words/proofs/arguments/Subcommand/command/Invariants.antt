@@ -1,6 +1,7 @@
 use Rattle.std.proofs.Common.{◌≡◌, false, map, take}
 use Rattle.clap.specs.Words.{app_of}
-use Rattle.tool_words.specs.inside.Rows.{leaf, rule_in}
+use Rattle.tool_words.specs.ToolLine.{rule_in}
+use Rattle.tool_words.specs.inside.Rows.{leaf}
 use Rattle.tool_words.proofs.arguments.Subcommand.command.Given as goal
 
 -- the rows so far were added
