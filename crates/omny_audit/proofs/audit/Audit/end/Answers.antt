@@ -51,7 +51,7 @@ returns-clause-ended c = λ asked whole front before more has last none.
     (text_of audit.report) b verdict) both
     (c.in_ok-verdict.ensures audit.table.now (ledger_in given file) (λ yes entries of.
     found.2.sums (and_parts legal right (sym both ∙ yes)).0 entries of)) in
-    subst (λ (g : Given). IsAudit g file (before ++ c.in_ok-write_last_lines.new.text.items)
+    subst (λ (g : Given). IsAudit g file (before ++ c.write_last_lines.new.text.items)
     c.are_both.result) has.same (record {
       found = written ++ found.0;
       finding = found.2.finding;
