@@ -2,6 +2,7 @@ use Rattle.std.proofs.Common.{◌≡◌, ◌∙◌, ◌++◌, ℕ, Bool, List, a
 use Rattle.std.proofs.Common.{eqb-true, sym, true}
 use Rattle.std.specs.Prelude.{◌&&◌, ◌↔◌, IfSome}
 use Rattle.histories.specs.declared.entry.Entry.{Entry}
+use Rattle.ledger_check.specs.Ledger.{IsLedger}
 use Rattle.ledger_check.specs.Orders.{are_settled}
 use Rattle.ledger_check.specs.Sums.{AreSumsOf}
 use Rattle.ledger_check.specs.FullChecks.{taps_from, wrong_count}
@@ -18,7 +19,8 @@ returns c = λ fares valid text written has.
     valid has in
     let taken = ended.0 in
     let decides = c.full_checks_decide.ensures fares text taken ended.1 in
-    let legal = rw ended.2 (full_check_legal fares text taken decides) in
+    let legal : (checked.is_legal ≡ true) ↔ IsLedger fares text =
+    rw ended.2 (full_check_legal fares text taken decides) in
     let lacking = c.in_ok-is_even.ensures in
     let rest = lacking.2 valid (taps_from taken) ended.4 in
     let even = c.in_ok-is_even.is_even in (
