@@ -31,7 +31,7 @@ even_is differ valid others (Some difference) is =
     (λ yes. absurd (false≢true yes), λ same. absurd (differ valid others difference is same))
 
 -- which line a true verdict reports as earlier than the one before it
-early_is : (fares : Fares) (text : List ℕ) (verdict : Verdict) (entries : List Entry)
+pub early_is : (fares : Fares) (text : List ℕ) (verdict : Verdict) (entries : List Entry)
     → IsVerdict fares text verdict → is_legal verdict ≡ true → IsLedgerOf fares entries text
     → early_in verdict ≡ early_line (map tap_of_entry entries)
 early_is fares text (Legal number early) entries is legal of =

@@ -118,6 +118,11 @@ IsPositionFault None read fault = fault ≡ None
 IsPositionFault (Some uploads) read fault =
     IsFaultAfter uploads (have_position read) (wrong_position uploads read) fault
 
+-- `upload 0 place 2`
+abbrev pub upload_position_text : ℕ → ℕ → List ℕ
+upload_position_text upload position =
+    codes "upload " ++ (decimal upload ++ (codes " place " ++ decimal position))
+
 -- `line 3 has another tap than upload 0 has at place 2`, `line 4 has upload 0 place 2 again` or `no
 -- line has upload 0 place 3`
 abbrev pub fault_text : PositionFault → List ℕ
@@ -125,8 +130,8 @@ fault_text (OtherTap line upload position) =
     codes "line " ++ (decimal line ++ (codes " has another tap than upload " ++ (decimal upload
     ++ (codes " has at place " ++ decimal position))))
 fault_text (Repeated line upload position) =
-    codes "line " ++ (decimal line ++ (codes " has upload " ++ (decimal upload
-    ++ (codes " place " ++ (decimal position ++ codes " again")))))
+    codes "line " ++ (decimal line ++ (codes " has " ++ (upload_position_text upload position
+    ++ codes " again")))
 fault_text (NoLine upload position) =
     codes "no line has upload " ++ (decimal upload ++ (codes " place " ++ decimal position))
 

@@ -13,7 +13,7 @@ ghost use Rattle.ledger_check.specs.Taps.{IsTapOfLine};
 ghost use Rattle.omny_audit.specs.Traced.{AreColumnsReported, IsFaultAfter, IsPositionFault};
 ghost use Rattle.omny_audit.specs.Traced.{NamesTapWithColumns, ReadLine, class_fault, class_text};
 ghost use Rattle.omny_audit.specs.Traced.{fault_by, fault_text, lines_read, positions_text};
-ghost use Rattle.omny_audit.specs.Traced.{position_text};
+ghost use Rattle.omny_audit.specs.Traced.{position_text, upload_position_text};
 ghost use Rattle.omny_audit.specs.declared.traced.PositionFault.{PositionFault as AFault};
 ghost use Rattle.omny_audit.specs.inside.Traced.{HasLines, HasLooked, HasPositions, HasReadAll};
 ghost use Rattle.omny_audit.specs.inside.Traced.{HasReadAs, HasTraced, HaveNamed, IsKeptOf, placed_of};
@@ -64,6 +64,21 @@ pub(crate) enum PositionFault {
     },
 }
 
+/// An upload, from 0, and an index there, from 1.
+#[derive(Clone, Copy)]
+struct UploadPosition {
+    upload: u32,
+    position: u64,
+}
+
+impl fmt::Display for UploadPosition {
+    ghost output = { λ at. Some (upload_position_text at.upload at.position) };
+
+    fn fmt<W: fmt::Write>(&self, f: &mut fmt::Formatter<W>) -> fmt::Result {
+        write!(f, "upload {} place {}", self.upload, self.position)
+    }
+}
+
 impl fmt::Display for PositionFault {
     ghost output = { λ fault. Some (fault_text fault) };
 
@@ -81,7 +96,13 @@ impl fmt::Display for PositionFault {
                 line,
                 upload,
                 position,
-            } => write!(f, "line {line} has upload {upload} place {position} again"),
+            } => {
+                let at = UploadPosition {
+                    upload: *upload,
+                    position: *position,
+                };
+                write!(f, "line {line} has {at} again")
+            }
             PositionFault::NoLine { upload, position } => {
                 write!(f, "no line has upload {upload} place {position}")
             }

@@ -1,5 +1,5 @@
 use Rattle.std.proofs.Common.{◌≡◌, ◌∙◌, ◌++◌, ℕ, Bool, List, ap, append_assoc, string_bytes, subst}
-use Rattle.std.proofs.Common.{eqb-true, sym, true}
+use Rattle.std.proofs.Common.{None, Some, eqb-true, if◌then◌else◌, sym, true}
 use Rattle.std.specs.Prelude.{◌&&◌, ◌↔◌, IfSome}
 use Rattle.histories.specs.declared.entry.Entry.{Entry}
 use Rattle.ledger_check.specs.Ledger.{IsLedger}
@@ -18,6 +18,7 @@ returns c = λ fares valid text written has.
     let ended = c.in_ok-fully_checked.ensures fares c.args.subtracts c.args.full.now text written
     valid has in
     let taken = ended.0 in
+    let asked = if c.args.subtracts then Some valid else None in
     let decides = c.full_checks_decide.ensures fares text taken ended.1 in
     let legal : (checked.is_legal ≡ true) ↔ IsLedger fares text =
     rw ended.2 (full_check_legal fares text taken decides) in
@@ -39,7 +40,7 @@ returns c = λ fares valid text written has.
         sound = sound_is c.args.live fares text _ checked.is_legal even checked.is_settled _ legal
             (λ yes entries of.
             let same = decides.taps entries of in (
-              subst (λ (ts : List TapFields). (even ≡ true) ↔ HasValidTaps _ ts) same rest.1,
+              subst (λ (ts : List TapFields). (even ≡ true) ↔ HasValidTaps asked ts) same rest.1,
               ended.3 ∙ ap are_settled same,
             ))
             (c.are_both.ensures ∙ ap (λ (b : Bool). checked.is_legal && b)

@@ -1,4 +1,4 @@
-use Rattle.std.proofs.Common.{◌∙◌, ◌++◌, Bool, ℕ, List, Option, Some, ap, append-nil, subst, sym}
+use Rattle.std.proofs.Common.{◌∙◌, ◌++◌, Bool, ℕ, List, Option, Some, ap, append-nil, false, subst, sym}
 use Rattle.omny_audit.specs.inside.Traced.{HasReadAs}
 use Rattle.omny_audit.specs.declared.traced.TracedPieces.{TracedPieces}
 use Rattle.omny_audit.proofs.TraceLemmas.{read_whole, with_text}

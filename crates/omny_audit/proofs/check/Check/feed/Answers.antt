@@ -7,6 +7,5 @@ returns-in_ok-verdict-in-First-clause-fed c = λ valid text written has.
     let none : c.in-First.verdict ≡ None = first_of (cc, search (rules, tests)) in (
       [],
       sym (append-nil (string_bytes c.args.reported.now)),
-      c.in_ok-verdict-in-First.ensures text valid (rw none at before),
-      append-nil written ∙ empty,
+      (c.in_ok-verdict-in-First.ensures text valid (rw none at before), append-nil written ∙ empty),
     )

@@ -26,7 +26,7 @@ pub returns-in_ok-found-in-None-clause-found : goal.returns-in_ok-found-in-None-
 returns-in_ok-found-in-None-clause-found c = λ fares valid text written has.
     let known = rw c.in-None.is at (rw c.in-First.is at has) in
     let balance = c.in-First.balance in
-    let ended = c.in_ok-verdict.ensures in
+    let ended = c.in_ok-verdict-in-None.ensures in
     rw c.in-First.is (rw known.1 (c.in_ok-found-in-None.ensures.found fares text valid
     (ended.verdict fares balance text valid known.0) (ended.legal fares balance text valid known.0)))
 
