@@ -89,10 +89,10 @@ module _ (verdicts : ReportVerdictsDecide) (given : Given) (file : List ℕ) (re
   own : legal ≡ true → right ≡ true → (entries : List Entry)
       → IsLedgerOf given.fares entries (ledger_in given file)
       → (fits given.report verdict ≡ true) ↔ HasOwnReport given.ends given.report entries
-  own is yes entries of = fits_own verdicts given.ends given.fares (ledger_in given file)
+  own is are entries of = fits_own verdicts given.ends given.fares (ledger_in given file)
       given.report verdict entries
       (subst (λ (b : Bool). IsVerdictOn given.ends given.fares (ledger_in given file) given.report b
-      verdict) (ap (λ (x : Bool). x && right) is ∙ yes) is_verdict) of
+      verdict) (ap (λ (x : Bool). x && right) is ∙ are) is_verdict) of
 
   -- all is well exactly if all is right
   pub decides : (success : Bool)

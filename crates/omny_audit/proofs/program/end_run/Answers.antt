@@ -1,4 +1,4 @@
-use Rattle.std.proofs.Common.{inl, inr}
+use Rattle.std.proofs.Common.{◌≡◌, false, inl, inr, rules, tests}
 use Rattle.omny_audit.proofs.program.end_run.Goals as goal
 
 -- the fault of the audit is reported
@@ -15,4 +15,6 @@ returns-in-Err g c = λ request did ends.
     }))
 
 pub returns-in-Ok-false : goal.returns-in-Ok-false
-returns-in-Ok-false g c = λ request did ends. inl (rw c.in-Ok-false.is at ends)
+returns-in-Ok-false g c = λ request did ends.
+    let no : c.in-Ok-false.field-0 ≡ false = first_of (cc, search (rules, tests)) in
+    inl (rw no at (rw c.in-Ok-false.is at ends))
