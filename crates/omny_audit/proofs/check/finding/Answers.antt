@@ -15,7 +15,7 @@ returns-clause-found c = λ fares text valid is right.
     let verdict = c.args.verdict.now in
     let balance = c.args.balance.now in
     let subtracts = c.args.subtracts in
-    let asked = if subtracts then Some valid else None in
+    let uploads = if subtracts then Some valid else None in
     let legal = c.is_legal-legal.result in
     let same : legal ≡ is_legal verdict = c.is_legal-legal.ensures in
     let ledger = subst (λ (b : Bool). (b ≡ true) ↔ IsLedger fares text) (sym same)
@@ -33,11 +33,11 @@ returns-clause-found c = λ fares text valid is right.
           is_verdict = is;
           rest = rest;
           shown = refl;
-          second = subst (λ (b : Bool). IsDifferenceLine fares text asked b rest) same
+          second = subst (λ (b : Bool). IsDifferenceLine fares text uploads b rest) same
               (second_line fares text valid balance legal subtracts rest even compared
               (λ yes entries of. (right (sym same ∙ yes) entries of).0));
         };
-        sound = sound_is c.args.live fares text asked legal even (not c.has_early.result) _ ledger
+        sound = sound_is c.args.live fares text uploads legal even (not c.has_early.result) _ ledger
             (λ yes entries of. (
               even_taps balance valid (map tap_of_entry entries) subtracts rest even
                   (subst (λ (b : Bool). IsCompared balance (b && subtracts) rest even) yes compared)

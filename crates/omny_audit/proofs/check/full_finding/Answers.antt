@@ -18,7 +18,7 @@ returns c = λ fares valid text written has.
     let ended = c.in_ok-fully_checked.ensures fares c.args.subtracts c.args.full.now text written
     valid has in
     let taken = ended.0 in
-    let asked = if c.args.subtracts then Some valid else None in
+    let uploads = if c.args.subtracts then Some valid else None in
     let decides = c.full_checks_decide.ensures fares text taken ended.1 in
     let legal : (checked.is_legal ≡ true) ↔ IsLedger fares text =
     rw ended.2 (full_check_legal fares text taken decides) in
@@ -40,7 +40,7 @@ returns c = λ fares valid text written has.
         sound = sound_is c.args.live fares text _ checked.is_legal even checked.is_settled _ legal
             (λ yes entries of.
             let same = decides.taps entries of in (
-              subst (λ (ts : List TapFields). (even ≡ true) ↔ HasValidTaps asked ts) same rest.1,
+              subst (λ (ts : List TapFields). (even ≡ true) ↔ HasValidTaps uploads ts) same rest.1,
               ended.3 ∙ ap are_settled same,
             ))
             (c.are_both.ensures ∙ ap (λ (b : Bool). checked.is_legal && b)

@@ -26,7 +26,7 @@ returns-clause-decided c = λ is.
     (unsound _ _ _ _ _ _ _ found.2 (c.in_ok-found.ensures.decided is))
 
 pub returns-clause-ended : goal.returns-clause-ended
-returns-clause-ended c = λ asked whole front before more has last none.
+returns-clause-ended c = λ request whole front before more has last none.
     let audit = c.args.self.now in
     let valid = has.valid in
     let file = front ++ more in
@@ -35,7 +35,7 @@ returns-clause-ended c = λ asked whole front before more has last none.
     let legal = c.in_ok-found.found.is_legal in
     let right = c.in_ok-is_right.is_right in
     let verdict = c.in_ok-verdict.verdict in
-    let (checked, all) = ended asked audit whole front written more has last none in
+    let (checked, all) = ended request audit whole front written more has last none in
     let found = c.in_ok-found.ensures.found audit.table.now valid (ledger_in given file) written
     checked in
     let columns = c.in_ok-is_right.ensures in
