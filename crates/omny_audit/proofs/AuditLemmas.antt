@@ -6,12 +6,13 @@ use Rattle.std.proofs.lemmas.Bool.{and_parts, false≢true}
 use Rattle.tariffs.specs.Fares.{Fares}
 use Rattle.histories.specs.declared.entry.Entry.{Entry}
 use Rattle.tap_views.specs.declared.encoder.TapFields.{TapFields}
-use Rattle.ledger_check.specs.Ledger.{IsLedgerOf}
-use Rattle.omny_audit.specs.Reports.{AuditsDecide, HasOwnReport, IsAudit, IsVerdictOn, are_whole, fits}
-use Rattle.omny_audit.specs.Reports.{Given, ledger_in}
+use Rattle.ledger_check.specs.Ledger.{IsLedger, IsLedgerOf}
+use Rattle.omny_audit.specs.Findings.{IsRightLedger}
+use Rattle.omny_audit.specs.Reports.{Given, HasOwnReport, IsRightAudit, IsVerdictOn, are_whole}
+use Rattle.omny_audit.specs.Reports.{ledger_in}
+use Rattle.omny_audit.specs.inside.Reports.{fits}
 use Rattle.tap_views.specs.declared.upload_end.UploadEnd.{UploadEnd}
-use Rattle.omny_audit.specs.Traced.{AreColumnsReported, HasRightColumns, HasRightPositions}
-use Rattle.omny_audit.specs.Traced.{IsFaultAfter}
+use Rattle.omny_audit.specs.Traced.{AreColumnsReported, HasRightColumns, IsFaultAfter}
 use Rattle.omny_audit.specs.Traced.{IsPositionFault, ReadLine, Wanted, have_position, wrong_class}
 use Rattle.omny_audit.specs.Traced.{wrong_position}
 use Rattle.omny_audit.specs.declared.traced.PositionFault.{PositionFault}
@@ -35,33 +36,20 @@ none_of : {A : Type 0} (wrong : Option A) → not (is_some wrong) ≡ true → w
 none_of None holds = refl
 none_of (Some wrong) holds = absurd (false≢true holds)
 
-positions_right : (uploads : Option (List (List TapFields))) (read : List ReadLine)
-    → IsPositionFault uploads read None → HasRightPositions uploads read
-positions_right None read is = tt
-positions_right (Some uploads) read is = by_wrong (wrong_position uploads read) refl is
-  where
-    by_wrong : (wrong : Option PositionFault) → wrong_position uploads read ≡ wrong
-        → IsFaultAfter uploads (have_position read) wrong None
-        → HasRightPositions (Some uploads) read
-    by_wrong None none is = (none, is)
-    by_wrong (Some wrong) some is =
-        let bad : ◌≡◌ {A = Option PositionFault} None (Some wrong) = is in absurd (cc)
-
-right_positions : (uploads : Option (List (List TapFields))) (read : List ReadLine)
+no_fault : (uploads : Option (List (List TapFields))) (read : List ReadLine)
     (fault : Option PositionFault) → IsPositionFault uploads read fault
-    → HasRightPositions uploads read
-    → fault ≡ None
-right_positions None read fault is has = is
-right_positions (Some uploads) read fault is has =
-    by_fault fault (subst (λ (w : Option PositionFault). IsFaultAfter uploads (have_position read) w
-    fault) has.0 is)
+    → IsPositionFault uploads read None → fault ≡ None
+no_fault None read fault is none = is
+no_fault (Some uploads) read fault is none = by_wrong (wrong_position uploads read) fault is none
   where
-    by_fault : (fault : Option PositionFault) → IsFaultAfter uploads (have_position read) None fault
-        → fault ≡ None
-    by_fault None is = refl
-    by_fault (Some (OtherTap line upload position)) is = absurd is
-    by_fault (Some (Repeated line upload position)) is = absurd is
-    by_fault (Some (NoLine upload position)) is = absurd (has.1 upload position is.is)
+    by_wrong : (wrong fault : Option PositionFault)
+        → IsFaultAfter uploads (have_position read) wrong fault
+        → IsFaultAfter uploads (have_position read) wrong None → fault ≡ None
+    by_wrong (Some wrong) fault is none = is ∙ sym none
+    by_wrong None None is none = refl
+    by_wrong None (Some (OtherTap line upload position)) is none = absurd is
+    by_wrong None (Some (Repeated line upload position)) is none = absurd is
+    by_wrong None (Some (NoLine upload position)) is none = absurd (none upload position is.is)
 
 columns_right : (wanted : Option Wanted) (file : List ℕ) (read : List ReadLine)
     (reported : List ℕ) (right : Bool) → AreColumnsReported wanted true file read reported right
@@ -73,62 +61,66 @@ columns_right (Some wanted) file read reported right is = (
       (sym is.4 ∙ holds) in (
         is.0,
         none_of (wrong_class wanted.classes read) parts.0,
-        positions_right wanted.uploads read (subst (IsPositionFault wanted.uploads read)
-            (none_of is.1 parts.1) is.2),
+        subst (IsPositionFault wanted.uploads read) (none_of is.1 parts.1) is.2,
       ),
   λ has.
       is.4 ∙ ap (λ (w : Option WrongClass). not (is_some w) && not (is_some is.1)) has.1
       ∙ ap (λ (f : Option PositionFault). not (is_some f))
-      (right_positions wanted.uploads read is.1 is.2 has.2),
+      (no_fault wanted.uploads read is.1 is.2 has.2),
 )
 
 looked_at : (all legal : Bool) → legal ≡ true → (all || legal) ≡ true
 looked_at true legal is = refl
 looked_at false legal is = is
 
--- ---- of a legal ledger
 module _ (verdicts : ReportVerdictsDecide) (given : Given) (file : List ℕ) (read : List ReadLine)
-    (text : List ℕ) (success : Bool) (audit : IsAudit given file read text success)
-    (legal : audit.legal ≡ true) where
-  columns : (audit.right ≡ true) ↔ HasRightColumns given.wanted file read
-  columns = columns_right given.wanted file read audit.columns audit.right
-      (subst (λ (b : Bool). AreColumnsReported given.wanted b file read audit.columns audit.right)
-      (looked_at given.all audit.legal legal) audit.are_columns)
+    (sound legal right : Bool) (reported : List ℕ) (verdict : Option ReportVerdict)
+    (is_sound : (sound ≡ true)
+    ↔ IsRightLedger given.live given.fares (ledger_in given file) given.valid)
+    (is_legal : (legal ≡ true) ↔ IsLedger given.fares (ledger_in given file))
+    (are_columns : AreColumnsReported given.wanted (given.all || legal) file read reported right)
+    (is_verdict : IsVerdictOn given.ends given.fares (ledger_in given file) given.report
+    (legal && right) verdict) where
+  columns : legal ≡ true → (right ≡ true) ↔ HasRightColumns given.wanted file read
+  columns is = columns_right given.wanted file read reported right
+      (subst (λ (b : Bool). AreColumnsReported given.wanted b file read reported right)
+      (looked_at given.all legal is) are_columns)
 
-  own : audit.right ≡ true → (entries : List Entry)
+  own : legal ≡ true → right ≡ true → (entries : List Entry)
       → IsLedgerOf given.fares entries (ledger_in given file)
-      → (fits given.report audit.verdict ≡ true) ↔ HasOwnReport given.ends given.report entries
-  own right entries of = fits_own verdicts given.ends given.fares (ledger_in given file)
-      given.report audit.verdict entries
+      → (fits given.report verdict ≡ true) ↔ HasOwnReport given.ends given.report entries
+  own is are entries of = fits_own verdicts given.ends given.fares (ledger_in given file)
+      given.report verdict entries
       (subst (λ (b : Bool). IsVerdictOn given.ends given.fares (ledger_in given file) given.report b
-      audit.verdict) (ap (λ (x : Bool). x && audit.right) legal ∙ right) audit.is_verdict) of
+      verdict) (ap (λ (x : Bool). x && right) is ∙ are) is_verdict) of
 
-pub decides : ReportVerdictsDecide → AuditsDecide
-decides verdicts given file read text success audit =
-    let well = fits given.report audit.verdict in (
-      λ is.
-          let parts = and_parts audit.sound (audit.right && (well && are_whole given.ends))
-          (sym audit.both ∙ is) in
-          let ends = and_parts audit.right (well && are_whole given.ends) parts.1 in
-          let lasts = and_parts well (are_whole given.ends) ends.1 in
-          let right = audit.is_sound.0 parts.0 in
-          let legal = audit.is_legal.1 (right.0, right.1) in (
-            right.0,
-            right.1,
-            right.2,
-            right.3,
-            (columns verdicts given file read text success audit legal).0 ends.0,
-            (own verdicts given file read text success audit legal ends.0 right.0 right.1).0 lasts.0,
-            lasts.1,
-          ),
-      λ right.
-          let legal = audit.is_legal.1 (right.0, right.1) in
-          let are = (columns verdicts given file read text success audit legal).1 right.4 in
-          audit.both
-          ∙ ap (λ (x : Bool). x && (audit.right && (well && are_whole given.ends)))
-          (audit.is_sound.1 (right.0, right.1, right.2, right.3))
-          ∙ ap (λ (x : Bool). x && (well && are_whole given.ends)) are
-          ∙ ap (λ (x : Bool). x && are_whole given.ends)
-          ((own verdicts given file read text success audit legal are right.0 right.1).1 right.5)
-          ∙ right.6,
-    )
+  -- all is well exactly if all is right
+  pub decides : (success : Bool)
+      → success ≡ (sound && (right && (fits given.report verdict && are_whole given.ends)))
+      → (success ≡ true) ↔ IsRightAudit given file read
+  decides success both =
+      let well = fits given.report verdict in (
+        λ is.
+            let parts = and_parts sound (right && (well && are_whole given.ends)) (sym both ∙ is) in
+            let ends = and_parts right (well && are_whole given.ends) parts.1 in
+            let lasts = and_parts well (are_whole given.ends) ends.1 in
+            let all = is_sound.0 parts.0 in
+            let whole = is_legal.1 (all.0, all.1) in (
+              all.0,
+              all.1,
+              all.2,
+              all.3,
+              (columns whole).0 ends.0,
+              (own whole ends.0 all.0 all.1).0 lasts.0,
+              lasts.1,
+            ),
+        λ all.
+            let whole = is_legal.1 (all.0, all.1) in
+            let are = (columns whole).1 all.4 in
+            both
+            ∙ ap (λ (x : Bool). x && (right && (well && are_whole given.ends)))
+            (is_sound.1 (all.0, all.1, all.2, all.3))
+            ∙ ap (λ (x : Bool). x && (well && are_whole given.ends)) are
+            ∙ ap (λ (x : Bool). x && are_whole given.ends) ((own whole are all.0 all.1).1 all.5)
+            ∙ all.6,
+      )

@@ -1,11 +1,10 @@
 -- What an audit has read, and what it may leave.
 use Rattle.std.proofs.Common.{◌≡◌, ◌∙◌, ◌++◌, ℕ, Bool, true, false, List, [], ◌∷◌, Option, None}
 use Rattle.std.proofs.Common.{Global, Some, Vec, ap, append-nil, append_assoc, inl, inr, refl}
-use Rattle.std.proofs.Common.{◌==◌, length, subst, sym, ⊎_elim}
-use Rattle.std.proofs.lemmas.Bool.{eqb-true, true≢false}
-use Rattle.std.proofs.lemmas.List.{nil_from_length}
-use Rattle.std.specs.Prelude.{◌⊎◌, ◌||◌, Err, Ok}
-use Rattle.world.specs.Run.{Calls, Load, Run, with_written}
+use Rattle.std.proofs.Common.{subst, sym, ⊎_elim}
+use Rattle.std.proofs.lemmas.Bool.{true≢false}
+use Rattle.std.specs.Prelude.{◌⊎◌, ◌||◌, Err, Ok, is_some}
+use Rattle.world.specs.Run.{Calls, Load, Run, with_cut, with_flushed, with_written}
 use Rattle.world.specs.Streams.{HasRead, IsWhole}
 use Rattle.world.specs.Writes.{IsCut}
 use Rattle.world.specs.declared.stream.Stream.{Stream}
@@ -13,12 +12,9 @@ use Rattle.world.proofs.Streams.{whole_at_end}
 use Rattle.world.specs.declared.faults.WriteFault.{WriteFault}
 use Rattle.frame.specs.Failing.{HasStarted}
 use Rattle.tariffs.specs.Fares.{Fares}
+use Rattle.ledger_check.specs.Columns.{read_as}
 use Rattle.ledger_check.specs.Lines.{lines_of}
-use Rattle.ledger_check.specs.FullCheckStates.{IsFed, IsRightSoFar}
 use Rattle.ledger_check.specs.Verdicts.{IsVerdict}
-use Rattle.ledger_check.specs.declared.balance.Balance.{Balance}
-use Rattle.ledger_check.specs.declared.checker.Checker.{Checker}
-use Rattle.ledger_check.specs.declared.checker.Verdict.{Verdict}
 use Rattle.tap_views.specs.declared.encoder.TapFields.{TapFields}
 use Rattle.omny_audit.specs.Program.{HoldsOfRead}
 use Rattle.omny_audit.specs.Reports.{Given, IsAuditText}
@@ -27,13 +23,13 @@ use Rattle.omny_audit.specs.declared.check.Check.{Check}
 use Rattle.omny_audit.specs.declared.check.Check.TheVariants.{First, All}
 use Rattle.omny_audit.specs.declared.fault.Fault.{Fault}
 use Rattle.omny_audit.specs.declared.fault.Fault.TheVariants.{Unwritten}
-use Rattle.omny_audit.specs.inside.Audits.{EndsAs, HasAudited, HasEnded, HoldsNow, given_in}
+use Rattle.omny_audit.specs.inside.Audits.{EndsAs, HasAudited, HoldsNow, Steps, given_in}
 use Rattle.omny_audit.specs.inside.Fault.{IsStreamFault}
 use Rattle.omny_audit.specs.declared.check.Found.{Found}
 use Rattle.omny_audit.specs.inside.Checks.{Finds, HasChecked, is_all, is_decided}
 use Rattle.omny_audit.specs.Traced.{Wanted}
 use Rattle.omny_audit.specs.declared.traced.TracedPieces.{TracedPieces}
-use Rattle.omny_audit.specs.inside.Traced.{wanted_by}
+use Rattle.omny_audit.specs.inside.Traced.{HasReadAll, HasReadAs, wanted_by}
 use Rattle.omny_audit.proofs.TraceLemmas.{reads_more}
 
 -- what the ledger is audited by stays the same
@@ -71,45 +67,44 @@ checked_more : (fares : Fares) (subtracts : Bool) (valid : List TapFields) (chec
     → is_decided check ≡ true → HasChecked fares subtracts valid check (text ++ rest) written
 checked_more fares subtracts valid (First checker balance None) text written rest has is = absurd cc
 checked_more fares subtracts valid (First checker balance (Some verdict)) text written rest has is = (
-  λ more. subst (λ (t : List ℕ). IsVerdict fares t verdict) (sym (append_assoc text rest more))
-      (has.0 (rest ++ more)),
+  (
+    λ more. subst (λ (t : List ℕ). IsVerdict fares t verdict) (sym (append_assoc text rest more))
+        (has.0.0 (rest ++ more)),
+    has.0.1,
+  ),
   has.1,
-  has.2,
 )
 checked_more fares subtracts valid (All full_check full) text written rest has is = absurd cc
 
--- a piece more, up to the first wrong line
-pub first_fed : (fares : Fares) (subtracts : Bool) (valid : List TapFields)
-    (checker after : Checker)
-    (balance left : Balance) (before verdict : Option Verdict) (text piece written : List ℕ)
-    → before ≡ None
-    → (IsRightSoFar fares checker balance text valid
-    → IsFed fares after left (text ++ piece) valid verdict)
-    → HasChecked fares subtracts valid (First checker balance before) text written
-    → HasChecked fares subtracts valid (First after left verdict) (text ++ piece) written
-first_fed fares subtracts valid checker after balance left (Some old) verdict text piece written
-    none fed has = absurd cc
-first_fed fares subtracts valid checker after balance left None None text piece written none fed
-    has = (fed has.0, has.1)
-first_fed fares subtracts valid checker after balance left None (Some verdict) text piece written
-    none fed has = let found = fed has.0 in (found.0, found.1, has.1)
+-- what was read to the end was read whole
+whole_as : (trace : Option TracedPieces) (file text : List ℕ) → HasReadAs trace true file text
+    → (text ≡ read_as (is_some (wanted_by trace)) file) × HasReadAll trace file
+whole_as None file text is = (is, tt)
+whole_as (Some trace) file text is = is
 
-pub decided_ends : (audit : Audit) (valid : List TapFields) (file written more : List ℕ)
-    → HasAudited audit valid file written → is_decided audit.check ≡ true
-    → HasEnded audit valid (file ++ more) written
-decided_ends audit valid file written more has is =
-    let rest = reads_more audit.trace file has.text has.as_text more in record {
-      checked = subst (λ (t : List ℕ). HasChecked audit.table.now audit.subtracts valid
-          audit.check t written) (sym rest.1)
-          (checked_more audit.table.now audit.subtracts valid audit.check has.text written
-          rest.0 has.checked is);
-      all = λ no. absurd (true≢false (sym is ∙ no));
-    }
-
--- whether bytes are left
-pub drained : (head : List ℕ) (empty : Bool) → empty ≡ (length head == 0) → empty ≡ true
-    → head ≡ []
-drained head empty is none = nil_from_length head (eqb-true (length head) 0 (sym is ∙ none))
+-- what is checked of the ledger, at its end or after the first wrong line
+pub ended : (given : Given) (audit : Audit) (whole : Bool) (file written more : List ℕ)
+    (has : HasAudited given audit whole file written) → (whole || is_decided audit.check) ≡ true
+    → (whole ≡ true → more ≡ [])
+    → HasChecked audit.table.now audit.subtracts has.valid audit.check
+    (read_as (is_some (wanted_by audit.trace)) (file ++ more)) written
+    × (is_decided audit.check ≡ false → HasReadAll audit.trace (file ++ more))
+ended given audit true file written more has last none =
+    let all = ap (λ (t : List ℕ). file ++ t) (none refl) ∙ append-nil file in
+    let (same, read) = whole_as audit.trace file has.text has.as_text in (
+      subst (λ (f : List ℕ). HasChecked audit.table.now audit.subtracts has.valid audit.check
+          (read_as (is_some (wanted_by audit.trace)) f) written) (sym all)
+          (subst (λ (t : List ℕ). HasChecked audit.table.now audit.subtracts has.valid audit.check t
+          written) same has.checked),
+      λ open_still. subst (HasReadAll audit.trace) (sym all) read,
+    )
+ended given audit false file written more has last none =
+    let rest = reads_more audit.trace file has.text has.as_text more in (
+      subst (λ (t : List ℕ). HasChecked audit.table.now audit.subtracts has.valid audit.check t
+          written) (sym rest.1) (checked_more audit.table.now audit.subtracts has.valid audit.check
+          has.text written rest.0 has.checked last),
+      λ no. absurd (true≢false (sym last ∙ no)),
+    )
 
 -- ---- what may be left
 -- nothing was reported, or what may be of what reads gave of the ledger, however it goes on
@@ -118,19 +113,20 @@ MayBeLeft given ledger text =
     (text ≡ []) ⊎ HoldsOfRead ledger (λ file. IsAuditText given file text)
 
 -- the remarks on the first lines, before a piece
-remarked : (audit : Audit) (valid : List TapFields) (ledger : Calls) (file piece written : List ℕ)
-    → ledger.reading.bytes ≡ file ++ piece → HasAudited audit valid file written
-    → MayBeLeft (given_in audit valid) ledger written
-remarked audit valid ledger file piece written read has = by_check audit.check refl has.checked
+remarked : (given : Given) (audit : Audit) (ledger : Calls) (file piece written : List ℕ)
+    → ledger.reading.bytes ≡ file ++ piece → HasAudited given audit false file written
+    → MayBeLeft given ledger written
+remarked given audit ledger file piece written read has =
+    subst (λ (g : Given). MayBeLeft g ledger written) has.same
+    (by_check audit.check refl has.checked)
   where
     by_check : (check : Check) → audit.check ≡ check
-        → HasChecked audit.table.now audit.subtracts valid check has.text written
-        → MayBeLeft (given_in audit valid) ledger written
-    by_check (First checker balance None) same checked = inl checked.1
-    by_check (First checker balance (Some verdict)) same checked = inl checked.2
+        → HasChecked audit.table.now audit.subtracts has.valid check has.text written
+        → MayBeLeft (given_in audit has.valid) ledger written
+    by_check (First checker balance verdict) same checked = inl checked.1
     by_check (All full_check full) same checked = inr (λ more end.
         let left = reads_more audit.trace file has.text has.as_text (piece ++ more) in
-        subst (λ (f : List ℕ). IsAuditText (given_in audit valid) f written)
+        subst (λ (f : List ℕ). IsAuditText (given_in audit has.valid) f written)
         (sym (append_assoc file piece more) ∙ ap (λ (f : List ℕ). f ++ more) (sym read)) (inr (
           ap is_all same,
           checked.taken,
@@ -142,14 +138,13 @@ remarked audit valid ledger file piece written read has = by_check audit.check r
           checked.reported,
         )))
 
-left_now : (given : Given) (audit : Audit) (valid : List TapFields) (ledger : Calls)
-    (text : List ℕ) (ended : Option Bool) → HoldsNow given audit valid ledger text ended
-    → MayBeLeft given ledger text
-left_now given audit valid ledger text None (same, has) =
-    subst (λ (g : Given). MayBeLeft g ledger text) same (remarked audit valid ledger
-    ledger.reading.bytes [] text (sym (append-nil ledger.reading.bytes)) has)
-left_now given audit valid ledger text (Some success) found =
-    inr (λ more end. let one = found.0 more end in inl (one.0, success, one.1))
+left_now : (given : Given) (audit : Audit) (ledger : Calls) (text : List ℕ) (ended : Option Bool)
+    → HoldsNow given audit ledger text ended → MayBeLeft given ledger text
+left_now given audit ledger text None has =
+    remarked given audit ledger ledger.reading.bytes [] text (sym (append-nil ledger.reading.bytes))
+    has
+left_now given audit ledger text (Some success) found =
+    inr (λ more end. inl (success, found.0 more end))
 
 pub started_weaker : (Right Other : List ℕ → Type 0) (out out' : List ℕ)
     → ((text : List ℕ) → Right text → Other text) → HasStarted Right out out'
@@ -185,11 +180,9 @@ failed given ledger old new text front rest fault left whole grown quiet is = (
 )
 
 -- ---- the audit, piece by piece
-pub record SoFar (given : Given) (audit : Audit) (valid : List TapFields) (file : List ℕ)
-    (old new : Run) : Type 0 where
+pub record SoFar (given : Given) (audit : Audit) (file : List ℕ) (old new : Run) : Type 0 where
   pub written : List ℕ
-  pub same : given_in audit valid ≡ given
-  pub has : HasAudited audit valid file written
+  pub has : HasAudited given audit false file written
   pub wrote : new ≡ with_written old written
 
 written_after : (r now : Run) (xs ys : List ℕ) → now ≡ with_written r xs
@@ -199,55 +192,44 @@ written_after r now xs ys is =
     ∙ ap (λ all. record r { written = all }) (append_assoc r.written xs ys)
 
 -- an audit that fails before a piece
-pub interrupted : (given : Given) (audit : Audit) (valid : List TapFields) (file piece : List ℕ)
-    (ledger : Calls) (old new : Run) (fault : Fault) → ledger.reading.bytes ≡ file ++ piece
-    → SoFar given audit valid file old new → IsStreamFault ledger new.cut fault
+pub interrupted : (given : Given) (audit : Audit) (file piece : List ℕ) (ledger : Calls)
+    (old new : Run) (fault : Fault) → ledger.reading.bytes ≡ file ++ piece
+    → SoFar given audit file old new → IsStreamFault ledger new.cut fault
     → EndsAs given ledger old new (Err fault)
-interrupted given audit valid file piece ledger old new fault read was is =
+interrupted given audit file piece ledger old new fault read was is =
     failed given ledger old new was.written was.written [] fault
-    (subst (λ (g : Given). MayBeLeft g ledger was.written) was.same
-    (remarked audit valid ledger file piece was.written read was.has))
+    (remarked given audit ledger file piece was.written read was.has)
     (sym (append-nil was.written)) (ap (λ r. r.written) was.wrote) (ap (λ r. r.said) was.wrote) is
 
--- the audit of a piece
-abbrev pub Steps : Audit → Audit → List ℕ → List ℕ → Option Bool → Type 0
-Steps before after piece text ended = (valid : List TapFields) (file written : List ℕ)
-    (ledger : Calls) → HasAudited before valid file written
-    → ledger.reading.bytes ≡ file ++ piece → (piece ≡ [] → IsWhole ledger)
-    → HoldsNow (given_in before valid) after valid ledger (written ++ text) ended
-
-module _ (given : Given) (before after : Audit) (valid : List TapFields)
-    (file piece text : List ℕ) (old now new : Run) (ended : Option Bool)
-    (was : SoFar given before valid file old now) (steps : Steps before after piece text ended)
-    (ledger : Stream) (name : Option (List ℕ)) (read : HasRead ledger name (file ++ piece))
-    (whole : piece ≡ [] → ledger.from ≡ None) where
+module _ (given : Given) (before after : Audit) (file piece text : List ℕ) (old now new : Run)
+    (ended : Option Bool) (was : SoFar given before file old now)
+    (steps : Steps before after piece text ended) (ledger : Stream) (name : Option (List ℕ))
+    (read : HasRead ledger name (file ++ piece)) (whole : piece ≡ [] → ledger.from ≡ None) where
   bytes : ledger.trace.reading.bytes ≡ file ++ piece
   bytes = ap (λ (x : Load). x.bytes) read.reading
 
-  holds_now : HoldsNow given after valid ledger.trace (was.written ++ text) ended
-  holds_now = subst (λ (g : Given). HoldsNow g after valid ledger.trace (was.written ++ text) ended)
-      was.same (steps valid file was.written ledger.trace was.has bytes
-      (λ none. whole_at_end ledger name (file ++ piece) read (whole none)))
+  holds_now : HoldsNow given after ledger.trace (was.written ++ text) ended
+  holds_now = steps given file was.written ledger.trace was.has bytes
+      (λ none. whole_at_end ledger name (file ++ piece) read (whole none))
 
   -- an audit that goes on after a piece
   pub went_on : ended ≡ None → new ≡ with_written now text
-      → SoFar given after valid (file ++ piece) old new
-  went_on none wrote =
-      let is = subst (HoldsNow given after valid ledger.trace (was.written ++ text)) none holds_now in
-      record {
-        written = was.written ++ text;
-        same = is.0;
-        has = subst (λ (f : List ℕ). HasAudited after valid f (was.written ++ text)) bytes is.1;
-        wrote = wrote ∙ written_after old now was.written text was.wrote;
-      }
+      → SoFar given after (file ++ piece) old new
+  went_on none wrote = record {
+    written = was.written ++ text;
+    has = subst (λ (f : List ℕ). HasAudited given after false f (was.written ++ text)) bytes
+        (subst (HoldsNow given after ledger.trace (was.written ++ text)) none holds_now);
+    wrote = wrote ∙ written_after old now was.written text was.wrote;
+  }
 
-  -- all that is found was written
-  pub all_found : (success : Bool) → ended ≡ Some success → new ≡ with_written now text
+  -- all that is found was written and flushed
+  pub all_found : (success : Bool) → ended ≡ Some success
+      → new ≡ with_flushed (with_written now text)
       → EndsAs given ledger.trace old new (Ok success)
   all_found success is wrote = (
     was.written ++ text,
-    wrote ∙ written_after old now was.written text was.wrote,
-    subst (HoldsNow given after valid ledger.trace (was.written ++ text)) is holds_now,
+    subst (HoldsNow given after ledger.trace (was.written ++ text)) is holds_now,
+    wrote ∙ ap with_flushed (written_after old now was.written text was.wrote),
   )
 
   -- a write failed
@@ -255,8 +237,7 @@ module _ (given : Given) (before after : Audit) (valid : List TapFields)
       → EndsAs given ledger.trace old new (Err (Unwritten why))
   cut_off why cut =
       failed given ledger.trace old new (was.written ++ text) (was.written ++ cut.front) cut.rest
-      (Unwritten why)
-      (left_now given after valid ledger.trace (was.written ++ text) ended holds_now)
+      (Unwritten why) (left_now given after ledger.trace (was.written ++ text) ended holds_now)
       (ap (λ (t : List ℕ). was.written ++ t) cut.whole
       ∙ sym (append_assoc was.written cut.front cut.rest))
       (ap (λ (r : Run). r.written) cut.prefix
@@ -264,3 +245,9 @@ module _ (given : Given) (before after : Audit) (valid : List TapFields)
       ∙ append_assoc old.written was.written cut.front)
       (ap (λ (r : Run). r.said) cut.prefix ∙ ap (λ (r : Run). r.said) was.wrote)
       (ap (λ (r : Run). r.cut) cut.prefix)
+
+  -- all was written, and the flush failed
+  pub unflushed : (why : WriteFault) → new ≡ with_cut (with_written now text) why
+      → EndsAs given ledger.trace old new (Err (Unwritten why))
+  unflushed why cut = cut_off why
+      (record { front = text; rest = []; whole = sym (append-nil text); prefix = cut })

@@ -4,30 +4,23 @@ use Rattle.std.proofs.Common.{Err, ap, append-nil, inl, inr, refl, subst, sym}
 use Rattle.std.specs.Prelude.{Contains}
 use Rattle.std.proofs.lemmas.List.Elements.{Contains-append_left, Contains-append_right}
 use Rattle.std.proofs.lemmas.List.Elements.{Contains-push}
-use Rattle.std.proofs.lemmas.Option.{get_or_from_slice_get, slice_get_within}
-use Rattle.class_names.specs.ClassFaults.{IsFaultOf, IsWrongAt}
-use Rattle.class_names.specs.declared.names.ClassFault.TheVariants as class
-use Rattle.class_names.specs.declared.names.WrongNames.{WrongNames}
 use Rattle.frame.specs.Failing.{HasStarted}
 use Rattle.program_manners.specs.Refusals.{IsOneOf, IsShown}
 use Rattle.program_manners.specs.TableLoads.{LoadsTables}
-use Rattle.program_manners.specs.TableWords.{TableNames, table_files}
+use Rattle.program_manners.specs.TableWords.{table_files}
 use Rattle.program_manners.specs.declared.recorded_loads.RecordedLoads.{RecordedLoads}
 use Rattle.tariffs.specs.Fares.{Fares}
-use Rattle.world.specs.declared.faults.WriteFault.{WriteFault}
-use Rattle.world.specs.Run.{Calls, Load, Run, with_cut, with_written}
+use Rattle.world.specs.Run.{Calls, Load, Run}
 use Rattle.omny_audit.specs.inside.Ends.{EndsAudit}
-use Rattle.omny_audit.specs.Ends.{Did, HasStartedText, IsRightFault, LoadsUnplainClass, NamesUnplainClass}
-use Rattle.omny_audit.specs.Ends.{did_by}
+use Rattle.omny_audit.specs.Ends.{Did, IsRightFault, did_by}
 use Rattle.omny_audit.specs.Options.{AuditRequest, files_of, ledger_name, named_file}
-use Rattle.omny_audit.specs.Program.{HasFound, HasLoaded, HoldsOfRead, IsTextOf, given_of}
-use Rattle.omny_audit.specs.Reports.{AuditsDecide, IsAudit, IsAuditText}
+use Rattle.omny_audit.specs.Program.{HasLoaded, HoldsOfRead, IsTextOf, given_of}
+use Rattle.omny_audit.specs.Reports.{IsAuditText}
 use Rattle.omny_audit.specs.declared.fault.Fault.{Fault}
-use Rattle.omny_audit.specs.declared.fault.Fault.TheVariants.{ClassName, File, GivenLedger, Ledger}
-use Rattle.omny_audit.specs.declared.fault.Fault.TheVariants.{NamedClass, NoMemory, Unwritten}
+use Rattle.omny_audit.specs.declared.fault.Fault.TheVariants.{Class, File, GivenLedger, Ledger}
+use Rattle.omny_audit.specs.declared.fault.Fault.TheVariants.{NoMemory, Unwritten}
 use Rattle.omny_audit.specs.inside.Audits.{EndsAs}
-use Rattle.omny_audit.specs.inside.Fault.{IsClassFault, IsLoadFault, IsNamedClass, IsStreamFault}
-use Rattle.omny_audit.specs.inside.Fault.{IsUnopened}
+use Rattle.omny_audit.specs.inside.Fault.{IsClassFault, IsLoadFault, IsStreamFault, IsUnopened}
 use Rattle.omny_audit.proofs.Audits.{started_weaker}
 
 -- one of some names
@@ -81,47 +74,12 @@ module _ (request : AuditRequest) where
     pub class_cause : (between : List Load) (texts : List (List ℕ)) (fares : Fares)
         (fault : Fault) → LoadsTables request.table (Some did.loaded) (Some between) texts fares
         → IsClassFault request.table texts fault → IsRightFault request did fault
-    class_cause between texts fares fault loads = by_fault fault
-      where
-        loaded : NamesUnplainClass texts → LoadsUnplainClass request.table did.loaded
-        loaded names = record {
-          texts = texts;
-          fares = fares;
-          between = between;
-          loads = loads;
-          names = names;
-        }
-
-        by_fault : (fault : Fault) → IsClassFault request.table texts fault
-            → IsRightFault request did fault
-        by_fault ClassName is = loaded is
-        by_fault (NamedClass line) is = (is.0, loaded is.1)
-        by_fault NoMemory is = tt
-        by_fault _ is = absurd is
-
-unplain : (texts : List (List ℕ)) (wrong : WrongNames) → IsWrongAt texts wrong
-    → wrong.fault ≡ class.Name → NamesUnplainClass texts
-unplain texts wrong at is =
-    let has : IsFaultOf at.text class.Name = subst (IsFaultOf at.text) is at.fault in record {
-      text = at.text;
-      is_one = (
-        wrong.position,
-        slice_get_within texts wrong.position at.text at.holds,
-        get_or_from_slice_get texts wrong.position at.text at.text at.holds,
-      );
-      tree = has.0;
-      parsed = has.1;
-      unplain = has.2;
-    }
-
--- a text that names a wrong class is one of the texts
-pub unplain_class : (tables : TableNames) (texts : List (List ℕ)) (wrong : WrongNames)
-    (fault : Fault) → IsWrongAt texts wrong → IsNamedClass tables wrong.fault fault
-    → IsClassFault tables texts fault
-unplain_class tables texts wrong ClassName at is = unplain texts wrong at is
-unplain_class tables texts wrong (NamedClass line) at is = (is.1, unplain texts wrong at is.0)
-unplain_class tables texts wrong NoMemory at is = tt
-unplain_class tables texts wrong _ at is = absurd is
+    class_cause between texts fares (Class file is_alone) loads is = (
+      is.0,
+      record { texts = texts; fares = fares; between = between; loads = loads; names = is.1 },
+    )
+    class_cause between texts fares NoMemory loads is = tt
+    class_cause between texts fares _ loads is = absurd is
 
 -- nothing was written
 pub started_none : (Right : List ℕ → Type 0) (out : List ℕ) → HasStarted Right out out
@@ -134,27 +92,13 @@ pub stopped_before : {Right : Type 0} (Text : List ℕ → Type 0) (run : Run) �
 stopped_before Text run right = (right, started_none Text run.written, refl)
 
 -- what an audit of these files ends as
-pub ends_audit : (request : AuditRequest) (did : Did) (result : Result Bool Fault) → AuditsDecide
+pub ends_audit : (request : AuditRequest) (did : Did) (result : Result Bool Fault)
     → (files : HasLoaded request did.loaded did.loaded' did.ledger)
     → EndsAs (given_of request files) did.ledger did.old did.new result
     → EndsAudit request did result
-ends_audit request did (Ok success) decide files is = (
-  is.0,
-  record {
-    files = files;
-    found = λ more end.
-        let one = is.2.0 more end in record {
-          read = one.0;
-          audit = one.1;
-          right = decide (given_of request files) (did.ledger.reading.bytes ++ more) one.0 is.0
-              success
-              one.1;
-        };
-    whole = is.2.1;
-  },
-  is.1,
-)
-ends_audit request did (Err fault) decide files is = (
+ends_audit request did (Ok success) files (text, (found, whole), wrote) =
+    (text, record { files = files; found = found; whole = whole }, wrote)
+ends_audit request did (Err fault) files is = (
   stream_cause request did files.reads_ledger fault is.0,
   started_weaker (λ text. HoldsOfRead did.ledger
       (λ file. IsAuditText (given_of request files) file text))
@@ -162,25 +106,3 @@ ends_audit request did (Err fault) decide files is = (
       (λ text right. record { files = files; right = right }) is.1,
   is.2,
 )
-
--- the whole text was written, and the flush after it failed
-pub unflushed : (request : AuditRequest) (did : Did) (text : List ℕ) (success : Bool)
-    (before : Run) (why : WriteFault) → HasFound request did.loaded did.loaded' did.ledger text success
-    → before ≡ with_written did.old text
-    → HasStartedText request (record did { new = with_cut before why })
-unflushed request did text success before why found wrote = record {
-  front = text;
-  grown = ap (λ (r : Run). r.written) wrote;
-  rest = [];
-  right = inr (record {
-    files = found.files;
-    right = λ more end.
-        let one = found.found more end in inl (
-          one.read,
-          success,
-          subst (λ (t : List ℕ). IsAudit (given_of request found.files)
-              (did.ledger.reading.bytes ++ more) one.read t success) (sym (append-nil text))
-              one.audit,
-        );
-  });
-}

@@ -1,6 +1,6 @@
--- What is found up to the first wrong line is well exactly if the text is right.
+-- What is found is well exactly if the text is right.
 use Rattle.std.proofs.Common.{[], ◌≡◌, ◌∙◌, ℕ, Bool, true, false, List, map, Option, Some, None, ap}
-use Rattle.std.proofs.Common.{refl, subst, sym}
+use Rattle.std.proofs.Common.{if◌then◌else◌, refl, subst, sym}
 use Rattle.std.specs.Prelude.{◌↔◌, ◌&&◌, ◌||◌, is_some, not}
 use Rattle.std.proofs.lemmas.Bool.{and_parts, false≢true}
 use Rattle.std.specs.List.Sorted.{IsPermutation}
@@ -8,15 +8,17 @@ use Rattle.tariffs.specs.Fares.{Fares}
 use Rattle.histories.specs.declared.entry.Entry.{Entry}
 use Rattle.fare_texts.specs.LedgerLines.{head_text}
 use Rattle.ledger_check.specs.Ledger.{AreNext, IsLedger, IsLedgerOf}
-use Rattle.ledger_check.specs.Orders.{early_line, tap_of_entry}
-use Rattle.ledger_check.specs.Verdicts.{IsVerdict, VerdictsDecide, early_in, is_legal}
+use Rattle.ledger_check.specs.Orders.{are_settled, early_line, tap_of_entry}
+use Rattle.ledger_check.specs.Verdicts.{IsVerdict, early_in, is_legal}
 use Rattle.ledger_check.specs.declared.checker.Verdict.{Verdict}
 use Rattle.ledger_check.specs.declared.checker.Verdict.TheVariants.{Legal, NoLine, Wants}
-use Rattle.ledger_check.specs.Balances.{IsDifference}
+use Rattle.ledger_check.specs.Balances.{IsBalance, IsDifference}
+use Rattle.ledger_check.specs.declared.balance.Balance.{Balance}
 use Rattle.ledger_check.specs.declared.balance.Difference.{Difference}
 use Rattle.tap_views.specs.declared.encoder.TapFields.{TapFields}
 use Rattle.ledger_check.proofs.VerdictLemmas.{tail_same}
-use Rattle.omny_audit.specs.Findings.{HasValidTaps, IsRightLedger}
+use Rattle.omny_audit.specs.Findings.{HasValidTaps, IsDifferenceLine, IsRightLedger}
+use Rattle.omny_audit.specs.inside.Checks.{IsCompared}
 
 -- taps without a difference are the same in some order
 pub even_is : ((valid others : List TapFields) (difference : Difference)
@@ -29,7 +31,7 @@ even_is differ valid others (Some difference) is =
     (λ yes. absurd (false≢true yes), λ same. absurd (differ valid others difference is same))
 
 -- which line a true verdict reports as earlier than the one before it
-early_is : (fares : Fares) (text : List ℕ) (verdict : Verdict) (entries : List Entry)
+pub early_is : (fares : Fares) (text : List ℕ) (verdict : Verdict) (entries : List Entry)
     → IsVerdict fares text verdict → is_legal verdict ≡ true → IsLedgerOf fares entries text
     → early_in verdict ≡ early_line (map tap_of_entry entries)
 early_is fares text (Legal number early) entries is legal of =
@@ -38,44 +40,48 @@ early_is fares text (Legal number early) entries is legal of =
 early_is fares text (Wants number wanted) entries is legal of = absurd (false≢true legal)
 early_is fares text (NoLine number) entries is legal of = absurd (false≢true legal)
 
-module _ (live : Bool) (fares : Fares) (text : List ℕ) (valid : Option (List TapFields))
-    (verdict : Verdict) (is : IsVerdict fares text verdict) (decide : VerdictsDecide) where
-  ledger_is : (is_legal verdict ≡ true) ↔ IsLedger fares text
-  ledger_is = decide fares text verdict is
+-- the line of the difference, if there is one
+pub second_line : (fares : Fares) (text : List ℕ) (valid : List TapFields) (balance : Balance)
+    (legal subtracts : Bool) (rest : List ℕ) (even : Bool)
+    → IsCompared balance (legal && subtracts) rest even
+    → (legal ≡ true → (entries : List Entry) → IsLedgerOf fares entries text
+    → IsBalance balance valid (map tap_of_entry entries))
+    → IsDifferenceLine fares text (if subtracts then Some valid else None) legal rest
+second_line fares text valid balance false subtracts rest even is balanced = is.0
+second_line fares text valid balance true false rest even is balanced = is.0
+second_line fares text valid balance true true rest even is balanced = (
+  is.0,
+  is.1,
+  λ entries of. (is.2 valid (map tap_of_entry entries) (balanced refl entries of)).0,
+)
 
-  -- a legal ledger, whose taps are those of the uploads or not
-  pub legal_right : (even sound : Bool) → is_legal verdict ≡ true
-      → sound ≡ (even && (live || not (is_some (early_in verdict))))
-      → ((entries : List Entry) → IsLedgerOf fares entries text
-      → (even ≡ true) ↔ HasValidTaps valid (map tap_of_entry entries))
-      → (sound ≡ true) ↔ IsRightLedger live fares text valid
-  legal_right even sound legal both taps =
-      let ledger = ledger_is.0 legal in
-      let order : (entries : List Entry) → IsLedgerOf fares entries text
-      → (live || not (is_some (early_in verdict)))
-      ≡ (live || not (is_some (early_line (map tap_of_entry entries)))) =
-      λ entries of. ap (λ (e : Option ℕ). live || not (is_some e))
-      (early_is fares text verdict entries is legal of) in (
-        λ yes.
-            let parts = and_parts even (live || not (is_some (early_in verdict)))
-            (sym both ∙ yes) in (
-              ledger.0,
-              ledger.1,
-              (taps ledger.0 ledger.1).0 parts.0,
-              sym (order ledger.0 ledger.1) ∙ parts.1,
-            ),
-        λ right.
-            both ∙ ap (λ (b : Bool). b && (live || not (is_some (early_in verdict))))
-            ((taps right.0 right.1).1 right.2) ∙ order right.0 right.1 ∙ right.3,
-      )
+-- whether the taps are those of the uploads
+pub even_taps : (balance : Balance) (valid taps : List TapFields) (subtracts : Bool)
+    (rest : List ℕ) (even : Bool) → IsCompared balance subtracts rest even
+    → IsBalance balance valid taps
+    → (even ≡ true) ↔ HasValidTaps (if subtracts then Some valid else None) taps
+even_taps balance valid taps false rest even is balanced = (λ yes. tt, λ has. is.1)
+even_taps balance valid taps true rest even is balanced = (is.2 valid taps balanced).1
 
-  pub wrong_ledger : is_legal verdict ≡ false → (false ≡ true) ↔ IsLedger fares text
-  wrong_ledger wrong = (λ yes. absurd (false≢true yes), λ ledger. sym wrong ∙ ledger_is.1 ledger)
-
-  pub wrong_right : is_legal verdict ≡ false
-      → (false ≡ true) ↔ IsRightLedger live fares text valid
-  wrong_right wrong =
-      (λ yes. absurd (false≢true yes), λ right. sym wrong ∙ ledger_is.1 (right.0, right.1))
-
-  pub legal_ledger : is_legal verdict ≡ true → (true ≡ true) ↔ IsLedger fares text
-  legal_ledger legal = (λ yes. ledger_is.0 legal, λ ledger. refl)
+-- A text is right exactly if it is a ledger, has the taps of the uploads, and is in order.
+pub sound_is : (live : Bool) (fares : Fares) (text : List ℕ) (valid : Option (List TapFields))
+    (legal even settled sound : Bool) → (legal ≡ true) ↔ IsLedger fares text
+    → (legal ≡ true → (entries : List Entry) → IsLedgerOf fares entries text
+    → ((even ≡ true) ↔ HasValidTaps valid (map tap_of_entry entries))
+    × (settled ≡ are_settled (map tap_of_entry entries)))
+    → sound ≡ (legal && (even && (live || settled)))
+    → (sound ≡ true) ↔ IsRightLedger live fares text valid
+sound_is live fares text valid legal even settled sound ledger each both = (
+  λ yes.
+      let first = and_parts legal (even && (live || settled)) (sym both ∙ yes) in
+      let last = and_parts even (live || settled) first.1 in
+      let (entries, of) = ledger.0 first.0 in
+      let are = each first.0 entries of in
+      (entries, of, are.0.0 last.0, sym (ap (λ (b : Bool). live || b) are.1) ∙ last.1),
+  λ right.
+      let is = ledger.1 (right.0, right.1) in
+      let are = each is right.0 right.1 in
+      both ∙ ap (λ (b : Bool). b && (even && (live || settled))) is
+      ∙ ap (λ (b : Bool). b && (live || settled)) (are.0.1 right.2)
+      ∙ ap (λ (b : Bool). live || b) are.1 ∙ right.3,
+)

@@ -6,5 +6,4 @@ pub mod FindingLemmas
 pub mod FullFindingLemmas
 pub mod LoadedTables
 pub mod ProgramLemmas
-pub mod TapLines
 pub mod TraceLemmas

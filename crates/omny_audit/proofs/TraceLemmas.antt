@@ -1,7 +1,9 @@
 -- A traced ledger, read piece by piece.
 use Rattle.std.proofs.Common.{◌≡◌, ◌∙◌, inl, inr, ℕ, ◌+◌, ◌<◌, ◌≤◌, Bool, false, true, List, []}
 use Rattle.std.proofs.Common.{◌∷◌, ◌++◌, append_assoc, append-nil, length, Option, None, Some, refl}
-use Rattle.std.proofs.Common.{sym, ap, subst, arith, if◌then◌else◌}
+use Rattle.std.proofs.Common.{◌==◌, sym, ap, subst, arith, if◌then◌else◌}
+use Rattle.std.proofs.lemmas.Bool.{eqb-true}
+use Rattle.std.proofs.lemmas.List.{nil_from_length}
 use Rattle.std.specs.Prelude.{is_some}
 use Rattle.std.specs.Str.{bytes_eq}
 use Rattle.std.proofs.lemmas.Slice.Eq.{bytes_eq-Decides}
@@ -120,8 +122,7 @@ with_text trace file text text' read same is = rw (sym same) is
 
 -- what is read of a file that goes on
 pub reads_more : (trace : Option TracedPieces) (file reported : List ℕ)
-    → HasReadAs trace file reported
-    → (more : List ℕ)
+    → HasReadAs trace false file reported → (more : List ℕ)
     → (rest : List ℕ) × (read_as (is_some (wanted_by trace)) (file ++ more) ≡ reported ++ rest)
 reads_more None file reported is more = (more, ap (λ (t : List ℕ). t ++ more) (sym is))
 reads_more (Some trace) file reported (read, is) more = (
@@ -131,3 +132,17 @@ reads_more (Some trace) file reported (read, is) more = (
       ∙ ap (λ (t : List ℕ). t ++ untraced_lines (lines_of (is.started ++ more)))
       (sym is.lines.shown),
 )
+
+-- what a piece without bytes ends was read whole
+pub read_whole : (trace : TracedPieces) (file piece text : List ℕ) (read : List ReadLine)
+    → (length piece == 0) ≡ true → lines_read read ≡ lines_of file
+    → HasLines trace.so_far text read
+    → HasReadAs (Some trace) (length piece == 0) (file ++ piece) text
+read_whole trace file piece text read empty split has =
+    let none : piece ≡ [] = nil_from_length piece (eqb-true (length piece) 0 empty) in
+    let all : file ++ piece ≡ file = ap (λ (t : List ℕ). file ++ t) none ∙ append-nil file in
+    subst (λ (b : Bool). HasReadAs (Some trace) b (file ++ piece) text) (sym empty)
+    (subst (λ (f : List ℕ). HasReadAs (Some trace) true f text) (sym all) (
+      has.shown ∙ ap untraced_lines split,
+      (read, record { split = split; are = has.are }, has.looked),
+    ))

@@ -1,11 +1,12 @@
 -- How a run of the program ends.
 use Rattle.std.specs.Prelude.{◌≡◌, ◌⊎◌, ⊤, ℕ, Bool, true, false, List, [], ◌∷◌, ◌++◌, Option, None, Some}
 use Rattle.std.specs.Prelude.{Contains, suc, zero}
-use Rattle.clap.specs.Words.{Text}
-use Rattle.toml.specs.Data.{Members}
-use Rattle.toml.specs.Parse.{parse_document}
+use Rattle.clap.specs.Words.{IsAmong, Text, fault_of}
+use Rattle.clap.specs.declared.error.kind.ErrorKind.TheVariants.{DisplayHelp, DisplayVersion}
 use Rattle.tariffs.specs.Fares.{Fares}
-use Rattle.class_names.specs.Classes.{has_plain_classes}
+use Rattle.class_names.specs.ClassFaults.{IsWrongAt}
+use Rattle.class_names.specs.declared.names.ClassFault.TheVariants as class
+use Rattle.class_names.specs.declared.names.WrongNames.{WrongNames}
 use Rattle.ledger_check.specs.Columns.{has_ledger_head}
 use Rattle.frame.specs.Failing.{HasStarted}
 use Rattle.world.specs.declared.faults.LoadFault.{LoadFault}
@@ -15,21 +16,17 @@ use Rattle.program_manners.specs.TablesFaults.{IsTablesFault}
 use Rattle.program_manners.specs.TableWords.{TableNames, table_files, wrong_word}
 use Rattle.program_manners.specs.declared.recorded_loads.RecordedLoads.{RecordedLoads}
 use Rattle.omny_audit.specs.Fault.{IsReported}
-use Rattle.omny_audit.specs.Options.{AsksForAuditText, AuditRequest, ParsesForAudit}
-use Rattle.omny_audit.specs.Options.{audit_request_by, files_of, ledger_name}
+use Rattle.omny_audit.specs.Options.{AuditRequest, audit_program, audit_request_by, files_of}
+use Rattle.omny_audit.specs.Options.{ledger_name}
 use Rattle.omny_audit.specs.Program.{HasFound, IsTextOf}
 use Rattle.omny_audit.specs.declared.fault.Fault.{Fault}
-use Rattle.omny_audit.specs.declared.fault.Fault.TheVariants.{ClassName, File, GivenLedger, Ledger}
-use Rattle.omny_audit.specs.declared.fault.Fault.TheVariants.{NamedClass, NoMemory, Tables, Unwritten}
+use Rattle.omny_audit.specs.declared.fault.Fault.TheVariants.{Class, File, GivenLedger, Ledger}
+use Rattle.omny_audit.specs.declared.fault.Fault.TheVariants.{NoMemory, Tables, Unwritten}
 use Rattle.world.specs.Run.{Calls, Load, Run, no_calls, with_flushed, with_written}
 
 -- one of the texts names a class that no ledger can have
-pub record NamesUnplainClass (texts : List (List ℕ)) : Type 0 where
-  pub text : List ℕ
-  pub is_one : Contains texts text
-  pub tree : Members
-  pub parsed : parse_document text ≡ Some tree
-  pub unplain : has_plain_classes tree ≡ false
+abbrev pub NamesUnplainClass : List (List ℕ) → Type 0
+NamesUnplainClass texts = (wrong : WrongNames) × IsWrongAt texts wrong × (wrong.fault ≡ class.Name)
 
 -- the tables were loaded, and one of their texts does
 pub record LoadsUnplainClass (tables : TableNames) (loaded : List Load) : Type 0 where
@@ -81,9 +78,8 @@ IsRightFault request did (Tables fault) =
     IsTablesFault request.table (Some did.loaded) (Some did.loaded') (Some did.refused) fault
 IsRightFault request did (GivenLedger name) =
     Contains (files_of request) name.now × LoadsGivenLedger did.loaded' name.now
-IsRightFault request did (NamedClass line) = Contains (table_files request.table) line.0.now
+IsRightFault request did (Class file is_alone) = Contains (table_files request.table) file.now
     × LoadsUnplainClass request.table did.loaded
-IsRightFault request did ClassName = LoadsUnplainClass request.table did.loaded
 IsRightFault request did (Unwritten why) = did.new.cut ≡ Some why
 IsRightFault request did NoMemory = ⊤
 
@@ -116,12 +112,14 @@ EndsRun request did _ = ⊥
 
 -- the words are a command line, in which each fare table but the first has a date
 abbrev pub IsCommand : List Text → Type 0
-IsCommand words = ParsesForAudit words × (wrong_word (audit_request_by words).table ≡ None)
+IsCommand words = (fault_of audit_program words ≡ [])
+    × (wrong_word (audit_request_by words).table ≡ None)
 
 -- How words end that are no command line: with status 0 they ask for help or the version. Nothing
 -- was loaded, and nothing read of a ledger.
 pub record EndsAnswer (words : List Text) (did : Did) (status : ℕ) : Type 0 where
-  pub asks : status ≡ 0 → AsksForAuditText words
+  pub asks : status ≡ 0 → IsAmong DisplayHelp (fault_of audit_program words)
+      ⊎ IsAmong DisplayVersion (fault_of audit_program words)
   pub unloaded : did.loaded' ≡ did.loaded
   pub unread : did.ledger ≡ no_calls
 

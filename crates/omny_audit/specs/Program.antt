@@ -1,5 +1,5 @@
 -- What a run of the program finds.
-use Rattle.std.specs.Prelude.{◌≡◌, ◌↔◌, ℕ, Bool, true, false, List, [], ◌∷◌, ◌++◌, map}
+use Rattle.std.specs.Prelude.{◌≡◌, ℕ, Bool, true, false, List, [], ◌∷◌, ◌++◌, map}
 use Rattle.std.specs.Prelude.{Option, None, Some}
 use Rattle.std.specs.List.{AllZip, flat_map}
 use Rattle.clap.specs.Words.{Text}
@@ -11,9 +11,9 @@ use Rattle.toml.specs.Data.{Members}
 use Rattle.tap_views.specs.UploadEnds.{ArePlainEnds}
 use Rattle.tap_views.specs.declared.encoder.TapFields.{TapFields}
 use Rattle.tap_views.specs.declared.upload_end.UploadEnd.{UploadEnd}
-use Rattle.omny_audit.specs.Reports.{Given, IsAudit, IsAuditText, IsRightAudit}
+use Rattle.omny_audit.specs.Reports.{Given, IsAudit, IsAuditText}
 use Rattle.omny_audit.specs.Options.{AuditRequest}
-use Rattle.omny_audit.specs.Traced.{ReadLine, Wanted}
+use Rattle.omny_audit.specs.Traced.{Wanted}
 use Rattle.program_manners.specs.TableLoads.{LoadsTables}
 use Rattle.world.specs.Run.{Calls, Load}
 use Rattle.world.specs.Streams.{IsWhole}
@@ -103,22 +103,13 @@ given_of request files = record {
   report = files.report;
 }
 
--- The text is what is found of the file, whose lines were read so.
-pub record HasFindings (given : Given) (file text : List ℕ) (success : Bool) : Type 0 where
-  pub read : List ReadLine
-  pub audit : IsAudit given file read text success
-  -- well exactly if the text is, whole, a ledger of legal histories, settled unless a live one is
-  -- asked for, with the taps of the uploads, of which none has a layout fault, and the columns of a
-  -- traced one are right, and the report is its own
-  pub right : (success ≡ true) ↔ IsRightAudit given file read
-
 -- The files were loaded, and the text is what is found of the ledger beside the valid taps of the
 -- uploads, if uploads are named, and of the report. It says that all is well, or not. A ledger that
 -- is well was read to its end.
 pub record HasFound (request : AuditRequest) (loaded loaded' : List Load) (ledger : Calls)
     (text : List ℕ) (success : Bool) : Type 0 where
   pub files : HasLoaded request loaded loaded' ledger
-  pub found : HoldsOfRead ledger (λ file. HasFindings (given_of request files) file text success)
+  pub found : HoldsOfRead ledger (λ file. IsAudit (given_of request files) file text success)
   pub whole : success ≡ true → IsWhole ledger
 
 -- the files were loaded, and the text is one that an audit of them may leave

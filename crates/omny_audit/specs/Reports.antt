@@ -8,9 +8,9 @@ use Rattle.ledger_check.specs.FirstLines.{AreFirstTaken}
 use Rattle.ledger_check.specs.FullChecks.{TakenLine, remark_lines}
 use Rattle.ledger_check.specs.Ledger.{IsLedger, IsLedgerOf}
 use Rattle.ledger_check.specs.Orders.{tap_of_entry}
-use Rattle.omny_audit.specs.Findings.{HasOrder, HasValidTaps, IsFindingOf, IsRightLedger}
+use Rattle.omny_audit.specs.Findings.{HasOrder, HasValidTaps, IsFindingOf}
 use Rattle.omny_audit.specs.Traced.{AreColumnsReported, HasRightColumns, ReadLine, Wanted}
-use Rattle.report_check.specs.Reports.{IsReportBeside, IsReportVerdictBeside, is_of_ledger}
+use Rattle.report_check.specs.Reports.{IsReportBeside, IsReportVerdictBeside}
 use Rattle.report_texts.specs.Report.{upload_line}
 use Rattle.tap_views.specs.UploadEnds.{are_posted, is_posted}
 use Rattle.tap_views.specs.declared.upload_end.UploadEnd.{UploadEnd}
@@ -90,46 +90,6 @@ IsVerdictOn ends fares ledger (Some report) true None = ⊥
 IsVerdictOn ends fares ledger (Some report) true (Some verdict) = (entries : List Entry)
     → IsLedgerOf fares entries ledger → IsReportVerdictBeside ends entries report verdict
 
--- whether the verdict is that the report is the ledger's, if there is a report
-abbrev pub fits : Option (List ℕ) → Option ReportVerdict → Bool
-fits None verdict = true
-fits (Some report) None = false
-fits (Some report) (Some verdict) = is_of_ledger verdict
-
--- What is found of a ledger's file, of which these lines were read, if it is traced: what is found
--- of the ledger that is read of it, beside the valid taps of the uploads, if there are uploads;
--- after it what is found of the columns, if the ledger is traced, and legal or asked for all its
--- lines; and after it what is found of the report, if there is one, and of the uploads. All is well
--- if all of this is.
-pub record IsAudit (given : Given) (file : List ℕ) (read : List ReadLine) (text : List ℕ)
-    (success : Bool) : Type 0 where
-  pub found : List ℕ
-  pub finding : IsFindingOf given.all given.fares (ledger_in given file) given.valid found
-  pub sound : Bool
-  pub is_sound : (sound ≡ true)
-      ↔ IsRightLedger given.live given.fares (ledger_in given file) given.valid
-  pub legal : Bool
-  pub is_legal : (legal ≡ true) ↔ IsLedger given.fares (ledger_in given file)
-  pub columns : List ℕ
-  pub right : Bool
-  pub are_columns : AreColumnsReported given.wanted (given.all || legal) file read columns right
-  pub verdict : Option ReportVerdict
-  pub is_verdict : IsVerdictOn given.ends given.fares (ledger_in given file) given.report
-      (legal && right) verdict
-  pub shown : text
-      ≡ found ++ (columns ++ (verdict_lines given.ends verdict ++ damage_text given.ends))
-  pub both : success
-      ≡ (sound && (right && (fits given.report verdict && are_whole given.ends)))
-
--- What an audit that fails may leave: a prefix of what is found of the file, or of the remarks on
--- its first lines, which are a prefix of it if all wrong lines are asked for
--- (`ledger_check::laws::full_checks_go_on`).
-abbrev pub IsAuditText : Given → List ℕ → List ℕ → Type 0
-IsAuditText given file text =
-    ((read : List ReadLine) × (success : Bool) × IsAudit given file read text success)
-    ⊎ ((given.all ≡ true) × (first : List TakenLine)
-    × AreFirstTaken given.fares (ledger_in given file) first × (text ≡ remark_lines first))
-
 -- the report is that of the ledger's entries, and of uploads that end so, if their ends are known;
 -- if there is a report
 abbrev pub HasOwnReport : Option (List UploadEnd) → Option (List ℕ) → List Entry → Type 0
@@ -147,8 +107,33 @@ IsRightAudit given file read =
     × HasRightColumns given.wanted file read
     × HasOwnReport given.ends given.report entries × (are_whole given.ends ≡ true)
 
--- all is well exactly if all is right
-abbrev pub AuditsDecide : Type 0
-AuditsDecide =
-    (given : Given) (file : List ℕ) (read : List ReadLine) (text : List ℕ) (success : Bool)
-    → IsAudit given file read text success → (success ≡ true) ↔ IsRightAudit given file read
+-- What is found of a ledger's file: what is found of the ledger that is read of it, beside the valid
+-- taps of the uploads, if there are uploads; after it what is found of the columns of its lines, if
+-- the ledger is traced, and legal or asked for all its lines; and after it what is found of the
+-- report, if there is one, and of the uploads.
+pub record IsAudit (given : Given) (file text : List ℕ) (success : Bool) : Type 0 where
+  pub found : List ℕ
+  pub finding : IsFindingOf given.all given.fares (ledger_in given file) given.valid found
+  pub legal : Bool
+  pub is_legal : (legal ≡ true) ↔ IsLedger given.fares (ledger_in given file)
+  -- the lines that were read, if the ledger is traced
+  pub read : List ReadLine
+  pub columns : List ℕ
+  pub right : Bool
+  pub are_columns : AreColumnsReported given.wanted (given.all || legal) file read columns right
+  pub verdict : Option ReportVerdict
+  pub is_verdict : IsVerdictOn given.ends given.fares (ledger_in given file) given.report
+      (legal && right) verdict
+  pub shown : text
+      ≡ found ++ (columns ++ (verdict_lines given.ends verdict ++ damage_text given.ends))
+  -- all is well exactly if all is right
+  pub well : (success ≡ true) ↔ IsRightAudit given file read
+
+-- What an audit that fails may leave: a prefix of what is found of the file, or of the remarks on
+-- its first lines, which are a prefix of it if all wrong lines are asked for
+-- (`ledger_check::laws::full_checks_go_on`).
+abbrev pub IsAuditText : Given → List ℕ → List ℕ → Type 0
+IsAuditText given file text =
+    ((success : Bool) × IsAudit given file text success)
+    ⊎ ((given.all ≡ true) × (first : List TakenLine)
+    × AreFirstTaken given.fares (ledger_in given file) first × (text ≡ remark_lines first))

@@ -1,7 +1,8 @@
 -- The lines that report a verdict, and how the ledger's taps differ from those of the uploads.
-use Rattle.std.specs.Prelude.{◌≡◌, ℕ, List, [], ◌∷◌, ◌++◌, codes, string_bytes, Option, None, Some}
+use Rattle.std.specs.Prelude.{◌≡◌, ℕ, List, ◌++◌, codes, string_bytes, Option, None, Some}
 use Rattle.std.specs.Prelude.{◌&&◌, Bool, MatchBool, length, nat_eq}
 use Rattle.std.specs.Fmt.{decimal}
+use Rattle.std.specs.List.{AllZip, flat_map}
 use Rattle.hex.specs.Hex.{encode_lower}
 use Rattle.fare_texts.specs.Moments.{IsMomentText}
 use Rattle.ledger_check.specs.declared.balance.Difference.{Difference}
@@ -27,37 +28,30 @@ token_and_space tap = encode_lower tap.token ++ codes " "
 unfoldable pub space_and_validator : TapFields → List ℕ
 space_and_validator tap = codes " " ++ (decimal tap.validator ++ codes "\n")
 
--- `000000000000000000000000000000a1 2024-03-08T17:00:00.000Z 1000`, with its newline
-pub record IsTapText (tap : TapFields) (text : List ℕ) : Type 0 where
+-- `missing tap 000000000000000000000000000000a1 2024-03-08T17:00:00.000Z 1000` or other words before
+-- the tap, with its newline
+pub record IsTapLine (words : List ℕ) (tap : TapFields) (text : List ℕ) : Type 0 where
   pub moment : List ℕ
   pub is : IsMomentText tap.moment moment
-  pub shown : text ≡ token_and_space tap ++ (moment ++ space_and_validator tap)
-
--- these words, and then the tap
-abbrev pub IsTapLineOf : List ℕ → TapFields → List ℕ → Type 0
-IsTapLineOf words tap text = (rest : List ℕ) × IsTapText tap rest × (text ≡ words ++ rest)
+  pub shown : text ≡ words ++ (token_and_space tap ++ (moment ++ space_and_validator tap))
 
 -- `all taps of the uploads`; `missing tap ..`, if the uploads have it more often than the ledger,
 -- `surplus tap ..`, if the ledger has it more often
 abbrev pub IsDifferenceText : Option Difference → List ℕ → Type 0
 IsDifferenceText None text = text ≡ codes "all taps of the uploads\n"
-IsDifferenceText (Some (Missing tap)) text = IsTapLineOf (codes "missing tap ") tap text
-IsDifferenceText (Some (Surplus tap)) text = IsTapLineOf (codes "surplus tap ") tap text
+IsDifferenceText (Some (Missing tap)) text = IsTapLine (codes "missing tap ") tap text
+IsDifferenceText (Some (Surplus tap)) text = IsTapLine (codes "surplus tap ") tap text
 
 -- a line for each of these taps, after these words
-abbrev pub AreTapLinesOf : List ℕ → List TapFields → List ℕ → Type 0
-AreTapLinesOf words [] text = text ≡ []
-AreTapLinesOf words (tap ∷ taps) text =
-    (line : List ℕ) × (rest : List ℕ) × IsTapLineOf words tap line
-    × AreTapLinesOf words taps rest × (text ≡ line ++ rest)
+abbrev pub AreTapLines : List ℕ → List TapFields → List ℕ → Type 0
+AreTapLines words taps text = (lines : List (List ℕ)) × AllZip (IsTapLine words) taps lines
+    × (text ≡ flat_map (λ line. line) lines)
 
 -- `missing tap ..` for each missing tap, then `surplus tap ..` for each surplus one
-pub record AreDifferenceLines (missing surplus : List TapFields) (text : List ℕ) : Type 0 where
-  pub missing_lines : List ℕ
-  pub are_missing : AreTapLinesOf (codes "missing tap ") missing missing_lines
-  pub surplus_lines : List ℕ
-  pub are_surplus : AreTapLinesOf (codes "surplus tap ") surplus surplus_lines
-  pub shown : text ≡ missing_lines ++ surplus_lines
+abbrev pub AreDifferenceLines : List TapFields → List TapFields → List ℕ → Type 0
+AreDifferenceLines missing surplus text = (first : List ℕ) × (next : List ℕ)
+    × AreTapLines (codes "missing tap ") missing first
+    × AreTapLines (codes "surplus tap ") surplus next × (text ≡ first ++ next)
 
 -- whether nothing is missing and nothing surplus
 abbrev pub are_none : List TapFields → List TapFields → Bool

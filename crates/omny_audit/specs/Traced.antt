@@ -167,15 +167,9 @@ AreColumnsReported (Some wanted) true file read reported right =
     ++ position_text wanted.uploads fault)
     × (right ≡ (not (is_some (wrong_class wanted.classes read)) && not (is_some fault)))
 
--- Each line that has a tap has it where it is in the uploads, if there are uploads: no two
--- lines have one place, and each place of a tap is that of a line.
-abbrev pub HasRightPositions : Option (List (List TapFields)) → List ReadLine → Type 0
-HasRightPositions None read = Unit {0}
-HasRightPositions (Some uploads) read = (wrong_position uploads read ≡ None)
-    × ((upload position : ℕ) → ¬ (IsUnnamed uploads (have_position read) upload position))
-
--- the columns of the lines are right, if the ledger is traced
+-- The columns of the lines are right, if the ledger is traced: each line has the class of its token,
+-- and nothing is wrong with its place.
 abbrev pub HasRightColumns : Option Wanted → List ℕ → List ReadLine → Type 0
 HasRightColumns None file read = Unit {0}
 HasRightColumns (Some wanted) file read = AreLinesOf file read
-    × (wrong_class wanted.classes read ≡ None) × HasRightPositions wanted.uploads read
+    × (wrong_class wanted.classes read ≡ None) × IsPositionFault wanted.uploads read None

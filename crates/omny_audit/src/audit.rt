@@ -1,20 +1,18 @@
 //! The audit of a ledger that comes in pieces.
 
-ghost use Rattle.std.specs.Prelude.{◌≡◌, ◌++◌, ℕ, List, [], IfOk, None, OnOk, false, string_bytes, true};
-ghost use Rattle.tap_views.specs.declared.encoder.TapFields.{TapFields};
-ghost use Rattle.omny_audit.specs.Reports.{IsAudit};
-ghost use Rattle.omny_audit.specs.Traced.{ReadLine};
-ghost use Rattle.omny_audit.specs.inside.Audits.{EndsAs, GoesOn, HasAudited, HasEnded};
-ghost use Rattle.omny_audit.specs.inside.Audits.{HoldsNow, given_in};
+ghost use Rattle.std.specs.Prelude.{◌≡◌, ◌++◌, ◌||◌, ◌==◌, ℕ, List, [], Bool, IfOk, None, OnOk};
+ghost use Rattle.std.specs.Prelude.{false, length, string_bytes, true};
+ghost use Rattle.omny_audit.specs.Reports.{Given, IsAudit};
+ghost use Rattle.omny_audit.specs.inside.Audits.{EndsAs, GoesOn, HasAudited, Steps};
 ghost use Rattle.omny_audit.specs.inside.Checks.{is_decided};
-ghost use Rattle.world.specs.Run.{Calls};
-ghost use Rattle.world.specs.Streams.{HasRead, IsWhole};
+ghost use Rattle.world.specs.Streams.{HasRead};
 
 use crate::check::{Check, are_both, is_either};
 use crate::fault::Fault;
 use crate::report::{HeldReport, are_whole, fits, verdict_on, write_last_lines};
-use crate::traced::{TracedPieces, read_end, read_piece, write_columns};
+use crate::traced::{TracedPieces, read_piece, write_columns};
 use fare_table::{Clock, FareTable};
+use report_check::laws::report_verdicts_decide;
 use std::alloc::Global;
 use tap_views::{NoMemory, UploadEnd};
 use world::{Stream, World};
@@ -39,15 +37,16 @@ pub(crate) struct Audit<'a> {
 }
 
 impl Audit<'_> {
-    /// Checks the piece, and appends what is reported of it.
+    /// Checks the piece, or at the file's end, which is a piece without bytes, the line that it cuts;
+    /// and appends what is reported of it.
     fn read(&mut self, alloc: Global, piece: &[u8], reported: &mut String) -> Result<(), NoMemory>
-        requires { (valid : List TapFields) × (file written : List ℕ)
-            × HasAudited self.old valid file written }
-        ensures { OnOk result ((valid : List TapFields) (file written : List ℕ)
-            → HasAudited self.old valid file written → (more : List ℕ)
+        requires { (given : Given) × (file written : List ℕ)
+            × HasAudited given self.old false file written }
+        ensures { OnOk result ((given : Given) (file written : List ℕ)
+            → HasAudited given self.old false file written → (more : List ℕ)
             × (string_bytes reported.new ≡ string_bytes reported.old ++ more)
-            × (given_in self.new valid ≡ given_in self.old valid)
-            × HasAudited self.new valid (file ++ piece.now) (written ++ more)) }
+            × HasAudited given self.new (length piece.now == 0) (file ++ piece.now)
+            (written ++ more)) }
     {
         read_piece(&mut self.trace, piece, &mut self.text)?;
         let text = self.text.as_slice();
@@ -62,39 +61,20 @@ impl Audit<'_> {
         Ok(())
     }
 
-    /// Checks the line that the end cuts.
-    fn read_end(&mut self, alloc: Global, reported: &mut String) -> Result<(), NoMemory>
-        requires { (valid : List TapFields) × (file written : List ℕ)
-            × HasAudited self.old valid file written }
-        ensures { OnOk result ((valid : List TapFields) (file written : List ℕ)
-            → HasAudited self.old valid file written → (more : List ℕ)
-            × (string_bytes reported.new ≡ string_bytes reported.old ++ more)
-            × (given_in self.new valid ≡ given_in self.old valid)
-            × HasEnded self.new valid file (written ++ more)) }
-    {
-        read_end(&mut self.trace, &mut self.text)?;
-        let text = self.text.as_slice();
-        self.check.feed(
-            alloc,
-            self.table,
-            self.clock,
-            text,
-            self.subtracts,
-            reported,
-        )?;
-        Ok(())
-    }
-
     /// Returns whether all is right.
     fn end(&mut self, alloc: Global, mut reported: String) -> Result<(Vec<u8>, bool), NoMemory>
-        requires { (valid : List TapFields) × (file written : List ℕ)
-            × HasEnded self.old valid file written }
+        requires { (given : Given) × (whole : Bool) × (file written : List ℕ)
+            × HasAudited given self.old whole file written }
         ensures decided { IfOk result
             (λ ended. is_decided self.old.check ≡ true → ended.1 ≡ false) }
-        ensures ended { IfOk result (λ ended. (valid : List TapFields) (file before : List ℕ)
-            → HasEnded self.old valid file (before ++ string_bytes reported) → (read : List ReadLine)
-            × IsAudit (given_in self.old valid) file read (before ++ ended.0.items) ended.1) }
+        ensures ended { IfOk result (λ ended. (given : Given) (whole : Bool)
+            (file before more : List ℕ)
+            → HasAudited given self.old whole file (before ++ string_bytes reported)
+            → (whole || is_decided self.old.check) ≡ true → (whole ≡ true → more ≡ [])
+            → IsAudit given (file ++ more) (before ++ ended.0.items) ended.1) }
     {
+        // proof: a report fits exactly if it is that of the ledger's entries
+        report_verdicts_decide();
         let all = self.check.is_all();
         let found = self
             .check
@@ -113,22 +93,14 @@ impl Audit<'_> {
     /// A piece without bytes is the file's end. At the end of the finding, returns whether all is
     /// right: after the first wrong line nothing is read.
     fn next(&mut self, alloc: Global, piece: &[u8]) -> Result<(Vec<u8>, Option<bool>), NoMemory>
-        requires { (valid : List TapFields) × (file written : List ℕ)
-            × HasAudited self.old valid file written }
-        ensures { IfOk result (λ next. (valid : List TapFields) (file written : List ℕ)
-            (ledger : Calls) → HasAudited self.old valid file written
-            → ledger.reading.bytes ≡ file ++ piece.now → (piece.now ≡ [] → IsWhole ledger)
-            → HoldsNow (given_in self.old valid) self.new valid ledger (written ++ next.0.items)
-            next.1) }
+        requires { (given : Given) × (file written : List ℕ)
+            × HasAudited given self.old false file written }
+        ensures { IfOk result (λ next. Steps self.old self.new piece.now next.0.items next.1) }
     {
         let mut reported = String::new(alloc);
-        if piece.is_empty() {
-            self.read_end(alloc, &mut reported)?;
-            let ended = self.end(alloc, reported)?;
-            return Ok((ended.0, Some(ended.1)));
-        }
         self.read(alloc, piece, &mut reported)?;
-        if self.check.is_decided() {
+        let is_last = is_either(piece.is_empty(), self.check.is_decided());
+        if is_last {
             let ended = self.end(alloc, reported)?;
             return Ok((ended.0, Some(ended.1)));
         }
@@ -136,8 +108,8 @@ impl Audit<'_> {
     }
 }
 
-/// Writes the finding as it comes, if all wrong lines are requested. Returns whether all is right.
-/// The head was read of the ledger. No more of the rest than one read is in memory.
+/// Writes the finding as it comes, if all wrong lines are requested, and flushes it. Returns whether
+/// all is right. The head was read of the ledger. No more of the rest than one read is in memory.
 pub(crate) fn audit_over<'a, W: World>(
     alloc: Global,
     head: Vec<u8>,
@@ -145,13 +117,12 @@ pub(crate) fn audit_over<'a, W: World>(
     audit: &mut Audit<'_>,
     world: &mut W,
 ) -> Result<bool, Fault<'a>>
-    requires audited { (valid : List TapFields) × HasAudited audit.old valid [] [] }
+    requires audited { (given : Given) × HasAudited given audit.old false [] [] }
     requires read { HasRead ledger.old ledger.old.trace.reading.name head.items }
     requires whole { head.items ≡ [] → ledger.old.from ≡ None }
     ensures goes { GoesOn ledger.old ledger.new head.items }
-    ensures ends { (valid : List TapFields) → HasAudited audit.old valid [] []
-        → EndsAs (given_in audit.old valid) ledger.new.trace (W.run world.old) (W.run world.new)
-        result }
+    ensures ends { (given : Given) → HasAudited given audit.old false [] []
+        → EndsAs given ledger.new.trace (W.run world.old) (W.run world.new) result }
 {
     let mut piece = head;
     for _piece in 0..u64::MAX {
@@ -162,6 +133,9 @@ pub(crate) fn audit_over<'a, W: World>(
             return Err(Fault::Unwritten(why));
         }
         if let Some(succeeded) = next.1 {
+            if let Err(unflushed) = world.flush() {
+                return Err(Fault::Unwritten(unflushed));
+            }
             return Ok(succeeded);
         }
         if let Err(why) = ledger.read(&mut piece) {

@@ -14,7 +14,7 @@ ghost use Rattle.ledger_check.specs.Sums.{AreSumsOf};
 ghost use Rattle.ledger_check.specs.Verdicts.{IsVerdict, early_in, is_legal};
 ghost use Rattle.tap_views.specs.declared.encoder.TapFields.{TapFields as ATap};
 ghost use Rattle.omny_audit.specs.Findings.{HasValidTaps, IsDifferencesEnd};
-ghost use Rattle.omny_audit.specs.inside.Checks.{Finds, HasChecked, is_all, is_decided};
+ghost use Rattle.omny_audit.specs.inside.Checks.{Finds, HasChecked, IsCompared, is_all, is_decided};
 
 use crate::text::{are_none, write_difference, write_differences, write_verdict};
 use fare_table::{Clock, FareTable};
@@ -130,12 +130,17 @@ impl Check {
             (λ found. is_decided self.old ≡ true → found.is_legal ≡ false) }
     {
         match self {
-            Check::First(checker, balance, verdict) => {
-                let found = first_found(
-                    alloc, checker, balance, verdict, subtracts, live, reported,
-                )?;
-                Ok(found)
-            }
+            Check::First(checker, balance, verdict) => match verdict {
+                Some(verdict) => {
+                    let found = finding(verdict, balance, None, subtracts, live, reported)?;
+                    Ok(found)
+                }
+                None => {
+                    let (verdict, sums) = checker.finish(alloc)?;
+                    let found = finding(&verdict, balance, sums, subtracts, live, reported)?;
+                    Ok(found)
+                }
+            },
             Check::All(full_check, full) => {
                 let found = full_finding(alloc, full_check, full, subtracts, live, reported)?;
                 Ok(found)
@@ -177,6 +182,26 @@ fn is_even(difference: &Option<Difference>) -> bool
     difference.is_none()
 }
 
+/// If they are compared. Returns whether the taps are the same.
+fn write_even(
+    balance: &Balance,
+    is_compared: bool,
+    reported: &mut String,
+) -> Result<bool, AllocError>
+    ensures { IfOk result (λ even. (rest : List ℕ)
+        × (string_bytes reported.new ≡ string_bytes reported.old ++ rest)
+        × IsCompared balance.now is_compared rest even) }
+{
+    // proof: a difference is one
+    differences_are_real();
+    if !is_compared {
+        return Ok(true);
+    }
+    let difference = balance.difference();
+    write_difference(reported, &difference)?;
+    Ok(is_even(&difference))
+}
+
 fn finding(
     verdict: &Verdict,
     balance: &Balance,
@@ -194,69 +219,19 @@ fn finding(
         × Finds false live fares text (if subtracts then Some valid else None) more found) }
     ensures legal { IfOk result (λ found. found.is_legal ≡ is_legal verdict.now) }
 {
-    // proof: the verdict is `legal` exactly if the text is a ledger, and a difference is one
+    // proof: the verdict is `legal` exactly if the text is a ledger
     verdicts_decide();
-    differences_are_real();
     write_verdict(reported, verdict)?;
-    if !is_legal(verdict) {
-        return Ok(Found {
-            is_sound: false,
-            is_legal: false,
-            sums,
-        });
-    }
+    let legal = is_legal(verdict);
+    let is_compared = are_both(legal, subtracts);
+    let even = write_even(balance, is_compared, reported)?;
     let in_order = is_either(live, !has_early(verdict));
-    if !subtracts {
-        return Ok(Found {
-            is_sound: in_order,
-            is_legal: true,
-            sums,
-        });
-    }
-    let difference = balance.difference();
-    write_difference(reported, &difference)?;
+    let is_right = are_both(even, in_order);
     Ok(Found {
-        is_sound: are_both(is_even(&difference), in_order),
-        is_legal: true,
+        is_sound: are_both(legal, is_right),
+        is_legal: legal,
         sums,
     })
-}
-
-fn first_found(
-    alloc: Global,
-    checker: &mut Checker,
-    balance: &Balance,
-    verdict: &Option<Verdict>,
-    subtracts: bool,
-    live: bool,
-    reported: &mut String,
-) -> Result<Found, AllocError>
-    requires { (fares : Fares) × (valid : List ATap) × (text written : List ℕ)
-        × HasChecked fares subtracts valid (Check.First checker.old balance.now verdict.now) text
-        written }
-    ensures found { IfOk result (λ found. (fares : Fares) (valid : List ATap)
-        (text written : List ℕ)
-        → HasChecked fares subtracts valid (Check.First checker.old balance.now verdict.now) text
-        written → (more : List ℕ)
-        × (string_bytes reported.new ≡ string_bytes reported.old ++ more)
-        × Finds false live fares text (if subtracts then Some valid else None) (written ++ more)
-        found) }
-    ensures decided { IfOk result (λ found. is_some verdict.now ≡ true
-        → ((fares : Fares) × (valid : List ATap) × (text written : List ℕ)
-        × HasChecked fares subtracts valid (Check.First checker.old balance.now verdict.now) text
-        written) → found.is_legal ≡ false) }
-{
-    match verdict {
-        Some(verdict) => {
-            let found = finding(verdict, balance, None, subtracts, live, reported)?;
-            Ok(found)
-        }
-        None => {
-            let (verdict, sums) = checker.finish(alloc)?;
-            let found = finding(&verdict, balance, sums, subtracts, live, reported)?;
-            Ok(found)
-        }
-    }
 }
 
 /// Returns whether the taps are the same.
@@ -306,9 +281,9 @@ fn full_finding(
     let fully_checked = full_check.finish(alloc, reported)?;
     let is_even = write_lacking(alloc, full, subtracts, reported)?;
     let in_order = is_either(live, fully_checked.is_settled);
-    let is_right = are_both(fully_checked.is_legal, is_even);
+    let is_right = are_both(is_even, in_order);
     Ok(Found {
-        is_sound: are_both(is_right, in_order),
+        is_sound: are_both(fully_checked.is_legal, is_right),
         is_legal: fully_checked.is_legal,
         sums: fully_checked.sums,
     })

@@ -17,10 +17,9 @@ pub(crate) enum Fault<'a> {
     Tables(TablesFault<'a>),
     /// A ledger was named as an upload.
     GivenLedger(&'a str),
-    /// The fare table's text names a class that no traced ledger can have.
-    ClassName,
-    /// The text of one of several fare tables names a class that no traced ledger can have.
-    NamedClass(NamedClassLine<'a>),
+    /// The text of the fare table of this file names a class that no traced ledger can have. It is
+    /// the only table, and the line does not name it, if the flag is set.
+    Class(&'a str, bool),
     /// The text was not written. Nothing is reported if its reader is gone.
     Unwritten(WriteFault),
     /// An allocation failed.
@@ -47,39 +46,25 @@ pub(crate) fn fail<W: World>(fault: &Fault<'_>, world: &mut W) -> u8
     1
 }
 
-/// The line of why fare tables were not loaded.
-#[derive(Clone, Copy)]
-struct TablesLine<'a>(TablesFault<'a>);
-
-impl fmt::Display for TablesLine<'_> {
-    fn fmt<W: fmt::Write>(&self, f: &mut fmt::Formatter<W>) -> fmt::Result {
-        match self.0 {
-            TablesFault::File(fault) => fault.fmt(f),
-            TablesFault::Table(fault) => TableLine(fault).fmt(f),
-            TablesFault::NamedTable(line) => line.fmt(f),
-            TablesFault::Follow(line) => line.fmt(f),
-            TablesFault::NoMemory => f.write_str("fault: out of memory"),
-        }
-    }
-}
-
 impl fmt::Display for Fault<'_> {
     fn fmt<W: fmt::Write>(&self, f: &mut fmt::Formatter<W>) -> fmt::Result {
         match self {
-            Fault::File(fault) => fault.fmt(f),
-            Fault::Ledger(LoadFault::NoMemory) | Fault::NoMemory => {
-                f.write_str("fault: out of memory")
-            }
+            Fault::File(fault) | Fault::Tables(TablesFault::File(fault)) => fault.fmt(f),
+            Fault::Ledger(LoadFault::NoMemory)
+            | Fault::Tables(TablesFault::NoMemory)
+            | Fault::NoMemory => f.write_str("fault: out of memory"),
             Fault::Ledger(_) => f.write_str("fault: cannot read the ledger"),
-            Fault::Tables(fault) => TablesLine(*fault).fmt(f),
+            Fault::Tables(TablesFault::Table(fault)) => TableLine(*fault).fmt(f),
+            Fault::Tables(TablesFault::NamedTable(line)) => line.fmt(f),
+            Fault::Tables(TablesFault::Follow(line)) => line.fmt(f),
             Fault::GivenLedger(name) => write!(
                 f,
                 "fault: {name} is a ledger and no upload: write it before --uploads, or after --"
             ),
-            Fault::NamedClass(line) => line.fmt(f),
-            Fault::ClassName => {
+            Fault::Class(_, true) => {
                 f.write_str("fault: table has a class name that no ledger can have")
             }
+            Fault::Class(file, false) => NamedClassLine(*file).fmt(f),
             Fault::Unwritten(_) => f.write_str("fault: cannot write"),
         }
     }

@@ -7,7 +7,6 @@ mod audit;
 mod check;
 mod fault;
 mod input_words;
-mod laws;
 mod ledger;
 mod made_by;
 mod options;

@@ -1,14 +1,16 @@
 //! The command line.
-ghost use Rattle.std.specs.Prelude.{◌≡◌, IfOk, false, map, option_and_then, option_map};
-ghost use Rattle.std.specs.Prelude.{string_bytes, true};
+ghost use Rattle.std.specs.Prelude.{◌≡◌, IfOk, Some, false, map, option_and_then, option_map};
+ghost use Rattle.std.specs.Prelude.{string_bytes};
 ghost use Rattle.clap.specs.Words.{FailsBy, app_of, fault_of, found_of, matches_of};
 ghost use Rattle.clap.specs.Words.{rows_of, rule_of};
-ghost use Rattle.omny_audit.specs.Options.{audit_program, audit_request_by, not_dash};
+ghost use Rattle.frame.specs.Names.{file_named};
+ghost use Rattle.omny_audit.specs.Options.{audit_program, audit_request_by, required_table_option};
 ghost use Rattle.omny_audit.specs.inside.Options.{audit_request_of};
-ghost use Rattle.omny_audit.specs.Options.{required_table_option, tables_or_none};
 ghost use Rattle.program_manners.specs.TableViews.{names_of};
+ghost use Rattle.program_manners.specs.TableWords.{tables_in};
 
 use clap::{Arg, ArgAction, ArgMatches, Command, Error};
+use frame::file_of;
 use program_manners::{
     ListFault, ListWords, TableWords, add_list_args, files_arg, flag_arg, flag_in, names_in,
     new_command, option_arg, positional_arg, repeated_arg,
@@ -142,8 +144,6 @@ const TABLE_HELP: &str = "Fare table; again as G@2026-01-04: from that day on";
 
 const ALL_HELP: &str = "Print each wrong line and tap, not only the first";
 
-const LIVE_HELP: &str = "Take a ledger of a run without --settle";
-
 const UPLOADS_HELP: &str = "Compare their taps; the list ends at an option or --";
 
 const REPORT_HELP: &str = "Check this report of the ledger, too";
@@ -166,7 +166,7 @@ fn command<'a>(alloc: Global) -> Result<Command<'a>, AllocError>
 {
     let table = table_arg(alloc);
     let all = flag_arg(alloc, "all", ALL_HELP);
-    let live = flag_arg(alloc, "live", LIVE_HELP);
+    let live = flag_arg(alloc, "live", "Take a ledger of a run without --settle");
     let uploads = files_arg(alloc, "uploads", UPLOADS_HELP);
     let report = option_arg(alloc, "report", "REPORT", REPORT_HELP);
     let made_by = option_arg(alloc, "made-by", "FILE", MADE_BY_HELP);
@@ -191,33 +191,24 @@ fn matched<'a>(alloc: Global, words: &'a [String]) -> Result<ArgMatches<'a>, Err
     command(alloc)?.try_get_matches_from(words)
 }
 
-fn unless_dash<'a>(name: &'a str) -> Option<&'a str>
-    ensures { option_map (λ n. n.now) result ≡ not_dash name.entry.now }
-{
-    if name == "-" { None } else { Some(name) }
-}
-
 fn ledger_in<'a>(named: Option<&'a str>) -> Option<&'a str>
     ensures { option_map (λ n. n.now) result
-        ≡ option_and_then not_dash (option_map (λ n. n.now) named.entry) }
+        ≡ option_and_then file_named (option_map (λ n. n.now) named.entry) }
 {
     match named {
-        Some(name) => unless_dash(name),
+        Some(name) => file_of(name),
         None => None,
     }
 }
 
-/// Each command line has one at least.
 fn tables_of<'a>(alloc: Global, words: &[&'a str]) -> Result<TableWords<'a>, AllocError>
-    ensures { IfOk result (λ tables. names_of tables
-        ≡ tables_or_none (map (λ w. w.now) words.now)) }
+    ensures { IfOk result (λ tables. Some (names_of tables)
+        ≡ tables_in (map (λ w. w.now) words.now)) }
 {
     match TableWords::of(alloc, words)? {
         Some(tables) => Ok(tables),
-        None => Ok(TableWords {
-            first: "",
-            later: Vec::new(alloc),
-        }),
+        // each command line has a table at least
+        None => Err(AllocError),
     }
 }
 

@@ -1,8 +1,10 @@
 //! The whole program.
-ghost use Rattle.std.specs.Prelude.{◌≡◌, ◌⊎◌, ◌≤◌, ◌++◌, ◌∷◌, [], List, ℕ, Contains, IfErr, IfOk};
-ghost use Rattle.std.specs.Prelude.{None, OnOk, Option, Some, if◌then◌else◌, length, map, option_map};
+ghost use Rattle.std.specs.Prelude.{◌≡◌, ◌<◌, ◌≤◌, ◌++◌, ◌∷◌, [], List, ℕ, Contains, IfErr, IfOk};
+ghost use Rattle.std.specs.Prelude.{None, OnOk, Option, Some, false, if◌then◌else◌, length, map};
+ghost use Rattle.std.specs.Prelude.{option_map};
 ghost use Rattle.std.specs.Prelude.{string_bytes};
 ghost use Rattle.clap.specs.Words.{kind_of};
+ghost use Rattle.class_names.specs.ClassFaults.{IsWrongAt};
 ghost use Rattle.ledger_check.specs.Columns.{has_traced_head};
 ghost use Rattle.tap_views.specs.declared.encoder.TapFields.{TapFields};
 ghost use Rattle.omny_audit.specs.Ends.{Did, Ends, EndsRun, did_by};
@@ -11,7 +13,7 @@ ghost use Rattle.omny_audit.specs.Options.{AuditRequest, named_file};
 ghost use Rattle.omny_audit.specs.inside.Options.{audit_request_of};
 ghost use Rattle.omny_audit.specs.inside.Reports.{text_of};
 ghost use Rattle.omny_audit.specs.Program.{AreWanted, LoadsNamedFiles, LoadsReport};
-ghost use Rattle.omny_audit.specs.inside.Fault.{IsClassFault, IsLoadFault, IsNamedClass, IsUnopened};
+ghost use Rattle.omny_audit.specs.inside.Fault.{IsClassFault, IsLoadFault, IsUnopened};
 ghost use Rattle.omny_audit.specs.inside.Traced.{HasReadAs, HaveNamed, uploads_in, wanted_by};
 ghost use Rattle.omny_audit.specs.inside.Uploads.{AreUploads};
 ghost use Rattle.program_manners.specs.Refusals.{IsShown, refusal_of};
@@ -26,7 +28,6 @@ ghost use Rattle.world.specs.Writes.{IsSaid};
 use crate::audit::{Audit, audit_over};
 use crate::check::Check;
 use crate::fault::{Fault, fail};
-use crate::laws::audits_decide;
 use crate::ledger::read_head;
 use crate::options::Options;
 use crate::report::{HeldReport, seed_of};
@@ -38,8 +39,7 @@ use file_sources::Host;
 use histories::HashSeed;
 use ledger_check::{Balance, Positions, has_ledger_head, has_traced_head};
 use program_manners::{
-    FileFault, FileSource, NamedClassLine, STANDARD_INPUT, TableWord, TableWords, Tables,
-    load_tables,
+    FileFault, FileSource, STANDARD_INPUT, TableWord, TableWords, Tables, load_tables,
 };
 use std::alloc::Global;
 use std::fmt::Display;
@@ -154,14 +154,15 @@ fn load_report<'a, R: RandomSource>(
 /// The texts were read as fare tables before, so each is TOML and names a default class.
 fn of_names<'a>(words: &TableWords<'a>, wrong: WrongNames) -> Fault<'a>
     requires { wrong.position ≤ length (names_of words.now).later }
-    ensures { IsNamedClass (names_of words.now) wrong.fault result }
+    ensures { (texts : List (List ℕ)) → IsWrongAt texts wrong
+        → IsClassFault (names_of words.now) texts result }
 {
+    let is_alone = words.later.as_slice().is_empty();
     match wrong.fault {
-        ClassFault::Name if words.later.as_slice().is_empty() => Fault::ClassName,
-        ClassFault::Name if wrong.position == 0 => Fault::NamedClass(NamedClassLine(words.first)),
+        ClassFault::Name if wrong.position == 0 => Fault::Class(words.first, is_alone),
         ClassFault::Name => {
             let word = words.later[wrong.position - 1];
-            Fault::NamedClass(NamedClassLine(TableWord::of(word).name))
+            Fault::Class(TableWord::of(word).name, is_alone)
         }
         ClassFault::Text | ClassFault::NoMemory => Fault::NoMemory,
     }
@@ -182,7 +183,7 @@ fn trace_of<'a>(
     ensures wanted { IfOk result (λ trace. AreWanted tables.now.fares
         (map (λ t. t.items) tables.now.texts.items) (has_traced_head head.now)
         (uploads_in positions) (wanted_by trace)) }
-    ensures read { IfOk result (λ trace. HasReadAs trace [] []) }
+    ensures read { IfOk result (λ trace. HasReadAs trace false [] []) }
     ensures fault { IfErr result (IsClassFault (names_of words.now)
         (map (λ t. t.items) tables.now.texts.items)) }
 {
@@ -275,14 +276,12 @@ fn audit<'a, W: World>(
         report,
         text: Vec::new(alloc),
     };
-    // proof: all is well exactly if the ledger is right, and the report its own
-    audits_decide();
     audit_over(alloc, head, ledger, &mut audit, world)
 }
 
 /// Says it, with status 2; else that an allocation failed, with status 1.
 fn say<W: World, D: Display + Drop>(alloc: Global, text: D, world: &mut W) -> u8
-    ensures { (result ≡ 2) ⊎ (result ≡ 1) }
+    ensures { 0 < result }
 {
     let Ok(text) = format!(in alloc; "{text}") else {
         return fail(&Fault::NoMemory, world);
@@ -320,20 +319,16 @@ fn show<W: World>(alloc: Global, error: &Error, world: &mut W) -> u8
     }
 }
 
-/// Flushes the output after the finding. A flush that fails is reported as a write is.
+/// Reports a fault, and returns the status.
 fn end_run<W: World>(ended: Result<bool, Fault<'_>>, world: &mut W) -> u8
     ensures { (request : AuditRequest) (did : Did)
         → EndsAudit request (record did { new = W.run world.old }) ended.entry
         → EndsRun request (record did { new = W.run world.new }) result }
 {
-    let succeeded = match ended {
-        Ok(succeeded) => succeeded,
-        Err(fault) => return fail(&fault, world),
-    };
-    match world.flush() {
-        Ok(()) if succeeded => 0,
-        Ok(()) => 1,
-        Err(unflushed) => fail(&Fault::Unwritten(unflushed), world),
+    match ended {
+        Ok(true) => 0,
+        Ok(false) => 1,
+        Err(fault) => fail(&fault, world),
     }
 }
 

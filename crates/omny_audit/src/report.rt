@@ -8,10 +8,9 @@ ghost use Rattle.histories.specs.declared.entry.Entry.{Entry};
 ghost use Rattle.ledger_check.specs.Ledger.{IsLedgerOf};
 ghost use Rattle.ledger_check.specs.Sums.{AreSumsOf};
 ghost use Rattle.omny_audit.specs.Reports.{IsVerdictOn, are_whole, damage_line, damage_lines};
-ghost use Rattle.omny_audit.specs.Reports.{damage_text, fits, report_text, uncompared_text};
-ghost use Rattle.omny_audit.specs.Reports.{verdict_lines};
+ghost use Rattle.omny_audit.specs.Reports.{damage_text, report_text, uncompared_text, verdict_lines};
 ghost use Rattle.tap_views.specs.UploadEnds.{are_posted};
-ghost use Rattle.omny_audit.specs.inside.Reports.{text_of};
+ghost use Rattle.omny_audit.specs.inside.Reports.{fits, text_of};
 ghost use Rattle.report_check.specs.Reports.{is_of_ledger};
 
 use histories::HashSeed;
@@ -95,11 +94,7 @@ fn write_verdict(
 fn is_of_ledger(verdict: &ReportVerdict) -> bool
     ensures { result ≡ is_of_ledger verdict.now }
 {
-    match verdict {
-        ReportVerdict::OfLedger => true,
-        ReportVerdict::Wants(_, _) | ReportVerdict::NoLine(_) => false,
-        ReportVerdict::Taps { .. } => false,
-    }
+    matches!(verdict, ReportVerdict::OfLedger)
 }
 
 /// If no uploads are named.

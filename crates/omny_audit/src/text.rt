@@ -1,10 +1,8 @@
 //! The lines of a finding.
 
-ghost use Rattle.std.specs.Prelude.{◌≡◌, ◌++◌, ℕ, List, OnOk, codes, string_bytes};
-ghost use Rattle.omny_audit.specs.Text.{AreTapLinesOf, IsDifferenceText, IsDifferencesText};
-ghost use Rattle.omny_audit.specs.Text.{IsTapLineOf, IsTapText, are_none, token_and_space};
-ghost use Rattle.omny_audit.specs.Text.{space_and_validator};
-ghost use Rattle.omny_audit.specs.Text.{verdict_text};
+ghost use Rattle.std.specs.Prelude.{◌≡◌, ◌++◌, ℕ, List, OnOk, string_bytes};
+ghost use Rattle.omny_audit.specs.Text.{AreTapLines, IsDifferenceText, IsDifferencesText, IsTapLine};
+ghost use Rattle.omny_audit.specs.Text.{are_none, space_and_validator, token_and_space, verdict_text};
 
 use fare_texts::{Digits, write_moment};
 use ledger_check::{Difference, Verdict, write_legal};
@@ -41,10 +39,11 @@ fn write_validator(text: &mut String, tap: &TapFields) -> Result<(), AllocError>
     write!(text, " {validator}\n")
 }
 
-fn write_tap(text: &mut String, tap: &TapFields) -> Result<(), AllocError>
-    ensures { OnOk result ((written : List ℕ) × IsTapText tap.now written
+fn write_tap_line(text: &mut String, words: &str, tap: &TapFields) -> Result<(), AllocError>
+    ensures { OnOk result ((written : List ℕ) × IsTapLine words.now tap.now written
         × (string_bytes text.new ≡ string_bytes text.old ++ written)) }
 {
+    text.push_str(words)?;
     write_token(text, tap)?;
     write_moment(text, tap.moment)?;
     write_validator(text, tap)?;
@@ -60,27 +59,13 @@ pub(crate) fn write_difference(
 {
     match difference {
         None => text.push_str("all taps of the uploads\n"),
-        Some(Difference::Missing(tap)) => {
-            text.push_str("missing tap ")?;
-            write_tap(text, tap)
-        }
-        Some(Difference::Surplus(tap)) => {
-            text.push_str("surplus tap ")?;
-            write_tap(text, tap)
-        }
+        Some(Difference::Missing(tap)) => write_tap_line(text, "missing tap ", tap),
+        Some(Difference::Surplus(tap)) => write_tap_line(text, "surplus tap ", tap),
     }
 }
 
-fn write_tap_line(text: &mut String, words: &str, tap: &TapFields) -> Result<(), AllocError>
-    ensures { OnOk result ((written : List ℕ) × IsTapLineOf words.now tap.now written
-        × (string_bytes text.new ≡ string_bytes text.old ++ written)) }
-{
-    text.push_str(words)?;
-    write_tap(text, tap)
-}
-
 fn write_tap_lines(text: &mut String, words: &str, taps: &[TapFields]) -> Result<(), AllocError>
-    ensures { OnOk result ((written : List ℕ) × AreTapLinesOf words.now taps.now written
+    ensures { OnOk result ((written : List ℕ) × AreTapLines words.now taps.now written
         × (string_bytes text.new ≡ string_bytes text.old ++ written)) }
 {
     for tap in taps {
@@ -95,13 +80,6 @@ pub(crate) fn are_none(missing: &[TapFields], surplus: &[TapFields]) -> bool
     missing.is_empty() && surplus.is_empty()
 }
 
-fn write_even(text: &mut String) -> Result<(), AllocError>
-    ensures { OnOk result (string_bytes text.new
-        ≡ string_bytes text.old ++ codes "all taps of the uploads\n") }
-{
-    text.push_str("all taps of the uploads\n")
-}
-
 pub(crate) fn write_differences(
     text: &mut String,
     missing: &[TapFields],
@@ -111,7 +89,7 @@ pub(crate) fn write_differences(
         × (string_bytes text.new ≡ string_bytes text.old ++ written)) }
 {
     if are_none(missing, surplus) {
-        write_even(text)?;
+        write_difference(text, &None)?;
         return Ok(());
     }
     write_tap_lines(text, "missing tap ", missing)?;

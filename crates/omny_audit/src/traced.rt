@@ -1,12 +1,12 @@
 //! A traced ledger, read as a ledger, and what is wrong with its columns.
 
-ghost use Rattle.std.specs.Prelude.{◌≡◌, ◌+◌, ◌&&◌, ◌<◌, ◌++◌, ◌∷◌, [], ℕ, List, IfOk, IfSome};
+ghost use Rattle.std.specs.Prelude.{◌≡◌, ◌+◌, ◌==◌, ◌<◌, ◌++◌, ◌∷◌, [], ℕ, List, IfOk};
 ghost use Rattle.std.specs.Prelude.{None, OnOk, Option, Some, false, is_some, length, not};
 ghost use Rattle.std.specs.Prelude.{option_map, string_bytes, true};
 ghost use Rattle.std.specs.Str.{bytes_eq};
 ghost use Rattle.tap_views.specs.declared.encoder.TapFields.{TapFields as ATap};
 ghost use Rattle.class_names.specs.Names.{class_by};
-ghost use Rattle.ledger_check.specs.Columns.{cut_line, cut_of, read_as, untraced_by, untraced_line};
+ghost use Rattle.ledger_check.specs.Columns.{cut_line, cut_of, untraced_by, untraced_line};
 ghost use Rattle.ledger_check.specs.Lines.{IsLine, lines_of};
 ghost use Rattle.ledger_check.specs.Positions.{HasUploads, is_named, uploads_of};
 ghost use Rattle.ledger_check.specs.Taps.{IsTapOfLine};
@@ -127,6 +127,16 @@ fn put_other(text: &mut Vec<u8>, line: &[u8]) -> Result<(), AllocError>
     Ok(())
 }
 
+/// The line becomes the fields and a line feed.
+fn end_fields(line: &mut Vec<u8>, fields: &[u8]) -> Result<(), AllocError>
+    ensures { OnOk result (line.new.items ≡ fields.now ++ 10 ∷ []) }
+{
+    line.clear();
+    line.extend_from_slice(fields)?;
+    line.push(b'\n')?;
+    Ok(())
+}
+
 /// Gives the tap that the fields name, if any. The line replaces what is in `line`, and the text in
 /// `again` is replaced.
 fn put_fields(
@@ -139,9 +149,7 @@ fn put_fields(
     ensures text { OnOk result (text.new.items ≡ text.old.items ++ (fields.now ++ 10 ∷ [])) }
     ensures tap { IfOk result (IsTapOfLine (fields.now ++ 10 ∷ [])) }
 {
-    line.clear();
-    line.extend_from_slice(fields)?;
-    line.push(b'\n')?;
+    end_fields(line, fields)?;
     let whole = line.as_slice();
     text.extend_from_slice(whole)?;
     let tap = tap_of_line(whole, again)?;
@@ -485,46 +493,29 @@ fn write_position(text: &mut String, fault: &Option<PositionFault>) -> Result<()
 }
 
 /// The text becomes what is checked: the piece, or what it ends of the lines of a traced ledger,
-/// without columns.
+/// without columns. A piece without bytes is the file's end, which may cut a line.
 pub(crate) fn read_piece(
     trace: &mut Option<TracedPieces>,
     piece: &[u8],
     text: &mut Vec<u8>,
 ) -> Result<(), AllocError>
     ensures wanted { wanted_by trace.new ≡ wanted_by trace.old }
-    ensures read { OnOk result ((file reported : List ℕ) → HasReadAs trace.old file reported
-        → HasReadAs trace.new (file ++ piece.now) (reported ++ text.new.items)) }
+    ensures read { OnOk result ((file reported : List ℕ)
+        → HasReadAs trace.old false file reported
+        → HasReadAs trace.new (length piece.now == 0) (file ++ piece.now)
+        (reported ++ text.new.items)) }
 {
     text.clear();
-    match trace {
-        Some(trace) => {
-            trace.feed(piece, text)?;
-            Ok(())
-        }
-        None => {
-            text.extend_from_slice(piece)?;
-            Ok(())
-        }
+    let Some(trace) = trace else {
+        text.extend_from_slice(piece)?;
+        return Ok(());
+    };
+    if piece.is_empty() {
+        trace.finish(text)?;
+        return Ok(());
     }
-}
-
-pub(crate) fn read_end(
-    trace: &mut Option<TracedPieces>,
-    text: &mut Vec<u8>,
-) -> Result<(), AllocError>
-    ensures wanted { wanted_by trace.new ≡ wanted_by trace.old }
-    ensures read { OnOk result ((file reported : List ℕ) → HasReadAs trace.old file reported
-        → (reported ++ text.new.items ≡ read_as (is_some (wanted_by trace.new)) file)
-        × HasReadAll trace.new file) }
-{
-    text.clear();
-    match trace {
-        Some(trace) => {
-            trace.finish(text)?;
-            Ok(())
-        }
-        None => Ok(()),
-    }
+    trace.feed(piece, text)?;
+    Ok(())
 }
 
 /// Returns whether the columns are right, if they are looked at: those of a ledger that is not

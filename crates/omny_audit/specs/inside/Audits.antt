@@ -1,20 +1,19 @@
 -- What an audit has read: what private functions alone cite.
-use Rattle.std.specs.Prelude.{◌≡◌, ◌++◌, ℕ, Bool, false, List, [], Option, None, Some}
-use Rattle.std.specs.Prelude.{if◌then◌else◌, option_map, Result, Ok, Err, true}
+use Rattle.std.specs.Prelude.{◌≡◌, ◌++◌, ℕ, Bool, false, List, [], Option, None, Some, true}
+use Rattle.std.specs.Prelude.{if◌then◌else◌, option_map, Result, Ok, Err}
 use Rattle.frame.specs.Failing.{HasStarted}
 use Rattle.tap_views.specs.declared.encoder.TapFields.{TapFields}
-use Rattle.world.specs.Run.{Calls, Run, with_written}
+use Rattle.world.specs.Run.{Calls, Run, with_flushed, with_written}
 use Rattle.world.specs.Streams.{IsWhole}
 use Rattle.world.specs.declared.stream.Stream.{Stream}
 use Rattle.omny_audit.specs.Program.{HoldsOfRead}
-use Rattle.omny_audit.specs.Reports.{Given, IsAudit, IsAuditText, ledger_in}
-use Rattle.omny_audit.specs.Traced.{ReadLine}
+use Rattle.omny_audit.specs.Reports.{Given, IsAudit, IsAuditText}
 use Rattle.omny_audit.specs.declared.audit.Audit.{Audit}
 use Rattle.omny_audit.specs.declared.fault.Fault.{Fault}
-use Rattle.omny_audit.specs.inside.Checks.{HasChecked, is_all, is_decided}
+use Rattle.omny_audit.specs.inside.Checks.{HasChecked, is_all}
 use Rattle.omny_audit.specs.inside.Fault.{IsStreamFault}
 use Rattle.omny_audit.specs.inside.Reports.{text_of}
-use Rattle.omny_audit.specs.inside.Traced.{HasReadAll, HasReadAs, wanted_by}
+use Rattle.omny_audit.specs.inside.Traced.{HasReadAs, wanted_by}
 
 -- what the ledger is audited by, if these are the valid taps of the uploads
 abbrev pub given_in : Audit → List TapFields → Given
@@ -28,37 +27,39 @@ given_in audit valid = record {
   report = text_of audit.report;
 }
 
--- the file was read so far, as this text, which was checked, and this was reported of it
-pub record HasAudited (audit : Audit) (valid : List TapFields) (file written : List ℕ) : Type 0 where
+-- The file was read so far, or whole, as this text, which was checked, and this was reported of it.
+pub record HasAudited (given : Given) (audit : Audit) (whole : Bool) (file written : List ℕ)
+    : Type 0 where
+  pub valid : List TapFields
+  pub same : given_in audit valid ≡ given
   pub clock : audit.clock.now ≡ audit.table.now.zone
   pub text : List ℕ
-  pub as_text : HasReadAs audit.trace file text
+  pub as_text : HasReadAs audit.trace whole file text
   pub checked : HasChecked audit.table.now audit.subtracts valid audit.check text written
-
--- the file was read whole, or a line is the first wrong one, and this was reported of it
-pub record HasEnded (audit : Audit) (valid : List TapFields) (file written : List ℕ) : Type 0 where
-  pub checked : HasChecked audit.table.now audit.subtracts valid audit.check
-      (ledger_in (given_in audit valid) file) written
-  pub all : is_decided audit.check ≡ false → HasReadAll audit.trace file
 
 -- This is what is found of the ledger, however it goes on after what reads gave. It was read to its
 -- end if it is well.
 abbrev pub IsFound : Given → Calls → List ℕ → Bool → Type 0
 IsFound given ledger text success =
-    HoldsOfRead ledger (λ file. (read : List ReadLine) × IsAudit given file read text success)
+    HoldsOfRead ledger (λ file. IsAudit given file text success)
     × (success ≡ true → IsWhole ledger)
 
 -- This was reported of what reads gave of the ledger. The audit goes on, or all is found.
-abbrev pub HoldsNow : Given → Audit → List TapFields → Calls → List ℕ → Option Bool → Type 0
-HoldsNow given audit valid ledger written None = (given_in audit valid ≡ given)
-    × HasAudited audit valid ledger.reading.bytes written
-HoldsNow given audit valid ledger written (Some success) = IsFound given ledger written success
+abbrev pub HoldsNow : Given → Audit → Calls → List ℕ → Option Bool → Type 0
+HoldsNow given audit ledger written None = HasAudited given audit false ledger.reading.bytes written
+HoldsNow given audit ledger written (Some success) = IsFound given ledger written success
 
--- What is found of the ledger was written; or the run failed, and what was written is a prefix of
--- it. Nothing was said.
+-- the audit of a piece reports this text
+abbrev pub Steps : Audit → Audit → List ℕ → List ℕ → Option Bool → Type 0
+Steps before after piece text ended = (given : Given) (file written : List ℕ) (ledger : Calls)
+    → HasAudited given before false file written → ledger.reading.bytes ≡ file ++ piece
+    → (piece ≡ [] → IsWhole ledger) → HoldsNow given after ledger (written ++ text) ended
+
+-- What is found of the ledger was written and flushed; or the run failed, and what was written is a
+-- prefix of it. Nothing was said.
 abbrev pub EndsAs : Given → Calls → Run → Run → Result Bool Fault → Type 0
-EndsAs given ledger old new (Ok success) =
-    (text : List ℕ) × (new ≡ with_written old text) × IsFound given ledger text success
+EndsAs given ledger old new (Ok success) = (text : List ℕ) × IsFound given ledger text success
+    × (new ≡ with_flushed (with_written old text))
 EndsAs given ledger old new (Err fault) = IsStreamFault ledger new.cut fault
     × HasStarted (λ text. HoldsOfRead ledger (λ file. IsAuditText given file text)) old.written
     new.written × (new.said ≡ old.said)

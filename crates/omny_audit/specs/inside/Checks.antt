@@ -1,14 +1,18 @@
 -- What a check of lines has read: what private functions alone cite.
 use Rattle.std.specs.Prelude.{◌≡◌, ◌++◌, ◌↔◌, ℕ, Bool, true, false, List, [], IfSome, None, Option}
 use Rattle.std.specs.Prelude.{Some, is_some}
+use Rattle.std.specs.List.Sorted.{IsPermutation}
 use Rattle.tariffs.specs.Fares.{Fares}
 use Rattle.histories.specs.declared.entry.Entry.{Entry}
+use Rattle.ledger_check.specs.Balances.{IsBalance, IsDifference}
 use Rattle.ledger_check.specs.Ledger.{IsLedger, IsLedgerOf}
 use Rattle.ledger_check.specs.Sums.{AreSumsOf}
-use Rattle.ledger_check.specs.FullCheckStates.{HasFullyChecked, IsRightSoFar}
-use Rattle.ledger_check.specs.Verdicts.{IsVerdict, is_legal}
+use Rattle.ledger_check.specs.FullCheckStates.{HasFullyChecked, IsFed}
+use Rattle.ledger_check.specs.declared.balance.Balance.{Balance}
+use Rattle.ledger_check.specs.declared.balance.Difference.{Difference}
 use Rattle.tap_views.specs.declared.encoder.TapFields.{TapFields}
 use Rattle.omny_audit.specs.Findings.{IsFindingOf, IsRightLedger}
+use Rattle.omny_audit.specs.Text.{IsDifferenceText}
 use Rattle.omny_audit.specs.declared.check.Found.{Found}
 use Rattle.omny_audit.specs.declared.check.Check.{Check}
 use Rattle.omny_audit.specs.declared.check.Check.TheVariants.{First, All}
@@ -26,13 +30,18 @@ is_decided (All full_check full) = false
 -- The text was read, this was reported of it, and its taps were subtracted from the valid ones, if
 -- it is to subtract them; or a line of it is the first wrong one, whatever follows.
 abbrev pub HasChecked : Fares → Bool → List TapFields → Check → List ℕ → List ℕ → Type 0
-HasChecked fares subtracts valid (First checker balance None) text written =
-    IsRightSoFar fares checker balance text valid × (written ≡ [])
-HasChecked fares subtracts valid (First checker balance (Some verdict)) text written =
-    ((more : List ℕ) → IsVerdict fares (text ++ more) verdict) × (is_legal verdict ≡ false)
-    × (written ≡ [])
+HasChecked fares subtracts valid (First checker balance verdict) text written =
+    IsFed fares checker balance text valid verdict × (written ≡ [])
 HasChecked fares subtracts valid (All full_check full) text written =
     HasFullyChecked fares full_check subtracts full text written valid
+
+-- nothing was written, or how the taps of the balance differ was, and whether they do is known
+abbrev pub IsCompared : Balance → Bool → List ℕ → Bool → Type 0
+IsCompared balance false rest even = (rest ≡ []) × (even ≡ true)
+IsCompared balance true rest even = (difference : Option Difference)
+    × IsDifferenceText difference rest
+    × ((valid others : List TapFields) → IsBalance balance valid others
+    → IsDifference valid others difference × ((even ≡ true) ↔ IsPermutation valid others))
 
 -- This is what was found of the text, and reported, beside the valid taps of the uploads, if there
 -- are uploads. Sums are those of a ledger's entries.

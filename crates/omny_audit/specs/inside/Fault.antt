@@ -1,7 +1,5 @@
 -- Faults: what private functions alone cite.
 use Rattle.std.specs.Prelude.{◌≡◌, ⊤, ℕ, List, Option, Some, Contains, codes, unwrap_or}
-use Rattle.class_names.specs.declared.names.ClassFault.{ClassFault}
-use Rattle.class_names.specs.declared.names.ClassFault.TheVariants as class
 use Rattle.program_manners.specs.TableWords.{TableNames, table_files}
 use Rattle.program_manners.specs.Refusals.{HasRefused, IsShown, refusal_of}
 use Rattle.program_manners.specs.declared.recorded_loads.RecordedLoads.{RecordedLoads}
@@ -9,8 +7,8 @@ use Rattle.world.specs.Run.{Calls, Run}
 use Rattle.world.specs.declared.faults.WriteFault.{WriteFault}
 use Rattle.omny_audit.specs.Ends.{LoadsGivenLedger, NamesUnplainClass}
 use Rattle.omny_audit.specs.declared.fault.Fault.{Fault}
-use Rattle.omny_audit.specs.declared.fault.Fault.TheVariants.{ClassName, File, GivenLedger, Ledger}
-use Rattle.omny_audit.specs.declared.fault.Fault.TheVariants.{NamedClass, NoMemory, Unwritten}
+use Rattle.omny_audit.specs.declared.fault.Fault.TheVariants.{Class, File, GivenLedger, Ledger}
+use Rattle.omny_audit.specs.declared.fault.Fault.TheVariants.{NoMemory, Unwritten}
 
 -- the file of this name was refused last, or was loaded last and is a ledger, or an allocation
 -- failed
@@ -35,18 +33,9 @@ IsUnopened name run (File file) =
     (file.name.now ≡ unwrap_or name (codes "standard input")) × IsShown run (name, file.fault)
 IsUnopened name run _ = ⊥
 
--- a name of a class is wrong, of the tables or of the one of this file; or an allocation failed
-abbrev pub IsNamedClass : TableNames → ClassFault → Fault → Type 0
-IsNamedClass tables kind ClassName = kind ≡ class.Name
-IsNamedClass tables kind (NamedClass line) =
-    (kind ≡ class.Name) × Contains (table_files tables) line.0.now
-IsNamedClass tables kind NoMemory = ⊤
-IsNamedClass tables kind _ = ⊥
-
 -- one of the texts names a class that no ledger can have, or an allocation failed
 abbrev pub IsClassFault : TableNames → List (List ℕ) → Fault → Type 0
-IsClassFault tables texts ClassName = NamesUnplainClass texts
-IsClassFault tables texts (NamedClass line) =
-    Contains (table_files tables) line.0.now × NamesUnplainClass texts
+IsClassFault tables texts (Class file is_alone) =
+    Contains (table_files tables) file.now × NamesUnplainClass texts
 IsClassFault tables texts NoMemory = ⊤
 IsClassFault tables texts _ = ⊥

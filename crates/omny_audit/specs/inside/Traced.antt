@@ -1,5 +1,6 @@
 -- Traced ledgers: what private functions alone cite.
-use Rattle.std.specs.Prelude.{◌≡◌, ◌⊎◌, ℕ, ◌<◌, List, ◌++◌, length, Option, None, Some, option_map}
+use Rattle.std.specs.Prelude.{◌≡◌, ◌⊎◌, ℕ, ◌<◌, Bool, true, false, List, ◌++◌, length, option_map}
+use Rattle.std.specs.Prelude.{Option, None, Some}
 use Rattle.class_names.specs.Names.{class_by}
 use Rattle.tap_views.specs.declared.encoder.TapFields.{TapFields}
 use Rattle.ledger_check.specs.Columns.{cut_of, untraced_lines}
@@ -65,16 +66,18 @@ pub record HasTraced (trace : TracedPieces) (file text : List ℕ) (read : List 
   pub split : (more : List ℕ)
       → lines_of (file ++ more) ≡ lines_read read ++ lines_of (started ++ more)
 
--- the file was read so far, and this in its place
-abbrev pub HasReadAs : Option TracedPieces → List ℕ → List ℕ → Type 0
-HasReadAs None file text = text ≡ file
-HasReadAs (Some trace) file text = (read : List ReadLine) × HasTraced trace file text read
-
 -- the file was read whole
 abbrev pub HasReadAll : Option TracedPieces → List ℕ → Type 0
 HasReadAll None file = Unit {0}
 HasReadAll (Some trace) file =
     (read : List ReadLine) × AreLinesOf file read × HasLooked trace.so_far read
+
+-- the file was read so far, or whole, and this in its place
+abbrev pub HasReadAs : Option TracedPieces → Bool → List ℕ → List ℕ → Type 0
+HasReadAs None whole file text = text ≡ file
+HasReadAs (Some trace) false file text = (read : List ReadLine) × HasTraced trace file text read
+HasReadAs (Some trace) true file text =
+    (text ≡ untraced_lines (lines_of file)) × HasReadAll (Some trace) file
 
 -- what the columns are compared with
 abbrev pub wanted_of : LinesRead → Wanted

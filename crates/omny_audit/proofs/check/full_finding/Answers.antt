@@ -1,11 +1,15 @@
 use Rattle.std.proofs.Common.{◌≡◌, ◌∙◌, ◌++◌, ℕ, Bool, List, ap, append_assoc, string_bytes, subst}
-use Rattle.std.proofs.Common.{sym, true, nat_eq}
-use Rattle.std.specs.Prelude.{◌&&◌, ◌||◌, IfSome}
-use Rattle.std.proofs.lemmas.Bool.{eqb-true}
+use Rattle.std.proofs.Common.{None, Some, eqb-true, if◌then◌else◌, sym, true}
+use Rattle.std.specs.Prelude.{◌&&◌, ◌↔◌, IfSome}
 use Rattle.histories.specs.declared.entry.Entry.{Entry}
+use Rattle.ledger_check.specs.Ledger.{IsLedger}
+use Rattle.ledger_check.specs.Orders.{are_settled}
 use Rattle.ledger_check.specs.Sums.{AreSumsOf}
 use Rattle.ledger_check.specs.FullChecks.{taps_from, wrong_count}
-use Rattle.omny_audit.proofs.FullFindingLemmas.{full_check_legal, full_right}
+use Rattle.tap_views.specs.declared.encoder.TapFields.{TapFields}
+use Rattle.omny_audit.specs.Findings.{HasValidTaps}
+use Rattle.omny_audit.proofs.FindingLemmas.{sound_is}
+use Rattle.omny_audit.proofs.FullFindingLemmas.{full_check_legal}
 use Rattle.omny_audit.proofs.check.full_finding.Goals as goal
 
 pub returns : goal.returns
@@ -14,8 +18,10 @@ returns c = λ fares valid text written has.
     let ended = c.in_ok-fully_checked.ensures fares c.args.subtracts c.args.full.now text written
     valid has in
     let taken = ended.0 in
-    let decide = c.full_checks_decide.ensures in
-    let legal = nat_eq (wrong_count taken) 0 in
+    let uploads = if c.args.subtracts then Some valid else None in
+    let decides = c.full_checks_decide.ensures fares text taken ended.1 in
+    let legal : (checked.is_legal ≡ true) ↔ IsLedger fares text =
+    rw ended.2 (full_check_legal fares text taken decides) in
     let lacking = c.in_ok-is_even.ensures in
     let rest = lacking.2 valid (taps_from taken) ended.4 in
     let even = c.in_ok-is_even.is_even in (
@@ -31,15 +37,17 @@ returns c = λ fares valid text written has.
               ∙ ap (λ (t : List ℕ). t ++ lacking.0) ended.8;
           second = rest.0;
         };
-        sound = full_right fares text taken ended.1 decide c.args.live _ even _
-            (c.are_both.ensures
-            ∙ ap (λ (b : Bool). b && c.is_either-in_order.result)
-            (c.are_both-is_right.ensures ∙ ap (λ (b : Bool). b && even) ended.2)
-            ∙ ap (λ (b : Bool). (legal && even) && b)
-            (c.is_either-in_order.ensures ∙ ap (λ (b : Bool). c.args.live || b) ended.3)) rest.1;
-        legal = rw ended.2 (full_check_legal fares text taken ended.1 decide);
+        sound = sound_is c.args.live fares text _ checked.is_legal even checked.is_settled _ legal
+            (λ yes entries of.
+            let same = decides.taps entries of in (
+              subst (λ (ts : List TapFields). (even ≡ true) ↔ HasValidTaps uploads ts) same rest.1,
+              ended.3 ∙ ap are_settled same,
+            ))
+            (c.are_both.ensures ∙ ap (λ (b : Bool). checked.is_legal && b)
+            (c.are_both-is_right.ensures ∙ ap (λ (b : Bool). even && b) c.is_either-in_order.ensures));
+        legal = legal;
         sums = λ yes entries of. subst (λ (es : List Entry). IfSome checked.sums (AreSumsOf es))
-            ((decide fares text taken ended.1).entries entries of)
+            (decides.entries entries of)
             (ended.5 (eqb-true (wrong_count taken) 0 (sym ended.2 ∙ yes)));
       },
     )

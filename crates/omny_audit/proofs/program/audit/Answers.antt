@@ -7,9 +7,7 @@ use Rattle.tap_views.specs.declared.encoder.TapFields.{TapFields}
 use Rattle.tap_views.specs.declared.upload_end.UploadEnd.{UploadEnd}
 use Rattle.world.specs.Run.{Load}
 use Rattle.omny_audit.specs.Ends.{did_by}
-use Rattle.omny_audit.specs.Program.{AreWanted, HasLoaded, compared}
-use Rattle.omny_audit.specs.Reports.{Given}
-use Rattle.omny_audit.specs.inside.Audits.{EndsAs}
+use Rattle.omny_audit.specs.Program.{AreWanted, HasLoaded, compared, given_of}
 use Rattle.omny_audit.specs.inside.Options.{audit_request_of}
 use Rattle.omny_audit.specs.inside.Reports.{text_of}
 use Rattle.omny_audit.specs.inside.Traced.{uploads_in, wanted_by}
@@ -84,8 +82,10 @@ read_head-requires g c =
 pub audit_over-requires-clause-audited : goal.audit_over-requires-clause-audited
 audit_over-requires-clause-audited g c =
     let loaded = c.in-Ok-load_uploads.ensures.ok in (
-      loaded.1,
+      _,
       record {
+        valid = loaded.1;
+        same = refl;
         clock = c.in-Ok-clock.ensures.zone;
         text = [];
         as_text = c.in-Ok-trace_of.ensures.read;
@@ -157,13 +157,13 @@ returns g c =
     ∙ ap (λ (e : List UploadEnd). if has then Some e else None) c.as_slice.ensures.value
     ∙ compared_is c.as_slice-names.result.now ends has named
     ∙ ap (λ (ns : List (Bor (List ℕ))). compared (map (λ n. n.now) ns) ends) names in
-    ends_audit request did c.audit_over.result c.audits_decide.ensures files
-    (subst (λ (x : Given). EndsAs x did.ledger did.old did.new c.audit_over.result)
-    (given_is _ options.all (compared request.uploads loaded.1) (compared request.uploads ends)
-    c.new.ensures.all valid known)
-    (c.audit_over.ensures.ends loaded.1 (record {
+    ends_audit request did c.audit_over.result files
+    (c.audit_over.ensures.ends (given_of request files) (record {
+      valid = loaded.1;
+      same = given_is _ options.all (compared request.uploads loaded.1)
+          (compared request.uploads ends) c.new.ensures.all valid known;
       clock = c.in-Ok-clock.ensures.zone;
       text = [];
       as_text = c.in-Ok-trace_of.ensures.read;
       checked = c.new.ensures.checked tables.fares _ loaded.1 loaded.4.balance;
-    })))
+    }))

@@ -1,8 +1,4 @@
--- The whole text was written, whether it was flushed or not; or the run failed.
-use Rattle.std.proofs.Common.{◌≡◌, ◌∙◌, ap, false, inl, inr, rules, tests}
-use Rattle.world.specs.Run.{with_flushed}
-use Rattle.omny_audit.specs.declared.fault.Fault.TheVariants.{Unwritten}
-use Rattle.omny_audit.proofs.Causes.{unflushed}
+use Rattle.std.proofs.Common.{◌≡◌, false, inl, inr, rules, tests}
 use Rattle.omny_audit.proofs.program.end_run.Goals as goal
 
 -- the fault of the audit is reported
@@ -18,22 +14,7 @@ returns-in-Err g c = λ request did ends.
       reported = c.fail.ensures.reported;
     }))
 
-pub returns-in-Ok-2 : goal.returns-in-Ok-2
-returns-in-Ok-2 g c = λ request did ends.
-    let no : c.in-Ok.succeeded ≡ false = first_of (cc, search (rules, tests)) in
-    let done = rw no at (rw c.in-Ok.is at ends) in
-    inl (done.0, done.1, c.in-Ok-2.ensures.flushed ∙ ap with_flushed done.2)
-
-pub returns-in-Err-flush : goal.returns-in-Err-flush
-returns-in-Err-flush g c = λ request did ends.
-    let done = rw c.in-Ok.is at ends in
-    let cut = c.in-Err-flush.ensures.cut in
-    rw c.fail-in-Err-flush.ensures.status (inr (record {
-      fault = Unwritten c.in-Err-flush.unflushed;
-      before = g.W.Inputs.run c.flush.new.self;
-      right = ap (λ r. r.cut) cut;
-      started = rw cut (unflushed request did done.0 c.in-Ok.succeeded
-          (g.W.Inputs.run c.args.world.now) c.in-Err-flush.unflushed done.1 done.2);
-      quiet = ap (λ r. r.said) cut ∙ ap (λ r. r.said) done.2;
-      reported = c.fail-in-Err-flush.ensures.reported;
-    }))
+pub returns-in-Ok-false : goal.returns-in-Ok-false
+returns-in-Ok-false g c = λ request did ends.
+    let no : c.in-Ok-false.field-0 ≡ false = first_of (cc, search (rules, tests)) in
+    inl (rw no at (rw c.in-Ok-false.is at ends))

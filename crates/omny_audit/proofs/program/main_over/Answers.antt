@@ -58,10 +58,7 @@ returns-in-Some-clause-ends g c = record {
       ∙ ap (λ (r : AuditRequest). wrong_word r.table) c.in-Ok.ensures.request ∙ is.1 in
       absurd cc;
   answer = λ no. record {
-    asks = λ zero. elim c.say.ensures [
-      | inl two ↦ absurd (omega (arith, zero, two))
-      | inr one ↦ absurd (omega (arith, zero, one))
-    ];
+    asks = λ zero. absurd (omega (arith, zero, c.say.ensures));
     unloaded = refl;
     unread = c.requires;
   };

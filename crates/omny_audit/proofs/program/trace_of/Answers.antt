@@ -9,7 +9,6 @@ use Rattle.program_manners.specs.TableViews.{names_of}
 use Rattle.class_names.proofs.Classes.{class_kept}
 use Rattle.class_names.specs.Classes.{AreTrees}
 use Rattle.class_names.specs.ClassFaults.{IsWrongAt}
-use Rattle.omny_audit.proofs.Causes.{unplain_class}
 use Rattle.omny_audit.specs.Program.{AreWanted}
 use Rattle.omny_audit.specs.Traced.{Wanted}
 use Rattle.omny_audit.specs.inside.Traced.{uploads_in, wanted_of}
@@ -53,7 +52,6 @@ returns-in-Ok-clause-wanted c =
     ))
 
 pub returns-in-Err-clause-fault : goal.returns-in-Err-clause-fault
-returns-in-Err-clause-fault c =
-    unplain_class (names_of c.args.words.now) _ c.in-Err.wrong c.of_names.result
+returns-in-Err-clause-fault c = c.of_names.ensures _
     (subst (λ (ts : List (Vec ℕ Global)). IsWrongAt (map (λ t. t.items) ts) c.in-Err.wrong)
-    c.deref.ensures.value c.in-Err.ensures.fault) c.of_names.ensures
+    c.deref.ensures.value c.in-Err.ensures.fault)

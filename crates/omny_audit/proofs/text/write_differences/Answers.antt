@@ -1,4 +1,4 @@
-use Rattle.std.proofs.Common.{◌≡◌, ◌++◌, ◌∙◌, ℕ, Bool, List, true, false, codes, refl, sym, ap}
+use Rattle.std.proofs.Common.{◌≡◌, ◌++◌, ◌∙◌, ℕ, Bool, List, true, false, refl, sym, ap}
 use Rattle.std.proofs.Common.{subst, append_assoc, string_bytes}
 use Rattle.std.specs.Prelude.{None, MatchBool}
 use Rattle.omny_audit.specs.Text.{AreDifferenceLines, IsDifferenceText, are_none}
@@ -8,32 +8,25 @@ pub returns-then-are_none : goal.returns-then-are_none
 returns-then-are_none c =
     let missing = c.args.missing.now in
     let surplus = c.args.surplus.now in
-    let text = codes "all taps of the uploads\n" in
+    let (text, is, grown) = c.in_ok-write_difference.ensures in
     let yes : are_none missing surplus ≡ true = sym c.are_none.ensures ∙ c.if-are_none.true in (
       text,
       subst (λ (b : Bool). MatchBool b (IsDifferenceText None text)
-          (AreDifferenceLines missing surplus text)) (sym yes) refl,
-      c.in_ok-write_even.ensures,
+          (AreDifferenceLines missing surplus text)) (sym yes) is,
+      grown,
     )
 
 pub returns : goal.returns
 returns c =
     let missing = c.args.missing.now in
     let surplus = c.args.surplus.now in
-    let first = c.in_ok-write_tap_lines.ensures in
-    let next = c.in_ok-write_tap_lines-2.ensures in
+    let (first, are, grown) = c.in_ok-write_tap_lines.ensures in
+    let (next, are_next, more) = c.in_ok-write_tap_lines-2.ensures in
     let no : are_none missing surplus ≡ false = sym c.are_none.ensures ∙ c.if-are_none.false in (
-      first.0 ++ next.0,
-      subst (λ (b : Bool). MatchBool b (IsDifferenceText None (first.0 ++ next.0))
-          (AreDifferenceLines missing surplus (first.0 ++ next.0))) (sym no)
-          (record {
-            missing_lines = first.0;
-            are_missing = first.1;
-            surplus_lines =
-                next.0;
-            are_surplus = next.1;
-            shown = refl;
-          }),
-      next.2 ∙ ap (λ (t : List ℕ). t ++ next.0) first.2
-          ∙ append_assoc (string_bytes c.args.text.now) first.0 next.0,
+      first ++ next,
+      subst (λ (b : Bool). MatchBool b (IsDifferenceText None (first ++ next))
+          (AreDifferenceLines missing surplus (first ++ next))) (sym no)
+          (first, next, are, are_next, refl),
+      more ∙ ap (λ (t : List ℕ). t ++ next) grown
+          ∙ append_assoc (string_bytes c.args.text.now) first next,
     )

@@ -2,74 +2,82 @@ use Rattle.std.proofs.Common.{◌++◌, ◌∙◌, ℕ, Bool, List, ap, ap₂, a
 use Rattle.std.proofs.Common.{Global, Vec, string_bytes, subst, sym, true}
 use Rattle.std.specs.Prelude.{◌&&◌, ◌||◌}
 use Rattle.std.proofs.lemmas.Bool.{and_parts}
-use Rattle.omny_audit.specs.Reports.{IsVerdictOn, damage_text, ledger_in, verdict_lines}
+use Rattle.omny_audit.specs.Reports.{Given, IsAudit, IsVerdictOn, damage_text, ledger_in, verdict_lines}
 use Rattle.omny_audit.specs.Traced.{AreColumnsReported}
 use Rattle.omny_audit.specs.inside.Audits.{given_in}
 use Rattle.omny_audit.specs.inside.Reports.{text_of}
 use Rattle.omny_audit.specs.inside.Traced.{wanted_by}
-use Rattle.omny_audit.proofs.Audits.{undecided, unsound}
+use Rattle.omny_audit.proofs.AuditLemmas.{decides}
+use Rattle.omny_audit.proofs.Audits.{ended, undecided, unsound}
 use Rattle.omny_audit.proofs.audit.Audit.end.Goals as goal
 
 pub finish-requires : goal.finish-requires
 finish-requires c =
-    let has = c.requires.3 in record {
-      fed = (c.args.self.now.table.now, c.requires.0, _, c.requires.2, has.checked);
+    let has = c.requires.4 in record {
+      fed = (c.args.self.now.table.now, has.valid, has.text, c.requires.3, has.checked);
     }
 
 pub returns-clause-decided : goal.returns-clause-decided
 returns-clause-decided c = λ is.
-    let has = c.requires.3 in
-    let found = c.in_ok-found.ensures.found c.args.self.now.table.now c.requires.0 _ c.requires.2
-    has.checked in
+    let has = c.requires.4 in
+    let found = c.in_ok-found.ensures.found c.args.self.now.table.now has.valid has.text
+    c.requires.3 has.checked in
     c.are_both.ensures ∙ ap (λ (b : Bool). b && c.are_both-is_after.result)
     (unsound _ _ _ _ _ _ _ found.2 (c.in_ok-found.ensures.decided is))
 
 pub returns-clause-ended : goal.returns-clause-ended
-returns-clause-ended c = λ valid file before has.
+returns-clause-ended c = λ request whole front before more has last none.
     let audit = c.args.self.now in
+    let valid = has.valid in
+    let file = front ++ more in
     let written = before ++ string_bytes c.args.reported in
     let given = given_in audit valid in
     let legal = c.in_ok-found.found.is_legal in
     let right = c.in_ok-is_right.is_right in
     let verdict = c.in_ok-verdict.verdict in
+    let (checked, all) = ended request audit whole front written more has last none in
     let found = c.in_ok-found.ensures.found audit.table.now valid (ledger_in given file) written
-    has.checked in
+    checked in
     let columns = c.in_ok-is_right.ensures in
-    let last = verdict_lines given.ends verdict ++ damage_text given.ends in
+    let tail = verdict_lines given.ends verdict ++ damage_text given.ends in
     let looked = c.is_either-is_looked_at.ensures ∙ ap (λ (b : Bool). b || legal) c.is_all-all.ensures
     in
-    let whole = c.are_both-is_whole.ensures in
-    let reported = columns.2 file (λ look. has.all (undecided audit.check legal
-    c.in_ok-found.ensures.decided (sym looked ∙ look))) in (
-      reported.0,
-      record {
-        found = written ++ found.0;
-        finding = found.2.finding;
-        sound = c.in_ok-found.found.is_sound;
-        is_sound = found.2.sound;
-        legal = legal;
-        is_legal = found.2.legal;
-        columns = columns.0;
-        right = right;
-        are_columns = subst (λ (b : Bool). AreColumnsReported (wanted_by audit.trace) b file
-            reported.0 columns.0 right) looked reported.1;
-        verdict = verdict;
-        is_verdict = subst (λ (b : Bool). IsVerdictOn given.ends audit.table.now
-            (ledger_in given file) (text_of audit.report) b verdict) whole
-            (c.in_ok-verdict.ensures audit.table.now (ledger_in given file) (λ yes entries of.
-            found.2.sums (and_parts legal right (sym whole ∙ yes)).0 entries of));
-        shown = ap (λ (t : List ℕ). before ++ t)
-            (c.in_ok-write_last_lines.ensures ∙ ap (λ (t : List ℕ). t ++ last)
-            (ap (λ (v : Vec ℕ Global). v.items) c.into_bytes-text.ensures.value ∙ columns.1
-            ∙ ap (λ (t : List ℕ). t ++ columns.0) found.1)
-            ∙ append_assoc (string_bytes c.args.reported ++ found.0) columns.0 last
-            ∙ append_assoc (string_bytes c.args.reported) found.0 (columns.0 ++ last))
-            ∙ sym (append_assoc before (string_bytes c.args.reported)
-            (found.0 ++ (columns.0 ++ last)))
-            ∙ sym (append_assoc written found.0 (columns.0 ++ last));
-        both = c.are_both.ensures ∙ ap (λ (b : Bool). c.in_ok-found.found.is_sound && b)
-            (c.are_both-is_after.ensures ∙ ap (λ (b : Bool). right && b)
-            (c.are_both-is_last.ensures ∙ ap₂ (λ (a b : Bool). a && b) c.fits.ensures
-            c.are_whole.ensures));
-      },
-    )
+    let both = c.are_both-is_whole.ensures in
+    let reported = columns.2 file (λ look. all (undecided audit.check legal
+    c.in_ok-found.ensures.decided (sym looked ∙ look))) in
+    let are = subst (λ (b : Bool). AreColumnsReported (wanted_by audit.trace) b file reported.0
+    columns.0 right) looked reported.1 in
+    let is = subst (λ (b : Bool). IsVerdictOn given.ends audit.table.now (ledger_in given file)
+    (text_of audit.report) b verdict) both
+    (c.in_ok-verdict.ensures audit.table.now (ledger_in given file) (λ yes entries of.
+    found.2.sums (and_parts legal right (sym both ∙ yes)).0 entries of)) in
+    subst (λ (g : Given). IsAudit g file (before ++ c.write_last_lines.new.text.items)
+    c.are_both.result) has.same (record {
+      found = written ++ found.0;
+      finding = found.2.finding;
+      legal = legal;
+      is_legal = found.2.legal;
+      read = reported.0;
+      columns = columns.0;
+      right = right;
+      are_columns = are;
+      verdict = verdict;
+      is_verdict = is;
+      shown = ap (λ (t : List ℕ). before ++ t)
+          (c.in_ok-write_last_lines.ensures ∙ ap (λ (t : List ℕ). t ++ tail)
+          (ap (λ (v : Vec ℕ Global). v.items) c.into_bytes-text.ensures.value ∙ columns.1
+          ∙ ap (λ (t : List ℕ). t ++ columns.0) found.1)
+          ∙ append_assoc (string_bytes c.args.reported ++ found.0) columns.0 tail
+          ∙ append_assoc (string_bytes c.args.reported) found.0 (columns.0 ++ tail))
+          ∙ sym (append_assoc before (string_bytes c.args.reported)
+          (found.0 ++ (columns.0 ++ tail)))
+          ∙ sym (append_assoc written found.0 (columns.0 ++ tail));
+      well = decides c.report_verdicts_decide.ensures given file reported.0
+          c.in_ok-found.found.is_sound legal right columns.0 verdict found.2.sound found.2.legal are
+          is
+          c.are_both.result
+          (c.are_both.ensures ∙ ap (λ (b : Bool). c.in_ok-found.found.is_sound && b)
+          (c.are_both-is_after.ensures ∙ ap (λ (b : Bool). right && b)
+          (c.are_both-is_last.ensures ∙ ap₂ (λ (a b : Bool). a && b) c.fits.ensures
+          c.are_whole.ensures)));
+    })

@@ -1,24 +1,40 @@
+use Rattle.std.proofs.Common.{◌∙◌, List, [], append-nil, subst, sym, ℕ}
+use Rattle.std.proofs.lemmas.Bool.{true≢false}
+use Rattle.ledger_check.specs.Verdicts.{IsVerdict}
 use Rattle.omny_audit.proofs.check.Check.finish.Goals as goal
 
-pub first_found-requires : goal.first_found-requires
-first_found-requires c = let given = c.requires.fed in
-    (given.0, given.1, given.2, given.3, rw c.in-First.is at given.4)
+pub finish-requires : goal.finish-requires
+finish-requires c =
+    let (fares, valid, text, written, has) = c.requires.fed in
+    (fares, c.in-First.balance, text, valid, (rw c.in-None.is at (rw c.in-First.is at has)).0)
 
-pub returns-in_ok-found-in-First-clause-found : goal.returns-in_ok-found-in-First-clause-found
-returns-in_ok-found-in-First-clause-found c = λ fares valid text written has.
-    rw c.in-First.is
-    (c.in_ok-found-in-First.ensures.found fares valid text written (rw c.in-First.is at has))
+-- a first wrong line was found before
+pub returns-in_ok-found-in-Some-clause-found : goal.returns-in_ok-found-in-Some-clause-found
+returns-in_ok-found-in-Some-clause-found c = λ fares valid text written has.
+    let known = rw c.in-Some.is at (rw c.in-First.is at has) in
+    let is = subst (λ (t : List ℕ). IsVerdict fares t c.in-Some.verdict) (append-nil text)
+    (known.0.0 []) in
+    rw c.in-First.is (rw known.1 (c.in_ok-found-in-Some.ensures.found fares text valid is
+    (λ legal. absurd (true≢false (sym legal ∙ known.0.1)))))
 
-pub returns-in_ok-found-in-First-clause-decided : goal.returns-in_ok-found-in-First-clause-decided
-returns-in_ok-found-in-First-clause-decided c = λ is.
-    let given = c.requires.fed in
-    c.in_ok-found-in-First.ensures.decided (rw c.in-First.is at is)
-    (given.0, given.1, given.2, given.3, rw c.in-First.is at given.4)
+pub returns-in_ok-found-in-Some-clause-decided : goal.returns-in_ok-found-in-Some-clause-decided
+returns-in_ok-found-in-Some-clause-decided c = λ is.
+    c.in_ok-found-in-Some.ensures.legal
+    ∙ (rw c.in-Some.is at (rw c.in-First.is at c.requires.fed.4)).0.1
+
+pub returns-in_ok-found-in-None-clause-found : goal.returns-in_ok-found-in-None-clause-found
+returns-in_ok-found-in-None-clause-found c = λ fares valid text written has.
+    let known = rw c.in-None.is at (rw c.in-First.is at has) in
+    let balance = c.in-First.balance in
+    let ended = c.in_ok-verdict-in-None.ensures in
+    rw c.in-First.is (rw known.1 (c.in_ok-found-in-None.ensures.found fares text valid
+    (ended.verdict fares balance text valid known.0) (ended.legal fares balance text valid known.0)))
 
 pub returns-in_ok-found-in-All-clause-found : goal.returns-in_ok-found-in-All-clause-found
 returns-in_ok-found-in-All-clause-found c = λ fares valid text written has.
     rw c.in-All.is (c.in_ok-found-in-All.ensures fares valid text written (rw c.in-All.is at has))
 
 pub full_finding-requires : goal.full_finding-requires
-full_finding-requires c = let given = c.requires.fed in
-    (given.0, given.1, given.2, given.3, rw c.in-All.is at given.4)
+full_finding-requires c =
+    let (fares, valid, text, written, has) = c.requires.fed in
+    (fares, valid, text, written, rw c.in-All.is at has)
