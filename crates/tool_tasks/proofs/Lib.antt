@@ -6,6 +6,5 @@ pub mod Making
 pub mod MergedUploads
 pub mod PartsRead
 pub mod Preparing
-pub mod Sorting
 pub mod EncodingRows
 pub mod Streaming

@@ -1,4 +1,4 @@
-use Rattle.std.proofs.Common.{◌≡◌, ◌∙◌, [], Bor, List, Option, Some, ap, arith, map, refl, subst, sym, ℕ}
+use Rattle.std.proofs.Common.{◌≡◌, ◌∙◌, [], Bor, IfSome, List, Option, Some, ap, arith, map, refl, subst, sym, ℕ}
 use Rattle.frame.proofs.Outcomes.{halted_by}
 use Rattle.frame.specs.Outsides.{Leaves, LeavesBy, Stops}
 use Rattle.tool_tasks.proofs.KnownBytes.{some_known}
@@ -6,6 +6,7 @@ use Rattle.tool_tasks.proofs.MergedUploads.{whole_file}
 use Rattle.tool_tasks.proofs.Preparing.{carried, halted_early}
 use Rattle.tool_tasks.specs.MergeSorted.{IsMergeOf, IsUnsorted, Merges}
 use Rattle.tool_tasks.specs.Sort.{names_of}
+use Rattle.tool_tasks.specs.declared.stops.Halt.{Halt}
 use Rattle.tool_words.specs.Tasks.{sorting_of}
 use Rattle.world.proofs.Laws.{no_loads}
 use Rattle.world.specs.Run.{Run}
@@ -65,9 +66,12 @@ returns-in-Err-Some g c =
     let under = g.D.PlacedFiles.bytes_under c.args.disk.now in
     let known = map under request.uploads in
     let words = c.deref.result.now in let halt = c.in-Err-Some.halt in
-    let stops = subst (λ (ws : List (Bor (List ℕ))). Stops (IsUnsorted (map (λ w. w.now) ws)
-    (map under (map (λ w. w.now) ws))) halt.0) c.deref.ensures.value
+    let so = λ (h : Halt). Stops (IsUnsorted (map (λ w. w.now) words)
+    (map under (map (λ w. w.now) words))) h.0 in
+    let stopped = subst (λ (o : Option Halt). IfSome o so) c.in-Err-Some.field-0-is
     c.in-Err-Some.ensures.stopped in
+    let stops = subst (λ (ws : List (Bor (List ℕ))). Stops (IsUnsorted (map (λ w. w.now) ws)
+    (map under (map (λ w. w.now) ws))) halt.0) c.deref.ensures.value stopped in
     halted_by (Merges request known) (λ loads. IsUnsorted request.uploads known) (names_of request)
     old _ _ [] halt.0 (sym (no_loads old))
     (subst (λ (r : Run). LeavesBy (IsUnsorted request.uploads known) (names_of request) halt.0 old r)

@@ -28,8 +28,8 @@ returns-in-Ok-prepare g c =
     (whole_of (load_of request.upload t ∷ []) prepared) prepared.status) c.deref.ensures.value
     c.in-Ok-prepare.ensures.right)
 
-pub returns-in-Err-prepare : goal.returns-in-Err-prepare
-returns-in-Err-prepare g c =
+pub returns : goal.returns
+returns g c =
     let request = valid_prefix_of c.args.words.now in
     halted_loading (HasValidPrefix request) (λ loads. ⊥) (request.upload ∷ request.out ∷ [])
     (g.W.Inputs.run c.args.world.now) _ _ (load_of request.upload c.in-Ok.upload.items ∷ []) NoMemory
