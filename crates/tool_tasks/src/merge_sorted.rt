@@ -118,11 +118,13 @@ fn merge<'a, D: PlacedFiles, W: World>(
     let file = known.into_file();
     match merged {
         Ok(ends) => make_sorted(alloc, words, &ends, String::new(alloc), 0, file, world),
-        Err(None) => Err(failed(words.out, file, world)),
-        Err(Some(halt)) => {
-            world.discard(file);
-            Err(halt)
-        }
+        Err(why) => match why {
+            None => Err(failed(words.out, file, world)),
+            Some(halt) => {
+                world.discard(file);
+                Err(halt)
+            }
+        },
     }
 }
 

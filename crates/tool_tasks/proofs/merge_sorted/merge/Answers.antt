@@ -52,24 +52,24 @@ returns-in-Ok-merged g c =
       success = refl;
     })
 
-pub returns-in-Err-None : goal.returns-in-Err-None
-returns-in-Err-None g c =
+pub returns-in-None : goal.returns-in-None
+returns-in-None g c =
     let request = sorting_of c.args.words.now in let old = g.W.Inputs.run c.args.world.now in
     halted_early (Merges request _) _ (names_of request) old _ c.failed.result.0
     (subst (λ (r : Run). Leaves (names_of request) c.failed.result.0 r
     (g.W.Inputs.run c.failed.new.world)) c.in-Ok.ensures.unchanged
     (c.failed.ensures (names_of request) (0, omega arith, refl)))
 
-pub returns-in-Err-Some : goal.returns-in-Err-Some
-returns-in-Err-Some g c =
+pub returns-in-Some : goal.returns-in-Some
+returns-in-Some g c =
     let request = sorting_of c.args.words.now in let old = g.W.Inputs.run c.args.world.now in
     let under = g.D.PlacedFiles.bytes_under c.args.disk.now in
     let known = map under request.uploads in
-    let words = c.deref.result.now in let halt = c.in-Err-Some.halt in
+    let words = c.deref.result.now in let halt = c.in-Some.halt in
     let so = λ (h : Halt). Stops (IsUnsorted (map (λ w. w.now) words)
     (map under (map (λ w. w.now) words))) h.0 in
-    let stopped = subst (λ (o : Option Halt). IfSome o so) c.in-Err-Some.field-0-is
-    c.in-Err-Some.ensures.stopped in
+    let stopped = subst (λ (o : Option Halt). IfSome o so) c.in-Some.is
+    c.in-Err-merged.ensures.stopped in
     let stops = subst (λ (ws : List (Bor (List ℕ))). Stops (IsUnsorted (map (λ w. w.now) ws)
     (map under (map (λ w. w.now) ws))) halt.0) c.deref.ensures.value stopped in
     halted_by (Merges request known) (λ loads. IsUnsorted request.uploads known) (names_of request)
