@@ -38,13 +38,13 @@ stops_by A B out out' (Late why) same stops = tt
 stops_by A B out out' _ same stops = stops
 
 -- also where less is given
-pub gives_by : {Given Given' : Type 0} {A B : List ℕ → Bool → Type 0} {out out' : Option (List ℕ)}
+pub gives_by : (Given Given' : Type 0) (A B : List ℕ → Bool → Type 0) (out out' : Option (List ℕ))
     (r : Result Bool Fault) → (Given' → Given)
     → ((text : List ℕ) (success : Bool) → A text success → B text success)
     → GivesIf Given A out out' r → GivesIf Given' B out out' r
-gives_by (Ok success) given same (text, right, written) =
+gives_by Given Given' A B out out' (Ok success) given same (text, right, written) =
     (text, same text success right, written)
-gives_by {Given} {Given'} {A} {B} {out} {out'} (Err fault) given same stops =
+gives_by Given Given' A B out out' (Err fault) given same stops =
     stops_by (λ text. Given → (success : Bool) × A text success)
     (λ text. Given' → (success : Bool) × B text success) out out' fault
     (λ text right more. let it = right (given more) in (it.0, same text it.0 it.1)) stops

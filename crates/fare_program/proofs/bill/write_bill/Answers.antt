@@ -11,7 +11,7 @@ write_billed-requires g c =
 pub returns-in-Ok-settled_bill-clause-ends : goal.returns-in-Ok-settled_bill-clause-ends
 returns-in-Ok-settled_bill-clause-ends g c =
     let (files, read, ended, billed) = c.in-Ok-settled_bill.ensures in
-    gives_by c.write_billed.result (λ given. given)
+    gives_by _ _ _ _ _ _ c.write_billed.result (λ given. given)
     (λ text success made. (
       files,
       read,

@@ -29,7 +29,7 @@ returns-clause-ends g c =
     (map validator_sum c.deref-2.result.now) c.args.made.bill.tokens in
     let written = c.write_report-written.result in
     rw c.ended.ensures.ended
-    (gives_by {A = λ shown success. (success ≡ c.are_posted.result) × (shown ≡ text)}
+    (gives_by _ _ (λ shown success. (success ≡ c.are_posted.result) × (shown ≡ text)) _ _ _
     (ended_as written c.are_posted.result) (λ given. given)
     (λ shown success is. (
       is.0 ∙ c.are_posted.ensures ∙ ap are_posted c.deref-3.ensures.value,

@@ -13,7 +13,7 @@ returns-then-options-clause-ends g c =
     let origin = g.D.Disk.origin c.args.disk.now in
     let words = c.as_slice.result.now in
     let some : 0 < length words = omega (arith, c.requires, ap length c.as_slice.ensures.value) in
-    gives_by c.charge_settled.result (λ given. given)
+    gives_by _ _ _ _ _ _ c.charge_settled.result (λ given. given)
     (λ text success is. record {
       files = is.0;
       drawn = [];
@@ -28,7 +28,7 @@ pub returns-clause-ends : goal.returns-clause-ends
 returns-clause-ends g c =
     let origin = g.D.Disk.origin c.args.disk.now in
     let words = c.as_slice.result.now in
-    gives_by c.charge_provided.result (λ given. given)
+    gives_by _ _ _ _ _ _ c.charge_provided.result (λ given. given)
     (λ text success is. record {
       files = is.0;
       drawn = is.1;

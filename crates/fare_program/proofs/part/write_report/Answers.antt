@@ -9,7 +9,7 @@ pub returns-in-Ok-part_bill-clause-ends : goal.returns-in-Ok-part_bill-clause-en
 returns-in-Ok-part_bill-clause-ends g c =
     let (history, is, few, part) = c.in-Ok-part_bill.ensures.billed in
     let made = c.in-Ok-part_bill.made in
-    gives_by c.write_made.result (λ given. tt)
+    gives_by _ _ _ _ _ _ c.write_made.result (λ given. tt)
     (λ text success right. (
       right.0,
       λ all are.

@@ -23,7 +23,7 @@ read_files all files old new read =
 
 pub returns-clause-ends : goal.returns-clause-ends
 returns-clause-ends g c =
-    gives_by c.charge_provided.result (λ given. given)
+    gives_by _ _ _ _ _ _ c.charge_provided.result (λ given. given)
     (λ text success is.
     let known = known_files bytes_in c.as_slice.result.now is.0 is.2.provided
     ∙ ap (map bytes_in) c.as_slice.ensures.value in
@@ -32,7 +32,7 @@ returns-clause-ends g c =
 
 pub returns-then-options-clause-ends : goal.returns-then-options-clause-ends
 returns-then-options-clause-ends g c =
-    gives_by c.charge_settled.result (λ given. given)
+    gives_by _ _ _ _ _ _ c.charge_settled.result (λ given. given)
     (λ text success is.
     let known = read_files c.deref.result.now is.0 _ _ is.1
     ∙ ap (map bytes_in) c.deref.ensures.value in (

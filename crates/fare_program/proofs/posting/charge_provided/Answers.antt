@@ -16,7 +16,7 @@ returns-clause-ends g c =
     let live = c.in-Ok.ensures.run in
     let posted = c.are_posted-success.result in
     rw c.ended.ensures.ended
-    (gives_by (ended_as c.print_requested-printed.result posted) (λ given. given)
+    (gives_by _ _ _ _ _ _ (ended_as c.print_requested-printed.result posted) (λ given. given)
     (λ text success is. (
       live.files,
       drawn_by live.run.0,

@@ -8,7 +8,7 @@ use Rattle.fare_program.proofs.program.charge_loaded.Goals as goal
 
 pub returns-in-Ok-clause-ends : goal.returns-in-Ok-clause-ends
 returns-in-Ok-clause-ends g c =
-    gives_by c.charge.result (λ given. given)
+    gives_by _ _ _ _ _ _ c.charge.result (λ given. given)
     (λ text success is. record {
       files = map (λ f. f.items) c.in-Ok.files.items;
       drawn = is.0;

@@ -20,7 +20,7 @@ loop-name-preserved g c =
     ∙ map-append (λ n. Some n.now) (take index names) _ in
     let bytes : map (λ f. f.items) c.push-in-loop-name.new.files.items
     ≡ map (λ f. f.items) c.loop-name.files.items ++ c.in-Ok-load_named.bytes.items ∷ [] =
-    ap (map (λ f. f.items)) c.in-Ok-push.ensures
+    ap (map (λ f. f.items)) c.in-Ok-push-2.ensures
     ∙ map-append (λ f. f.items) c.loop-name.files.items _ in
     rw (more, bytes) (loads_push _ _ _ _ _ _ _ c.loop-name.invariant c.in-Ok-load_named.ensures.ok)
 

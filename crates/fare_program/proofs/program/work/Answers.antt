@@ -21,13 +21,13 @@ returns-in_default-clause-right g c =
 
 pub returns-in_default-clause-ends : goal.returns-in_default-clause-ends
 returns-in_default-clause-ends g c =
-    gives_by c.list_files.result (λ given. tt)
+    gives_by _ _ _ _ _ _ c.list_files.result (λ given. tt)
     (λ text success lists. does_of (request_of c.args.options.now) _ _ _ _ text success
     None (ap (option_map names_of) c.in_default.is) lists) c.list_files.ensures.ends
 
 pub returns-in-Ok-clause-ends : goal.returns-in-Ok-clause-ends
 returns-in-Ok-clause-ends g c =
-    gives_by c.work_by.result (λ given. given)
+    gives_by _ _ _ _ _ _ c.work_by.result (λ given. given)
     (λ text success does. does_of (request_of c.args.options.now) _ _ _ _ text success
     (Some (names_of c.in-Some.words)) (ap (option_map names_of) c.in-Some.is) (record {
       texts = _;

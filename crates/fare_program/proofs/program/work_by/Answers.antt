@@ -8,7 +8,7 @@ use Rattle.fare_program.proofs.program.work_by.Goals as goal
 
 pub returns-then-options-clause-ends : goal.returns-then-options-clause-ends
 returns-then-options-clause-ends g c =
-    gives_by c.list_files.result (λ given. tt) (λ text success lists.
+    gives_by _ _ _ _ _ _ c.list_files.result (λ given. tt) (λ text success lists.
     does_by (request_of c.args.options.now) _ _ _ _ text success _ _ c.args.token true _ _
     c.if-options.true refl refl lists)
     c.list_files.ensures.ends
@@ -20,7 +20,7 @@ returns-then-options-clause-right g c =
 
 pub returns-then-options-2-clause-ends : goal.returns-then-options-2-clause-ends
 returns-then-options-2-clause-ends g c =
-    gives_by c.write_traced.result (λ given. tt)
+    gives_by _ _ _ _ _ _ c.write_traced.result (λ given. tt)
     (λ text success traces.
     does_by (request_of c.args.options.now) _ _ _ _ text success _ _ c.args.token false true _
     c.if-options.false c.if-options-2.true refl traces)
@@ -28,7 +28,7 @@ returns-then-options-2-clause-ends g c =
 
 pub returns-then-options-3-clause-ends : goal.returns-then-options-3-clause-ends
 returns-then-options-3-clause-ends g c =
-    gives_by c.work_sorted.result (λ given. given)
+    gives_by _ _ _ _ _ _ c.work_sorted.result (λ given. given)
     (λ text success merges.
     does_by (request_of c.args.options.now) _ _ _ _ text success _ _ c.args.token false false true
     c.if-options.false c.if-options-2.false c.if-options-3.true (refl, merges))
@@ -45,7 +45,7 @@ returns-then-options-3-clause-right g c =
 
 pub returns-in-Some-clause-ends : goal.returns-in-Some-clause-ends
 returns-in-Some-clause-ends g c =
-    gives_by c.in-Some.ended (λ given. tt)
+    gives_by _ _ _ _ _ _ c.in-Some.ended (λ given. tt)
     (λ text success charges.
     does_by (request_of c.args.options.now) _ _ _ _ text success _ _ c.args.token false false
     false c.if-options.false c.if-options-2.false c.if-options-3.false charges)
@@ -55,7 +55,7 @@ returns-in-Some-clause-ends g c =
 pub returns-clause-ends : goal.returns-clause-ends
 returns-clause-ends g c =
     let unloaded = c.in-None.ensures.unloaded refl in
-    gives_by c.charge_loaded.result (λ given. tt)
+    gives_by _ _ _ _ _ _ c.charge_loaded.result (λ given. tt)
     (λ text success charges.
     does_by (request_of c.args.options.now) _ _ _ _ text success _ _ c.args.token false false
     false c.if-options.false c.if-options-2.false c.if-options-3.false (rw unloaded at charges))

@@ -22,7 +22,7 @@ pub returns-clause-ends : goal.returns-clause-ends
 returns-clause-ends g c =
     let (files, read, ended, made) = c.in-Ok.ensures in
     rw c.ended.ensures.ended
-    (gives_by (ended_as c.write_settled_ledger-written.result c.are_posted.result) (λ given. given)
+    (gives_by _ _ _ _ _ _ (ended_as c.write_settled_ledger-written.result c.are_posted.result) (λ given. given)
     (λ text success is. (
       files,
       read,

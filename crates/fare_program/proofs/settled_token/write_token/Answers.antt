@@ -13,7 +13,7 @@ returns-clause-ends g c =
     let own_is = c.posted_taps.ensures.own fares c.args.token made.order
     ∙ ap (posted fares) (sym made.own) in
     rw c.ended.ensures.ended
-    (gives_by (ended_as c.write_text-written.result c.are_posted.result) (λ given. given)
+    (gives_by _ _ _ _ _ _ (ended_as c.write_text-written.result c.are_posted.result) (λ given. given)
     (λ text success is. (
       files,
       read,

@@ -25,7 +25,7 @@ returns-in-Some-clause-ends g c =
     let opened = ap (map g.D.File.Placed.bytes) c.deref-in-Some.ensures.value
     ∙ (rw c.deref.ensures.value at c.in-Ok.ensures.opened) in
     let named = ap (option_map name_in) c.in-Some.is in
-    gives_by c.charge_part.result
+    gives_by _ _ _ _ _ _ c.charge_part.result
     (λ given. not_true (request_of c.args.options.now).ledger
     (λ ledger. given (ap is_some named, ledger)))
     (λ text success is. (is.0, λ files are. rw named (is.1 files (opened ∙ are))))
@@ -37,7 +37,7 @@ returns-clause-ends g c =
     let opened = ap (map g.D.File.Placed.bytes) c.deref-in-None.ensures.value
     ∙ (rw c.deref.ensures.value at c.in-Ok.ensures.opened) in
     let named = ap (option_map name_in) c.in-None.is in
-    gives_by c.charge_sorted.result (λ given. tt)
+    gives_by _ _ _ _ _ _ c.charge_sorted.result (λ given. tt)
     (λ text success is. (
       is.0,
       λ files are. subst (λ (tokens : Option (List ℕ)). MatchOption tokens

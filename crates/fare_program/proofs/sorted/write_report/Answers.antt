@@ -15,7 +15,7 @@ write_billed-requires g c =
 pub returns-in-Ok-sorted_bill-clause-ends : goal.returns-in-Ok-sorted_bill-clause-ends
 returns-in-Ok-sorted_bill-clause-ends g c =
     let (history, is, few, settled) = c.in-Ok-sorted_bill.ensures.billed in
-    gives_by c.write_billed.result (λ given. tt)
+    gives_by _ _ _ _ _ _ c.write_billed.result (λ given. tt)
     (λ text success right. (
       right.0 ∙ c.in-Ok-sorted_bill.ensures.posted,
       λ all are. shows_bill (request_of c.args.options.now) c.args.table.now all text true history

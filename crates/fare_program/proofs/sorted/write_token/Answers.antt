@@ -11,7 +11,7 @@ pub returns-in-Ok-clause-ends : goal.returns-in-Ok-clause-ends
 returns-in-Ok-clause-ends g c =
     let fares = c.args.table.now in
     rw c.ended.ensures.ended
-    (gives_by (ended_as c.write_text.result true) (λ given. tt)
+    (gives_by _ _ _ _ _ _ (ended_as c.write_text.result true) (λ given. tt)
     (λ text success is. (
       is.0,
       λ all are.

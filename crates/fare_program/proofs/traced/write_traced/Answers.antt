@@ -44,7 +44,7 @@ returns-in-Some-clause-right g c = λ loaded loads. (
 pub returns-clause-ends : goal.returns-clause-ends
 returns-clause-ends g c =
     let names = c.in-Ok.ensures.classes in
-    gives_by c.print_traced.result (λ given. given)
+    gives_by _ _ _ _ _ _ c.print_traced.result (λ given. given)
     (λ text success traced. record {
       tree = names.0;
       later = names.1;
