@@ -7,7 +7,7 @@ use Rattle.tariffs.specs.Fares.{Fares}
 use Rattle.histories.specs.declared.entry.Entry.{Entry}
 use Rattle.tap_views.specs.declared.encoder.TapFields.{TapFields}
 use Rattle.ledger_check.specs.Ledger.{IsLedger, IsLedgerOf}
-use Rattle.omny_audit.specs.Findings.{IsRightLedger}
+use Rattle.omny_audit.specs.inside.Checks.{IsRightLedger}
 use Rattle.omny_audit.specs.Reports.{Given, HasOwnReport, IsRightAudit, IsVerdictOn, are_whole}
 use Rattle.omny_audit.specs.Reports.{ledger_in}
 use Rattle.omny_audit.specs.inside.Reports.{fits}

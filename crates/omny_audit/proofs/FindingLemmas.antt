@@ -17,8 +17,8 @@ use Rattle.ledger_check.specs.declared.balance.Balance.{Balance}
 use Rattle.ledger_check.specs.declared.balance.Difference.{Difference}
 use Rattle.tap_views.specs.declared.encoder.TapFields.{TapFields}
 use Rattle.ledger_check.proofs.VerdictLemmas.{tail_same}
-use Rattle.omny_audit.specs.Findings.{HasValidTaps, IsDifferenceLine, IsRightLedger}
-use Rattle.omny_audit.specs.inside.Checks.{IsCompared}
+use Rattle.omny_audit.specs.Findings.{HasValidTaps, IsDifferenceLine}
+use Rattle.omny_audit.specs.inside.Checks.{IsCompared, IsRightLedger}
 
 -- taps without a difference are the same in some order
 pub even_is : ((valid others : List TapFields) (difference : Difference)

@@ -70,9 +70,3 @@ HasValidTaps (Some valid) taps = IsPermutation valid taps
 -- the taps are in order, unless a live ledger is well
 abbrev pub HasOrder : Bool → List TapFields → Type 0
 HasOrder live taps = (live || are_settled taps) ≡ true
-
--- the text is, whole, a ledger of legal histories, settled if a live one is not well, and has the
--- taps of the uploads
-abbrev pub IsRightLedger : Bool → Fares → List ℕ → Option (List TapFields) → Type 0
-IsRightLedger live fares text valid = (entries : List Entry) × IsLedgerOf fares entries text
-    × HasValidTaps valid (map tap_of_entry entries) × HasOrder live (map tap_of_entry entries)
