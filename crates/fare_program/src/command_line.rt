@@ -11,7 +11,7 @@ use clap::{Arg, ArgAction, ArgMatches, Command, Error};
 use fare_texts::Form;
 use program_manners::{
     TableWords, add_list_args, flag_arg, flag_in, names_in, new_command, number_arg, option_arg,
-    positional_arg, repeated_arg, value_in, with_arg,
+    positional_arg, repeated_arg, value_in,
 };
 use std::alloc::{AllocError, Global};
 
@@ -124,21 +124,26 @@ fn hidden<'a>(arg: Arg<'a>) -> Arg<'a>
 }
 
 /// The command line, as clap reads it.
-#[tactic(auto, unfolding(crate::specs::Options::program))]
 fn command<'a>(alloc: Global) -> Result<Command<'a>, AllocError>
     ensures { IfOk result (λ command. app_of command ≡ program) }
 {
-    let command = new_command(alloc, "omny_cli", ABOUT, NOTES);
-    let command = with_arg(command, repeated_arg(alloc, "table", "F", TABLE_HELP))?;
-    let command = with_arg(command, flag_arg(alloc, "settle", SETTLE_HELP))?;
-    let command = with_arg(command, hidden(flag_arg(alloc, "live", LIVE_HELP)))?;
-    let command = with_arg(command, flag_arg(alloc, "sorted", SORTED_HELP))?;
-    let command = with_arg(command, hidden(flag_arg(alloc, "list", LIST_HELP)))?;
+    let table = repeated_arg(alloc, "table", "F", TABLE_HELP);
+    let settle = flag_arg(alloc, "settle", SETTLE_HELP);
+    let live = flag_arg(alloc, "live", LIVE_HELP);
+    let sorted = flag_arg(alloc, "sorted", SORTED_HELP);
+    let list = flag_arg(alloc, "list", LIST_HELP);
     let workers = number_arg(alloc, "workers", 16, "2", WORKERS_HELP);
-    let command = with_arg(command, hidden(workers))?;
     let shards = number_arg(alloc, "shards", 64, "8", SHARDS_HELP);
-    let command = with_arg(command, hidden(shards))?;
-    let command = with_arg(command, option_arg(alloc, "token", "HEX", TOKEN_HELP))?;
+    let token = option_arg(alloc, "token", "HEX", TOKEN_HELP);
+    let command = new_command(alloc, "omny_cli", ABOUT, NOTES)
+        .arg(table)?
+        .arg(settle)?
+        .arg(hidden(live))?
+        .arg(sorted)?
+        .arg(hidden(list))?
+        .arg(hidden(workers))?
+        .arg(hidden(shards))?
+        .arg(token)?;
     with_texts(alloc, command)
 }
 
