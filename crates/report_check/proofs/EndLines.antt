@@ -225,15 +225,13 @@ no_line uploads upload ends below =
     let left : uploads - upload ≡ suc (uploads - (upload + 1)) = omega (arith, below) in
     rw left
 
-pub no_uploads : (text : List ℕ) → length text ≤ 0 → uploads_in (lines_of text) ≡ Err 1
-unfolding lines_of
-no_uploads [] none = refl
-no_uploads (byte ∷ text) none = absurd (omega (arith, none))
-
 none_left : (text : List ℕ) → length text ≤ 0 → lines_of text ≡ []
 unfolding lines_of
 none_left [] none = refl
 none_left (byte ∷ text) none = absurd (omega (arith, none))
+
+pub no_uploads : (text : List ℕ) → length text ≤ 0 → uploads_in (lines_of text) ≡ Err 1
+no_uploads text none = ap uploads_in (none_left text none)
 
 pub no_more : (uploads upload : ℕ) (ends : List UploadEnd) (rest : List ℕ) → upload < uploads
     → length rest ≤ 0
