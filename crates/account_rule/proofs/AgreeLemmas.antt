@@ -1,33 +1,25 @@
 -- Rules that say the same of each tap of a list give it the same trips, windows, charges and
 -- replies.
 use Rattle.std.proofs.Common.{◌≡◌, ℕ, suc, ◌+◌, ◌<◌, Bool, true, false, ◌&&◌, cond, List, [], ◌∷◌}
-use Rattle.std.proofs.Common.{◌++◌, Option, Some, None, refl, ap, ◌∙◌, All, arith, is_some}
-use Rattle.std.proofs.Common.{length, nat_le, nat_lt, option_map, take, ◌-◌}
-use Rattle.std.specs.List.{flat_map, last_or}
-use Rattle.std.specs.Option.{option_and_then, option_to_list}
-use Rattle.std.proofs.lemmas.Bool.{leb-true}
-use Rattle.std.proofs.lemmas.List.Elements.{All-head, All-tail}
-use Rattle.tariffs.specs.Fares.{Fares, class_of, is_permitted, meaning_at, ride_terms}
-use Rattle.tariffs.specs.Fares.{transfer_terms, valid_at}
-use Rattle.tariffs.specs.Following.{with_next}
-use Rattle.tariffs.specs.TableMeaning.{TableMeaning}
-use Rattle.tariffs.specs.Until.{window_end_in}
-use Rattle.tariffs.specs.declared.mode.Mode.{Mode}
-use Rattle.tariffs.specs.declared.terms.Terms.{Terms}
-use Rattle.account_rule.specs.Agreement.{AgreeAt, AgreeOn}
-use Rattle.account_rule.specs.Blocks.{blocks_by, blocks_from, last_block}
-use Rattle.account_rule.specs.Replies.{live_reply, replies, replies_after, reply, reply_with}
-use Rattle.account_rule.specs.Replies.{ride_reply}
+use Rattle.std.proofs.Common.{◌++◌, Option, Some, None, refl, ap, ◌∙◌, All, arith, is_some, length}
+use Rattle.std.proofs.Common.{nat_le, nat_lt, option_map, take, ◌-◌}
+use Rattle.account_rule.specs.{Agreement.AgreeAt, Agreement.AgreeOn, Blocks.blocks_by}
+use Rattle.account_rule.specs.{Blocks.blocks_from, Blocks.last_block, Replies.live_reply}
+use Rattle.account_rule.specs.Replies.{replies, replies_after, reply, reply_with, ride_reply}
+use Rattle.account_rule.specs.Taps.{LiveTap, is_later, live, live_after, live_at, live_tap}
 use Rattle.account_rule.specs.TokenRules.{TokenRules, permits_of, rules_of, token_class}
 use Rattle.account_rule.specs.TokenRules.{transfers_of}
-use Rattle.account_rule.specs.Taps.{LiveTap, is_later, live, live_after, live_at, live_tap}
 use Rattle.account_rule.specs.Trips.{continues, ends_in_transfer, last_tap, rides, trips}
 use Rattle.account_rule.specs.Windows.{charge, charged_by, charges, charges_after, is_within}
-use Rattle.account_rule.specs.Windows.{paid_by}
-use Rattle.account_rule.specs.Windows.{windows}
-use Rattle.account_rule.specs.declared.reason.Charge.{Charge}
+use Rattle.account_rule.specs.{Windows.paid_by, Windows.windows, declared.reason.Charge.Charge}
 use Rattle.account_rule.specs.declared.reply.Answer.TheVariants.{Stale, Transfer, Unknown}
 use Rattle.account_rule.specs.declared.tap.TapIn.{TapIn}
+use Rattle.std.proofs.lemmas.{Bool.leb-true, List.Elements.All-head, List.Elements.All-tail}
+use Rattle.std.specs.{List.flat_map, List.last_or, Option.option_and_then, Option.option_to_list}
+use Rattle.tariffs.specs.Fares.{Fares, class_of, is_permitted, meaning_at, ride_terms}
+use Rattle.tariffs.specs.Fares.{transfer_terms, valid_at}
+use Rattle.tariffs.specs.{Following.with_next, TableMeaning.TableMeaning, Until.window_end_in}
+use Rattle.tariffs.specs.declared.{mode.Mode.Mode, terms.Terms.Terms}
 
 -- each element of the list is such a one
 abbrev Each : {A : Type 0} → (A → Type 0) → List A → Type 0

@@ -1,24 +1,17 @@
 -- No reply has more cents than the greatest fare of a table.
 use Rattle.std.proofs.Common.{◌≡◌, ◌≤◌, Bool, true, false, List, [], ◌∷◌, ◌++◌, Option, Some, None}
 use Rattle.std.proofs.Common.{refl, ◌∙◌}
-use Rattle.tariffs.specs.Terms.{AreBoundedTerms}
-use Rattle.tariffs.specs.declared.mode.Mode.{Mode}
-use Rattle.account_rule.specs.Blocks.{last_block}
-use Rattle.account_rule.specs.Replies.{reply}
-use Rattle.account_rule.specs.Represents.{window_of}
-use Rattle.account_rule.specs.Taps.{is_later, live_at, live_tap}
-use Rattle.account_rule.specs.TokenRules.{TokenRules}
-use Rattle.account_rule.specs.Trips.{ends_in_transfer}
-use Rattle.account_rule.specs.Windows.{windows}
-use Rattle.account_rule.specs.declared.reply.Answer.TheVariants.{Transfer, Stale, Unknown}
-use Rattle.account_rule.specs.declared.tap.TapIn.{TapIn}
-use Rattle.account_rule.specs.declared.window.Window.{Window}
-use Rattle.account_rule.specs.inside.Kept.{window_at}
 use Rattle.account_rule.proofs.FareLemmas.{free-few, ride-few}
 use Rattle.account_rule.proofs.StepLemmas.{is_live, reply_live, reply_ride, reply_stale}
 use Rattle.account_rule.proofs.StepLemmas.{reply_transfer, reply_unknown}
-use Rattle.account_rule.proofs.TapLemmas.{last_window-ride}
-use Rattle.account_rule.proofs.WindowLemmas.{charge-after}
+use Rattle.account_rule.proofs.{TapLemmas.last_window-ride, WindowLemmas.charge-after}
+use Rattle.account_rule.specs.{Blocks.last_block, Replies.reply, Represents.window_of}
+use Rattle.account_rule.specs.Taps.{is_later, live_at, live_tap}
+use Rattle.account_rule.specs.{TokenRules.TokenRules, Trips.ends_in_transfer, Windows.windows}
+use Rattle.account_rule.specs.declared.reply.Answer.TheVariants.{Transfer, Stale, Unknown}
+use Rattle.account_rule.specs.declared.{tap.TapIn.TapIn, window.Window.Window}
+use Rattle.account_rule.specs.inside.Kept.{window_at}
+use Rattle.tariffs.specs.{Terms.AreBoundedTerms, declared.mode.Mode.Mode}
 
 ride_most : (rules : TokenRules) (taps : List TapIn) (tap : TapIn) (mode : Mode)
     → tap.mode ≡ Some mode → is_later taps tap.moment ≡ true

@@ -1,20 +1,14 @@
 -- No reply costs more than the greatest fare of a table.
 use Rattle.std.proofs.Common.{◌≡◌, ℕ, ◌≤◌, Option, Some, None, sym, ap, subst, inl, inr, arith}
-use Rattle.tariffs.specs.Terms.{AreBoundedTerms}
-use Rattle.tariffs.specs.declared.terms.Terms.{Terms}
-use Rattle.account_rule.specs.declared.reason.Charge.{Charge}
-use Rattle.account_rule.specs.declared.reason.Charge.TheVariants.{CeilingCut, CeilingReached, Full}
-use Rattle.account_rule.specs.declared.reason.Charge.TheVariants.{RideLimitReached}
-use Rattle.account_rule.specs.declared.reason.Reason.{Reason}
-use Rattle.account_rule.specs.declared.reply.Answer.{Answer}
-use Rattle.account_rule.specs.declared.reply.Reply.{Reply}
-use Rattle.account_rule.specs.declared.window.Window.{Window}
-use Rattle.account_rule.specs.inside.Kept.{next_reason}
-use Rattle.account_rule.specs.Reasons.{given_by, replied_by}
-use Rattle.account_rule.specs.Replies.{reply_with, ride_reply}
-use Rattle.account_rule.specs.Trips.{TripEnd}
-use Rattle.account_rule.specs.Windows.{charge, charged_by, paid_by}
 use Rattle.account_rule.proofs.LimitLemmas.{charged}
+use Rattle.account_rule.specs.{Reasons.given_by, Reasons.replied_by, Replies.reply_with}
+use Rattle.account_rule.specs.{Replies.ride_reply, Trips.TripEnd, Windows.charge}
+use Rattle.account_rule.specs.{Windows.charged_by, Windows.paid_by, declared.reason.Charge.Charge}
+use Rattle.account_rule.specs.declared.reason.Charge.TheVariants.{CeilingCut, CeilingReached, Full}
+use Rattle.account_rule.specs.declared.reason.{Charge.TheVariants.RideLimitReached, Reason.Reason}
+use Rattle.account_rule.specs.declared.reply.{Answer.Answer, Reply.Reply}
+use Rattle.account_rule.specs.{declared.window.Window.Window, inside.Kept.next_reason}
+use Rattle.tariffs.specs.{Terms.AreBoundedTerms, declared.terms.Terms.Terms}
 
 -- what is free costs nothing
 pub free-few : (reply : Reply) (answer : Answer) → reply ≡ reply_with answer 0

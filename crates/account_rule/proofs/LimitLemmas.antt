@@ -1,20 +1,15 @@
 -- What the rides of a window cost, one after the other, and that no window exceeds its limits.
-use Rattle.std.proofs.Common.{◌≡◌, ℕ, suc, ◌+◌, ◌-◌, ◌<◌, ◌≤◌, true, false, ◌⊎◌, cond, List}
-use Rattle.std.proofs.Common.{[], ◌∷◌, ◌++◌, length, max, min, leb, Some, None, refl, sym, ap, ◌∙◌}
-use Rattle.std.proofs.Common.{inl}
+use Rattle.std.proofs.Common.{◌≡◌, ℕ, suc, ◌+◌, ◌-◌, ◌<◌, ◌≤◌, true, false, ◌⊎◌, cond, List, []}
+use Rattle.std.proofs.Common.{◌∷◌, ◌++◌, length, max, min, leb, Some, None, refl, sym, ap, ◌∙◌, inl}
 use Rattle.std.proofs.Common.{inr, arith, All, sum_by, Option}
-use Rattle.std.specs.Prelude.{count_by}
-use Rattle.std.specs.List.{last_or}
-use Rattle.std.proofs.lemmas.Bool.{cases_Bool, cases_lt, le-leb, leb-false, leb-true}
-use Rattle.std.proofs.lemmas.List.Elements.{All-head, All-tail}
-use Rattle.std.proofs.lemmas.List.Sums.{sum_by-cons, sum_by_push}
-use Rattle.std.proofs.Math.Nat.{zero-add}
+use Rattle.account_rule.specs.{Taps.LiveTap, Windows.charge, Windows.charged_by}
+use Rattle.account_rule.specs.Windows.{charges, charges_after, is_paid, paid_rides, window_cents}
+use Rattle.account_rule.specs.declared.reason.Charge.{Charge, TheVariants.RideLimitReached}
+use Rattle.std.proofs.{Math.Nat.zero-add, lemmas.Bool.cases_Bool, lemmas.Bool.cases_lt}
+use Rattle.std.proofs.lemmas.{Bool.le-leb, Bool.leb-false, Bool.leb-true, List.Elements.All-head}
+use Rattle.std.proofs.lemmas.List.{Elements.All-tail, Sums.sum_by-cons, Sums.sum_by_push}
+use Rattle.std.specs.{List.last_or, Prelude.count_by}
 use Rattle.tariffs.specs.declared.terms.Terms.{Terms}
-use Rattle.account_rule.specs.declared.reason.Charge.{Charge}
-use Rattle.account_rule.specs.declared.reason.Charge.TheVariants.{RideLimitReached}
-use Rattle.account_rule.specs.Taps.{LiveTap}
-use Rattle.account_rule.specs.Windows.{charge, charged_by, charges, charges_after, is_paid}
-use Rattle.account_rule.specs.Windows.{paid_rides, window_cents}
 
 -- a limit is reached, so the ride is free
 pub record IsFree (terms : Terms) (rides cents : ℕ) : Type 0 where

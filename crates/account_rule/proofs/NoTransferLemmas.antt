@@ -1,27 +1,23 @@
 -- What an account keeps decides why a ride is no transfer, and of each ride what is said is so.
 use Rattle.std.proofs.Common.{◌≡◌, ℕ, ◌-◌, ◌<◌, ◌≤◌, true, false, List, [], ◌∷◌, ◌++◌, ltb, leb}
 use Rattle.std.proofs.Common.{Option, Some, None, refl, sym, ap, ◌∙◌, inl, inr, arith, option_map}
-use Rattle.std.specs.List.{last_or}
-use Rattle.std.proofs.lemmas.Bool.{cases_Bool, le-leb, leb-false, leb-true, lt-ltb, ltb-false}
-use Rattle.std.proofs.lemmas.Bool.{eqb-true, ltb-true}
-use Rattle.std.specs.Prelude.{nat_eq}
-use Rattle.tariffs.specs.declared.mode.Mode.{Mode}
+use Rattle.account_rule.proofs.ReasonLemmas.{last_trip-live, reason_live, reason_stale}
+use Rattle.account_rule.proofs.{ReasonLemmas.reason_transfer, StepLemmas.is_live}
+use Rattle.account_rule.proofs.TapLemmas.{ends_in_transfer-push}
+use Rattle.account_rule.specs.Kept.{Kept, kept_trip}
+use Rattle.account_rule.specs.NoTransfers.{Lacks, no_transfer, no_transfer_from, spent_from}
+use Rattle.account_rule.specs.{Reasons.given_by, Reasons.latest, Reasons.reason, Represents.KeepsOf}
+use Rattle.account_rule.specs.Taps.{LiveTap, is_later, live, live_at}
+use Rattle.account_rule.specs.TokenRules.{TokenRules, TransferRules}
+use Rattle.account_rule.specs.Trips.{TripEnd, ends_in_transfer, last_trip}
 use Rattle.account_rule.specs.declared.no_transfer.NoTransfer.TheVariants.{FirstTap}
 use Rattle.account_rule.specs.declared.reason.Charge.{Charge}
 use Rattle.account_rule.specs.declared.reason.Reason.TheVariants.{Ride, Stale}
-use Rattle.account_rule.specs.declared.tap.TapIn.{TapIn}
-use Rattle.account_rule.specs.Kept.{Kept, kept_trip}
-use Rattle.account_rule.specs.NoTransfers.{Lacks, no_transfer, no_transfer_from, spent_from}
-use Rattle.account_rule.specs.Reasons.{given_by, latest, reason}
-use Rattle.account_rule.specs.inside.Kept.{gives}
-use Rattle.account_rule.specs.Represents.{KeepsOf}
-use Rattle.account_rule.specs.TokenRules.{TokenRules, TransferRules}
-use Rattle.account_rule.specs.Taps.{LiveTap, is_later, live, live_at}
-use Rattle.account_rule.specs.Trips.{TripEnd, ends_in_transfer, last_trip}
-use Rattle.account_rule.proofs.ReasonLemmas.{last_trip-live, reason_live, reason_stale}
-use Rattle.account_rule.proofs.ReasonLemmas.{reason_transfer}
-use Rattle.account_rule.proofs.StepLemmas.{is_live}
-use Rattle.account_rule.proofs.TapLemmas.{ends_in_transfer-push}
+use Rattle.account_rule.specs.{declared.tap.TapIn.TapIn, inside.Kept.gives}
+use Rattle.std.proofs.lemmas.Bool.{cases_Bool, le-leb, leb-false, leb-true, lt-ltb, ltb-false}
+use Rattle.std.proofs.lemmas.Bool.{eqb-true, ltb-true}
+use Rattle.std.specs.{List.last_or, Prelude.nat_eq}
+use Rattle.tariffs.specs.declared.mode.Mode.{Mode}
 
 -- the answers of an account
 

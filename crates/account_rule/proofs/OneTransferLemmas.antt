@@ -1,13 +1,11 @@
 -- With one transfer for each ride, trips and rows of linked taps have the same rides.
-use Rattle.std.proofs.Common.{◌≡◌, true, false, cond, List, [], ◌∷◌, ◌++◌, refl, sym, ap, ◌∙◌}
-use Rattle.std.proofs.Common.{take}
-use Rattle.std.specs.List.{flat_map}
-use Rattle.account_rule.specs.declared.tap.TapIn.{TapIn}
+use Rattle.std.proofs.Common.{◌≡◌, true, false, cond, List, [], ◌∷◌, ◌++◌, refl, sym, ap, ◌∙◌, take}
 use Rattle.account_rule.specs.Blocks.{blocks_by, blocks_from}
 use Rattle.account_rule.specs.OneTransfer.{evens, goes_on, is_linked, linked_rows}
 use Rattle.account_rule.specs.Taps.{LiveTap, live}
-use Rattle.account_rule.specs.TokenRules.{TokenRules, TransferRules}
-use Rattle.account_rule.specs.Trips.{continues, last_tap, rides, trips}
+use Rattle.account_rule.specs.{TokenRules.TokenRules, TokenRules.TransferRules, Trips.continues}
+use Rattle.account_rule.specs.{Trips.last_tap, Trips.rides, Trips.trips, declared.tap.TapIn.TapIn}
+use Rattle.std.specs.List.{flat_map}
 
 -- the rides of trips and of rows, of which the first has begun
 abbrev of_trips : TransferRules → List LiveTap → List LiveTap → List LiveTap

@@ -1,22 +1,18 @@
 -- That higher terms are never cheaper, and that equal fares are charged by their places.
 use Rattle.std.proofs.Common.{◌≡◌, ℕ, zero, suc, ◌+◌, ◌-◌, ◌*◌, ◌<◌, ◌≤◌, true, false, List, []}
 use Rattle.std.proofs.Common.{◌∷◌, min, leb, ltb, Some, refl, sym, ap, ◌∙◌, inl, inr, arith, subst}
-use Rattle.std.specs.Prelude.{slice_get, sum_by}
-use Rattle.std.proofs.lemmas.Bool.{cases_lt, le-leb, lt-leb, lt-ltb}
-use Rattle.std.proofs.lemmas.List.Sums.{sum_by-cons, sum_by-le-sum_by}
-use Rattle.std.proofs.Math.Nat.{zero-add}
-use Rattle.tariffs.specs.declared.terms.Terms.{Terms}
-use Rattle.account_rule.specs.declared.reason.Charge.{Charge}
-use Rattle.account_rule.specs.declared.tap.TapIn.{TapIn}
-use Rattle.account_rule.specs.Laws.{AreNoHigher, IsOfPosition, position_cents, with_terms}
-use Rattle.account_rule.specs.Replies.{replies}
-use Rattle.account_rule.specs.TokenRules.{TokenRules}
-use Rattle.account_rule.specs.Taps.{LiveTap}
-use Rattle.account_rule.specs.Trips.{rides, trips}
-use Rattle.account_rule.specs.Windows.{charge, charged_by, charges, charges_after}
-use Rattle.account_rule.specs.Windows.{window_cents, windows}
 use Rattle.account_rule.proofs.LimitLemmas.{charged}
 use Rattle.account_rule.proofs.ShareLemmas.{cents_measure, sum-replies}
+use Rattle.account_rule.specs.Laws.{AreNoHigher, IsOfPosition, position_cents, with_terms}
+use Rattle.account_rule.specs.{Replies.replies, Taps.LiveTap, TokenRules.TokenRules, Trips.rides}
+use Rattle.account_rule.specs.{Trips.trips, Windows.charge}
+use Rattle.account_rule.specs.Windows.{charged_by, charges, charges_after, window_cents, windows}
+use Rattle.account_rule.specs.declared.{reason.Charge.Charge, tap.TapIn.TapIn}
+use Rattle.std.proofs.Math.Nat.{zero-add}
+use Rattle.std.proofs.lemmas.Bool.{cases_lt, le-leb, lt-leb, lt-ltb}
+use Rattle.std.proofs.lemmas.List.Sums.{sum_by-cons, sum_by-le-sum_by}
+use Rattle.std.specs.Prelude.{slice_get, sum_by}
+use Rattle.tariffs.specs.declared.terms.Terms.{Terms}
 
 -- ---- higher terms
 -- one ride: what was charged so far and it are no less under higher terms

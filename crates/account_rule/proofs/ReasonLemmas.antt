@@ -2,35 +2,30 @@
 use Rattle.std.proofs.Common.{◌≡◌, ℕ, Bool, ◌-◌, ◌<◌, ◌≤◌, true, false, cond, List, [], ◌∷◌, ◌++◌}
 use Rattle.std.proofs.Common.{max, ltb, Option, Some, None, refl, sym, ap, ◌∙◌, inl, inr, arith}
 use Rattle.std.proofs.Common.{append_assoc, append-nil, is_some, option_map, filter}
-use Rattle.std.specs.List.{last_or, list_all}
-use Rattle.std.specs.Option.{option_and_then}
-use Rattle.std.proofs.lemmas.Bool.{cases_Bool, cases_lt, ltb-false, ltb-true, lt-ltb, le-ltb}
-use Rattle.tariffs.specs.Terms.{AreBoundedTerms}
-use Rattle.tariffs.specs.declared.mode.Mode.{Mode}
-use Rattle.tariffs.specs.declared.terms.Terms.{Terms}
-use Rattle.account_rule.specs.declared.reason.Charge.{Charge}
-use Rattle.account_rule.specs.declared.reason.Reason.TheVariants.{Unknown, Stale, Transfer, Ride}
-use Rattle.account_rule.specs.declared.reason.Reason.{Reason}
-use Rattle.account_rule.specs.declared.reply.Answer.TheVariants as answer
-use Rattle.account_rule.specs.declared.tap.TapIn.{TapIn}
-use Rattle.account_rule.specs.declared.window.Window.{Window}
-use Rattle.account_rule.specs.Trips.{TripEnd, continues, ends_in_transfer, last_tap, last_trip}
-use Rattle.account_rule.specs.Trips.{trip_of, trips}
-use Rattle.account_rule.specs.Blocks.{blocks_by, blocks_from, last_block}
-use Rattle.account_rule.specs.Kept.{Kept, is_after, kept_trip, kept_window}
-use Rattle.account_rule.specs.inside.Kept.{gives, next_reason, open_window, window_at}
-use Rattle.account_rule.specs.Reasons.{given_by, latest, live_reason, reason, replied_by, ride_by}
-use Rattle.account_rule.specs.Reasons.{ride_of}
-use Rattle.account_rule.specs.Replies.{live_reply, reply, reply_with, ride_reply}
-use Rattle.account_rule.specs.TokenRules.{TokenRules, TransferRules}
-use Rattle.account_rule.specs.Represents.{KeepsOf, window_of}
-use Rattle.account_rule.specs.Taps.{LiveTap, is_later, live, live_at, live_tap}
-use Rattle.account_rule.specs.Windows.{charge, charges, is_within, paid_by, windows}
 use Rattle.account_rule.proofs.LimitLemmas.{last_charge-push}
 use Rattle.account_rule.proofs.StepLemmas.{GivesNone, is_live, reply_live, reply_ride, reply_stale}
 use Rattle.account_rule.proofs.StepLemmas.{reply_transfer, reply_unknown}
 use Rattle.account_rule.proofs.TapLemmas.{ends_in_transfer-push, last_window-ride}
 use Rattle.account_rule.proofs.WindowLemmas.{after_ride, charge-after, numbers}
+use Rattle.account_rule.specs.{Blocks.blocks_by, Blocks.blocks_from, Blocks.last_block, Kept.Kept}
+use Rattle.account_rule.specs.{Kept.is_after, Kept.kept_trip, Kept.kept_window, Reasons.given_by}
+use Rattle.account_rule.specs.Reasons.{latest, live_reason, reason, replied_by, ride_by, ride_of}
+use Rattle.account_rule.specs.Replies.{live_reply, reply, reply_with, ride_reply}
+use Rattle.account_rule.specs.Represents.{KeepsOf, window_of}
+use Rattle.account_rule.specs.Taps.{LiveTap, is_later, live, live_at, live_tap}
+use Rattle.account_rule.specs.TokenRules.{TokenRules, TransferRules}
+use Rattle.account_rule.specs.Trips.{TripEnd, continues, ends_in_transfer, last_tap, last_trip}
+use Rattle.account_rule.specs.Trips.{trip_of, trips}
+use Rattle.account_rule.specs.Windows.{charge, charges, is_within, paid_by, windows}
+use Rattle.account_rule.specs.declared.reason.{Charge.Charge, Reason.Reason}
+use Rattle.account_rule.specs.declared.reason.Reason.TheVariants.{Unknown, Stale, Transfer, Ride}
+use Rattle.account_rule.specs.declared.{tap.TapIn.TapIn, window.Window.Window}
+use Rattle.account_rule.specs.inside.Kept.{gives, next_reason, open_window, window_at}
+use Rattle.std.proofs.lemmas.Bool.{cases_Bool, cases_lt, ltb-false, ltb-true, lt-ltb, le-ltb}
+use Rattle.std.specs.{List.last_or, List.list_all, Option.option_and_then}
+use Rattle.tariffs.specs.Terms.{AreBoundedTerms}
+use Rattle.tariffs.specs.declared.{mode.Mode.Mode, terms.Terms.Terms}
+use Rattle.account_rule.specs.declared.reply.Answer.TheVariants as answer
 
 -- the reason by the kind of the tap
 

@@ -2,33 +2,27 @@
 use Rattle.std.proofs.Common.{◌≡◌, ℕ, ◌+◌, Bool, true, false, cond, List, [], ◌∷◌, ◌++◌, Option}
 use Rattle.std.proofs.Common.{Some, None, refl, sym, ap, ◌∙◌, append_assoc, append-nil, arith}
 use Rattle.std.proofs.Common.{filter, map, ⊎_elim, sum_by}
-use Rattle.std.specs.List.{flat_map, last_or}
-use Rattle.std.specs.Option.{option_and_then}
-use Rattle.std.proofs.lemmas.Bool.{cases_Bool}
-use Rattle.std.proofs.lemmas.List.{map-append}
-use Rattle.std.proofs.lemmas.List.Elements.{filter-append}
-use Rattle.std.proofs.lemmas.List.Sums.{sum_by-cons, sum_by_push}
-use Rattle.tariffs.specs.declared.terms.Terms.{Terms}
-use Rattle.account_rule.specs.declared.reason.Charge.{Charge}
-use Rattle.account_rule.specs.declared.reason.Charge.TheVariants.{CeilingCut, CeilingReached, Full}
-use Rattle.account_rule.specs.declared.reason.Charge.TheVariants.{RideLimitReached}
-use Rattle.account_rule.specs.declared.reply.Answer.TheVariants.{Stale, Transfer, Unknown}
-use Rattle.account_rule.specs.declared.reply.Reply.{Reply}
-use Rattle.account_rule.specs.declared.tap.TapIn.{TapIn}
-use Rattle.account_rule.specs.Trips.{ends_in_transfer, rides, trips}
-use Rattle.account_rule.specs.Blocks.{blocks_by, last_block}
-use Rattle.account_rule.specs.Laws.{charge_reply, is_paid_reply, is_ride}
-use Rattle.account_rule.specs.Replies.{live_reply, replies, replies_after, reply, reply_with}
-use Rattle.account_rule.specs.Replies.{ride_reply}
-use Rattle.account_rule.specs.TokenRules.{TokenRules}
-use Rattle.account_rule.specs.Taps.{LiveTap, is_later, live, live_after, live_at, live_tap}
-use Rattle.account_rule.specs.Windows.{charged_by, charges, charges_after, is_paid, is_within}
-use Rattle.account_rule.specs.Windows.{paid_by, paid_rides, window_cents, windows}
 use Rattle.account_rule.proofs.BlockLemmas.{extend, last_block-cons}
 use Rattle.account_rule.proofs.LimitLemmas.{cents-push, charges-push, last_charge-push, paid-push}
 use Rattle.account_rule.proofs.StepLemmas.{is_live, not_known, not_later, reply_live, reply_ride}
 use Rattle.account_rule.proofs.StepLemmas.{reply_stale, reply_transfer, reply_unknown}
 use Rattle.account_rule.proofs.TapLemmas.{windows-ride, windows-same, windows-transfer}
+use Rattle.account_rule.specs.{Blocks.blocks_by, Blocks.last_block, Laws.charge_reply}
+use Rattle.account_rule.specs.{Laws.is_paid_reply, Laws.is_ride, Replies.live_reply}
+use Rattle.account_rule.specs.Replies.{replies, replies_after, reply, reply_with, ride_reply}
+use Rattle.account_rule.specs.Taps.{LiveTap, is_later, live, live_after, live_at, live_tap}
+use Rattle.account_rule.specs.{TokenRules.TokenRules, Trips.ends_in_transfer, Trips.rides}
+use Rattle.account_rule.specs.{Trips.trips, Windows.charged_by, Windows.charges}
+use Rattle.account_rule.specs.Windows.{charges_after, is_paid, is_within, paid_by, paid_rides}
+use Rattle.account_rule.specs.{Windows.window_cents, Windows.windows, declared.reason.Charge.Charge}
+use Rattle.account_rule.specs.declared.reason.Charge.TheVariants.{CeilingCut, CeilingReached, Full}
+use Rattle.account_rule.specs.declared.reason.Charge.TheVariants.{RideLimitReached}
+use Rattle.account_rule.specs.declared.reply.Answer.TheVariants.{Stale, Transfer, Unknown}
+use Rattle.account_rule.specs.declared.{reply.Reply.Reply, tap.TapIn.TapIn}
+use Rattle.std.proofs.lemmas.{Bool.cases_Bool, List.map-append, List.Elements.filter-append}
+use Rattle.std.proofs.lemmas.List.Sums.{sum_by-cons, sum_by_push}
+use Rattle.std.specs.{List.flat_map, List.last_or, Option.option_and_then}
+use Rattle.tariffs.specs.declared.terms.Terms.{Terms}
 
 replies_after-push : (rules : TokenRules) (earlier taps : List TapIn) (tap : TapIn)
     → replies_after rules earlier (taps ++ tap ∷ []) ≡ replies_after rules earlier taps

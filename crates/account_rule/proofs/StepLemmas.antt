@@ -1,43 +1,33 @@
 -- What each kind of tap does to the account and the rule alike: the reply is the rule's, and the
 -- account then stands
 -- for the longer list.
-use Rattle.std.proofs.Common.{◌≡◌, ℕ, ◌+◌, ◌<◌, ◌≤◌, true, false, ◌&&◌, cond, List, [], ◌∷◌}
-use Rattle.std.proofs.Common.{◌++◌, Option, Some, None, refl, sym, ap, ◌∙◌, subst, arith, ltb}
-use Rattle.std.proofs.Common.{Bool, is_some, length, option_map}
-use Rattle.std.specs.List.{last_or}
-use Rattle.std.specs.Option.{option_and_then}
-use Rattle.std.proofs.lemmas.Bool.{ltb-true, lt-ltb, le-ltb}
-use Rattle.std.proofs.Math.Bool.{and-true}
-use Rattle.tariffs.specs.ClockView.{ClockView}
-use Rattle.tariffs.specs.Fares.{Fares, class_of, meaning_at, ride_terms}
-use Rattle.tariffs.specs.TableMeaning.{TableMeaning}
-use Rattle.tariffs.specs.Until.{window_end_in}
-use Rattle.tariffs.specs.declared.mode.Mode.{Mode}
-use Rattle.tariffs.specs.Terms.{AreBoundedTerms}
-use Rattle.tariffs.specs.declared.terms.Terms.{Terms}
-use Rattle.account_rule.specs.declared.account.Account.{Account}
-use Rattle.account_rule.specs.declared.reply.Answer.TheVariants.{Transfer, Stale, Unknown}
-use Rattle.account_rule.specs.declared.reply.Reply.{Reply}
-use Rattle.account_rule.specs.declared.tap.TapIn.{TapIn}
-use Rattle.account_rule.specs.declared.window.Window.{Window}
-use Rattle.account_rule.specs.Trips.{TripEnd, ends_in_transfer, last_trip}
-use Rattle.account_rule.specs.Blocks.{last_block}
-use Rattle.account_rule.specs.Replies.{live_reply, reply, reply_with, ride_reply}
-use Rattle.account_rule.specs.TokenRules.{TokenRules, TransferRules, permits_of, rules_of}
-use Rattle.account_rule.specs.TokenRules.{token_class, transfers_of}
-use Rattle.account_rule.specs.NoTransfers.{no_transfer_from}
-use Rattle.account_rule.specs.Kept.{IsClass, IsRoomy, Kept, kept_numbers, is_after, kept_of}
-use Rattle.account_rule.specs.Kept.{kept_trip, kept_window}
-use Rattle.account_rule.specs.inside.Kept.{gives, kept_under, known_tap, open_window}
-use Rattle.account_rule.specs.inside.Kept.{reply_under}
-use Rattle.account_rule.specs.inside.Kept.{transfers_in, window_at, window_under, with_ride}
-use Rattle.account_rule.specs.Represents.{KeepsOf, Represents, window_of}
-use Rattle.account_rule.specs.Taps.{LiveTap, is_later, live_at, live_tap}
-use Rattle.account_rule.specs.Windows.{charge, charges, paid_by, windows}
+use Rattle.std.proofs.Common.{◌≡◌, ℕ, ◌+◌, ◌<◌, ◌≤◌, true, false, ◌&&◌, cond, List, [], ◌∷◌, ◌++◌}
+use Rattle.std.proofs.Common.{Option, Some, None, refl, sym, ap, ◌∙◌, subst, arith, ltb, Bool}
+use Rattle.std.proofs.Common.{is_some, length, option_map}
 use Rattle.account_rule.proofs.TapLemmas.{ends_in_transfer-push, is_later-push, last_window-ride}
 use Rattle.account_rule.proofs.TapLemmas.{trip-push, trip-same, windows-same, windows-transfer}
 use Rattle.account_rule.proofs.WindowLemmas.{charge-after, room-at, room-open, room-ride}
 use Rattle.account_rule.proofs.WindowLemmas.{window_of-after}
+use Rattle.account_rule.specs.{Blocks.last_block, Kept.IsClass, Kept.IsRoomy}
+use Rattle.account_rule.specs.Kept.{Kept, kept_numbers, is_after, kept_of, kept_trip, kept_window}
+use Rattle.account_rule.specs.{NoTransfers.no_transfer_from, Replies.live_reply, Replies.reply}
+use Rattle.account_rule.specs.{Replies.reply_with, Replies.ride_reply, Represents.KeepsOf}
+use Rattle.account_rule.specs.{Represents.Represents, Represents.window_of, Taps.LiveTap}
+use Rattle.account_rule.specs.{Taps.is_later, Taps.live_at, Taps.live_tap, TokenRules.TokenRules}
+use Rattle.account_rule.specs.TokenRules.{TransferRules, permits_of, rules_of, token_class}
+use Rattle.account_rule.specs.{TokenRules.transfers_of, Trips.TripEnd, Trips.ends_in_transfer}
+use Rattle.account_rule.specs.{Trips.last_trip, Windows.charge, Windows.charges, Windows.paid_by}
+use Rattle.account_rule.specs.{Windows.windows, declared.account.Account.Account}
+use Rattle.account_rule.specs.declared.reply.Answer.TheVariants.{Transfer, Stale, Unknown}
+use Rattle.account_rule.specs.declared.{reply.Reply.Reply, tap.TapIn.TapIn, window.Window.Window}
+use Rattle.account_rule.specs.inside.Kept.{gives, kept_under, known_tap, open_window, reply_under}
+use Rattle.account_rule.specs.inside.Kept.{transfers_in, window_at, window_under, with_ride}
+use Rattle.std.proofs.Math.Bool.{and-true}
+use Rattle.std.proofs.lemmas.Bool.{ltb-true, lt-ltb, le-ltb}
+use Rattle.std.specs.{List.last_or, Option.option_and_then}
+use Rattle.tariffs.specs.{ClockView.ClockView, Fares.Fares, Fares.class_of, Fares.meaning_at}
+use Rattle.tariffs.specs.{Fares.ride_terms, TableMeaning.TableMeaning, Terms.AreBoundedTerms}
+use Rattle.tariffs.specs.{Until.window_end_in, declared.mode.Mode.Mode, declared.terms.Terms.Terms}
 
 -- an account with a window keeps what stands in its fields
 pub kept-open : (account : Account) → account.has_window ≡ true

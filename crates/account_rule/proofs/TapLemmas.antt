@@ -2,22 +2,16 @@
 use Rattle.std.proofs.Common.{◌≡◌, ℕ, suc, ◌+◌, Bool, true, false, not, ◌&&◌, ◌||◌, cond, List, []}
 use Rattle.std.proofs.Common.{◌∷◌, ◌++◌, length, Option, Some, None, refl, sym, ap, ◌∙◌}
 use Rattle.std.proofs.Common.{append_assoc, append-nil, nat_lt, is_some, filter, arith}
-use Rattle.std.specs.List.{list_all}
-use Rattle.std.specs.Option.{option_to_list}
-use Rattle.std.proofs.lemmas.Bool.{lt-ltb}
-use Rattle.std.proofs.lemmas.List.Elements.{filter-append}
-use Rattle.std.proofs.lemmas.List.Folds.{list_all-append}
-use Rattle.std.proofs.Math.Bool.{and-true}
-use Rattle.account_rule.specs.declared.tap.TapIn.{TapIn}
-use Rattle.account_rule.specs.Trips.{TripEnd, continues, ends_in_transfer, last_tap, last_trip}
-use Rattle.account_rule.specs.Trips.{rides, trip_of, trips}
-use Rattle.account_rule.specs.Blocks.{last_block}
-use Rattle.account_rule.specs.TokenRules.{TokenRules}
-use Rattle.account_rule.specs.inside.Kept.{gives}
-use Rattle.account_rule.specs.Taps.{LiveTap, is_later, live, live_after, live_tap}
-use Rattle.account_rule.specs.Windows.{is_within, windows}
 use Rattle.account_rule.proofs.BlockLemmas.{blocks_by-push, extend, firsts-extend}
 use Rattle.account_rule.proofs.BlockLemmas.{last_block-extend, length-push}
+use Rattle.account_rule.specs.{Blocks.last_block, Taps.LiveTap, Taps.is_later, Taps.live}
+use Rattle.account_rule.specs.{Taps.live_after, Taps.live_tap, TokenRules.TokenRules, Trips.TripEnd}
+use Rattle.account_rule.specs.Trips.{continues, ends_in_transfer, last_tap, last_trip, rides}
+use Rattle.account_rule.specs.{Trips.trip_of, Trips.trips, Windows.is_within, Windows.windows}
+use Rattle.account_rule.specs.{declared.tap.TapIn.TapIn, inside.Kept.gives}
+use Rattle.std.proofs.Math.Bool.{and-true}
+use Rattle.std.proofs.lemmas.{Bool.lt-ltb, List.Elements.filter-append, List.Folds.list_all-append}
+use Rattle.std.specs.{List.list_all, Option.option_to_list}
 
 -- a tap bounds what is later, if it is known
 pub is_later-push : (taps : List TapIn) (tap : TapIn) (moment : ℕ)

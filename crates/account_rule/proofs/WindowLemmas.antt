@@ -1,23 +1,17 @@
 -- The window that an account keeps, and the window of the rule.
 use Rattle.std.proofs.Common.{◌≡◌, ℕ, suc, ◌+◌, ◌≤◌, true, false, cond, List, [], ◌∷◌, ◌++◌, length}
-use Rattle.std.proofs.Common.{min, ltb, Some, None, option_map, IfSome, refl, ap, arith}
-use Rattle.std.proofs.Common.{inl, inr, All}
-use Rattle.std.specs.List.{last_or}
-use Rattle.tariffs.specs.Terms.{AreBoundedTerms}
-use Rattle.tariffs.specs.declared.terms.Terms.{Terms}
-use Rattle.account_rule.specs.declared.window.Window.{Window}
-use Rattle.account_rule.specs.Kept.{IsRoomy}
-use Rattle.account_rule.specs.TokenRules.{TokenRules}
-use Rattle.account_rule.specs.inside.Kept.{open_window, shown_of, window_at, with_ride}
-use Rattle.account_rule.specs.Represents.{window_of}
-use Rattle.account_rule.specs.Taps.{LiveTap}
-use Rattle.account_rule.specs.Windows.{charge, charges, charges_after, is_paid, is_within}
-use Rattle.account_rule.specs.Windows.{paid_rides}
-use Rattle.account_rule.specs.Windows.{shown_window, window_cents}
+use Rattle.std.proofs.Common.{min, ltb, Some, None, option_map, IfSome, refl, ap, arith, inl, inr}
+use Rattle.std.proofs.Common.{All}
 use Rattle.account_rule.proofs.BlockLemmas.{length-push}
 use Rattle.account_rule.proofs.LimitLemmas.{cents-push, charge-min, charged, last_charge-push}
-use Rattle.account_rule.proofs.LimitLemmas.{limit_from}
-use Rattle.account_rule.proofs.LimitLemmas.{paid-push, paid_rides-le, window_cents-le}
+use Rattle.account_rule.proofs.LimitLemmas.{limit_from, paid-push, paid_rides-le, window_cents-le}
+use Rattle.account_rule.specs.{Kept.IsRoomy, Represents.window_of, Taps.LiveTap}
+use Rattle.account_rule.specs.{TokenRules.TokenRules, Windows.charge, Windows.charges}
+use Rattle.account_rule.specs.Windows.{charges_after, is_paid, is_within, paid_rides, shown_window}
+use Rattle.account_rule.specs.{Windows.window_cents, declared.window.Window.Window}
+use Rattle.account_rule.specs.inside.Kept.{open_window, shown_of, window_at, with_ride}
+use Rattle.std.specs.List.{last_or}
+use Rattle.tariffs.specs.{Terms.AreBoundedTerms, declared.terms.Terms.Terms}
 
 counted : (rides : ℕ) → min (min rides 60_000 + 1) 60_000 ≡ min (suc rides) 60_000
 counted rides = omega arith

@@ -1,13 +1,9 @@
 -- What rules reply alike that say the same of each tap, and that a table waits for its date.
+use Rattle.account_rule.specs.{Replies.replies, Taps.LiveTap, Taps.live_at, TokenRules.TokenRules}
+use Rattle.account_rule.specs.{TokenRules.rules_of, declared.tap.TapIn.TapIn}
 use Rattle.std.specs.Prelude.{◌≡◌, ℕ, ◌<◌, List, Some, All}
-use Rattle.tariffs.specs.Fares.{Fares}
-use Rattle.tariffs.specs.Following.{with_next}
-use Rattle.tariffs.specs.TableMeaning.{TableMeaning}
+use Rattle.tariffs.specs.{Fares.Fares, Following.with_next, TableMeaning.TableMeaning}
 use Rattle.tariffs.specs.declared.mode.Mode.{Mode}
-use Rattle.account_rule.specs.Replies.{replies}
-use Rattle.account_rule.specs.TokenRules.{TokenRules, rules_of}
-use Rattle.account_rule.specs.Taps.{LiveTap, live_at}
-use Rattle.account_rule.specs.declared.tap.TapIn.{TapIn}
 
 -- both rules say the same of the tap
 pub record AgreeAt (rules other : TokenRules) (tap : LiveTap) : Type 0 where

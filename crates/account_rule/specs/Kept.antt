@@ -1,12 +1,8 @@
 -- What an account keeps, and what its private functions make of it.
+use Rattle.account_rule.specs.{Taps.LiveTap, Taps.live_at, TokenRules.TokenRules, Trips.TripEnd}
+use Rattle.account_rule.specs.declared.{account.Account.Account, window.Window.Window}
 use Rattle.std.specs.Prelude.{◌≡◌, ℕ, ◌<◌, ◌≤◌, Bool, true, if◌then◌else◌, nat_lt, Option, Some}
-use Rattle.std.specs.Prelude.{None}
-use Rattle.std.specs.Prelude.{option_map}
-use Rattle.account_rule.specs.declared.account.Account.{Account}
-use Rattle.account_rule.specs.declared.window.Window.{Window}
-use Rattle.account_rule.specs.Taps.{LiveTap, live_at}
-use Rattle.account_rule.specs.TokenRules.{TokenRules}
-use Rattle.account_rule.specs.Trips.{TripEnd}
+use Rattle.std.specs.Prelude.{None, option_map}
 
 -- what is kept from the first live tap on, which is a ride and so opens a window
 pub record Kept : Type 0 where

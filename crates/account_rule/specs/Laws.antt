@@ -1,23 +1,17 @@
 -- What holds of the trips and the windows of every list of taps.
-use Rattle.std.specs.Prelude.{◌≡◌, ◌↔◌, ℕ, ◌-◌, ◌*◌, ◌≤◌, Bool, true, false, ◌||◌, List, [], ◌∷◌}
-use Rattle.std.specs.Prelude.{◌++◌}
-use Rattle.std.specs.Prelude.{nat_le, nat_lt, if◌then◌else◌, filter, map, All, sum_by, count_by}
-use Rattle.std.specs.Prelude.{max, min, slice_get, Some}
-use Rattle.std.specs.List.{flat_map}
-use Rattle.tariffs.specs.declared.terms.Terms.{Terms}
-use Rattle.account_rule.specs.declared.reason.Charge.{Charge}
-use Rattle.account_rule.specs.declared.reply.Answer.{Answer}
-use Rattle.account_rule.specs.declared.reply.Answer.TheVariants.{Paid, Transfer, Capped, Stale}
-use Rattle.account_rule.specs.declared.reply.Answer.TheVariants.{Unknown}
-use Rattle.account_rule.specs.declared.reply.Reply.{Reply}
-use Rattle.account_rule.specs.declared.tap.TapIn.{TapIn}
+use Rattle.account_rule.specs.{Blocks.AreBlocksOf, Replies.replies, Replies.ride_reply}
+use Rattle.account_rule.specs.{Taps.LiveTap, Taps.live, TokenRules.TokenRules}
 use Rattle.account_rule.specs.Trips.{continues, rides, trips}
-use Rattle.account_rule.specs.Blocks.{AreBlocksOf}
-use Rattle.account_rule.specs.Replies.{replies, ride_reply}
-use Rattle.account_rule.specs.TokenRules.{TokenRules}
-use Rattle.account_rule.specs.Taps.{LiveTap, live}
 use Rattle.account_rule.specs.Windows.{charged_by, charges, is_paid, is_within, paid_by, paid_rides}
-use Rattle.account_rule.specs.Windows.{window_cents, windows}
+use Rattle.account_rule.specs.{Windows.window_cents, Windows.windows, declared.reason.Charge.Charge}
+use Rattle.account_rule.specs.declared.reply.Answer.{Answer, TheVariants.Paid}
+use Rattle.account_rule.specs.declared.reply.Answer.TheVariants.{Transfer, Capped, Stale, Unknown}
+use Rattle.account_rule.specs.declared.{reply.Reply.Reply, tap.TapIn.TapIn}
+use Rattle.std.specs.List.{flat_map}
+use Rattle.std.specs.Prelude.{◌≡◌, ◌↔◌, ℕ, ◌-◌, ◌*◌, ◌≤◌, Bool, true, false, ◌||◌, List, [], ◌∷◌}
+use Rattle.std.specs.Prelude.{◌++◌, nat_le, nat_lt, if◌then◌else◌, filter, map, All, sum_by}
+use Rattle.std.specs.Prelude.{count_by, max, min, slice_get, Some}
+use Rattle.tariffs.specs.declared.terms.Terms.{Terms}
 
 -- the trips are the only blocks into which transfers divide the live taps
 abbrev pub TripsAreTheOnlyBlocks : Type 0

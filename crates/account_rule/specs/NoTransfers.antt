@@ -1,19 +1,16 @@
 -- Why a ride is not a transfer, over the whole list of its token's earlier taps.
-use Rattle.std.specs.Prelude.{◌≡◌, ℕ, ◌-◌, ◌<◌, ◌≤◌, false, if◌then◌else◌, List, []}
-use Rattle.std.specs.Prelude.{Option, Some, None, nat_eq, nat_le, nat_lt}
-use Rattle.tariffs.specs.declared.mode.Mode.{Mode}
-use Rattle.account_rule.specs.declared.no_transfer.NoTransfer.{NoTransfer}
-use Rattle.account_rule.specs.declared.no_transfer.NoTransfer.TheVariants.{FirstTap, TooLate}
-use Rattle.account_rule.specs.declared.no_transfer.NoTransfer.TheVariants.{AfterTransfer, NoneGiven}
-use Rattle.account_rule.specs.declared.no_transfer.NoTransfer.TheVariants.{NotPermitted}
-use Rattle.account_rule.specs.declared.no_transfer.NoTransfer.TheVariants.{RideTooLate}
-use Rattle.account_rule.specs.declared.reason.Charge.{Charge}
-use Rattle.account_rule.specs.declared.reason.Reason.TheVariants.{Ride}
-use Rattle.account_rule.specs.declared.tap.TapIn.{TapIn}
-use Rattle.account_rule.specs.Reasons.{reason}
+use Rattle.account_rule.specs.{Reasons.reason, Taps.LiveTap, Taps.live, Taps.live_at}
 use Rattle.account_rule.specs.TokenRules.{TokenRules, TransferRules}
 use Rattle.account_rule.specs.Trips.{TripEnd, last_trip}
-use Rattle.account_rule.specs.Taps.{LiveTap, live, live_at}
+use Rattle.account_rule.specs.declared.no_transfer.NoTransfer.{NoTransfer, TheVariants.FirstTap}
+use Rattle.account_rule.specs.declared.no_transfer.NoTransfer.TheVariants.{TooLate, AfterTransfer}
+use Rattle.account_rule.specs.declared.no_transfer.NoTransfer.TheVariants.{NoneGiven, NotPermitted}
+use Rattle.account_rule.specs.declared.no_transfer.NoTransfer.TheVariants.{RideTooLate}
+use Rattle.account_rule.specs.declared.reason.{Charge.Charge, Reason.TheVariants.Ride}
+use Rattle.account_rule.specs.declared.tap.TapIn.{TapIn}
+use Rattle.std.specs.Prelude.{◌≡◌, ℕ, ◌-◌, ◌<◌, ◌≤◌, false, if◌then◌else◌, List, [], Option, Some}
+use Rattle.std.specs.Prelude.{None, nat_eq, nat_le, nat_lt}
+use Rattle.tariffs.specs.declared.mode.Mode.{Mode}
 
 -- why a trip that gives no more transfers gives none: it gave its last one, or gives none at all
 abbrev pub spent_from : TripEnd → NoTransfer

@@ -1,12 +1,9 @@
 -- If each ride gives one transfer: taps in a row are linked or not, and in each longest row of
 -- linked taps every second one is a transfer.
-use Rattle.std.specs.Prelude.{◌≡◌, ◌-◌, Bool, false, ◌&&◌, List, [], ◌∷◌, nat_le}
+use Rattle.account_rule.specs.{Blocks.blocks_by, Taps.LiveTap, Taps.live, TokenRules.TokenRules}
+use Rattle.account_rule.specs.{TokenRules.TransferRules, Trips.rides, declared.tap.TapIn.TapIn}
 use Rattle.std.specs.List.{flat_map}
-use Rattle.account_rule.specs.declared.tap.TapIn.{TapIn}
-use Rattle.account_rule.specs.Blocks.{blocks_by}
-use Rattle.account_rule.specs.Taps.{LiveTap, live}
-use Rattle.account_rule.specs.TokenRules.{TokenRules, TransferRules}
-use Rattle.account_rule.specs.Trips.{rides}
+use Rattle.std.specs.Prelude.{◌≡◌, ◌-◌, Bool, false, ◌&&◌, List, [], ◌∷◌, nat_le}
 
 -- whether the next tap is within the time for transfers of the one before it, the limit included,
 -- and there is a transfer from the one's mode to the next

@@ -1,20 +1,15 @@
 -- Why a tap is answered as it is, over the whole list of its token's earlier taps.
-use Rattle.std.specs.Prelude.{◌≡◌, ℕ, if◌then◌else◌, List, [], ◌∷◌, ◌++◌, Option, Some}
-use Rattle.std.specs.Prelude.{None, is_some, max}
-use Rattle.std.specs.List.{last_or}
-use Rattle.tariffs.specs.declared.mode.Mode.{Mode}
-use Rattle.account_rule.specs.declared.reason.Charge.{Charge}
-use Rattle.account_rule.specs.declared.reason.Reason.{Reason}
+use Rattle.account_rule.specs.{Blocks.last_block, Replies.reply, Replies.reply_with}
+use Rattle.account_rule.specs.{Replies.ride_reply, Taps.LiveTap, Taps.is_later, Taps.live_at}
+use Rattle.account_rule.specs.{TokenRules.TokenRules, Trips.TripEnd, Trips.ends_in_transfer}
+use Rattle.account_rule.specs.{Trips.last_trip, Windows.charges, Windows.paid_by, Windows.windows}
+use Rattle.account_rule.specs.declared.reason.{Charge.Charge, Reason.Reason}
 use Rattle.account_rule.specs.declared.reason.Reason.TheVariants.{Unknown, Stale, Transfer, Ride}
+use Rattle.account_rule.specs.declared.{reply.Reply.Reply, tap.TapIn.TapIn}
+use Rattle.std.specs.{List.last_or, Prelude.◌≡◌, Prelude.ℕ}
+use Rattle.std.specs.Prelude.{if◌then◌else◌, List, [], ◌∷◌, ◌++◌, Option, Some, None, is_some, max}
+use Rattle.tariffs.specs.declared.mode.Mode.{Mode}
 use Rattle.account_rule.specs.declared.reply.Answer.TheVariants as answer
-use Rattle.account_rule.specs.declared.reply.Reply.{Reply}
-use Rattle.account_rule.specs.declared.tap.TapIn.{TapIn}
-use Rattle.account_rule.specs.Trips.{TripEnd, ends_in_transfer, last_trip}
-use Rattle.account_rule.specs.Blocks.{last_block}
-use Rattle.account_rule.specs.Replies.{reply, reply_with, ride_reply}
-use Rattle.account_rule.specs.TokenRules.{TokenRules}
-use Rattle.account_rule.specs.Taps.{LiveTap, is_later, live_at}
-use Rattle.account_rule.specs.Windows.{charges, paid_by, windows}
 
 -- the latest moment of the known taps
 unfoldable pub latest : List TapIn → ℕ

@@ -1,17 +1,12 @@
 -- The reply to each tap of a token, after the taps before it.
-use Rattle.std.specs.Prelude.{ℕ, if◌then◌else◌, List, [], ◌∷◌, ◌++◌, is_some, Option, Some, None}
-use Rattle.std.specs.List.{last_or}
-use Rattle.std.specs.Option.{option_and_then}
-use Rattle.account_rule.specs.declared.reply.Answer.{Answer}
-use Rattle.account_rule.specs.declared.reply.Answer.TheVariants.{Paid, Transfer, Capped, Stale}
-use Rattle.account_rule.specs.declared.reply.Answer.TheVariants.{Unknown}
-use Rattle.account_rule.specs.declared.reply.Reply.{Reply}
-use Rattle.account_rule.specs.declared.tap.TapIn.{TapIn}
+use Rattle.account_rule.specs.{Blocks.last_block, Taps.is_later, TokenRules.TokenRules}
 use Rattle.account_rule.specs.Trips.{ends_in_transfer}
-use Rattle.account_rule.specs.Blocks.{last_block}
-use Rattle.account_rule.specs.TokenRules.{TokenRules}
-use Rattle.account_rule.specs.Taps.{is_later}
 use Rattle.account_rule.specs.Windows.{charges, paid_by, windows}
+use Rattle.account_rule.specs.declared.reply.Answer.{Answer, TheVariants.Paid}
+use Rattle.account_rule.specs.declared.reply.Answer.TheVariants.{Transfer, Capped, Stale, Unknown}
+use Rattle.account_rule.specs.declared.{reply.Reply.Reply, tap.TapIn.TapIn}
+use Rattle.std.specs.{List.last_or, Option.option_and_then}
+use Rattle.std.specs.Prelude.{ℕ, if◌then◌else◌, List, [], ◌∷◌, ◌++◌, is_some, Option, Some, None}
 
 -- the reply of this answer and these cents
 unfoldable pub reply_with : Answer → ℕ → Reply

@@ -1,16 +1,12 @@
 -- Which lists of taps an account represents.
-use Rattle.std.specs.Prelude.{◌≡◌, ℕ, ◌<◌, ◌≤◌, List, [], ◌∷◌, length, min, Option, Some, None}
-use Rattle.std.specs.Option.{ForSome}
-use Rattle.account_rule.specs.declared.account.Account.{Account}
-use Rattle.account_rule.specs.declared.tap.TapIn.{TapIn}
-use Rattle.account_rule.specs.declared.window.Window.{Window}
-use Rattle.account_rule.specs.Trips.{last_trip}
-use Rattle.account_rule.specs.Blocks.{last_block}
-use Rattle.account_rule.specs.Kept.{IsClass, IsRoomy, Kept, is_after, kept_of, kept_trip}
-use Rattle.account_rule.specs.Kept.{kept_window}
-use Rattle.account_rule.specs.TokenRules.{TokenRules}
-use Rattle.account_rule.specs.Taps.{LiveTap, is_later}
+use Rattle.account_rule.specs.{Blocks.last_block, Kept.IsClass}
+use Rattle.account_rule.specs.Kept.{IsRoomy, Kept, is_after, kept_of, kept_trip, kept_window}
+use Rattle.account_rule.specs.{Taps.LiveTap, Taps.is_later, TokenRules.TokenRules, Trips.last_trip}
 use Rattle.account_rule.specs.Windows.{paid_rides, window_cents, windows}
+use Rattle.account_rule.specs.declared.{account.Account.Account, tap.TapIn.TapIn}
+use Rattle.account_rule.specs.declared.window.Window.{Window}
+use Rattle.std.specs.Option.{ForSome}
+use Rattle.std.specs.Prelude.{◌≡◌, ℕ, ◌<◌, ◌≤◌, List, [], ◌∷◌, length, min, Option, Some, None}
 
 -- the numbers of a window, with its rides counted up to the highest ride limit of a table
 unfoldable pub window_of : TokenRules → List LiveTap → Option Window

@@ -1,10 +1,9 @@
 -- A list of taps is all taps of one token, in the order in which they were posted.
+use Rattle.account_rule.specs.declared.tap.TapIn.{TapIn}
+use Rattle.std.specs.{List.list_all, Option.option_to_list}
 use Rattle.std.specs.Prelude.{ℕ, Bool, if◌then◌else◌, List, [], ◌∷◌, ◌++◌, Option, None, is_some}
 use Rattle.std.specs.Prelude.{option_map, filter, nat_lt}
-use Rattle.std.specs.List.{list_all}
-use Rattle.std.specs.Option.{option_to_list}
 use Rattle.tariffs.specs.declared.mode.Mode.{Mode}
-use Rattle.account_rule.specs.declared.tap.TapIn.{TapIn}
 
 -- whether the moment is greater than the moments of all known taps of the list
 unfoldable pub is_later : List TapIn → ℕ → Bool

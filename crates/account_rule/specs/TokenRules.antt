@@ -1,11 +1,9 @@
 -- What the rule takes from a fare table for the taps of one token.
-use Rattle.std.specs.Prelude.{ℕ, Bool, List, length}
-use Rattle.tariffs.specs.declared.mode.Mode.{Mode}
-use Rattle.tariffs.specs.declared.terms.Terms.{Terms}
-use Rattle.tariffs.specs.Fares.{Fares, class_of, is_permitted, meaning_at, ride_terms}
-use Rattle.tariffs.specs.Fares.{transfer_terms}
-use Rattle.tariffs.specs.Until.{until}
 use Rattle.account_rule.specs.Taps.{LiveTap}
+use Rattle.std.specs.Prelude.{ℕ, Bool, List, length}
+use Rattle.tariffs.specs.Fares.{Fares, class_of, is_permitted, meaning_at, ride_terms}
+use Rattle.tariffs.specs.{Fares.transfer_terms, Until.until}
+use Rattle.tariffs.specs.declared.{mode.Mode.Mode, terms.Terms.Terms}
 
 -- Which taps after a ride are its transfers. What it says of a tap may depend on the tap's moment
 -- and mode.

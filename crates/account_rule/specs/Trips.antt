@@ -1,11 +1,9 @@
 -- The trips of a token: each is a ride and the transfers that it gives.
-use Rattle.std.specs.Prelude.{ℕ, ◌-◌, Bool, false, ◌&&◌, List, [], ◌∷◌, length, nat_le, nat_lt}
-use Rattle.std.specs.Prelude.{Option, Some, None, take}
-use Rattle.std.specs.List.{flat_map}
-use Rattle.account_rule.specs.declared.tap.TapIn.{TapIn}
-use Rattle.account_rule.specs.Blocks.{blocks_by, last_block}
+use Rattle.account_rule.specs.{Blocks.blocks_by, Blocks.last_block, Taps.LiveTap, Taps.live}
 use Rattle.account_rule.specs.TokenRules.{TokenRules, TransferRules}
-use Rattle.account_rule.specs.Taps.{LiveTap, live}
+use Rattle.account_rule.specs.declared.tap.TapIn.{TapIn}
+use Rattle.std.specs.{List.flat_map, Prelude.ℕ, Prelude.◌-◌, Prelude.Bool, Prelude.false}
+use Rattle.std.specs.Prelude.{◌&&◌, List, [], ◌∷◌, length, nat_le, nat_lt, Option, Some, None, take}
 
 -- the last of a tap and those after it
 unfoldable pub last_tap : LiveTap → List LiveTap → LiveTap

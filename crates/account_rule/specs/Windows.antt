@@ -1,16 +1,12 @@
 -- The windows of a token's rides, and what the rides of a window cost.
-use Rattle.std.specs.Prelude.{ℕ, suc, ◌+◌, ◌-◌, Bool, false, if◌then◌else◌, List, [], ◌∷◌}
-use Rattle.std.specs.Prelude.{is_some, nat_lt, nat_le, Option, Some, None, sum_by, count_by}
-use Rattle.tariffs.specs.declared.terms.Terms.{Terms}
-use Rattle.account_rule.specs.declared.reason.Charge.{Charge}
+use Rattle.account_rule.specs.{Blocks.blocks_by, Blocks.last_block, Taps.LiveTap}
+use Rattle.account_rule.specs.{TokenRules.TokenRules, Trips.rides, declared.reason.Charge.Charge}
 use Rattle.account_rule.specs.declared.reason.Charge.TheVariants.{Full, CeilingCut, CeilingReached}
-use Rattle.account_rule.specs.declared.reason.Charge.TheVariants.{RideLimitReached}
-use Rattle.account_rule.specs.declared.tap.TapIn.{TapIn}
+use Rattle.account_rule.specs.declared.{reason.Charge.TheVariants.RideLimitReached, tap.TapIn.TapIn}
 use Rattle.account_rule.specs.declared.window.WindowView.{WindowView}
-use Rattle.account_rule.specs.Trips.{rides}
-use Rattle.account_rule.specs.Blocks.{blocks_by, last_block}
-use Rattle.account_rule.specs.TokenRules.{TokenRules}
-use Rattle.account_rule.specs.Taps.{LiveTap}
+use Rattle.std.specs.Prelude.{ℕ, suc, ◌+◌, ◌-◌, Bool, false, if◌then◌else◌, List, [], ◌∷◌, is_some}
+use Rattle.std.specs.Prelude.{nat_lt, nat_le, Option, Some, None, sum_by, count_by}
+use Rattle.tariffs.specs.declared.terms.Terms.{Terms}
 
 -- whether the ride is before the end of the window, which its first ride sets
 unfoldable pub is_within : (ℕ → ℕ) → List LiveTap → LiveTap → Bool

@@ -1,21 +1,19 @@
 //! The account of one token: its state, and its step.
 
-ghost use Rattle.std.specs.Prelude.{◌≡◌, ℕ, ◌+◌, ◌<◌, ◌≤◌, List, [], ◌∷◌, ◌++◌, length, All};
-ghost use Rattle.std.specs.Prelude.{IfSome, IsTrue, Some, false};
-ghost use Rattle.std.specs.Option.{ForSome};
-ghost use Rattle.tariffs.specs.Terms.{AreBoundedTerms};
-ghost use Rattle.tariffs.specs.Fares.{class_of, meaning_at, ride_terms};
-ghost use Rattle.tariffs.specs.Until.{window_end_in};
-ghost use Rattle.account_rule.specs.declared.tap.TapIn.{TapIn};
-ghost use Rattle.account_rule.specs.Replies.{reply, ride_reply};
-ghost use Rattle.account_rule.specs.TokenRules.{TokenRules, rules_of};
+ghost use Rattle.account_rule.specs.Blocks.{last_block};
 ghost use Rattle.account_rule.specs.Kept.{IsRoomy, kept_numbers, kept_of, kept_trip};
+ghost use Rattle.account_rule.specs.Replies.{reply, ride_reply};
+ghost use Rattle.account_rule.specs.Represents.{Represents, RepresentsSome};
+ghost use Rattle.account_rule.specs.{Taps.live_at, TokenRules.TokenRules, TokenRules.rules_of};
+ghost use Rattle.account_rule.specs.Windows.{charge, last_window, paid_by, windows};
+ghost use Rattle.account_rule.specs.declared.tap.TapIn.{TapIn};
 ghost use Rattle.account_rule.specs.inside.Kept.{gives, kept_under, known_tap, open_window};
 ghost use Rattle.account_rule.specs.inside.Kept.{reply_under, transfers_in, window_at, with_ride};
-ghost use Rattle.account_rule.specs.Represents.{Represents, RepresentsSome};
-ghost use Rattle.account_rule.specs.Blocks.{last_block};
-ghost use Rattle.account_rule.specs.Taps.{live_at};
-ghost use Rattle.account_rule.specs.Windows.{charge, last_window, paid_by, windows};
+ghost use Rattle.std.specs.Option.{ForSome};
+ghost use Rattle.std.specs.Prelude.{◌≡◌, ℕ, ◌+◌, ◌<◌, ◌≤◌, List, [], ◌∷◌, ◌++◌, length, All};
+ghost use Rattle.std.specs.Prelude.{IfSome, IsTrue, Some, false};
+ghost use Rattle.tariffs.specs.Fares.{class_of, meaning_at, ride_terms};
+ghost use Rattle.tariffs.specs.{Terms.AreBoundedTerms, Until.window_end_in};
 
 mod explain;
 

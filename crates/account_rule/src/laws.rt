@@ -1,15 +1,14 @@
 //! Theorems about every list of taps, each the contract of a function that does nothing.
 
 ghost use Rattle.account_rule.specs.Agreement.{AgreeingRulesReplyAlike, TablesWaitForTheirDate};
-ghost use Rattle.account_rule.specs.Reasons.{GiversAreRides, RepliesFollow};
-ghost use Rattle.account_rule.specs.Laws.{EqualFaresAreChargedByPositions, HigherTermsAreNeverCheaper};
-ghost use Rattle.account_rule.specs.Laws.{TripsAreTheOnlyBlocks, WindowsAreTheOnlyBlocks};
-ghost use Rattle.account_rule.specs.Laws.{WindowsGrowWithinLimits, WindowsKeepTheCeiling};
-ghost use Rattle.account_rule.specs.Laws.{WindowsKeepTheRideLimit};
+ghost use Rattle.account_rule.specs.Laws.{EqualFaresAreChargedByPositions};
+ghost use Rattle.account_rule.specs.Laws.{HigherTermsAreNeverCheaper, TripsAreTheOnlyBlocks};
+ghost use Rattle.account_rule.specs.Laws.{WindowsAreTheOnlyBlocks, WindowsGrowWithinLimits};
+ghost use Rattle.account_rule.specs.Laws.{WindowsKeepTheCeiling, WindowsKeepTheRideLimit};
 ghost use Rattle.account_rule.specs.Laws.{WindowsShareTheCents, WindowsShareThePaidRides};
-ghost use Rattle.account_rule.specs.Laws.{WindowsShareTheRides};
-ghost use Rattle.account_rule.specs.NoTransfers.{RidesLackTransfers};
+ghost use Rattle.account_rule.specs.{Laws.WindowsShareTheRides, NoTransfers.RidesLackTransfers};
 ghost use Rattle.account_rule.specs.OneTransfer.{TripsOfOneTransfer};
+ghost use Rattle.account_rule.specs.Reasons.{GiversAreRides, RepliesFollow};
 
 /// Only the trips divide live taps by transfers, and only the windows divide rides by window ends.
 pub fn only_blocks()

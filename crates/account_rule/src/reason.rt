@@ -1,8 +1,7 @@
 //! Why the rule replies to a tap as it does.
 
+ghost use Rattle.account_rule.specs.{Reasons.replied_by, Windows.charged_by, Windows.paid_by};
 ghost use Rattle.std.specs.Prelude.{◌≡◌};
-ghost use Rattle.account_rule.specs.Reasons.{replied_by};
-ghost use Rattle.account_rule.specs.Windows.{charged_by, paid_by};
 
 use crate::reply::{Answer, Reply};
 use tariffs::Mode;

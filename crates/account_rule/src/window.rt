@@ -1,12 +1,10 @@
 //! A window of rides, and what its next ride costs.
 
-ghost use Rattle.std.specs.Prelude.{◌≡◌, ℕ, ◌+◌, ◌<◌, ◌≤◌, IfSome, is_some, min, unwrap_or};
-ghost use Rattle.tariffs.specs.Terms.{AreBoundedTerms};
-ghost use Rattle.tariffs.specs.Until.{window_end_in};
-ghost use Rattle.account_rule.specs.Kept.{IsRoomy};
-ghost use Rattle.account_rule.specs.inside.Kept.{next_reason, open_window, shown_of, with_ride};
-ghost use Rattle.account_rule.specs.Laws.{position_cents};
+ghost use Rattle.account_rule.specs.{Kept.IsRoomy, Laws.position_cents};
 ghost use Rattle.account_rule.specs.Windows.{charge, charged_by, is_paid, paid_by};
+ghost use Rattle.account_rule.specs.inside.Kept.{next_reason, open_window, shown_of, with_ride};
+ghost use Rattle.std.specs.Prelude.{◌≡◌, ℕ, ◌+◌, ◌<◌, ◌≤◌, IfSome, is_some, min, unwrap_or};
+ghost use Rattle.tariffs.specs.{Terms.AreBoundedTerms, Until.window_end_in};
 
 use crate::reason::{Charge, Reason};
 use tariffs::{Clock, Tariff, Terms};

@@ -1,28 +1,20 @@
 -- Classes that are kept of riders.
 use Rattle.std.proofs.Common.{◌≡◌, ◌∙◌, ℕ, List, Bool, true, false, Option, Some, None, refl, sym}
-use Rattle.std.proofs.Common.{ap, subst, [], ◌∷◌, ◌++◌, ◌+◌, ◌<◌, All, add-one, arith, cond}
-use Rattle.std.proofs.Common.{drop, get_or, inl, inr, length, map, suc, take, zero}
-use Rattle.std.proofs.lemmas.Bool.{cases_lt}
-use Rattle.std.proofs.lemmas.List.{get_or-take, length-take, take_more}
-use Rattle.std.proofs.lemmas.Option.{get_or_from_slice_get, slice_get_within}
-use Rattle.tariffs.specs.TableMeaning.{TableMeaning}
-use Rattle.std.specs.Prelude.{is_some, nat_le, slice_get, option_map, if◌then◌else◌, string_bytes}
-use Rattle.std.specs.Prelude.{String}
-use Rattle.std.specs.BTreeMap.{BTreeMap, is_at}
-use Rattle.std.specs.Cmp.Lexicographic.{slice_cmp}
-use Rattle.std.specs.List.{AllZip}
-use Rattle.std.specs.Map.{lookup}
-use Rattle.std.specs.Ordering.{nat_cmp}
-use Rattle.std.specs.declared.alloc.Global.{Global}
-use Rattle.toml.specs.Data.{Members, same_key}
-use Rattle.toml.specs.Parse.{parse_document}
-use Rattle.class_names.specs.Classes.{AreLaterTrees, class_of_token, first_class}
-use Rattle.class_names.specs.Classes.{tree_at}
+use Rattle.std.proofs.Common.{ap, subst, [], ◌∷◌, ◌++◌, ◌+◌, ◌<◌, All, add-one, arith, cond, drop}
+use Rattle.std.proofs.Common.{get_or, inl, inr, length, map, suc, take, zero}
+use Rattle.class_names.specs.Classes.{AreLaterTrees, class_of_token, first_class, tree_at}
 use Rattle.class_names.specs.Names.{HasClasses, IsDatedOf, NamesOf, class_by, names_at, rider_by}
-use Rattle.class_names.specs.declared.names.ClassNames.{ClassNames}
-use Rattle.class_names.specs.declared.names.DatedNames.{DatedNames}
+use Rattle.class_names.specs.declared.names.{ClassNames.ClassNames, DatedNames.DatedNames}
 use Rattle.class_names.specs.declared.names.TextNames.{TextNames}
+use Rattle.std.proofs.lemmas.{Bool.cases_lt, List.get_or-take, List.length-take, List.take_more}
+use Rattle.std.proofs.lemmas.Option.{get_or_from_slice_get, slice_get_within}
+use Rattle.std.specs.BTreeMap.{BTreeMap, is_at}
+use Rattle.std.specs.{Cmp.Lexicographic.slice_cmp, List.AllZip, Map.lookup, Ordering.nat_cmp}
+use Rattle.std.specs.Prelude.{is_some, nat_le, slice_get, option_map, if◌then◌else◌, string_bytes}
+use Rattle.std.specs.{Prelude.String, declared.alloc.Global.Global}
 use Rattle.tariffs.proofs.ByteLemmas.{same_bytes}
+use Rattle.tariffs.specs.TableMeaning.{TableMeaning}
+use Rattle.toml.specs.{Data.Members, Data.same_key, Parse.parse_document}
 
 pub first_none : (o : Option (List ℕ)) → o ≡ first_class o None
 first_none None = refl

@@ -1,11 +1,10 @@
 -- Why the names of classes are not had.
-use Rattle.std.specs.Prelude.{◌≡◌, ℕ, List, All, IsUtf8, None, Some, false, slice_get, take, true}
-use Rattle.toml.specs.Data.{Members}
-use Rattle.toml.specs.Parse.{parse_document}
 use Rattle.class_names.specs.Classes.{default_in, has_plain_classes}
 use Rattle.class_names.specs.declared.names.ClassFault.{ClassFault}
 use Rattle.class_names.specs.declared.names.ClassFault.TheVariants.{Name, NoMemory, Text}
 use Rattle.class_names.specs.declared.names.WrongNames.{WrongNames}
+use Rattle.std.specs.Prelude.{◌≡◌, ℕ, List, All, IsUtf8, None, Some, false, slice_get, take, true}
+use Rattle.toml.specs.{Data.Members, Parse.parse_document}
 
 -- The fault is one of the text: it names a class that no ledger can have, or it is not TOML or
 -- names no default class. An allocation may fail at any time.

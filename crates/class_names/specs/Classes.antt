@@ -1,16 +1,12 @@
 -- The class of a token's rider, as the texts of fare tables name it.
-use Rattle.std.specs.Prelude.{◌≡◌, ℕ, ◌&&◌, ◌||◌, ◌==◌, Bool, true, false, List, [], ◌∷◌, Option}
-use Rattle.std.specs.Prelude.{Some, None}
-use Rattle.std.specs.Prelude.{codes, if◌then◌else◌, length, nat_le}
-use Rattle.std.specs.List.{list_all}
-use Rattle.std.specs.Option.{option_and_then}
-use Rattle.std.specs.Result.{result_ok}
 use Rattle.hex.specs.Hex.{decode_sized}
+use Rattle.std.specs.{List.list_all, Option.option_and_then}
+use Rattle.std.specs.Prelude.{◌≡◌, ℕ, ◌&&◌, ◌||◌, ◌==◌, Bool, true, false, List, [], ◌∷◌, Option}
+use Rattle.std.specs.Prelude.{Some, None, codes, if◌then◌else◌, length, nat_le}
+use Rattle.std.specs.Result.{result_ok}
+use Rattle.tariffs.specs.{Fares.Fares, TableMeaning.TableMeaning}
 use Rattle.toml.specs.Data.{Data, Members, no_members, member, as_str, as_table, get_member}
-use Rattle.toml.specs.Data.{same_key}
-use Rattle.toml.specs.Parse.{parse_document}
-use Rattle.tariffs.specs.Fares.{Fares}
-use Rattle.tariffs.specs.TableMeaning.{TableMeaning}
+use Rattle.toml.specs.{Data.same_key, Parse.parse_document}
 
 -- these are the bytes of the token
 abbrev pub is_token : List ℕ → Option (List ℕ) → Bool

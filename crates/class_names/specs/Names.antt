@@ -1,17 +1,13 @@
 -- The names of classes that are kept.
+use Rattle.class_names.specs.Classes.{class_among, class_of_token}
+use Rattle.class_names.specs.declared.names.{ClassNames.ClassNames, DatedNames.DatedNames}
+use Rattle.class_names.specs.declared.names.TextNames.{TextNames}
+use Rattle.std.specs.BTreeMap.{BTreeMap, is_at}
+use Rattle.std.specs.{Cmp.Lexicographic.slice_cmp, List.AllZip, Map.lookup, Ordering.nat_cmp}
 use Rattle.std.specs.Prelude.{◌≡◌, ℕ, List, [], ◌∷◌, Option, Some, option_map, string_bytes, String}
 use Rattle.std.specs.Prelude.{if◌then◌else◌, nat_le, unwrap_or}
-use Rattle.std.specs.BTreeMap.{BTreeMap, is_at}
-use Rattle.std.specs.Cmp.Lexicographic.{slice_cmp}
-use Rattle.std.specs.List.{AllZip}
-use Rattle.std.specs.Map.{lookup}
-use Rattle.std.specs.Ordering.{nat_cmp}
 use Rattle.std.specs.declared.alloc.Global.{Global}
 use Rattle.toml.specs.Data.{Members}
-use Rattle.class_names.specs.Classes.{class_among, class_of_token}
-use Rattle.class_names.specs.declared.names.ClassNames.{ClassNames}
-use Rattle.class_names.specs.declared.names.DatedNames.{DatedNames}
-use Rattle.class_names.specs.declared.names.TextNames.{TextNames}
 
 -- the class that is kept for a rider's token
 abbrev pub rider_by : BTreeMap (List ℕ) (String Global) → List ℕ → Option (List ℕ)

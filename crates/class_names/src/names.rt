@@ -1,22 +1,18 @@
 //! The classes of riders, as the text of a fare table names them.
 
-ghost use Rattle.std.specs.Prelude.{◌≡◌, ◌≢◌, ◌&&◌, ◌||◌, ◌==◌, ℕ, List, IfOk, IfErr, OnOk, Some};
-ghost use Rattle.std.specs.Prelude.{◌+◌, ◌++◌, ◌∷◌, [], All, length, map};
-ghost use Rattle.std.specs.Prelude.{IsUtf8, None, codes, false, if◌then◌else◌, nat_le, option_map};
-ghost use Rattle.std.specs.Prelude.{string_bytes, true};
-ghost use Rattle.std.specs.List.{list_all};
-ghost use Rattle.std.specs.Option.{option_and_then};
-ghost use Rattle.std.specs.Result.{result_ok};
-ghost use Rattle.hex.specs.Hex.{decode_sized};
-ghost use Rattle.toml.specs.Data.{Members, as_str, as_table, get_member, same_key};
-ghost use Rattle.toml.specs.Parse.{parse_document};
-ghost use Rattle.toml.specs.View.{table_view, view};
-ghost use Rattle.class_names.specs.Classes.{AreTrees, are_plain, class_at, default_in};
-ghost use Rattle.class_names.specs.Classes.{first_class, has_plain_classes, is_bare};
-ghost use Rattle.class_names.specs.Classes.{is_plain_name, is_plain_or_none, riders_in};
-ghost use Rattle.class_names.specs.Names.{HasClasses, HasRiders, NamesOf, class_by, class_in};
-ghost use Rattle.class_names.specs.Names.{rider_by};
 ghost use Rattle.class_names.specs.ClassFaults.{HasPlainClasses, IsFaultOf, IsWrongAt};
+ghost use Rattle.class_names.specs.Classes.{AreTrees, are_plain, class_at, default_in, first_class};
+ghost use Rattle.class_names.specs.Classes.{has_plain_classes, is_bare, is_plain_name};
+ghost use Rattle.class_names.specs.{Classes.is_plain_or_none, Classes.riders_in, Names.HasClasses};
+ghost use Rattle.class_names.specs.Names.{HasRiders, NamesOf, class_by, class_in, rider_by};
+ghost use Rattle.hex.specs.Hex.{decode_sized};
+ghost use Rattle.std.specs.{List.list_all, Option.option_and_then};
+ghost use Rattle.std.specs.Prelude.{◌≡◌, ◌≢◌, ◌&&◌, ◌||◌, ◌==◌, ℕ, List, IfOk, IfErr, OnOk, Some};
+ghost use Rattle.std.specs.Prelude.{◌+◌, ◌++◌, ◌∷◌, [], All, length, map, IsUtf8, None, codes};
+ghost use Rattle.std.specs.Prelude.{false, if◌then◌else◌, nat_le, option_map, string_bytes, true};
+ghost use Rattle.std.specs.Result.{result_ok};
+ghost use Rattle.toml.specs.Data.{Members, as_str, as_table, get_member, same_key};
+ghost use Rattle.toml.specs.{Parse.parse_document, View.table_view, View.view};
 
 use hex::FromHex;
 use std::alloc::{AllocError, Global};

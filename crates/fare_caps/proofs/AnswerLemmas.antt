@@ -2,52 +2,38 @@
 -- is paid or capped.
 use Rattle.std.proofs.Common.{◌≡◌, ◌≤◌, ◌+◌, ◌==◌, ℕ, Bool, false, List, [], ◌∷◌, ◌++◌, Option}
 use Rattle.std.proofs.Common.{Some, None, IfSome, arith, refl, sym, ap, ◌∙◌, inl, inr, count_by}
-use Rattle.std.proofs.lemmas.Bool.{cases_Bool}
-use Rattle.std.proofs.lemmas.List.Sums.{sum_by-cons}
-use Rattle.std.specs.List.{flat_map}
-use Rattle.std.specs.Option.{option_and_then}
-use Rattle.std.specs.Prelude.{if◌then◌else◌}
-use Rattle.tariffs.specs.Prices.{IsBoundedPays}
-use Rattle.tariffs.specs.Terms.{AreBoundedTerms}
-use Rattle.tariffs.specs.declared.mode.Mode.{Mode}
-use Rattle.tariffs.specs.declared.price.Pays.{Pays}
-use Rattle.tariffs.specs.declared.price.Pays.TheVariants.{Difference, More}
-use Rattle.account_rule.specs.declared.reason.Reason.{Reason}
-use Rattle.account_rule.specs.declared.reason.Reason.TheVariants as reason
-use Rattle.account_rule.specs.declared.reply.Answer.{Answer}
-use Rattle.account_rule.specs.declared.reply.Answer.TheVariants.{Capped, Paid, Stale, Transfer}
-use Rattle.account_rule.specs.declared.reply.Answer.TheVariants.{Unknown}
-use Rattle.account_rule.specs.declared.tap.TapIn.{TapIn}
+use Rattle.account_rule.proofs.{ReasonLemmas.reply-follows, ShareLemmas.is_ride-reply}
 use Rattle.account_rule.specs.Blocks.{blocks_by, last_block}
-use Rattle.account_rule.specs.Laws as laws
-use Rattle.account_rule.specs.Reasons as rule
 use Rattle.account_rule.specs.Replies.{replies, replies_after, reply, reply_with, ride_reply}
-use Rattle.account_rule.specs.declared.reply.Reply.{Reply}
-use Rattle.account_rule.specs.Taps.{LiveTap, live, live_at}
-use Rattle.account_rule.specs.TokenRules.{TokenRules}
-use Rattle.account_rule.specs.Trips.{continues, last_tap, trips}
-use Rattle.account_rule.specs.Windows.{charge, paid_by, windows}
-use Rattle.account_rule.proofs.ReasonLemmas.{reply-follows}
-use Rattle.account_rule.proofs.ShareLemmas.{is_ride-reply}
-use Rattle.fare_caps.specs.Caps.{CappedRules}
+use Rattle.account_rule.specs.{Taps.LiveTap, Taps.live, Taps.live_at, TokenRules.TokenRules}
+use Rattle.account_rule.specs.{Trips.continues, Trips.last_tap, Trips.trips, Windows.charge}
+use Rattle.account_rule.specs.{Windows.paid_by, Windows.windows, declared.reason.Reason.Reason}
+use Rattle.account_rule.specs.declared.reply.Answer.{Answer, TheVariants.Capped}
+use Rattle.account_rule.specs.declared.reply.Answer.TheVariants.{Paid, Stale, Transfer, Unknown}
+use Rattle.account_rule.specs.declared.{reply.Reply.Reply, tap.TapIn.TapIn}
+use Rattle.fare_caps.proofs.BillLemmas.{cents-with, free-cents, reply-cents, some_cents}
+use Rattle.fare_caps.proofs.{BillLemmas.transfer-reply, LoweredLemmas.lowered-few}
+use Rattle.fare_caps.proofs.NoCapsLemmas.{free-same, of_block, replied-none, ride-block}
+use Rattle.fare_caps.proofs.{PriceLemmas.extra-is, PriceLemmas.price-low, RideLemmas.is_free}
+use Rattle.fare_caps.proofs.RideLemmas.{is_of_live, is_ride, is_transfer, tapped, trip_before}
 use Rattle.fare_caps.specs.CapStates.{CapStates, after_dues, at_ride, charge_at, extra_charge}
 use Rattle.fare_caps.specs.CapStates.{extra_terms, no_rides, ride_charge, states}
 use Rattle.fare_caps.specs.CappedReplies.{capped_reason, capped_replies, capped_replies_after}
 use Rattle.fare_caps.specs.CappedReplies.{capped_reply, replied_by, ride_on, transfer_by}
 use Rattle.fare_caps.specs.CappedReplies.{transfer_charge, under_caps}
-use Rattle.fare_caps.specs.declared.cap_charge.CapCharge.{CapCharge}
-use Rattle.fare_caps.specs.declared.capped_reason.CappedReason.{CappedReason}
-use Rattle.fare_caps.specs.declared.capped_reason.CappedReason.TheVariants as capped
-use Rattle.fare_caps.specs.Charges.{cap_paid, least_from}
+use Rattle.fare_caps.specs.{Caps.CappedRules, Charges.cap_paid, Charges.least_from}
 use Rattle.fare_caps.specs.Laws.{without_caps}
 use Rattle.fare_caps.specs.Prices.{dues, extra, fare, pays_to, trip_dues, wanted}
-use Rattle.fare_caps.proofs.BillLemmas.{cents-with, free-cents, reply-cents, some_cents}
-use Rattle.fare_caps.proofs.BillLemmas.{transfer-reply}
-use Rattle.fare_caps.proofs.LoweredLemmas.{lowered-few}
-use Rattle.fare_caps.proofs.NoCapsLemmas.{free-same, of_block, replied-none, ride-block}
-use Rattle.fare_caps.proofs.PriceLemmas.{extra-is, price-low}
-use Rattle.fare_caps.proofs.RideLemmas.{is_free, is_of_live, is_ride, is_transfer, tapped}
-use Rattle.fare_caps.proofs.RideLemmas.{trip_before}
+use Rattle.fare_caps.specs.declared.cap_charge.CapCharge.{CapCharge}
+use Rattle.fare_caps.specs.declared.capped_reason.CappedReason.{CappedReason}
+use Rattle.std.proofs.lemmas.{Bool.cases_Bool, List.Sums.sum_by-cons}
+use Rattle.std.specs.{List.flat_map, Option.option_and_then, Prelude.if◌then◌else◌}
+use Rattle.tariffs.specs.{Prices.IsBoundedPays, Terms.AreBoundedTerms, declared.mode.Mode.Mode}
+use Rattle.tariffs.specs.declared.price.Pays.{Pays, TheVariants.Difference, TheVariants.More}
+use Rattle.account_rule.specs.declared.reason.Reason.TheVariants as reason
+use Rattle.account_rule.specs.Laws as laws
+use Rattle.account_rule.specs.Reasons as rule
+use Rattle.fare_caps.specs.declared.capped_reason.CappedReason.TheVariants as capped
 
 -- the reply is that without caps, or both are to a ride, or to a transfer
 pub data Answered (rules : CappedRules) (taps : List TapIn) (tap : TapIn) : Type 0 where

@@ -1,38 +1,30 @@
 -- The rides and the transfers add up to all replies.
-use Rattle.std.proofs.Common.{◌≡◌, ℕ, ◌==◌, false, List, [], ◌∷◌, ◌++◌, Option, Some, None, refl, ap}
-use Rattle.std.proofs.Common.{◌+◌, ◌∙◌, inl, inr, arith, sum_by}
-use Rattle.std.proofs.lemmas.Bool.{cases_Bool}
-use Rattle.std.proofs.lemmas.List.Sums.{sum_by-append, sum_by-cons, sum_by_push}
-use Rattle.tariffs.specs.declared.mode.Mode.{Mode}
-use Rattle.account_rule.specs.declared.reason.Charge.TheVariants.{CeilingCut, CeilingReached, Full}
-use Rattle.account_rule.specs.declared.reason.Charge.TheVariants.{RideLimitReached}
-use Rattle.account_rule.specs.declared.reason.Reason.{Reason}
-use Rattle.account_rule.specs.declared.reason.Reason.TheVariants as reason
-use Rattle.account_rule.specs.declared.reply.Answer.{Answer}
-use Rattle.account_rule.specs.declared.reply.Answer.TheVariants.{Transfer}
-use Rattle.account_rule.specs.declared.reply.Reply.{Reply}
-use Rattle.account_rule.specs.declared.tap.TapIn.{TapIn}
+use Rattle.std.proofs.Common.{◌≡◌, ℕ, ◌==◌, false, List, [], ◌∷◌, ◌++◌, Option, Some, None, refl}
+use Rattle.std.proofs.Common.{ap, ◌+◌, ◌∙◌, inl, inr, arith, sum_by}
 use Rattle.account_rule.specs.Blocks.{blocks_by, last_block}
-use Rattle.account_rule.specs.Replies.{reply_with, ride_reply}
-use Rattle.account_rule.specs.Taps.{LiveTap, live, live_after, live_at}
-use Rattle.account_rule.specs.Trips.{trips}
-use Rattle.account_rule.specs.Windows.{windows}
-use Rattle.fare_caps.specs.Caps.{CappedRules}
+use Rattle.account_rule.specs.{Replies.reply_with, Replies.ride_reply, Taps.LiveTap, Taps.live}
+use Rattle.account_rule.specs.{Taps.live_after, Taps.live_at, Trips.trips, Windows.windows}
+use Rattle.account_rule.specs.declared.reason.Charge.TheVariants.{CeilingCut, CeilingReached, Full}
+use Rattle.account_rule.specs.declared.reason.{Charge.TheVariants.RideLimitReached, Reason.Reason}
+use Rattle.account_rule.specs.declared.reply.Answer.{Answer, TheVariants.Transfer}
+use Rattle.account_rule.specs.declared.{reply.Reply.Reply, tap.TapIn.TapIn}
+use Rattle.fare_caps.proofs.{FoldLemmas.by_pushes, NoCapsLemmas.later-nothing}
+use Rattle.fare_caps.proofs.{NoCapsLemmas.ride-block, PriceLemmas.dues-push, RideLemmas.is_free}
+use Rattle.fare_caps.proofs.RideLemmas.{is_of_live, is_ride, is_transfer, tapped, trip_before}
 use Rattle.fare_caps.specs.CapStates.{CapStates, after_due, after_dues, due_charge, extra_charge}
 use Rattle.fare_caps.specs.CapStates.{no_rides, ride_charge, states}
 use Rattle.fare_caps.specs.CapWindows.{Charged, charged, charged_after, with_charged}
 use Rattle.fare_caps.specs.CappedReplies.{capped_reason, capped_replies, capped_replies_after}
 use Rattle.fare_caps.specs.CappedReplies.{capped_reply, replied_by, transfer_by, transfer_charge}
-use Rattle.fare_caps.specs.CappedReplies.{under_caps}
+use Rattle.fare_caps.specs.{CappedReplies.under_caps, Caps.CappedRules}
 use Rattle.fare_caps.specs.Charges.{cap_cents, cap_paid}
 use Rattle.fare_caps.specs.Prices.{Due, dues, extra, of_ride, of_transfer, transfer_due}
 use Rattle.fare_caps.specs.declared.cap_charge.CapCharge.{CapCharge}
 use Rattle.fare_caps.specs.declared.cap_charge.CapCharge.TheVariants.{ByWindow, CapCut, CapReached}
-use Rattle.fare_caps.proofs.FoldLemmas.{by_pushes}
-use Rattle.fare_caps.proofs.NoCapsLemmas.{later-nothing, ride-block}
-use Rattle.fare_caps.proofs.PriceLemmas.{dues-push}
-use Rattle.fare_caps.proofs.RideLemmas.{is_free, is_of_live, is_ride, is_transfer, tapped}
-use Rattle.fare_caps.proofs.RideLemmas.{trip_before}
+use Rattle.std.proofs.lemmas.Bool.{cases_Bool}
+use Rattle.std.proofs.lemmas.List.Sums.{sum_by-append, sum_by-cons, sum_by_push}
+use Rattle.tariffs.specs.declared.mode.Mode.{Mode}
+use Rattle.account_rule.specs.declared.reason.Reason.TheVariants as reason
 
 -- the cents of a charge, if there is one
 abbrev pub some_cents : Option CapCharge → ℕ

@@ -1,33 +1,28 @@
 -- No window of a cap exceeds its ceiling, and the windows add up.
-use Rattle.std.proofs.Common.{◌≡◌, ℕ, ◌+◌, ◌-◌, ◌≤◌, true, false, cond, List, [], ◌∷◌, ◌++◌}
-use Rattle.std.proofs.Common.{Option, Some, None, refl, sym, ap, ◌∙◌, subst, arith, nat_lt, map}
-use Rattle.std.proofs.Common.{All, inl, inr, sum_by, suc}
-use Rattle.std.proofs.lemmas.Bool.{cases_Bool, le-ltb, true≢false}
-use Rattle.std.proofs.lemmas.List.Elements.{All-cons, All-head, All-nil}
-use Rattle.std.proofs.lemmas.List.Sums.{sum_by-cons, sum_by_push}
-use Rattle.tap_views.proofs.Lists.{All-back, All-front}
-use Rattle.tariffs.specs.declared.terms.Terms.{Terms}
-use Rattle.account_rule.specs.declared.reason.Charge.{Charge}
-use Rattle.account_rule.specs.declared.tap.TapIn.{TapIn}
-use Rattle.account_rule.specs.Blocks.{blocks_by, blocks_from}
-use Rattle.account_rule.specs.Taps.{LiveTap}
-use Rattle.account_rule.specs.Windows.{charge}
+use Rattle.std.proofs.Common.{◌≡◌, ℕ, ◌+◌, ◌-◌, ◌≤◌, true, false, cond, List, [], ◌∷◌, ◌++◌, Option}
+use Rattle.std.proofs.Common.{Some, None, refl, sym, ap, ◌∙◌, subst, arith, nat_lt, map, All, inl}
+use Rattle.std.proofs.Common.{inr, sum_by, suc}
 use Rattle.account_rule.proofs.LimitLemmas.{charged as charged_or_free}
-use Rattle.fare_caps.specs.Caps.{CapRules, CappedRules, counted, each_window, left, no_window}
-use Rattle.fare_caps.specs.Caps.{opened, opened_until, window_cap}
+use Rattle.account_rule.specs.{Blocks.blocks_by, Blocks.blocks_from, Taps.LiveTap, Windows.charge}
+use Rattle.account_rule.specs.declared.{reason.Charge.Charge, tap.TapIn.TapIn}
+use Rattle.fare_caps.proofs.LoweredLemmas.{IsAtMost, lesser-here, lesser-keeps, lowered-le, most-le}
 use Rattle.fare_caps.specs.CapStates.{CapStates, after_due, after_ride, at_ride, charge_at}
 use Rattle.fare_caps.specs.CapStates.{due_charge, extra_charge, extra_terms, no_rides, ride_charge}
 use Rattle.fare_caps.specs.CapStates.{with_charge, with_extra, with_some_extra}
 use Rattle.fare_caps.specs.CapWindows.{Charged, all_caps, cents_for, charged, charged_after}
 use Rattle.fare_caps.specs.CapWindows.{counted_in, end_by, is_before, is_in, windows_of}
-use Rattle.fare_caps.specs.CapWindows.{with_charged}
+use Rattle.fare_caps.specs.{CapWindows.with_charged, Caps.CapRules, Caps.CappedRules, Caps.counted}
+use Rattle.fare_caps.specs.Caps.{each_window, left, no_window, opened, opened_until, window_cap}
 use Rattle.fare_caps.specs.Charges.{cap_cents, least_from, lesser, lowered}
 use Rattle.fare_caps.specs.Laws.{HasCeiling, KeepsCeiling}
 use Rattle.fare_caps.specs.Prices.{Due, due_tap, dues, of_ride, of_transfer}
-use Rattle.fare_caps.specs.declared.cap_charge.CapCharge.{CapCharge}
-use Rattle.fare_caps.specs.declared.cap_charge.CapLeft.{CapLeft}
+use Rattle.fare_caps.specs.declared.cap_charge.{CapCharge.CapCharge, CapLeft.CapLeft}
 use Rattle.fare_caps.specs.declared.cap_window.CapWindow.{CapWindow}
-use Rattle.fare_caps.proofs.LoweredLemmas.{IsAtMost, lesser-here, lesser-keeps, lowered-le, most-le}
+use Rattle.std.proofs.lemmas.Bool.{cases_Bool, le-ltb, true≢false}
+use Rattle.std.proofs.lemmas.List.Elements.{All-cons, All-head, All-nil}
+use Rattle.std.proofs.lemmas.List.Sums.{sum_by-cons, sum_by_push}
+use Rattle.tap_views.proofs.Lists.{All-back, All-front}
+use Rattle.tariffs.specs.declared.terms.Terms.{Terms}
 
 -- ---- each ride costs what a cap leaves at most
 

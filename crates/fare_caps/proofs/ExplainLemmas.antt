@@ -1,46 +1,34 @@
 -- Each way out of a step under caps is one of the rule's cases.
-use Rattle.std.proofs.Common.{◌≡◌, ℕ, ◌-◌, ◌==◌, ◌||◌, Bool, true, false, cond, not, List, [], ◌∷◌, ◌++◌}
-use Rattle.std.proofs.Common.{length, map, Option, Some, None, refl, sym, ap, ◌∙◌, subst, inl, inr}
-use Rattle.std.proofs.Common.{arith, IfSome, ◌≤◌}
-use Rattle.std.proofs.lemmas.Bool.{cases_Bool, eqb-true, or_parts, true≢false}
-use Rattle.tariffs.specs.ClockView.{ClockView}
-use Rattle.tariffs.specs.Fares.{Fares, class_of, has_caps_or_prices, has_prices, meaning_at}
-use Rattle.tariffs.specs.Fares.{price_of, ride_terms}
-use Rattle.tariffs.specs.TableMeaning.{TableMeaning}
-use Rattle.tariffs.specs.Terms.{AreBoundedTerms}
-use Rattle.tariffs.specs.Until.{window_end_in}
-use Rattle.tariffs.specs.declared.cap_terms.CapTerms.{CapTerms}
-use Rattle.tariffs.specs.declared.mode.Mode.{Mode}
-use Rattle.account_rule.specs.declared.account.Account.{Account}
-use Rattle.account_rule.specs.declared.reason.Reason.{Reason}
-use Rattle.account_rule.specs.declared.tap.TapIn.{TapIn}
-use Rattle.account_rule.specs.Reasons as rule
-use Rattle.account_rule.specs.Represents as kept
-use Rattle.account_rule.specs.Replies.{reply, reply_with}
-use Rattle.account_rule.specs.Taps.{live_at}
+use Rattle.std.proofs.Common.{◌≡◌, ℕ, ◌-◌, ◌==◌, ◌||◌, Bool, true, false, cond, not, List, [], ◌∷◌}
+use Rattle.std.proofs.Common.{◌++◌, length, map, Option, Some, None, refl, sym, ap, ◌∙◌, subst, inl}
+use Rattle.std.proofs.Common.{inr, arith, IfSome, ◌≤◌}
+use Rattle.account_rule.specs.{Replies.reply, Replies.reply_with, Taps.live_at}
 use Rattle.account_rule.specs.TokenRules.{TokenRules, rules_of, token_class}
-use Rattle.account_rule.specs.Windows.{last_window}
-use Rattle.fare_caps.specs.CapMeanings.{cap_positions, cap_rules, capped_rules_of, pays_of}
-use Rattle.fare_caps.specs.CapStates.{states}
-use Rattle.fare_caps.specs.CappedReplies.{capped_reason, capped_reply, capped_window, replied_by}
-use Rattle.fare_caps.specs.CappedReplies.{transfer_by}
-use Rattle.fare_caps.specs.Charges.{cap_cents}
-use Rattle.fare_caps.specs.Caps.{CappedRules, has_more}
-use Rattle.fare_caps.specs.Laws.{without_caps}
-use Rattle.fare_caps.specs.Represents.{HasRoom, KeepsFurther, KeepsTrip, Represents}
-use Rattle.fare_caps.specs.declared.cap_charge.CapCharge.{CapCharge}
-use Rattle.fare_caps.specs.declared.capped_account.LiveKind.TheVariants as live
-use Rattle.fare_caps.specs.declared.capped_reason.CappedReason.{CappedReason}
-use Rattle.fare_caps.specs.declared.capped_reason.CappedReason.TheVariants.{Ride}
-use Rattle.fare_caps.specs.declared.further.Further.{Further}
-use Rattle.fare_caps.specs.inside.Further.{charge_of, counted_all, extra_of, opened_all, raised}
-use Rattle.fare_caps.specs.inside.Further.{said_by, transfer_reason, transferred, with_new_trip}
-use Rattle.fare_caps.specs.inside.Further.{with_some_cents}
-use Rattle.fare_caps.specs.inside.Seen.{live_kind, uncapped}
+use Rattle.account_rule.specs.{Windows.last_window, declared.account.Account.Account}
+use Rattle.account_rule.specs.declared.{reason.Reason.Reason, tap.TapIn.TapIn}
 use Rattle.fare_caps.proofs.FurtherLemmas.{no-length, opened_to, reason-of, rides, said_to}
 use Rattle.fare_caps.proofs.FurtherLemmas.{same-window, transfers}
 use Rattle.fare_caps.proofs.NoCapsLemmas.{reason-none, reply-none, window-none}
 use Rattle.fare_caps.proofs.SeenLemmas.{no-ride, ride, transfer}
+use Rattle.fare_caps.specs.CapMeanings.{cap_positions, cap_rules, capped_rules_of, pays_of}
+use Rattle.fare_caps.specs.{CapStates.states, CappedReplies.capped_reason}
+use Rattle.fare_caps.specs.CappedReplies.{capped_reply, capped_window, replied_by, transfer_by}
+use Rattle.fare_caps.specs.{Caps.CappedRules, Caps.has_more, Charges.cap_cents, Laws.without_caps}
+use Rattle.fare_caps.specs.Represents.{HasRoom, KeepsFurther, KeepsTrip, Represents}
+use Rattle.fare_caps.specs.declared.cap_charge.CapCharge.{CapCharge}
+use Rattle.fare_caps.specs.declared.capped_reason.CappedReason.{CappedReason, TheVariants.Ride}
+use Rattle.fare_caps.specs.declared.further.Further.{Further}
+use Rattle.fare_caps.specs.inside.Further.{charge_of, counted_all, extra_of, opened_all, raised}
+use Rattle.fare_caps.specs.inside.Further.{said_by, transfer_reason, transferred, with_new_trip}
+use Rattle.fare_caps.specs.inside.{Further.with_some_cents, Seen.live_kind, Seen.uncapped}
+use Rattle.std.proofs.lemmas.Bool.{cases_Bool, eqb-true, or_parts, true≢false}
+use Rattle.tariffs.specs.{ClockView.ClockView, Fares.Fares, Fares.class_of}
+use Rattle.tariffs.specs.Fares.{has_caps_or_prices, has_prices, meaning_at, price_of, ride_terms}
+use Rattle.tariffs.specs.{TableMeaning.TableMeaning, Terms.AreBoundedTerms, Until.window_end_in}
+use Rattle.tariffs.specs.declared.{cap_terms.CapTerms.CapTerms, mode.Mode.Mode}
+use Rattle.account_rule.specs.Reasons as rule
+use Rattle.account_rule.specs.Represents as kept
+use Rattle.fare_caps.specs.declared.capped_account.LiveKind.TheVariants as live
 
 -- a step from one account to the next is the rule's
 pub record IsStep (capped : CappedRules) (taps : List TapIn) (tap : TapIn) (one : CappedReason)

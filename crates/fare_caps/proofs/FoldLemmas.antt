@@ -1,12 +1,10 @@
 -- A fold over rides whose steps open and extend blocks says what the last block says.
 use Rattle.std.proofs.Common.{◌≡◌, Bool, cond, List, [], ◌∷◌, ◌++◌, map, refl, sym, ap, ◌∙◌}
 use Rattle.std.proofs.Common.{append-nil, append_assoc}
-use Rattle.account_rule.specs.Blocks.{blocks_by, last_block}
-use Rattle.account_rule.specs.Taps.{LiveTap}
 use Rattle.account_rule.proofs.BlockLemmas.{blocks_by-push, last_block-extend}
-use Rattle.fare_caps.specs.Caps.{CappedRules}
+use Rattle.account_rule.specs.{Blocks.blocks_by, Blocks.last_block, Taps.LiveTap}
 use Rattle.fare_caps.specs.CapStates.{CapStates, after_due, after_dues, after_ride}
-use Rattle.fare_caps.specs.Prices.{Due, of_ride}
+use Rattle.fare_caps.specs.{Caps.CappedRules, Prices.Due, Prices.of_ride}
 
 -- what holds of the empty list and with one more element holds of each list
 pub by_pushes : {A : Type 0} (P : List A → Type 0) → P []

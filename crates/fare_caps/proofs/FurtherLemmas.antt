@@ -1,58 +1,43 @@
 -- The numbers that are kept follow the states, ride by ride.
-use Rattle.std.proofs.Common.{◌≡◌, ℕ, ◌+◌, ◌-◌, ◌≤◌, Bool, true, false, cond, List, []}
-use Rattle.std.proofs.Common.{◌∷◌, length, map, min, take, nat_lt, is_some, Option, Some, None}
-use Rattle.std.proofs.Common.{refl, sym, ap, ◌∙◌, inl, inr, arith, IfSome, ◌==◌, ◌||◌, not, nat_le}
-use Rattle.std.proofs.Common.{◌++◌}
-use Rattle.std.proofs.lemmas.Bool.{cases_Bool, eqb-true, or_parts, true≢false}
-use Rattle.std.proofs.lemmas.List.{length-map}
-use Rattle.std.specs.List.{list_any}
-use Rattle.std.specs.Prelude.{if◌then◌else◌}
-use Rattle.tariffs.specs.ClockView.{ClockView}
-use Rattle.tariffs.specs.Fares.{Fares, has_prices, meaning_at, names_price, price_of, valid_at}
-use Rattle.tariffs.specs.Prices.{price_in}
-use Rattle.tariffs.specs.TableMeaning.{TableMeaning}
-use Rattle.tariffs.specs.declared.price.Pays.{Pays}
-use Rattle.tariffs.specs.declared.price.Price.{Price}
-use Rattle.tariffs.specs.Terms.{AreBoundedTerms}
-use Rattle.tariffs.specs.Until.{window_end_in}
-use Rattle.tariffs.specs.declared.cap_terms.CapTerms.{CapTerms}
-use Rattle.tariffs.specs.declared.mode.Mode.{Mode}
-use Rattle.tariffs.specs.declared.terms.Terms.{Terms}
-use Rattle.account_rule.specs.Blocks.{blocks_by, last_block}
-use Rattle.account_rule.specs.TokenRules.{rules_of, token_class}
-use Rattle.account_rule.specs.Taps.{LiveTap, live, live_after, live_at}
-use Rattle.account_rule.specs.Trips as taken
-use Rattle.account_rule.specs.Trips.{last_tap}
-use Rattle.account_rule.specs.Windows.{charge}
-use Rattle.account_rule.specs.Windows as rule
-use Rattle.account_rule.proofs.LimitLemmas.{charge-min}
-use Rattle.account_rule.proofs.TapLemmas.{last_tap-push}
-use Rattle.fare_caps.specs.CapMeanings.{cap_positions, cap_rules, capped_rules_of, pays_of, said_of}
-use Rattle.fare_caps.specs.CapStates.{CapStates, after_dues, after_ride, at_ride, charge_at}
-use Rattle.fare_caps.specs.CapStates.{extra_charge, extra_terms, no_rides, ride_charge, states, with_charge}
-use Rattle.fare_caps.specs.CapStates.{with_extra, with_some_extra}
-use Rattle.fare_caps.specs.CappedReplies.{transfer_by, transfer_charge}
-use Rattle.fare_caps.specs.Prices.{dues, extra, fare, pays_to, price, price_after}
-use Rattle.fare_caps.specs.Caps.{CapRules, CappedRules, counted, each_window, left, no_window}
-use Rattle.fare_caps.specs.Caps.{opened, opened_until, window_cap}
-use Rattle.fare_caps.specs.Charges.{cap_cents, cap_paid, least_from, lesser, lowered}
-use Rattle.fare_caps.specs.Represents.{HasRoom, IsFurther, IsTrip, KeepsFurther, cap_windows}
-use Rattle.fare_caps.specs.Represents.{no_further}
-use Rattle.fare_caps.specs.declared.ride_cap.RideCap.{RideCap}
-use Rattle.fare_caps.specs.declared.cap_charge.CapCharge.{CapCharge}
-use Rattle.fare_caps.specs.declared.cap_charge.CapLeft.{CapLeft}
-use Rattle.fare_caps.specs.declared.cap_window.CapWindow.{CapWindow}
-use Rattle.fare_caps.specs.declared.further.Further.{Further}
-use Rattle.fare_caps.specs.declared.further.RideCaps.{RideCaps}
-use Rattle.fare_caps.specs.inside.Further.{AreBoundedCaps, IsBoundedCap, charge_of, counted_all}
-use Rattle.fare_caps.specs.inside.Further.{counted_by, counted_cents}
-use Rattle.fare_caps.specs.inside.Further.{extra_of, least_of, left_by, opened_all, opened_by}
-use Rattle.fare_caps.specs.inside.Further.{raised, said_by, transfer_reason, transferred}
-use Rattle.fare_caps.specs.inside.Further.{with_new_trip, with_some_cents}
-use Rattle.fare_caps.proofs.PriceLemmas.{extra-is, price-push}
+use Rattle.std.proofs.Common.{◌≡◌, ℕ, ◌+◌, ◌-◌, ◌≤◌, Bool, true, false, cond, List, [], ◌∷◌, length}
+use Rattle.std.proofs.Common.{map, min, take, nat_lt, is_some, Option, Some, None, refl, sym, ap}
+use Rattle.std.proofs.Common.{◌∙◌, inl, inr, arith, IfSome, ◌==◌, ◌||◌, not, nat_le, ◌++◌}
+use Rattle.account_rule.proofs.{LimitLemmas.charge-min, TapLemmas.last_tap-push}
+use Rattle.account_rule.specs.{Blocks.blocks_by, Blocks.last_block, Taps.LiveTap, Taps.live}
+use Rattle.account_rule.specs.{Taps.live_after, Taps.live_at, TokenRules.rules_of}
+use Rattle.account_rule.specs.{TokenRules.token_class, Trips.last_tap, Windows.charge}
 use Rattle.fare_caps.proofs.LoweredLemmas.{IsAtMost, lowered-few, charge-within, lesser-here}
 use Rattle.fare_caps.proofs.LoweredLemmas.{lesser-keeps, lesser-none, lowered-le, lowered-paid}
 use Rattle.fare_caps.proofs.LoweredLemmas.{most-le, paid-below}
+use Rattle.fare_caps.proofs.PriceLemmas.{extra-is, price-push}
+use Rattle.fare_caps.specs.CapMeanings.{cap_positions, cap_rules, capped_rules_of, pays_of, said_of}
+use Rattle.fare_caps.specs.CapStates.{CapStates, after_dues, after_ride, at_ride, charge_at}
+use Rattle.fare_caps.specs.CapStates.{extra_charge, extra_terms, no_rides, ride_charge, states}
+use Rattle.fare_caps.specs.CapStates.{with_charge, with_extra, with_some_extra}
+use Rattle.fare_caps.specs.CappedReplies.{transfer_by, transfer_charge}
+use Rattle.fare_caps.specs.Caps.{CapRules, CappedRules, counted, each_window, left, no_window}
+use Rattle.fare_caps.specs.Caps.{opened, opened_until, window_cap}
+use Rattle.fare_caps.specs.Charges.{cap_cents, cap_paid, least_from, lesser, lowered}
+use Rattle.fare_caps.specs.Prices.{dues, extra, fare, pays_to, price, price_after}
+use Rattle.fare_caps.specs.Represents.{HasRoom, IsFurther, IsTrip, KeepsFurther, cap_windows}
+use Rattle.fare_caps.specs.Represents.{no_further}
+use Rattle.fare_caps.specs.declared.cap_charge.{CapCharge.CapCharge, CapLeft.CapLeft}
+use Rattle.fare_caps.specs.declared.{cap_window.CapWindow.CapWindow, further.Further.Further}
+use Rattle.fare_caps.specs.declared.{further.RideCaps.RideCaps, ride_cap.RideCap.RideCap}
+use Rattle.fare_caps.specs.inside.Further.{AreBoundedCaps, IsBoundedCap, charge_of, counted_all}
+use Rattle.fare_caps.specs.inside.Further.{counted_by, counted_cents, extra_of, least_of, left_by}
+use Rattle.fare_caps.specs.inside.Further.{opened_all, opened_by, raised, said_by, transfer_reason}
+use Rattle.fare_caps.specs.inside.Further.{transferred, with_new_trip, with_some_cents}
+use Rattle.std.proofs.lemmas.Bool.{cases_Bool, eqb-true, or_parts, true≢false}
+use Rattle.std.proofs.lemmas.List.{length-map}
+use Rattle.std.specs.{List.list_any, Prelude.if◌then◌else◌}
+use Rattle.tariffs.specs.{ClockView.ClockView, Fares.Fares, Fares.has_prices, Fares.meaning_at}
+use Rattle.tariffs.specs.{Fares.names_price, Fares.price_of, Fares.valid_at, Prices.price_in}
+use Rattle.tariffs.specs.{TableMeaning.TableMeaning, Terms.AreBoundedTerms, Until.window_end_in}
+use Rattle.tariffs.specs.declared.{cap_terms.CapTerms.CapTerms, mode.Mode.Mode, price.Pays.Pays}
+use Rattle.tariffs.specs.declared.{price.Price.Price, terms.Terms.Terms}
+use Rattle.account_rule.specs.Trips as taken
+use Rattle.account_rule.specs.Windows as rule
 
 -- what these caps of a table say of a ride of a token
 abbrev pub said_of_caps : Fares → List ℕ → List CapTerms → ℕ → Mode → RideCaps

@@ -1,18 +1,16 @@
 -- A lowered charge is within the charge by `window` and within what each cap leaves.
-use Rattle.std.proofs.Common.{◌≡◌, ℕ, ◌+◌, ◌<◌, ◌≤◌, ◌==◌, true, false, cond, Option, Some}
-use Rattle.std.proofs.Common.{None}
+use Rattle.std.proofs.Common.{◌≡◌, ℕ, ◌+◌, ◌<◌, ◌≤◌, ◌==◌, true, false, cond, Option, Some, None}
 use Rattle.std.proofs.Common.{refl, inl, inr, arith, is_some, nat_lt}
-use Rattle.std.proofs.lemmas.Bool.{cases_Bool, ltb-false, ltb-true}
-use Rattle.tariffs.specs.Terms.{AreBoundedTerms}
-use Rattle.tariffs.specs.declared.terms.Terms.{Terms}
+use Rattle.account_rule.proofs.LimitLemmas.{charged}
 use Rattle.account_rule.specs.Windows.{charge, charged_by, is_paid}
 use Rattle.account_rule.specs.declared.reason.Charge.{Charge}
 use Rattle.account_rule.specs.declared.reason.Charge.TheVariants.{CeilingCut, CeilingReached, Full}
 use Rattle.account_rule.specs.declared.reason.Charge.TheVariants.{RideLimitReached}
-use Rattle.account_rule.proofs.LimitLemmas.{charged}
 use Rattle.fare_caps.specs.Charges.{cap_cents, cap_paid, lesser, lowered, lowered_by}
 use Rattle.fare_caps.specs.declared.cap_charge.CapCharge.TheVariants.{ByWindow, CapCut, CapReached}
 use Rattle.fare_caps.specs.declared.cap_charge.CapLeft.{CapLeft}
+use Rattle.std.proofs.lemmas.Bool.{cases_Bool, ltb-false, ltb-true}
+use Rattle.tariffs.specs.{Terms.AreBoundedTerms, declared.terms.Terms.Terms}
 
 -- ---- within the charge by `window`
 by-le : (one : Charge) (position cents : ℕ) (least : Option CapLeft) → charged_by one ≡ cents

@@ -1,46 +1,35 @@
 -- With no cap beside `window`, the states are the numbers of its last window.
-use Rattle.std.proofs.Common.{◌≡◌, ℕ, ◌+◌, Bool, true, false, cond, List, [], ◌∷◌, ◌++◌}
-use Rattle.std.proofs.Common.{Option, Some, None, refl, sym, ap, ◌∙◌, length, nat_lt}
-use Rattle.std.proofs.Common.{arith}
-use Rattle.std.proofs.Common.{append-nil, append_assoc, option_map}
-use Rattle.std.proofs.lemmas.Bool.{le-ltb}
-use Rattle.std.specs.List.{last_or}
-use Rattle.tariffs.specs.declared.mode.Mode.{Mode}
-use Rattle.account_rule.specs.declared.reason.Charge.{Charge}
-use Rattle.account_rule.specs.declared.reason.Charge.TheVariants.{CeilingCut, CeilingReached, Full}
-use Rattle.account_rule.specs.declared.reason.Charge.TheVariants.{RideLimitReached}
-use Rattle.account_rule.specs.declared.reason.Reason.{Reason}
-use Rattle.account_rule.specs.declared.reason.Reason.TheVariants as reason
-use Rattle.account_rule.specs.declared.tap.TapIn.{TapIn}
-use Rattle.account_rule.specs.declared.window.WindowView.{WindowView}
-use Rattle.account_rule.specs.Blocks.{last_block}
-use Rattle.account_rule.specs.Reasons as rule
-use Rattle.account_rule.specs.Replies.{replies, replies_after, reply}
-use Rattle.account_rule.specs.TokenRules.{TokenRules}
-use Rattle.account_rule.specs.Taps.{LiveTap, live_at}
-use Rattle.account_rule.specs.Windows.{charge, charges, charges_after, is_paid}
-use Rattle.account_rule.specs.Windows.{is_within, last_window}
-use Rattle.account_rule.specs.Windows.{paid_rides, shown_window, window_cents, windows}
+use Rattle.std.proofs.Common.{◌≡◌, ℕ, ◌+◌, Bool, true, false, cond, List, [], ◌∷◌, ◌++◌, Option}
+use Rattle.std.proofs.Common.{Some, None, refl, sym, ap, ◌∙◌, length, nat_lt, arith, append-nil}
+use Rattle.std.proofs.Common.{append_assoc, option_map}
 use Rattle.account_rule.proofs.BlockLemmas.{length-push}
 use Rattle.account_rule.proofs.LimitLemmas.{cents-push, last_charge-push, paid-push}
-use Rattle.account_rule.proofs.ReasonLemmas.{reply-follows}
-use Rattle.account_rule.proofs.WindowLemmas.{after_ride as after_window}
-use Rattle.fare_caps.specs.Caps.{CapRules, CappedRules, counted, each_window, no_window, opened}
-use Rattle.fare_caps.specs.Caps.{opened_until}
-use Rattle.fare_caps.specs.Caps.{window_cap}
+use Rattle.account_rule.proofs.{ReasonLemmas.reply-follows, WindowLemmas.after_ride as after_window}
+use Rattle.account_rule.specs.{Blocks.last_block, Replies.replies, Replies.replies_after}
+use Rattle.account_rule.specs.{Replies.reply, Taps.LiveTap, Taps.live_at, TokenRules.TokenRules}
+use Rattle.account_rule.specs.Windows.{charge, charges, charges_after, is_paid, is_within}
+use Rattle.account_rule.specs.Windows.{last_window, paid_rides, shown_window, window_cents, windows}
+use Rattle.account_rule.specs.declared.reason.Charge.{Charge}
+use Rattle.account_rule.specs.declared.reason.Charge.TheVariants.{CeilingCut, CeilingReached, Full}
+use Rattle.account_rule.specs.declared.reason.{Charge.TheVariants.RideLimitReached, Reason.Reason}
+use Rattle.account_rule.specs.declared.{tap.TapIn.TapIn, window.WindowView.WindowView}
+use Rattle.fare_caps.proofs.FoldLemmas.{fold-last, rides-alone}
+use Rattle.fare_caps.proofs.{PriceLemmas.dues-free, PriceLemmas.extra-free, RideLemmas.is_of_live}
+use Rattle.fare_caps.proofs.RideLemmas.{is_free, is_ride, is_transfer, tapped, trip_before}
 use Rattle.fare_caps.specs.CapStates.{CapStates, after_ride, at_ride, charge_at, no_rides}
 use Rattle.fare_caps.specs.CapStates.{ride_charge, states, with_charge}
 use Rattle.fare_caps.specs.CappedReplies.{capped_reason, capped_replies, capped_replies_after}
-use Rattle.fare_caps.specs.CappedReplies.{capped_reply, capped_window, replied_by}
-use Rattle.fare_caps.specs.CappedReplies.{transfer_charge, under_caps}
-use Rattle.fare_caps.specs.inside.Seen.{uncapped}
+use Rattle.fare_caps.specs.CappedReplies.{capped_reply, capped_window, replied_by, transfer_charge}
+use Rattle.fare_caps.specs.{CappedReplies.under_caps, Caps.CapRules, Caps.CappedRules}
+use Rattle.fare_caps.specs.Caps.{counted, each_window, no_window, opened, opened_until, window_cap}
 use Rattle.fare_caps.specs.Charges.{is_freed_by, least_from, lowered}
-use Rattle.fare_caps.specs.Laws.{without_caps}
-use Rattle.fare_caps.specs.declared.cap_charge.CapCharge.TheVariants.{ByWindow}
-use Rattle.fare_caps.proofs.FoldLemmas.{fold-last, rides-alone}
-use Rattle.fare_caps.proofs.PriceLemmas.{dues-free, extra-free}
-use Rattle.fare_caps.proofs.RideLemmas.{is_of_live, is_free, is_ride, is_transfer, tapped}
-use Rattle.fare_caps.proofs.RideLemmas.{trip_before}
+use Rattle.fare_caps.specs.{Laws.without_caps, declared.cap_charge.CapCharge.TheVariants.ByWindow}
+use Rattle.fare_caps.specs.inside.Seen.{uncapped}
+use Rattle.std.proofs.lemmas.Bool.{le-ltb}
+use Rattle.std.specs.List.{last_or}
+use Rattle.tariffs.specs.declared.mode.Mode.{Mode}
+use Rattle.account_rule.specs.declared.reason.Reason.TheVariants as reason
+use Rattle.account_rule.specs.Reasons as rule
 
 -- whether the limit of rides frees the ride of the charge, if there is one
 abbrev freed_by : Option Charge → Bool

@@ -1,36 +1,28 @@
 -- One more cap never costs more, if all caps count all modes.
 use Rattle.std.proofs.Common.{◌≡◌, ℕ, suc, ◌+◌, ◌-◌, ◌≤◌, ◌==◌, Bool, true, false, cond, List, []}
 use Rattle.std.proofs.Common.{◌∷◌, Option, Some, None, refl, sym, ap, ◌∙◌, subst, inl, inr, arith}
-use Rattle.std.proofs.Common.{min, nat_le, nat_lt}
-use Rattle.std.proofs.Common.{All, map, sum_by}
-use Rattle.std.proofs.lemmas.Bool.{cases_Bool, eqb-true, ltb-false, ltb-true}
-use Rattle.std.proofs.lemmas.List.Elements.{All-head, All-tail}
-use Rattle.std.proofs.lemmas.List.Sums.{sum_by-cons}
-use Rattle.tariffs.specs.declared.terms.Terms.{Terms}
+use Rattle.std.proofs.Common.{min, nat_le, nat_lt, All, map, sum_by}
+use Rattle.account_rule.proofs.LimitLemmas.{charged as charged_or_free}
+use Rattle.account_rule.specs.{Taps.LiveTap, Windows.charge, Windows.charged_by}
 use Rattle.account_rule.specs.declared.reason.Charge.{Charge}
 use Rattle.account_rule.specs.declared.reason.Charge.TheVariants.{CeilingCut, CeilingReached, Full}
-use Rattle.account_rule.specs.declared.reason.Charge.TheVariants.{RideLimitReached}
-use Rattle.account_rule.specs.declared.tap.TapIn.{TapIn}
-use Rattle.account_rule.specs.Taps.{LiveTap}
-use Rattle.account_rule.specs.Windows.{charge, charged_by}
-use Rattle.account_rule.proofs.LimitLemmas.{charged as charged_or_free}
-use Rattle.fare_caps.specs.Caps.{CapRules, CappedRules, counted, each_window, left, no_window}
-use Rattle.fare_caps.specs.Caps.{opened, opened_until, window_cap}
+use Rattle.account_rule.specs.declared.{reason.Charge.TheVariants.RideLimitReached, tap.TapIn.TapIn}
+use Rattle.fare_caps.proofs.{BillLemmas.cents_of, BillLemmas.rides-bill, PriceLemmas.same-dues}
 use Rattle.fare_caps.specs.CapStates.{CapStates, after_due, after_ride, at_ride, charge_at}
 use Rattle.fare_caps.specs.CapStates.{due_charge, extra_charge, extra_terms, no_rides, ride_charge}
 use Rattle.fare_caps.specs.CapStates.{with_charge, with_extra, with_some_extra}
 use Rattle.fare_caps.specs.CapWindows.{Charged, charged, charged_after, with_charged}
-use Rattle.fare_caps.specs.CappedReplies.{capped_replies}
-use Rattle.fare_caps.specs.Charges.{cap_cents, is_freed, is_freed_by, least_from, lesser, lowered}
-use Rattle.fare_caps.specs.Charges.{lowered_by}
-use Rattle.fare_caps.specs.Laws.{CountsAll, with_cap}
-use Rattle.fare_caps.specs.Prices.{Due, dues, of_ride, of_transfer}
-use Rattle.fare_caps.specs.declared.cap_charge.CapCharge.{CapCharge}
+use Rattle.fare_caps.specs.{CappedReplies.capped_replies, Caps.CapRules, Caps.CappedRules}
+use Rattle.fare_caps.specs.Caps.{counted, each_window, left, no_window, opened, opened_until}
+use Rattle.fare_caps.specs.{Caps.window_cap, Charges.cap_cents}
+use Rattle.fare_caps.specs.Charges.{is_freed, is_freed_by, least_from, lesser, lowered, lowered_by}
+use Rattle.fare_caps.specs.{Laws.CountsAll, Laws.with_cap, Prices.Due, Prices.dues, Prices.of_ride}
+use Rattle.fare_caps.specs.{Prices.of_transfer, declared.cap_charge.CapCharge.CapCharge}
 use Rattle.fare_caps.specs.declared.cap_charge.CapCharge.TheVariants.{ByWindow, CapCut, CapReached}
-use Rattle.fare_caps.specs.declared.cap_charge.CapLeft.{CapLeft}
-use Rattle.fare_caps.specs.declared.cap_window.CapWindow.{CapWindow}
-use Rattle.fare_caps.proofs.BillLemmas.{cents_of, rides-bill}
-use Rattle.fare_caps.proofs.PriceLemmas.{same-dues}
+use Rattle.fare_caps.specs.declared.{cap_charge.CapLeft.CapLeft, cap_window.CapWindow.CapWindow}
+use Rattle.std.proofs.lemmas.Bool.{cases_Bool, eqb-true, ltb-false, ltb-true}
+use Rattle.std.proofs.lemmas.List.{Elements.All-head, Elements.All-tail, Sums.sum_by-cons}
+use Rattle.tariffs.specs.declared.terms.Terms.{Terms}
 
 -- ---- a lowered charge is the least of the charge and of what is left
 by-min : (one : Charge) (position cents : ℕ) (least : CapLeft) → charged_by one ≡ cents

@@ -1,18 +1,15 @@
 -- What one more tap makes of the price of a trip, and of the taps that may cost something.
-use Rattle.std.proofs.Common.{◌≡◌, ℕ, ◌-◌, ◌≤◌, Bool, true, false, cond, List, [], ◌∷◌}
-use Rattle.std.proofs.Common.{◌++◌, max, map, take, Some, None, refl, sym, ap, ◌∙◌, arith}
-use Rattle.std.proofs.Common.{append-nil, append_assoc}
-use Rattle.std.specs.List.{flat_map}
-use Rattle.account_rule.specs.Blocks.{last_block}
-use Rattle.account_rule.specs.TokenRules.{TokenRules}
-use Rattle.account_rule.specs.Taps.{LiveTap, live_tap}
-use Rattle.account_rule.specs.Trips.{continues, last_tap, rides, trips}
-use Rattle.account_rule.specs.declared.tap.TapIn.{TapIn}
-use Rattle.account_rule.proofs.BlockLemmas.{extend}
-use Rattle.account_rule.proofs.TapLemmas.{trips-push}
+use Rattle.std.proofs.Common.{◌≡◌, ℕ, ◌-◌, ◌≤◌, Bool, true, false, cond, List, [], ◌∷◌, ◌++◌, max}
+use Rattle.std.proofs.Common.{map, take, Some, None, refl, sym, ap, ◌∙◌, arith, append-nil}
+use Rattle.std.proofs.Common.{append_assoc}
+use Rattle.account_rule.proofs.{BlockLemmas.extend, TapLemmas.trips-push}
+use Rattle.account_rule.specs.{Blocks.last_block, Taps.LiveTap, Taps.live_tap}
+use Rattle.account_rule.specs.{TokenRules.TokenRules, Trips.continues, Trips.last_tap, Trips.rides}
+use Rattle.account_rule.specs.{Trips.trips, declared.tap.TapIn.TapIn}
 use Rattle.fare_caps.specs.Caps.{CapRules, CappedRules}
-use Rattle.fare_caps.specs.Prices.{Due, dues, dues_after, extra, fare, of_ride, pays_to}
-use Rattle.fare_caps.specs.Prices.{price, price_after, transfer_due, trip_dues, wanted}
+use Rattle.fare_caps.specs.Prices.{Due, dues, dues_after, extra, fare, of_ride, pays_to, price}
+use Rattle.fare_caps.specs.Prices.{price_after, transfer_due, trip_dues, wanted}
+use Rattle.std.specs.List.{flat_map}
 
 -- ---- the price of a trip
 

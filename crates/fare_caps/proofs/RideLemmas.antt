@@ -1,25 +1,20 @@
 -- What one more tap makes of the trips, by why it is answered as it is.
-use Rattle.std.proofs.Common.{◌≡◌, Bool, true, false, cond, List, [], ◌∷◌, ◌++◌, Some}
-use Rattle.std.proofs.Common.{None, length, nat_lt}
-use Rattle.std.proofs.Common.{refl, sym, ap, ◌∙◌, ⊎_elim}
-use Rattle.std.proofs.lemmas.Bool.{cases_Bool, true≢false}
-use Rattle.tariffs.specs.declared.mode.Mode.{Mode}
-use Rattle.account_rule.specs.declared.reason.Reason.{Reason}
-use Rattle.account_rule.specs.declared.reason.Reason.TheVariants.{Ride, Stale, Transfer, Unknown}
-use Rattle.account_rule.specs.declared.tap.TapIn.{TapIn}
-use Rattle.account_rule.specs.Blocks.{last_block}
-use Rattle.account_rule.specs.Reasons.{given_by, latest, live_reason, reason, ride_of}
-use Rattle.account_rule.specs.TokenRules.{TokenRules}
-use Rattle.account_rule.specs.Taps.{LiveTap, is_later, live_at, live_tap}
-use Rattle.account_rule.specs.Trips.{continues, ends_in_transfer, last_trip, trip_of}
-use Rattle.account_rule.specs.Trips.{trips}
-use Rattle.account_rule.specs.Windows.{windows}
-use Rattle.account_rule.proofs.BlockLemmas.{last_block-extend}
-use Rattle.account_rule.proofs.ReasonLemmas.{reason_live, reason_stale, reason_transfer}
-use Rattle.account_rule.proofs.ReasonLemmas.{reason_unknown}
+use Rattle.std.proofs.Common.{◌≡◌, Bool, true, false, cond, List, [], ◌∷◌, ◌++◌, Some, None, length}
+use Rattle.std.proofs.Common.{nat_lt, refl, sym, ap, ◌∙◌, ⊎_elim}
+use Rattle.account_rule.proofs.{BlockLemmas.last_block-extend, ReasonLemmas.reason_live}
+use Rattle.account_rule.proofs.ReasonLemmas.{reason_stale, reason_transfer, reason_unknown}
 use Rattle.account_rule.proofs.StepLemmas.{is_live, not_known, not_later}
 use Rattle.account_rule.proofs.TapLemmas.{last_window-ride, longer-if, trips-push, trips-same}
 use Rattle.account_rule.proofs.WindowLemmas.{after_ride as after_window}
+use Rattle.account_rule.specs.{Blocks.last_block, Reasons.given_by, Reasons.latest}
+use Rattle.account_rule.specs.{Reasons.live_reason, Reasons.reason, Reasons.ride_of, Taps.LiveTap}
+use Rattle.account_rule.specs.{Taps.is_later, Taps.live_at, Taps.live_tap, TokenRules.TokenRules}
+use Rattle.account_rule.specs.Trips.{continues, ends_in_transfer, last_trip, trip_of, trips}
+use Rattle.account_rule.specs.{Windows.windows, declared.reason.Reason.Reason}
+use Rattle.account_rule.specs.declared.reason.Reason.TheVariants.{Ride, Stale, Transfer, Unknown}
+use Rattle.account_rule.specs.declared.tap.TapIn.{TapIn}
+use Rattle.std.proofs.lemmas.Bool.{cases_Bool, true≢false}
+use Rattle.tariffs.specs.declared.mode.Mode.{Mode}
 
 -- whether the reason is that of a live tap
 abbrev pub is_of_live : Reason → Bool

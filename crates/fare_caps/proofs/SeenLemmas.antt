@@ -1,33 +1,27 @@
 -- What one more tap makes of the states.
-use Rattle.std.proofs.Common.{◌≡◌, ◌==◌, ℕ, true, false, List, [], ◌∷◌, ◌++◌, Option, Some, None, refl}
-use Rattle.std.proofs.Common.{ap, ◌∙◌, inl, inr}
-use Rattle.std.proofs.lemmas.Bool.{cases_Bool}
-use Rattle.tariffs.specs.declared.mode.Mode.{Mode}
-use Rattle.account_rule.specs.declared.reason.Charge.{Charge}
-use Rattle.account_rule.specs.declared.reason.Reason.{Reason}
-use Rattle.account_rule.specs.declared.reason.Reason.TheVariants as reason
-use Rattle.account_rule.specs.declared.tap.TapIn.{TapIn}
-use Rattle.account_rule.specs.declared.window.WindowView.{WindowView}
-use Rattle.account_rule.specs.Blocks.{last_block}
-use Rattle.account_rule.specs.Reasons as rule
-use Rattle.account_rule.specs.Taps.{LiveTap, live_at, live_tap}
+use Rattle.std.proofs.Common.{◌≡◌, ◌==◌, ℕ, true, false, List, [], ◌∷◌, ◌++◌, Option, Some, None}
+use Rattle.std.proofs.Common.{refl, ap, ◌∙◌, inl, inr}
+use Rattle.account_rule.specs.{Blocks.last_block, Taps.LiveTap, Taps.live_at, Taps.live_tap}
 use Rattle.account_rule.specs.Trips.{continues, trips}
 use Rattle.account_rule.specs.Windows.{charge, last_window, windows}
-use Rattle.fare_caps.specs.Caps.{CappedRules}
-use Rattle.fare_caps.specs.CapStates.{CapStates, after_due, after_dues, after_ride, at_ride}
-use Rattle.fare_caps.specs.CapStates.{no_rides, ride_charge, states, with_some_extra}
-use Rattle.fare_caps.specs.Laws.{without_caps}
-use Rattle.fare_caps.specs.CappedReplies.{capped_reason, capped_window, transfer_by}
-use Rattle.fare_caps.specs.CappedReplies.{transfer_charge, under_caps}
-use Rattle.fare_caps.specs.Prices.{dues, extra, transfer_due}
-use Rattle.fare_caps.specs.declared.capped_account.LiveKind.TheVariants as live
-use Rattle.fare_caps.specs.declared.capped_reason.CappedReason.TheVariants as capped
-use Rattle.fare_caps.specs.inside.Seen.{live_kind, uncapped}
+use Rattle.account_rule.specs.declared.reason.{Charge.Charge, Reason.Reason}
+use Rattle.account_rule.specs.declared.{tap.TapIn.TapIn, window.WindowView.WindowView}
 use Rattle.fare_caps.proofs.FoldLemmas.{after_dues-append}
 use Rattle.fare_caps.proofs.NoCapsLemmas.{free-same, of_block, ride-block, ride_in}
-use Rattle.fare_caps.proofs.PriceLemmas.{dues-push}
-use Rattle.fare_caps.proofs.RideLemmas.{is_free, is_of_live, is_ride, is_transfer, tapped, trip-push}
-use Rattle.fare_caps.proofs.RideLemmas.{trip_before}
+use Rattle.fare_caps.proofs.{PriceLemmas.dues-push, RideLemmas.is_free, RideLemmas.is_of_live}
+use Rattle.fare_caps.proofs.RideLemmas.{is_ride, is_transfer, tapped, trip-push, trip_before}
+use Rattle.fare_caps.specs.CapStates.{CapStates, after_due, after_dues, after_ride, at_ride}
+use Rattle.fare_caps.specs.CapStates.{no_rides, ride_charge, states, with_some_extra}
+use Rattle.fare_caps.specs.CappedReplies.{capped_reason, capped_window, transfer_by}
+use Rattle.fare_caps.specs.CappedReplies.{transfer_charge, under_caps}
+use Rattle.fare_caps.specs.{Caps.CappedRules, Laws.without_caps, Prices.dues, Prices.extra}
+use Rattle.fare_caps.specs.{Prices.transfer_due, inside.Seen.live_kind, inside.Seen.uncapped}
+use Rattle.std.proofs.lemmas.Bool.{cases_Bool}
+use Rattle.tariffs.specs.declared.mode.Mode.{Mode}
+use Rattle.account_rule.specs.declared.reason.Reason.TheVariants as reason
+use Rattle.account_rule.specs.Reasons as rule
+use Rattle.fare_caps.specs.declared.capped_account.LiveKind.TheVariants as live
+use Rattle.fare_caps.specs.declared.capped_reason.CappedReason.TheVariants as capped
 
 -- ---- the states with one more tap
 

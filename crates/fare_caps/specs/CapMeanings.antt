@@ -1,18 +1,13 @@
 -- What a table says of its caps, and the rules of a token by it.
+use Rattle.account_rule.specs.{Taps.LiveTap, TokenRules.rules_of, TokenRules.token_class}
+use Rattle.fare_caps.specs.{Caps.CapRules, Caps.CappedRules, declared.ride_cap.RideCap.RideCap}
 use Rattle.std.specs.Prelude.{ℕ, false, if◌then◌else◌, List, [], ◌∷◌, map, Option, Some, None}
 use Rattle.std.specs.Prelude.{slice_index_or}
 use Rattle.tariffs.specs.Fares.{Fares, cap_ceiling, has_prices, meaning_at, price_of}
-use Rattle.tariffs.specs.TableMeaning.{TableMeaning}
-use Rattle.tariffs.specs.Until.{window_end_in}
-use Rattle.tariffs.specs.declared.cap_terms.CapTerms.{CapTerms}
-use Rattle.tariffs.specs.declared.mode.Mode.{Mode}
-use Rattle.tariffs.specs.declared.price.Pays.{Pays}
+use Rattle.tariffs.specs.{TableMeaning.TableMeaning, Until.window_end_in}
+use Rattle.tariffs.specs.declared.{cap_terms.CapTerms.CapTerms, mode.Mode.Mode, price.Pays.Pays}
 use Rattle.tariffs.specs.declared.window_span.WindowLength.TheVariants.{CalendarDay}
 use Rattle.tariffs.specs.declared.window_span.WindowSpan.{WindowSpan}
-use Rattle.account_rule.specs.Taps.{LiveTap}
-use Rattle.account_rule.specs.TokenRules.{rules_of, token_class}
-use Rattle.fare_caps.specs.Caps.{CapRules, CappedRules}
-use Rattle.fare_caps.specs.declared.ride_cap.RideCap.{RideCap}
 
 -- a cap that no table has: it is at the place of no cap
 abbrev pub no_cap : CapTerms

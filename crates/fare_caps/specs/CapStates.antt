@@ -1,16 +1,13 @@
 -- What decides the charge of a tap: the last windows of `window` and of all caps, after the taps
 -- before it that may have cost something.
-use Rattle.std.specs.Prelude.{ℕ, ◌+◌, Bool, false, if◌then◌else◌, List, [], ◌∷◌, is_some, map, nat_lt}
-use Rattle.std.specs.Prelude.{Option, Some, None}
-use Rattle.tariffs.specs.declared.terms.Terms.{Terms}
-use Rattle.account_rule.specs.declared.tap.TapIn.{TapIn}
-use Rattle.account_rule.specs.Taps.{LiveTap}
-use Rattle.account_rule.specs.Windows.{charge}
+use Rattle.account_rule.specs.{Taps.LiveTap, Windows.charge, declared.tap.TapIn.TapIn}
 use Rattle.fare_caps.specs.Caps.{CappedRules, counted, each_window, no_window, opened, window_cap}
 use Rattle.fare_caps.specs.Charges.{cap_cents, cap_paid, is_freed, least_from, lowered}
 use Rattle.fare_caps.specs.Prices.{Due, of_ride, of_transfer, dues}
-use Rattle.fare_caps.specs.declared.cap_charge.CapCharge.{CapCharge}
-use Rattle.fare_caps.specs.declared.cap_window.CapWindow.{CapWindow}
+use Rattle.fare_caps.specs.declared.{cap_charge.CapCharge.CapCharge, cap_window.CapWindow.CapWindow}
+use Rattle.std.specs.Prelude.{ℕ, ◌+◌, Bool, false, if◌then◌else◌, List, [], ◌∷◌, is_some, map}
+use Rattle.std.specs.Prelude.{nat_lt, Option, Some, None}
+use Rattle.tariffs.specs.declared.terms.Terms.{Terms}
 
 pub record CapStates : Type 0 where
   -- how many rides the last window of `window` has had

@@ -1,13 +1,11 @@
 -- What the taps of a token cost under caps and prices, and the windows of each cap.
-use Rattle.std.specs.Prelude.{ℕ, Bool, true, false, if◌then◌else◌, List, [], ◌∷◌, nat_lt, sum_by}
-use Rattle.std.specs.Prelude.{Option, Some, None}
-use Rattle.account_rule.specs.declared.tap.TapIn.{TapIn}
-use Rattle.account_rule.specs.Blocks.{blocks_by}
-use Rattle.fare_caps.specs.Caps.{CapRules, CappedRules, window_cap}
+use Rattle.account_rule.specs.{Blocks.blocks_by, declared.tap.TapIn.TapIn}
 use Rattle.fare_caps.specs.CapStates.{CapStates, after_due, due_charge, no_rides}
-use Rattle.fare_caps.specs.Charges.{cap_cents}
+use Rattle.fare_caps.specs.{Caps.CapRules, Caps.CappedRules, Caps.window_cap, Charges.cap_cents}
 use Rattle.fare_caps.specs.Prices.{Due, due_tap, dues, of_ride, of_transfer}
 use Rattle.fare_caps.specs.declared.cap_charge.CapCharge.{CapCharge}
+use Rattle.std.specs.Prelude.{ℕ, Bool, true, false, if◌then◌else◌, List, [], ◌∷◌, nat_lt, sum_by}
+use Rattle.std.specs.Prelude.{Option, Some, None}
 
 -- a ride or a transfer, and what it costs
 pub record Charged : Type 0 where

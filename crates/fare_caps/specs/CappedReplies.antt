@@ -1,28 +1,21 @@
 -- The reason of each tap of a token under caps and prices, and the reply, after the taps before it.
-use Rattle.std.specs.Prelude.{ℕ, ◌==◌, if◌then◌else◌, List, [], ◌∷◌, ◌++◌, Option, Some, None}
-use Rattle.std.specs.Prelude.{option_map}
-use Rattle.std.specs.Option.{option_and_then}
-use Rattle.tariffs.specs.declared.mode.Mode.{Mode}
-use Rattle.account_rule.specs.declared.reason.Reason.{Reason}
-use Rattle.account_rule.specs.declared.reason.Reason.TheVariants as reason
-use Rattle.account_rule.specs.declared.reply.Answer.TheVariants as answer
-use Rattle.account_rule.specs.declared.reply.Reply.{Reply}
-use Rattle.account_rule.specs.declared.tap.TapIn.{TapIn}
+use Rattle.account_rule.specs.{Blocks.last_block, Replies.reply_with, Replies.ride_reply}
+use Rattle.account_rule.specs.{Taps.LiveTap, Taps.live_at, Trips.trips, Windows.last_window}
+use Rattle.account_rule.specs.declared.{reason.Reason.Reason, reply.Reply.Reply, tap.TapIn.TapIn}
 use Rattle.account_rule.specs.declared.window.WindowView.{WindowView}
-use Rattle.account_rule.specs.Reasons as rule
-use Rattle.account_rule.specs.Replies.{reply_with, ride_reply}
-use Rattle.account_rule.specs.Blocks.{last_block}
-use Rattle.account_rule.specs.Taps.{LiveTap, live_at}
-use Rattle.account_rule.specs.Trips.{trips}
-use Rattle.account_rule.specs.Windows.{last_window}
-use Rattle.fare_caps.specs.Caps.{CappedRules}
 use Rattle.fare_caps.specs.CapStates.{CapStates, ride_charge, extra_charge, states}
-use Rattle.fare_caps.specs.Charges.{cap_cents, cap_paid}
-use Rattle.fare_caps.specs.Prices.{extra}
+use Rattle.fare_caps.specs.{Caps.CappedRules, Charges.cap_cents, Charges.cap_paid, Prices.extra}
 use Rattle.fare_caps.specs.declared.cap_charge.CapCharge.{CapCharge}
 use Rattle.fare_caps.specs.declared.capped_reason.CappedReason.{CappedReason}
 use Rattle.fare_caps.specs.declared.capped_reason.CappedReason.TheVariants.{PaidTransfer, Ride}
-use Rattle.fare_caps.specs.declared.capped_reason.CappedReason.TheVariants.{Stale, Transfer, Unknown}
+use Rattle.fare_caps.specs.declared.capped_reason.CappedReason.TheVariants.{Stale, Transfer}
+use Rattle.fare_caps.specs.declared.capped_reason.CappedReason.TheVariants.{Unknown}
+use Rattle.std.specs.{Option.option_and_then, Prelude.ℕ, Prelude.◌==◌}
+use Rattle.std.specs.Prelude.{if◌then◌else◌, List, [], ◌∷◌, ◌++◌, Option, Some, None, option_map}
+use Rattle.tariffs.specs.declared.mode.Mode.{Mode}
+use Rattle.account_rule.specs.declared.reason.Reason.TheVariants as reason
+use Rattle.account_rule.specs.declared.reply.Answer.TheVariants as answer
+use Rattle.account_rule.specs.Reasons as rule
 
 -- a ride of this window on the mode (a ride has one)
 abbrev pub ride_on : CappedRules → CapStates → ℕ → ℕ → ℕ → Option Mode → CappedReason

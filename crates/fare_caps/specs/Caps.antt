@@ -1,11 +1,9 @@
 -- Caps beside `window`: when their windows end, what they count, and what they leave.
-use Rattle.std.specs.Prelude.{ℕ, ◌+◌, ◌-◌, ◌==◌, ◌||◌, Bool, true, not, if◌then◌else◌, List, [], ◌∷◌}
-use Rattle.std.specs.Prelude.{length, nat_lt, Option, Some, None, is_some}
-use Rattle.tariffs.specs.declared.mode.Mode.{Mode}
-use Rattle.tariffs.specs.declared.price.Pays.{Pays}
-use Rattle.account_rule.specs.TokenRules.{TokenRules}
-use Rattle.account_rule.specs.Taps.{LiveTap}
+use Rattle.account_rule.specs.{Taps.LiveTap, TokenRules.TokenRules}
 use Rattle.fare_caps.specs.declared.cap_window.CapWindow.{CapWindow}
+use Rattle.std.specs.Prelude.{ℕ, ◌+◌, ◌-◌, ◌==◌, ◌||◌, Bool, true, not, if◌then◌else◌, List, []}
+use Rattle.std.specs.Prelude.{◌∷◌, length, nat_lt, Option, Some, None, is_some}
+use Rattle.tariffs.specs.declared.{mode.Mode.Mode, price.Pays.Pays}
 
 -- What the rule takes from a cap for the taps of one token. What it says of a tap may depend on the
 -- tap's moment and mode.

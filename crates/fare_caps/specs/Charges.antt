@@ -1,16 +1,13 @@
 -- What a tap costs: its charge by `window`, lowered to the least that a further cap leaves.
-use Rattle.std.specs.Prelude.{ℕ, suc, ◌==◌, Bool, true, false, if◌then◌else◌, List, [], ◌∷◌, nat_lt}
-use Rattle.std.specs.Prelude.{Option, Some, None}
+use Rattle.account_rule.specs.{Taps.LiveTap, Windows.charged_by, Windows.paid_by}
 use Rattle.account_rule.specs.declared.reason.Charge.{Charge}
 use Rattle.account_rule.specs.declared.reason.Charge.TheVariants.{CeilingCut, CeilingReached, Full}
 use Rattle.account_rule.specs.declared.reason.Charge.TheVariants.{RideLimitReached}
-use Rattle.account_rule.specs.Taps.{LiveTap}
-use Rattle.account_rule.specs.Windows.{charged_by, paid_by}
-use Rattle.fare_caps.specs.Caps.{CapRules, left}
-use Rattle.fare_caps.specs.declared.cap_charge.CapCharge.{CapCharge}
+use Rattle.fare_caps.specs.{Caps.CapRules, Caps.left, declared.cap_charge.CapCharge.CapCharge}
 use Rattle.fare_caps.specs.declared.cap_charge.CapCharge.TheVariants.{ByWindow, CapCut, CapReached}
-use Rattle.fare_caps.specs.declared.cap_charge.CapLeft.{CapLeft}
-use Rattle.fare_caps.specs.declared.cap_window.CapWindow.{CapWindow}
+use Rattle.fare_caps.specs.declared.{cap_charge.CapLeft.CapLeft, cap_window.CapWindow.CapWindow}
+use Rattle.std.specs.Prelude.{ℕ, suc, ◌==◌, Bool, true, false, if◌then◌else◌, List, [], ◌∷◌, nat_lt}
+use Rattle.std.specs.Prelude.{Option, Some, None}
 
 -- the lesser of what caps before leave and what the cap at the index leaves: of two the first
 abbrev pub lesser : Option CapLeft → ℕ → Option ℕ → Option CapLeft

@@ -1,15 +1,11 @@
 -- What holds of every list of taps under caps and prices.
-use Rattle.std.specs.Prelude.{◌≡◌, ℕ, ◌≤◌, true, List, [], ◌∷◌, ◌++◌, All, None, sum_by}
-use Rattle.account_rule.specs.Taps.{LiveTap}
-use Rattle.account_rule.specs.declared.tap.TapIn.{TapIn}
-use Rattle.account_rule.specs.Replies.{replies}
-use Rattle.account_rule.specs.TokenRules.{TokenRules}
-use Rattle.account_rule.specs.Windows.{last_window}
-use Rattle.fare_caps.specs.CappedReplies.{capped_replies, capped_replies_after, capped_window}
-use Rattle.fare_caps.specs.Caps.{CapRules, CappedRules}
+use Rattle.account_rule.specs.{Replies.replies, Taps.LiveTap, TokenRules.TokenRules}
+use Rattle.account_rule.specs.{Windows.last_window, declared.tap.TapIn.TapIn}
 use Rattle.fare_caps.specs.CapWindows.{Charged, all_caps, cents_for, charged, counted_in}
 use Rattle.fare_caps.specs.CapWindows.{windows_of}
-use Rattle.fare_caps.specs.Prices.{due_tap}
+use Rattle.fare_caps.specs.CappedReplies.{capped_replies, capped_replies_after, capped_window}
+use Rattle.fare_caps.specs.{Caps.CapRules, Caps.CappedRules, Prices.due_tap}
+use Rattle.std.specs.Prelude.{◌≡◌, ℕ, ◌≤◌, true, List, [], ◌∷◌, ◌++◌, All, None, sum_by}
 
 -- the rules with no cap beside `window` and no price of a transfer
 abbrev pub without_caps : TokenRules → CappedRules

@@ -1,15 +1,10 @@
 -- The prices of trips, and what their transfers raise them by.
-use Rattle.std.specs.Prelude.{ℕ, ◌+◌, ◌-◌, ◌==◌, if◌then◌else◌, List, [], ◌∷◌, ◌++◌, max, Option}
-use Rattle.std.specs.Prelude.{Some, None}
-use Rattle.std.specs.List.{flat_map}
-use Rattle.std.specs.Option.{option_and_then}
-use Rattle.tariffs.specs.declared.mode.Mode.{Mode}
-use Rattle.tariffs.specs.declared.price.Pays.{Pays}
-use Rattle.tariffs.specs.declared.price.Pays.TheVariants.{Difference, More}
-use Rattle.account_rule.specs.Taps.{LiveTap}
-use Rattle.account_rule.specs.Trips.{trips}
-use Rattle.account_rule.specs.declared.tap.TapIn.{TapIn}
+use Rattle.account_rule.specs.{Taps.LiveTap, Trips.trips, declared.tap.TapIn.TapIn}
 use Rattle.fare_caps.specs.Caps.{CappedRules}
+use Rattle.std.specs.{List.flat_map, Option.option_and_then, Prelude.ℕ, Prelude.◌+◌, Prelude.◌-◌}
+use Rattle.std.specs.Prelude.{◌==◌, if◌then◌else◌, List, [], ◌∷◌, ◌++◌, max, Option, Some, None}
+use Rattle.tariffs.specs.declared.{mode.Mode.Mode, price.Pays.Pays}
+use Rattle.tariffs.specs.declared.price.Pays.TheVariants.{Difference, More}
 
 -- what a transfer from the mode to the tap pays, if it is not free
 abbrev pub pays_to : CappedRules → Mode → LiveTap → Option Pays

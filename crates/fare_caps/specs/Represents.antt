@@ -1,16 +1,13 @@
 -- Which lists of taps an account under caps represents.
-use Rattle.std.specs.Prelude.{◌≡◌, ℕ, ◌≤◌, true, false, List, [], ◌∷◌, length, min, take}
+use Rattle.account_rule.specs.{Blocks.last_block, Taps.LiveTap, Trips.last_tap, Trips.trips}
 use Rattle.account_rule.specs.declared.tap.TapIn.{TapIn}
-use Rattle.account_rule.specs.Blocks.{last_block}
-use Rattle.account_rule.specs.Represents as rule
-use Rattle.account_rule.specs.Taps.{LiveTap}
-use Rattle.account_rule.specs.Trips.{last_tap, trips}
-use Rattle.fare_caps.specs.Caps.{CappedRules, has_more, no_window}
 use Rattle.fare_caps.specs.CapStates.{CapStates, states}
-use Rattle.fare_caps.specs.Prices.{fare, price}
-use Rattle.fare_caps.specs.declared.cap_window.CapWindow.{CapWindow}
+use Rattle.fare_caps.specs.Caps.{CappedRules, has_more, no_window}
+use Rattle.fare_caps.specs.{Prices.fare, Prices.price, declared.cap_window.CapWindow.CapWindow}
 use Rattle.fare_caps.specs.declared.capped_account.CappedAccount.{CappedAccount}
 use Rattle.fare_caps.specs.declared.further.Further.{Further}
+use Rattle.std.specs.Prelude.{◌≡◌, ℕ, ◌≤◌, true, false, List, [], ◌∷◌, length, min, take}
+use Rattle.account_rule.specs.Represents as rule
 
 -- the windows that are kept, of which the first belong to caps
 abbrev pub cap_windows : Further → List CapWindow

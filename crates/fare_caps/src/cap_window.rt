@@ -1,9 +1,8 @@
 //! A window of a cap.
 
-ghost use Rattle.std.specs.Prelude.{◌≡◌, ◌≤◌, ◌<◌, IfSome};
-ghost use Rattle.tariffs.specs.Until.{window_end_in};
-ghost use Rattle.tariffs.specs.WindowSpan.{IsBoundedSpan};
 ghost use Rattle.fare_caps.specs.Caps.{no_window, opened_until};
+ghost use Rattle.std.specs.Prelude.{◌≡◌, ◌≤◌, ◌<◌, IfSome};
+ghost use Rattle.tariffs.specs.{Until.window_end_in, WindowSpan.IsBoundedSpan};
 ghost use Rattle.fare_caps.specs.inside.Further as spec;
 
 use crate::ride_cap::RideCap;

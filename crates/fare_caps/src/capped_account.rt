@@ -1,14 +1,13 @@
 //! The account of one token under caps: its state, and its step.
 
-ghost use Rattle.std.specs.Prelude.{◌≡◌, ℕ, ◌<◌, ◌≤◌, List, [], ◌∷◌, ◌++◌, length};
-ghost use Rattle.std.specs.Option.{ForSome};
-ghost use Rattle.tariffs.specs.Fares.{Fares};
 ghost use Rattle.account_rule.specs.declared.tap.TapIn.{TapIn};
-ghost use Rattle.fare_caps.specs.CapMeanings.{capped_rules_of};
-ghost use Rattle.fare_caps.specs.CappedReplies.{capped_reason, capped_reply, capped_window};
-ghost use Rattle.fare_caps.specs.CappedReplies.{replied_by};
+ghost use Rattle.fare_caps.specs.{CapMeanings.capped_rules_of, CappedReplies.capped_reason};
+ghost use Rattle.fare_caps.specs.CappedReplies.{capped_reply, capped_window, replied_by};
 ghost use Rattle.fare_caps.specs.Represents.{Represents, RepresentsSome, no_further};
 ghost use Rattle.fare_caps.specs.inside.Seen.{live_kind, uncapped};
+ghost use Rattle.std.specs.Option.{ForSome};
+ghost use Rattle.std.specs.Prelude.{◌≡◌, ℕ, ◌<◌, ◌≤◌, List, [], ◌∷◌, ◌++◌, length};
+ghost use Rattle.tariffs.specs.Fares.{Fares};
 
 use crate::cap_charge::CapCharge;
 use crate::capped_reason::CappedReason;

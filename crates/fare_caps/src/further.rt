@@ -1,15 +1,12 @@
 //! What an account stores beside the numbers of `account_rule` if its table has caps or prices.
 
+ghost use Rattle.fare_caps.specs.{Charges.cap_cents, Charges.cap_paid, Prices.wanted};
+ghost use Rattle.fare_caps.specs.Represents.{HasRoom, no_further};
 ghost use Rattle.std.specs.Prelude.{◌≡◌, ◌<◌, ◌≤◌, ◌-◌, IfSome, is_some, length};
 ghost use Rattle.tariffs.specs.Fares.{price_of, ride_terms};
-ghost use Rattle.tariffs.specs.Prices.{IsBoundedPays};
-ghost use Rattle.tariffs.specs.Terms.{AreBoundedTerms};
-ghost use Rattle.tariffs.specs.Until.{window_end_in};
+ghost use Rattle.tariffs.specs.{Prices.IsBoundedPays, Terms.AreBoundedTerms, Until.window_end_in};
 ghost use Rattle.tariffs.specs.WindowSpan.{IsBoundedSpan};
 ghost use Rattle.account_rule.specs.Windows as rule;
-ghost use Rattle.fare_caps.specs.Charges.{cap_cents, cap_paid};
-ghost use Rattle.fare_caps.specs.Prices.{wanted};
-ghost use Rattle.fare_caps.specs.Represents.{HasRoom, no_further};
 ghost use Rattle.fare_caps.specs.inside.Further as spec;
 
 use crate::cap_charge::{CapCharge, CapLeft, is_freed, lesser, lowered};

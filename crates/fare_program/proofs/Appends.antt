@@ -2,16 +2,14 @@
 use Rattle.std.proofs.Common.{◌≡◌, ◌+◌, ◌∙◌, ℕ, List, [], ◌∷◌, ◌++◌, length, refl, sym, ap, ap₂}
 use Rattle.std.proofs.Common.{subst, arith, append-nil, append_assoc, add-zero, Bool, true, false}
 use Rattle.std.proofs.Common.{◌&&◌}
-use Rattle.std.specs.Prelude.{Option, flat_map}
-use Rattle.std.proofs.lemmas.Grind.{flat_map-append}
-use Rattle.std.proofs.lemmas.List.Folds.{list_all-append}
-use Rattle.tariffs.specs.Fares.{Fares}
-use Rattle.tap_views.specs.Files.{ValidBatchesView, IsReadAs}
-use Rattle.fare_program.specs.Listing.{Listed}
-use Rattle.fare_program.specs.Listing.{KeptListing, RepresentsListing}
+use Rattle.fare_program.specs.Listing.{Listed, KeptListing, RepresentsListing}
 use Rattle.fare_program.specs.Uploads.{AreParses, has_no_fault, lines_from, listed_in}
 use Rattle.fare_program.specs.Uploads.{listing_lines}
 use Rattle.fare_program.specs.inside.Uploads.{ListsUpload, ListsUploads}
+use Rattle.std.proofs.lemmas.{Grind.flat_map-append, List.Folds.list_all-append}
+use Rattle.std.specs.Prelude.{Option, flat_map}
+use Rattle.tap_views.specs.Files.{ValidBatchesView, IsReadAs}
+use Rattle.tariffs.specs.Fares.{Fares}
 
 parses_push : (files : List (List ℕ)) (readings : List ValidBatchesView) (file : List ℕ)
     (reading : ValidBatchesView) → AreParses files readings

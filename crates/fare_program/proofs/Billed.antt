@@ -1,14 +1,12 @@
 -- The report or the ledger of a history is what is asked for of settled files.
 use Rattle.std.proofs.Common.{◌≡◌, ℕ, List, Bool, false, true, None}
-use Rattle.tariffs.specs.Fares.{Fares}
+use Rattle.fare_program.specs.{Options.Request, Parts.report_over, Settling.ShowsSettled}
+use Rattle.fare_texts.specs.Ledger.{IsLedgerOver}
 use Rattle.histories.specs.declared.entry.Entry.{Entry}
 use Rattle.settlement.specs.Settled.{IsSettledHistory}
 use Rattle.tap_views.specs.UploadEnds.{ArePlainEnds, are_posted}
 use Rattle.tap_views.specs.declared.upload_end.UploadEnd.{UploadEnd}
-use Rattle.fare_program.specs.Options.{Request}
-use Rattle.fare_program.specs.Parts.{report_over}
-use Rattle.fare_program.specs.Settling.{ShowsSettled}
-use Rattle.fare_texts.specs.Ledger.{IsLedgerOver}
+use Rattle.tariffs.specs.Fares.{Fares}
 
 module _ (request : Request) (fares : Fares) (files : List (List ℕ)) (text : List ℕ)
     (success : Bool) (history : List Entry) (settled : IsSettledHistory fares files history)

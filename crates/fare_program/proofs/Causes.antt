@@ -1,21 +1,17 @@
 -- The fault that is reported is the right one, and what it left.
-use Rattle.std.proofs.Common.{◌≡◌, ◌∷◌, ℕ, List, [], true, Bor, arith, Option, Some}
-use Rattle.std.proofs.Common.{nat_eq, length, map, refl}
-use Rattle.std.specs.Prelude.{◌<◌}
-use Rattle.std.proofs.lemmas.Bool.Decides.{nat_tests}
-use Rattle.std.proofs.lemmas.List.{length-map}
-use Rattle.program_manners.specs.Loads.{Loaded}
-use Rattle.program_manners.specs.Refusals.{IsOneOf}
-use Rattle.world.specs.declared.faults.LoadFault.{LoadFault}
+use Rattle.std.proofs.Common.{◌≡◌, ◌∷◌, ℕ, List, [], true, Bor, arith, Option, Some, nat_eq, length}
+use Rattle.std.proofs.Common.{map, refl}
 use Rattle.fare_program.specs.Causes.{IsRightFault, IsRightOfSorted, names_reported}
-use Rattle.fare_program.specs.FilesLoaded.{names_to_load}
-use Rattle.fare_program.specs.Options.{Request}
+use Rattle.fare_program.specs.{FilesLoaded.names_to_load, Options.Request}
 use Rattle.fare_program.specs.declared.fault.Fault.{Fault}
 use Rattle.fare_program.specs.declared.fault.Fault.TheVariants.{Gather, Late, NoMemory, TooManyTaps}
 use Rattle.fare_program.specs.declared.fault.Fault.TheVariants.{Unopened, Unsorted, Uploads, Write}
 use Rattle.fare_program.specs.declared.sorted_fault.LateFault.{LateFault}
-use Rattle.fare_program.specs.inside.Fault.{IsOfOutput, IsRightOfUploads}
-use Rattle.fare_program.specs.inside.Ends.{IsLate}
+use Rattle.fare_program.specs.inside.{Ends.IsLate, Fault.IsOfOutput, Fault.IsRightOfUploads}
+use Rattle.program_manners.specs.{Loads.Loaded, Refusals.IsOneOf}
+use Rattle.std.proofs.lemmas.{Bool.Decides.nat_tests, List.length-map}
+use Rattle.std.specs.Prelude.{◌<◌}
+use Rattle.world.specs.declared.faults.LoadFault.{LoadFault}
 
 -- a file of the words is one of those that are reported
 pub named_one : (names : List (List ℕ)) (name : List ℕ) → IsOneOf name names

@@ -1,20 +1,17 @@
 -- In a run that posts each upload whole each is drawn once.
-use Rattle.std.proofs.Common.{◌≡◌, ◌≢◌, ◌<◌, ◌≤◌, ◌==◌, [], ◌∷◌, ℕ, zero, suc, List, true, false, All}
-use Rattle.std.proofs.Common.{Some, arith, inl, inr, length, map, refl, ◌∙◌}
-use Rattle.std.specs.Prelude.{◌⊎◌, slice_get}
+use Rattle.std.proofs.Common.{◌≡◌, ◌≢◌, ◌<◌, ◌≤◌, ◌==◌, [], ◌∷◌, ℕ, zero, suc, List, true, false}
+use Rattle.std.proofs.Common.{All, Some, arith, inl, inr, length, map, refl, ◌∙◌}
+use Rattle.fare_service.proofs.{DrawnUploads.each_drawn_once, GatherLemmas.each_work}
+use Rattle.fare_service.proofs.PlainLists.{count_other}
+use Rattle.fare_service.specs.{Headline.HasRun, Headline.drawn_by, Outcomes.OutcomeView}
+use Rattle.fare_service.specs.Shares.{IsWorkOf, Worked, all_works}
+use Rattle.shared_books.specs.Drawing.{AllBelow, HasAll, times}
 use Rattle.std.proofs.lemmas.Bool.Decides.{eqb_tells}
 use Rattle.std.proofs.lemmas.List.Elements.{All-head, All-tail, All-weaker}
-use Rattle.tariffs.specs.Fares.{Fares}
-use Rattle.tap_views.specs.UploadEnds.{are_posted}
-use Rattle.tap_views.specs.declared.upload_end.UploadEnd.{UploadEnd}
+use Rattle.std.specs.Prelude.{◌⊎◌, slice_get}
+use Rattle.tap_views.specs.{UploadEnds.are_posted, declared.upload_end.UploadEnd.UploadEnd}
 use Rattle.tap_views.specs.declared.upload_end.UploadEnd.TheVariants.{Cut, Posted, Refused, Undrawn}
-use Rattle.shared_books.specs.Drawing.{AllBelow, HasAll, times}
-use Rattle.fare_service.specs.Headline.{HasRun, drawn_by}
-use Rattle.fare_service.specs.Outcomes.{OutcomeView}
-use Rattle.fare_service.specs.Shares.{IsWorkOf, Worked, all_works}
-use Rattle.fare_service.proofs.DrawnUploads.{each_drawn_once}
-use Rattle.fare_service.proofs.GatherLemmas.{each_work}
-use Rattle.fare_service.proofs.PlainLists.{count_other}
+use Rattle.tariffs.specs.Fares.{Fares}
 
 posted_at : (ends : List UploadEnd) (position : ℕ) → are_posted ends ≡ true → position < length ends
     → (taps : ℕ) × (slice_get ends position ≡ Some (Posted taps))

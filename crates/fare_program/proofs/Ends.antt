@@ -1,17 +1,15 @@
 -- How the writing of a text ends.
 use Rattle.std.proofs.Common.{◌≡◌, [], ℕ, List, Bool, Option, Result, Ok, Err, refl, subst}
-use Rattle.std.specs.Prelude.{◌≢◌, IfErr, OnOk}
-use Rattle.std.specs.Io.KnownBytes.{Appends, Keeps}
-use Rattle.std.proofs.KnownBytes.{Appends-kept, Appends-nil, Appends-trans, Keeps-refl, Keeps-trans}
-use Rattle.fare_texts.proofs.Beginnings.{begins_after}
-use Rattle.fare_texts.specs.PrintFaults.{UnchangedUnlessWrite}
-use Rattle.fare_texts.specs.WrittenOut.{Begins}
-use Rattle.fare_texts.specs.declared.print_fault.PrintFault.{PrintFault}
-use Rattle.fare_texts.specs.declared.print_fault.PrintFault.TheVariants as print
-use Rattle.fare_program.specs.declared.fault.Fault.{Fault}
-use Rattle.fare_program.specs.declared.fault.Fault.TheVariants.{Late, Write}
+use Rattle.fare_program.specs.declared.fault.Fault.{Fault, TheVariants.Late, TheVariants.Write}
 use Rattle.fare_program.specs.inside.Ends.{Gives, GivesIf, IsLate, Stops}
 use Rattle.fare_program.specs.inside.Fault.{ended_as, printed_as}
+use Rattle.fare_texts.proofs.Beginnings.{begins_after}
+use Rattle.fare_texts.specs.{PrintFaults.UnchangedUnlessWrite, WrittenOut.Begins}
+use Rattle.fare_texts.specs.declared.print_fault.PrintFault.{PrintFault}
+use Rattle.std.proofs.KnownBytes.{Appends-kept, Appends-nil, Appends-trans, Keeps-refl, Keeps-trans}
+use Rattle.std.specs.Io.KnownBytes.{Appends, Keeps}
+use Rattle.std.specs.Prelude.{◌≢◌, IfErr, OnOk}
+use Rattle.fare_texts.specs.declared.print_fault.PrintFault.TheVariants as print
 
 module _ (Right : List ℕ → Type 0) (out out' : Option (List ℕ)) where
   -- what a fault left, by what a write that failed left

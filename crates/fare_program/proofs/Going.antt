@@ -2,10 +2,8 @@
 use Rattle.std.proofs.Common.{◌≡◌, ◌+◌, ◌∙◌, ℕ, List, [], ◌∷◌, ◌++◌, sym, ap, subst, append-nil}
 use Rattle.std.proofs.Common.{append_assoc, add-zero, length, refl, arith}
 use Rattle.fare_program.specs.Lines.{tap_line}
-use Rattle.fare_program.specs.Listing.{Listed, liveness_of}
-use Rattle.fare_program.specs.Listing.{KeptListing, RepresentsListing}
-use Rattle.fare_program.specs.Uploads.{tap_lines}
-use Rattle.fare_program.specs.inside.Uploads.{Lists}
+use Rattle.fare_program.specs.Listing.{Listed, liveness_of, KeptListing, RepresentsListing}
+use Rattle.fare_program.specs.{Uploads.tap_lines, inside.Uploads.Lists}
 
 -- the lines of taps, and of others behind them
 lines_join : (upload number : ℕ) (before taps more : List Listed)

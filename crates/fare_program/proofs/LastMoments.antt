@@ -1,27 +1,19 @@
 -- The last known moments stand for the taps so far, and for one more.
-use Rattle.std.proofs.Common.{◌≡◌, ◌∙◌, ◌&&◌, ℕ, Bool, true, false, cond, if◌then◌else◌, List}
-use Rattle.std.proofs.Common.{[], ◌∷◌, ◌++◌, filter, append-nil, Option, None, Some, nat_lt, refl}
-use Rattle.std.proofs.Common.{sym, ap, ap₂, arith, append_assoc}
-use Rattle.std.specs.Prelude.{fold}
-use Rattle.std.specs.Str.{bytes_eq}
-use Rattle.std.specs.Map.{lookup}
-use Rattle.std.specs.Ordering.{is_eq, nat_cmp}
-use Rattle.std.specs.Cmp.Lexicographic.{slice_cmp}
-use Rattle.std.proofs.lemmas.Bool.Decides.{nat_tests}
-use Rattle.std.proofs.lemmas.List.Elements.{filter-append}
-use Rattle.std.proofs.lemmas.List.Folds.{list_all-append}
-use Rattle.std.proofs.lemmas.List.Sums.{fold-append}
-use Rattle.std.proofs.lemmas.Slice.Eq.{bytes_eq-Decides}
-use Rattle.std.proofs.lemmas.Map.Text.{is_eq-slice_cmp}
-use Rattle.std.proofs.Math.Bool.{and-true}
-use Rattle.tap_views.specs.Layout.{Tap, num}
-use Rattle.fare_program.specs.declared.listing.Word.{Word}
-use Rattle.fare_program.specs.declared.listing.Word.TheVariants.{Live, Stale}
-use Rattle.fare_program.specs.declared.listing.ListCounts.{ListCounts}
-use Rattle.fare_program.specs.Listing.{Listed, RepresentsListing, are_before, counted, is_after_last}
-use Rattle.fare_program.specs.Listing.{known_of, last_of, listed_moment, liveness_of}
+use Rattle.std.proofs.Common.{◌≡◌, ◌∙◌, ◌&&◌, ℕ, Bool, true, false, cond, if◌then◌else◌, List, []}
+use Rattle.std.proofs.Common.{◌∷◌, ◌++◌, filter, append-nil, Option, None, Some, nat_lt, refl, sym}
+use Rattle.std.proofs.Common.{ap, ap₂, arith, append_assoc}
+use Rattle.fare_program.specs.Listing.{Listed, RepresentsListing, are_before, counted}
+use Rattle.fare_program.specs.Listing.{is_after_last, known_of, last_of, listed_moment, liveness_of}
 use Rattle.fare_program.specs.Listing.{livenesses_after, no_counts}
+use Rattle.fare_program.specs.declared.listing.{ListCounts.ListCounts, Word.Word}
+use Rattle.fare_program.specs.declared.listing.Word.TheVariants.{Live, Stale}
 use Rattle.fare_program.specs.inside.Listing.{last_after, liveness_by}
+use Rattle.std.proofs.{Math.Bool.and-true, lemmas.Bool.Decides.nat_tests}
+use Rattle.std.proofs.lemmas.List.{Elements.filter-append, Folds.list_all-append, Sums.fold-append}
+use Rattle.std.proofs.lemmas.{Map.Text.is_eq-slice_cmp, Slice.Eq.bytes_eq-Decides}
+use Rattle.std.specs.{Cmp.Lexicographic.slice_cmp, Map.lookup, Ordering.is_eq, Ordering.nat_cmp}
+use Rattle.std.specs.{Prelude.fold, Str.bytes_eq}
+use Rattle.tap_views.specs.Layout.{Tap, num}
 
 -- the map's own look-up
 pub last_of-get : (last : List (List ℕ × ℕ)) (token : List ℕ)

@@ -1,24 +1,18 @@
 -- The ledger of books is that of a history with the same entries of each token.
 use Rattle.std.proofs.Common.{◌≡◌, ℕ, List, Option, Some, None, map, refl, ◌∙◌}
-use Rattle.std.specs.Prelude.{slice_get}
-use Rattle.std.specs.Ordering.{eq_by_cmp}
-use Rattle.std.proofs.lemmas.List.Sorted.{IsPermutation-map, list_any-IsPermutation}
-use Rattle.tariffs.specs.Fares.{Fares}
-use Rattle.shard_book.specs.Book.{Book}
-use Rattle.histories.specs.Entry.{own}
-use Rattle.shard_book.specs.Book.{all_entries}
-use Rattle.histories.specs.SumsByKey.{token_of, tokens}
-use Rattle.histories.specs.Increasing.{increasing}
-use Rattle.tap_views.specs.Token.{token_cmp}
-use Rattle.histories.specs.declared.entry.Entry.{Entry}
-use Rattle.tap_views.specs.declared.token.Token.{Token}
+use Rattle.fare_service.specs.{Ledger.IsLedgerOfBooks, Outcomes.OutcomeView}
+use Rattle.fare_texts.proofs.ByToken.{each_same}
+use Rattle.fare_texts.specs.Ledger.{IsLedgerOver, ledger_tokens}
 use Rattle.histories.proofs.IncreasingLemmas.{increasing-is, increasing-only}
 use Rattle.histories.proofs.SameEntries.{same_entries}
+use Rattle.histories.specs.{Entry.own, Increasing.increasing, SumsByKey.token_of, SumsByKey.tokens}
+use Rattle.histories.specs.declared.entry.Entry.{Entry}
+use Rattle.shard_book.specs.Book.{Book, all_entries}
+use Rattle.std.proofs.lemmas.List.Sorted.{IsPermutation-map, list_any-IsPermutation}
+use Rattle.std.specs.{Ordering.eq_by_cmp, Prelude.slice_get}
 use Rattle.tap_views.proofs.TokenLemmas.{token_cmp-total, token_cmp-ties}
-use Rattle.fare_service.specs.Outcomes.{OutcomeView}
-use Rattle.fare_texts.specs.Ledger.{IsLedgerOver, ledger_tokens}
-use Rattle.fare_service.specs.Ledger.{IsLedgerOfBooks}
-use Rattle.fare_texts.proofs.ByToken.{each_same}
+use Rattle.tap_views.specs.{Token.token_cmp, declared.token.Token.Token}
+use Rattle.tariffs.specs.Fares.{Fares}
 
 same_tokens : (entries others : List Entry)
     → ((token : Token) → own token entries ≡ own token others) → tokens entries ≡ tokens others

@@ -1,15 +1,12 @@
 -- What is shown of posted files is what is asked for of them.
 use Rattle.std.proofs.Common.{◌≡◌, ◌∙◌, ℕ, List, Bool, true, false, Option, refl, subst, sym}
-use Rattle.std.specs.Prelude.{MatchBool}
-use Rattle.tariffs.specs.Fares.{Fares}
-use Rattle.tap_views.specs.declared.token.Token.{Token}
-use Rattle.tap_views.specs.UploadEnds.{are_posted}
-use Rattle.fare_service.specs.Headline.{HasRun, drawn_by}
-use Rattle.fare_service.specs.Outcomes.{OutcomeView}
-use Rattle.fare_program.specs.Options.{Request}
-use Rattle.fare_program.specs.Program.{ShowsLiveRun, ShowsOf, ShowsPlain, ShowsRequest}
-use Rattle.fare_program.specs.Settling.{ShowsSettled}
 use Rattle.fare_program.proofs.Drawn.{each_once}
+use Rattle.fare_program.specs.{Options.Request, Program.ShowsLiveRun, Program.ShowsOf}
+use Rattle.fare_program.specs.{Program.ShowsPlain, Program.ShowsRequest, Settling.ShowsSettled}
+use Rattle.fare_service.specs.{Headline.HasRun, Headline.drawn_by, Outcomes.OutcomeView}
+use Rattle.std.specs.Prelude.{MatchBool}
+use Rattle.tap_views.specs.{UploadEnds.are_posted, declared.token.Token.Token}
+use Rattle.tariffs.specs.Fares.{Fares}
 
 module _ (request : Request) (fares : Fares) (files : List (List ℕ)) (token : Option Token)
     (text : List ℕ) (success : Bool) where

@@ -1,25 +1,22 @@
 -- Files that were read ahead, and what a source that takes them over has loaded.
 use Rattle.std.proofs.Common.{◌≡◌, ◌∙◌, ◌+◌, ◌<◌, ◌++◌, ◌∷◌, [], ℕ, zero, suc, List, Bool, Bor}
-use Rattle.std.proofs.Common.{Option, None, Some, All, length, map, flat_map, arith, ap, ap₂, get_or}
-use Rattle.std.proofs.Common.{inl, inr, refl, subst, sym}
-use Rattle.std.proofs.lemmas.List.{length-map}
-use Rattle.std.proofs.lemmas.List.Elements.{All-head, All-tail}
-use Rattle.std.specs.Prelude.{option_map}
-use Rattle.tariffs.specs.Fares.{Fares}
-use Rattle.tap_views.specs.declared.token.Token.{Token}
-use Rattle.world.specs.Origins.{IsFrom, IsProvided, Origin, anywhere, file, loads_from, memory, nowhere}
-use Rattle.world.specs.Run.{Calls, Load, Run, no_calls}
-use Rattle.fare_service.specs.Headline.{loads_at}
-use Rattle.fare_service.specs.Lending.{IsOutside, origin_at}
-use Rattle.fare_service.specs.Shares.{file_at}
-use Rattle.fare_service.proofs.UploadFileSource.{provided_number}
-use Rattle.settlement.specs.Reading.{AreRead, loads_in_order}
+use Rattle.std.proofs.Common.{Option, None, Some, All, length, map, flat_map, arith, ap, ap₂}
+use Rattle.std.proofs.Common.{get_or, inl, inr, refl, subst, sym}
 use Rattle.fare_program.specs.FilesLoaded.{LoadsDrawn, LoadsFiles, load_at, loads_under}
 use Rattle.fare_program.specs.FilesLoaded.{names_to_load, text_at}
-use Rattle.fare_program.specs.Options.{Request}
-use Rattle.fare_program.specs.Program.{Charges}
+use Rattle.fare_program.specs.{Options.Request, Program.Charges}
 use Rattle.fare_program.specs.inside.PostedFiles.{AreProvided, unless_memory}
+use Rattle.fare_service.proofs.UploadFileSource.{provided_number}
+use Rattle.fare_service.specs.{Headline.loads_at, Lending.IsOutside, Lending.origin_at}
+use Rattle.fare_service.specs.Shares.{file_at}
 use Rattle.program_manners.specs.Loads.{Loaded, LoadsAll}
+use Rattle.settlement.specs.Reading.{AreRead, loads_in_order}
+use Rattle.std.proofs.lemmas.List.{length-map, Elements.All-head, Elements.All-tail}
+use Rattle.std.specs.Prelude.{option_map}
+use Rattle.tap_views.specs.declared.token.Token.{Token}
+use Rattle.tariffs.specs.Fares.{Fares}
+use Rattle.world.specs.Origins.{IsFrom, IsProvided, Origin, anywhere, file, loads_from, memory}
+use Rattle.world.specs.{Origins.nowhere, Run.Calls, Run.Load, Run.Run, Run.no_calls}
 
 -- ---- uploads under the names that are asked for
 abbrev names_in : List (Bor (List ℕ)) → List (List ℕ)

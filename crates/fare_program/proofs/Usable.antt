@@ -1,12 +1,10 @@
 -- What follows of a request that is no usage error.
 use Rattle.std.proofs.Common.{◌≡◌, true, Option, None, Some, refl}
-use Rattle.std.specs.Prelude.{◌&&◌, is_none}
-use Rattle.std.specs.Option.{option_and_then}
 use Rattle.clap.proofs.WalkLemmas.{both}
-use Rattle.program_manners.specs.TableWords.{wrong_word}
-use Rattle.fare_program.specs.Options.{Request}
-use Rattle.fare_program.specs.TokenRanges.{range_fault}
+use Rattle.fare_program.specs.{Options.Request, TokenRanges.range_fault}
 use Rattle.fare_program.specs.Usage.{has_digits, is_usable, keeps_rules}
+use Rattle.program_manners.specs.TableWords.{wrong_word}
+use Rattle.std.specs.{Option.option_and_then, Prelude.◌&&◌, Prelude.is_none}
 
 none_of : {A : Type 0} (x : Option A) → is_none x ≡ true → x ≡ None
 none_of None is = refl

@@ -1,13 +1,12 @@
 -- What was asked for was done.
 use Rattle.std.proofs.Common.{◌≡◌, ℕ, List, Bool, Option, None, Some, subst, sym}
-use Rattle.std.specs.Prelude.{MatchBool, MatchOption}
-use Rattle.tariffs.specs.Fares.{Fares}
-use Rattle.tap_views.specs.declared.token.Token.{Token}
-use Rattle.world.specs.Origins.{Origin}
 use Rattle.fare_program.specs.Options.{Request}
 use Rattle.fare_program.specs.Program.{Charges, Does, DoesBy, DoesWith, Lists, Merges, Traces}
-use Rattle.program_manners.specs.Loads.{Loaded}
-use Rattle.program_manners.specs.TableWords.{TableNames}
+use Rattle.program_manners.specs.{Loads.Loaded, TableWords.TableNames}
+use Rattle.std.specs.Prelude.{MatchBool, MatchOption}
+use Rattle.tap_views.specs.declared.token.Token.{Token}
+use Rattle.tariffs.specs.Fares.{Fares}
+use Rattle.world.specs.Origins.{Origin}
 
 module _ (request : Request) (known : List ℕ → Option (List ℕ)) (origin : List ℕ → Origin)
     (before after : Option (List Loaded)) (text : List ℕ) (success : Bool) where

@@ -1,27 +1,23 @@
 -- Why the program gives up is the case.
-use Rattle.std.specs.Prelude.{◌≡◌, ◌≢◌, ◌<◌, ℕ, List, [], ◌∷◌, Option, Some, true}
-use Rattle.std.specs.Prelude.{MatchOption, codes, length, map, slice_get}
-use Rattle.tariffs.specs.Fares.{Fares}
+use Rattle.class_names.specs.ClassFaults.{IsWrongAt}
+use Rattle.class_names.specs.declared.names.{ClassFault.TheVariants.Name, WrongNames.WrongNames}
+use Rattle.fare_program.specs.Options.{Request}
+use Rattle.fare_program.specs.declared.fault.Fault.{Fault, TheVariants.Class, TheVariants.File}
+use Rattle.fare_program.specs.declared.fault.Fault.TheVariants.{Gather, Late, NoMemory, Tables}
+use Rattle.fare_program.specs.declared.fault.Fault.TheVariants.{TooManyTaps, Unopened as AtOpening}
+use Rattle.fare_program.specs.declared.fault.Fault.TheVariants.{Unsorted, Uploads, Write}
 use Rattle.fare_service.specs.Faults.{IsForMemory}
-use Rattle.program_manners.specs.Loads.{Loaded}
-use Rattle.program_manners.specs.Refusals.{IsOneOf, HasRefused}
+use Rattle.program_manners.specs.{Loads.Loaded, Refusals.IsOneOf, Refusals.HasRefused}
 use Rattle.program_manners.specs.TableLoads.{LoadsTables}
-use Rattle.program_manners.specs.TablesFaults.{IsTablesFault}
 use Rattle.program_manners.specs.TableWords.{TableNames, table_files}
-use Rattle.program_manners.specs.declared.loading.FileFault.{FileFault}
+use Rattle.program_manners.specs.{TablesFaults.IsTablesFault, declared.loading.FileFault.FileFault}
+use Rattle.sorted_bills.specs.Faults.{HaveTooManyTaps}
+use Rattle.sorted_taps.specs.Checked.{IsFirstUnsorted}
+use Rattle.std.specs.Prelude.{◌≡◌, ◌≢◌, ◌<◌, ℕ, List, [], ◌∷◌, Option, Some, true, MatchOption}
+use Rattle.std.specs.Prelude.{codes, length, map, slice_get}
+use Rattle.tariffs.specs.Fares.{Fares}
 use Rattle.world.specs.declared.faults.LoadFault.{LoadFault}
 use Rattle.world.specs.declared.faults.LoadFault.TheVariants as load
-use Rattle.sorted_bills.specs.Faults.{HaveTooManyTaps}
-use Rattle.class_names.specs.ClassFaults.{IsWrongAt}
-use Rattle.class_names.specs.declared.names.WrongNames.{WrongNames}
-use Rattle.class_names.specs.declared.names.ClassFault.TheVariants.{Name}
-use Rattle.sorted_taps.specs.Checked.{IsFirstUnsorted}
-use Rattle.fare_program.specs.Options.{Request}
-use Rattle.fare_program.specs.declared.fault.Fault.{Fault}
-use Rattle.fare_program.specs.declared.fault.Fault.TheVariants.{Class, File, Gather, Late, NoMemory}
-use Rattle.fare_program.specs.declared.fault.Fault.TheVariants.{Tables, TooManyTaps}
-use Rattle.fare_program.specs.declared.fault.Fault.TheVariants.{Unopened as AtOpening, Unsorted}
-use Rattle.fare_program.specs.declared.fault.Fault.TheVariants.{Uploads, Write}
 
 -- what fault lines call the files to be loaded: standard input, if none is named
 abbrev pub names_reported : List (List ℕ) → List (List ℕ)

@@ -1,23 +1,16 @@
 -- How a run ends.
-use Rattle.std.specs.Prelude.{◌≡◌, ◌≢◌, ◌⊎◌, ℕ, suc, zero, Bool, true, false, List, Option, None}
-use Rattle.std.specs.Prelude.{is_some}
-use Rattle.std.specs.Io.KnownBytes.{Appends, Keeps}
 use Rattle.clap.specs.Words.{Text}
-use Rattle.fare_texts.specs.WrittenOut.{Begins}
-use Rattle.fare_program.specs.Causes.{IsRightFault}
-use Rattle.fare_program.specs.Fault.{fault_text}
+use Rattle.fare_program.specs.{Causes.IsRightFault, Fault.fault_text}
 use Rattle.fare_program.specs.Options.{AsksForText, Parses, Request, request_by}
-use Rattle.fare_program.specs.Program.{Does}
-use Rattle.fare_program.specs.Usage.{is_usable}
-use Rattle.fare_program.specs.declared.fault.Fault.{Fault}
+use Rattle.fare_program.specs.{Program.Does, Usage.is_usable, declared.fault.Fault.Fault}
 use Rattle.fare_program.specs.declared.fault.Fault.TheVariants.{Late, NoMemory, Write}
-use Rattle.program_manners.specs.LineWritten.{LineWritten}
-use Rattle.program_manners.specs.Loads.{Loaded}
+use Rattle.fare_texts.specs.WrittenOut.{Begins}
+use Rattle.program_manners.specs.{LineWritten.LineWritten, Loads.Loaded}
 use Rattle.program_manners.specs.declared.complaints.Complaints.{Complaints}
-use Rattle.program_manners.specs.declared.output.Output.{Output}
-use Rattle.program_manners.specs.declared.output.WriteEnd.{WriteEnd}
-use Rattle.world.specs.Origins.{Origin}
-use Rattle.world.specs.declared.faults.LoadFault.{LoadFault}
+use Rattle.program_manners.specs.declared.output.{Output.Output, WriteEnd.WriteEnd}
+use Rattle.std.specs.{Io.KnownBytes.Appends, Io.KnownBytes.Keeps, Prelude.◌≡◌, Prelude.◌≢◌}
+use Rattle.std.specs.Prelude.{◌⊎◌, ℕ, suc, zero, Bool, true, false, List, Option, None, is_some}
+use Rattle.world.specs.{Origins.Origin, declared.faults.LoadFault.LoadFault}
 
 -- What a run did, of which some may not be known.
 pub record Did : Type 0 where

@@ -1,15 +1,14 @@
 -- The fault lines, without their line feeds.
-use Rattle.std.specs.Prelude.{ℕ, List, codes, if◌then◌else◌}
-use Rattle.fare_service.specs.declared.faults.GatherFault.TheVariants as gather
-use Rattle.program_manners.specs.Lines.{follow_text, load_text, named_class_text}
-use Rattle.program_manners.specs.Lines.{named_table_text, table_text}
-use Rattle.program_manners.specs.declared.table_loads.TablesFault.TheVariants as tables
 use Rattle.fare_program.specs.SortedFaults.{late_text, sorted_text, unopened_text}
-use Rattle.fare_program.specs.declared.fault.ClassLine.{ClassLine}
-use Rattle.fare_program.specs.declared.fault.Fault.{Fault}
+use Rattle.fare_program.specs.declared.fault.{ClassLine.ClassLine, Fault.Fault}
 use Rattle.fare_program.specs.declared.fault.Fault.TheVariants.{Class, File, Gather, Late, NoMemory}
 use Rattle.fare_program.specs.declared.fault.Fault.TheVariants.{Tables, TooManyTaps, Unopened}
 use Rattle.fare_program.specs.declared.fault.Fault.TheVariants.{Unsorted, Uploads, Write}
+use Rattle.program_manners.specs.Lines.{follow_text, load_text, named_class_text, named_table_text}
+use Rattle.program_manners.specs.Lines.{table_text}
+use Rattle.std.specs.Prelude.{ℕ, List, codes, if◌then◌else◌}
+use Rattle.fare_service.specs.declared.faults.GatherFault.TheVariants as gather
+use Rattle.program_manners.specs.declared.table_loads.TablesFault.TheVariants as tables
 
 -- a fare table with a class that cannot be in a ledger
 abbrev pub class_text : ClassLine → List ℕ

@@ -1,12 +1,10 @@
 -- The lines of a listing, as bytes.
-use Rattle.std.specs.Prelude.{ℕ, List, ◌++◌, codes, decimal}
-use Rattle.hex.specs.Hex.{encode_lower}
-use Rattle.tap_views.specs.Layout.{Tap, num}
-use Rattle.tap_views.specs.Names.{fault_name}
-use Rattle.tap_views.specs.declared.fault.LayoutFault.{LayoutFault}
-use Rattle.fare_program.specs.declared.listing.Word.{Word}
+use Rattle.fare_program.specs.declared.listing.{ListCounts.ListCounts, Word.Word}
 use Rattle.fare_program.specs.declared.listing.Word.TheVariants.{Live, Stale, Unknown}
-use Rattle.fare_program.specs.declared.listing.ListCounts.{ListCounts}
+use Rattle.hex.specs.Hex.{encode_lower}
+use Rattle.std.specs.Prelude.{ℕ, List, ◌++◌, codes, decimal}
+use Rattle.tap_views.specs.Layout.{Tap, num}
+use Rattle.tap_views.specs.{Names.fault_name, declared.fault.LayoutFault.LayoutFault}
 
 -- the liveness as it is printed
 abbrev pub word_text : Word → List ℕ

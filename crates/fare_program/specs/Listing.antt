@@ -1,13 +1,10 @@
 -- What a list of taps says of each of them: live, stale or unknown.
-use Rattle.std.specs.Prelude.{◌≡◌, ◌+◌, ℕ, Bool, true, ◌&&◌, if◌then◌else◌, List, []}
-use Rattle.std.specs.Prelude.{◌∷◌, ◌++◌, Option, Some, None, filter, fold, nat_lt}
-use Rattle.std.specs.List.{list_all}
-use Rattle.std.specs.Map.{lookup}
-use Rattle.std.specs.Str.{bytes_eq}
-use Rattle.tap_views.specs.Layout.{Tap, num}
-use Rattle.fare_program.specs.declared.listing.Word.{Word}
+use Rattle.fare_program.specs.declared.listing.{ListCounts.ListCounts, Word.Word}
 use Rattle.fare_program.specs.declared.listing.Word.TheVariants.{Live, Stale, Unknown}
-use Rattle.fare_program.specs.declared.listing.ListCounts.{ListCounts}
+use Rattle.std.specs.{List.list_all, Map.lookup, Prelude.◌≡◌, Prelude.◌+◌}
+use Rattle.std.specs.Prelude.{ℕ, Bool, true, ◌&&◌, if◌then◌else◌, List, [], ◌∷◌, ◌++◌, Option, Some}
+use Rattle.std.specs.{Prelude.None, Prelude.filter, Prelude.fold, Prelude.nat_lt, Str.bytes_eq}
+use Rattle.tap_views.specs.Layout.{Tap, num}
 
 -- a tap, and whether its validator is known
 pub record Listed : Type 0 where

@@ -1,15 +1,13 @@
 -- The command line, and what its words ask for.
-use Rattle.std.specs.Prelude.{◌≡◌, ◌⊎◌, ◌∷◌, ℕ, Bool, false, List, [], Option, None, Some, codes}
-use Rattle.std.specs.Prelude.{pos, true, unwrap_or}
 use Rattle.clap.specs.Words.{App, IsAmong, Row, Rule, Text, all_of, fault_of, first_of, matches_of}
-use Rattle.clap.specs.Words.{with_rule}
-use Rattle.fare_texts.specs.declared.form.Form.{Form}
-use Rattle.fare_texts.specs.declared.form.Form.TheVariants.{Text as Words, Json}
-use Rattle.clap.specs.declared.builder.action.ArgAction.TheVariants.{Append}
+use Rattle.clap.specs.{Words.with_rule, declared.builder.action.ArgAction.TheVariants.Append}
 use Rattle.clap.specs.declared.error.kind.ErrorKind.TheVariants.{DisplayHelp, DisplayVersion}
+use Rattle.fare_texts.specs.declared.form.Form.{Form, TheVariants.Text as Words, TheVariants.Json}
 use Rattle.program_manners.specs.TableWords.{TableNames, tables_in}
 use Rattle.program_manners.specs.Words.{flag_rule, is_given, list_option, named_app, null_flag}
 use Rattle.program_manners.specs.Words.{number_rule, option_rule, positional_rule, repeated_rule}
+use Rattle.std.specs.Prelude.{◌≡◌, ◌⊎◌, ◌∷◌, ℕ, Bool, false, List, [], Option, None, Some, codes}
+use Rattle.std.specs.Prelude.{pos, true, unwrap_or}
 
 abbrev pub with_rules : App → List Rule → App
 with_rules app [] = app

@@ -1,21 +1,17 @@
 -- The text of a part of sorted files: of the taps of a range of tokens.
-use Rattle.std.specs.Prelude.{◌≡◌, ◌++◌, ℕ, Bool, List, MatchBool, MatchOption, None, Option, length}
-use Rattle.std.specs.Prelude.{map}
-use Rattle.tariffs.specs.Fares.{Fares}
-use Rattle.tap_views.specs.declared.encoder.TapFields.{TapFields}
-use Rattle.tap_views.specs.declared.token.Token.{Token}
-use Rattle.tap_views.specs.declared.upload_end.UploadEnd.{UploadEnd}
-use Rattle.tap_views.specs.declared.upload_end.UploadEnd.TheVariants.{Posted}
-use Rattle.histories.specs.Sums.{sums}
-use Rattle.histories.specs.SumsByKey.{sums_by_token, sums_by_validator}
-use Rattle.histories.specs.declared.entry.Entry.{Entry}
+use Rattle.fare_program.specs.{Options.Request, Settling.ShowsSettled}
 use Rattle.fare_texts.specs.Ledger.{IsLedgerOver}
-use Rattle.report_texts.specs.Report.{report}
-use Rattle.sorted_taps.specs.declared.positions.FileSpan.{FileSpan}
-use Rattle.sorted_bills.specs.Parts.{IsPartOf}
+use Rattle.histories.specs.{Sums.sums, SumsByKey.sums_by_token, SumsByKey.sums_by_validator}
+use Rattle.histories.specs.declared.entry.Entry.{Entry}
 use Rattle.part_texts.specs.Heads.{part_head}
-use Rattle.fare_program.specs.Options.{Request}
-use Rattle.fare_program.specs.Settling.{ShowsSettled}
+use Rattle.report_texts.specs.Report.{report}
+use Rattle.sorted_bills.specs.Parts.{IsPartOf}
+use Rattle.sorted_taps.specs.declared.positions.FileSpan.{FileSpan}
+use Rattle.std.specs.Prelude.{◌≡◌, ◌++◌, ℕ, Bool, List, MatchBool, MatchOption, None, Option}
+use Rattle.std.specs.Prelude.{length, map}
+use Rattle.tap_views.specs.declared.{encoder.TapFields.TapFields, token.Token.Token}
+use Rattle.tap_views.specs.declared.upload_end.UploadEnd.{UploadEnd, TheVariants.Posted}
+use Rattle.tariffs.specs.Fares.{Fares}
 
 -- the report over a history of uploads with these ends
 abbrev pub report_over : List UploadEnd → List Entry → List ℕ

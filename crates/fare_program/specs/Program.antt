@@ -1,34 +1,24 @@
 -- What a run of the program does.
-use Rattle.std.specs.Prelude.{◌≡◌, ℕ, Bool, true, List, map, Option}
-use Rattle.std.specs.Prelude.{None, Some, Ok, MatchBool, MatchOption, length}
-use Rattle.hex.specs.Hex.{decode_sized}
-use Rattle.tariffs.specs.Fares.{Fares}
-use Rattle.tap_views.specs.Token.{bytes_of}
-use Rattle.tap_views.specs.declared.token.Token.{Token}
-use Rattle.tap_views.specs.declared.upload_end.UploadEnd.{UploadEnd}
-use Rattle.histories.specs.declared.entry.Entry.{Entry}
-use Rattle.shared_books.specs.Drawing.{AllBelow, HasAll}
-use Rattle.fare_service.specs.Headline.{HasRun, drawn_by}
-use Rattle.fare_service.specs.Outcomes.{OutcomeView}
-use Rattle.fare_service.specs.Plain.{AreApart}
-use Rattle.histories.specs.Plain.{IsPlain}
-use Rattle.fare_service.specs.Printed.{IsStatementOf, report_with}
-use Rattle.fare_program.specs.Options.{Request, form_of}
-use Rattle.fare_texts.specs.declared.form.Form.{Form}
-use Rattle.tap_views.specs.UploadEnds.{are_posted}
-use Rattle.fare_program.specs.Parts.{ShowsSorted}
-use Rattle.fare_program.specs.Settling.{ShowsOver, ShowsSettled}
-use Rattle.fare_service.specs.Explained.{IsExplainedOf}
-use Rattle.fare_service.specs.Ledger.{IsLedgerOfBooks}
-use Rattle.program_manners.specs.Loads.{Loaded}
-use Rattle.program_manners.specs.TableLoads.{LoadsTables}
-use Rattle.program_manners.specs.TableWords.{TableNames}
-use Rattle.fare_program.specs.Uploads.{IsListing}
+use Rattle.class_names.specs.Classes.{AreTrees, class_of_token, tree_at}
 use Rattle.fare_program.specs.FilesLoaded.{AreLoaded, LoadsFiles, names_to_load}
+use Rattle.fare_program.specs.{Options.Request, Options.form_of, Parts.ShowsSorted}
+use Rattle.fare_program.specs.{Settling.ShowsOver, Settling.ShowsSettled, Uploads.IsListing}
+use Rattle.fare_service.specs.{Explained.IsExplainedOf, Headline.HasRun, Headline.drawn_by}
+use Rattle.fare_service.specs.{Ledger.IsLedgerOfBooks, Outcomes.OutcomeView, Plain.AreApart}
+use Rattle.fare_service.specs.Printed.{IsStatementOf, report_with}
+use Rattle.fare_texts.specs.declared.form.Form.{Form}
+use Rattle.hex.specs.Hex.{decode_sized}
+use Rattle.histories.specs.{Plain.IsPlain, declared.entry.Entry.Entry}
+use Rattle.program_manners.specs.{Loads.Loaded, TableLoads.LoadsTables, TableWords.TableNames}
+use Rattle.settled_texts.specs.Ledgers.{IsTracedLedger}
+use Rattle.shared_books.specs.Drawing.{AllBelow, HasAll}
+use Rattle.std.specs.Prelude.{◌≡◌, ℕ, Bool, true, List, map, Option, None, Some, Ok, MatchBool}
+use Rattle.std.specs.Prelude.{MatchOption, length}
+use Rattle.tap_views.specs.{Token.bytes_of, UploadEnds.are_posted}
+use Rattle.tap_views.specs.declared.{token.Token.Token, upload_end.UploadEnd.UploadEnd}
+use Rattle.tariffs.specs.Fares.{Fares}
 use Rattle.toml.specs.Data.{Members}
 use Rattle.world.specs.Origins.{Origin}
-use Rattle.class_names.specs.Classes.{AreTrees, class_of_token, tree_at}
-use Rattle.settled_texts.specs.Ledgers.{IsTracedLedger}
 
 -- The files were loaded, and the text is their listing, with the validators known that the table
 -- knows. It is clean if no file has a layout fault.

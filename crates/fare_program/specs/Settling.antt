@@ -1,17 +1,14 @@
 -- What a settled run prints.
-use Rattle.std.specs.Prelude.{◌≡◌, ℕ, Bool, List, Option, None, Some, MatchBool}
-use Rattle.tariffs.specs.Fares.{Fares}
-use Rattle.histories.specs.declared.entry.Entry.{Entry}
-use Rattle.tap_views.specs.declared.token.Token.{Token}
-use Rattle.tap_views.specs.UploadEnds.{ArePlainEnds}
-use Rattle.report_texts.specs.OverHistory.{IsReportOver, IsStatementOver}
-use Rattle.tap_views.specs.declared.upload_end.UploadEnd.{UploadEnd}
-use Rattle.fare_texts.specs.ExplainedForms.{IsExplainedOver}
-use Rattle.fare_texts.specs.declared.form.Form.{Form}
-use Rattle.fare_texts.specs.Ledger.{IsLedgerOver}
-use Rattle.settlement.specs.Settled.{IsSettledHistory}
 use Rattle.fare_program.specs.Options.{Request, form_of}
-use Rattle.tap_views.specs.UploadEnds.{are_posted}
+use Rattle.fare_texts.specs.{ExplainedForms.IsExplainedOver, Ledger.IsLedgerOver}
+use Rattle.fare_texts.specs.declared.form.Form.{Form}
+use Rattle.histories.specs.declared.entry.Entry.{Entry}
+use Rattle.report_texts.specs.OverHistory.{IsReportOver, IsStatementOver}
+use Rattle.settlement.specs.Settled.{IsSettledHistory}
+use Rattle.std.specs.Prelude.{◌≡◌, ℕ, Bool, List, Option, None, Some, MatchBool}
+use Rattle.tap_views.specs.UploadEnds.{ArePlainEnds, are_posted}
+use Rattle.tap_views.specs.declared.{token.Token.Token, upload_end.UploadEnd.UploadEnd}
+use Rattle.tariffs.specs.Fares.{Fares}
 
 -- the text is the statement of the token over this history, explained in this form if there is one
 abbrev pub IsStatementIn : Option Form → Fares → List Entry → Token → List ℕ → Type 0

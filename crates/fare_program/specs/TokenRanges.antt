@@ -1,13 +1,11 @@
 -- The word of `--tokens`, a range of tokens, and what is wrong with it.
-use Rattle.std.specs.Prelude.{ℕ, ◌==◌, ◌&&◌, Bool, true, List, [], ◌∷◌, Option, None, Some}
-use Rattle.std.specs.Prelude.{if◌then◌else◌, is_ok}
-use Rattle.std.specs.Cmp.Lexicographic.{slice_cmp}
-use Rattle.std.specs.List.{after_first, before_first}
-use Rattle.std.specs.Ordering.{is_lt, nat_cmp}
-use Rattle.std.specs.Result.{result_ok}
-use Rattle.hex.specs.Hex.{decode_sized}
 use Rattle.fare_program.specs.declared.token_range.RangeFault.{RangeFault}
 use Rattle.fare_program.specs.declared.token_range.RangeFault.TheVariants.{Digits, Form, Order}
+use Rattle.hex.specs.Hex.{decode_sized}
+use Rattle.std.specs.{Cmp.Lexicographic.slice_cmp, List.after_first, List.before_first}
+use Rattle.std.specs.Ordering.{is_lt, nat_cmp}
+use Rattle.std.specs.Prelude.{ℕ, ◌==◌, ◌&&◌, Bool, true, List, [], ◌∷◌, Option, None, Some}
+use Rattle.std.specs.{Prelude.if◌then◌else◌, Prelude.is_ok, Result.result_ok}
 
 -- what is before a dot and after it and one dot more, if that follows it
 abbrev pub around_dots : List ℕ → List ℕ → Option (List ℕ × List ℕ)

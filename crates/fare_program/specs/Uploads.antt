@@ -1,13 +1,12 @@
 -- The text of a listing of whole files.
-use Rattle.std.specs.Prelude.{◌≡◌, ◌+◌, ℕ, Bool, true, List, [], ◌∷◌, ◌++◌, map, flat_map}
-use Rattle.std.specs.Prelude.{Option, None, Some, is_some, not}
-use Rattle.std.specs.List.{list_all}
-use Rattle.tap_views.specs.Layout.{Tap, num}
-use Rattle.tap_views.specs.Files.{ValidBatchesView, IsReadAs, taps_of_batches}
-use Rattle.tap_views.specs.declared.fault.LayoutFault.{LayoutFault}
-use Rattle.tariffs.specs.Fares.{Fares, mode_at}
 use Rattle.fare_program.specs.Lines.{counts_line, refused_line, tap_line}
 use Rattle.fare_program.specs.Listing.{Listed, counts_of, listed_of, liveness_of}
+use Rattle.std.specs.List.{list_all}
+use Rattle.std.specs.Prelude.{◌≡◌, ◌+◌, ℕ, Bool, true, List, [], ◌∷◌, ◌++◌, map, flat_map, Option}
+use Rattle.std.specs.Prelude.{None, Some, is_some, not}
+use Rattle.tap_views.specs.Files.{ValidBatchesView, IsReadAs, taps_of_batches}
+use Rattle.tap_views.specs.{Layout.Tap, Layout.num, declared.fault.LayoutFault.LayoutFault}
+use Rattle.tariffs.specs.Fares.{Fares, mode_at}
 
 -- Without a table every validator is known; with one, those that have a mode.
 abbrev pub is_known : Option Fares → Tap → Bool

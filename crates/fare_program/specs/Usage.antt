@@ -1,12 +1,10 @@
 -- Which requests are usage errors.
-use Rattle.std.specs.Prelude.{ℕ, List, [], ◌∷◌, Bool, true, ◌&&◌, ◌||◌, not, is_none, is_ok}
-use Rattle.std.specs.Prelude.{is_some, length, Option, None, Some, ◌==◌}
-use Rattle.std.specs.List.{list_all}
-use Rattle.std.specs.Option.{option_and_then}
+use Rattle.fare_program.specs.{Options.Request, TokenRanges.range_fault}
 use Rattle.hex.specs.Hex.{decode_sized}
 use Rattle.program_manners.specs.TableWords.{wrong_word}
-use Rattle.fare_program.specs.Options.{Request}
-use Rattle.fare_program.specs.TokenRanges.{range_fault}
+use Rattle.std.specs.{List.list_all, Option.option_and_then}
+use Rattle.std.specs.Prelude.{ℕ, List, [], ◌∷◌, Bool, true, ◌&&◌, ◌||◌, not, is_none, is_ok}
+use Rattle.std.specs.Prelude.{is_some, length, Option, None, Some, ◌==◌}
 
 -- What must hold of what is requested together, given whether a fare table, a token, a file and a
 -- range of tokens are named.

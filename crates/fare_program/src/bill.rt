@@ -1,13 +1,10 @@
 //! The report of settled files, account by account.
-ghost use Rattle.std.specs.Prelude.{◌≡◌, ◌^◌, ◌≤◌, IfErr, List, None, false, length};
-ghost use Rattle.fare_program.specs.inside.Fault.{IsOfOutput};
-ghost use Rattle.fare_program.specs.inside.Ends.{Gives};
-ghost use Rattle.fare_program.specs.inside.Options.{request_of};
-ghost use Rattle.fare_program.specs.inside.PostedFiles.{Settles};
-ghost use Rattle.fare_program.specs.Parts.{report_over};
-ghost use Rattle.tap_views.specs.UploadEnds.{are_posted};
-ghost use Rattle.settlement.specs.Bills.{IsBillOf};
+ghost use Rattle.fare_program.specs.{Parts.report_over, inside.Ends.Gives, inside.Fault.IsOfOutput};
+ghost use Rattle.fare_program.specs.inside.{Options.request_of, PostedFiles.Settles};
 ghost use Rattle.histories.specs.declared.entry.Entry.{Entry};
+ghost use Rattle.settlement.specs.Bills.{IsBillOf};
+ghost use Rattle.std.specs.Prelude.{◌≡◌, ◌^◌, ◌≤◌, IfErr, List, None, false, length};
+ghost use Rattle.tap_views.specs.UploadEnds.{are_posted};
 
 use crate::fault::{Fault, ended};
 use crate::options::Options;

@@ -1,10 +1,9 @@
 //! The command line.
-ghost use Rattle.std.specs.Prelude.{◌≡◌, ◌≤◌, IfOk, map, string_bytes};
 ghost use Rattle.clap.specs.Words.{FailsBy, app_of, fault_of, found_of, matches_of, rows_of};
 ghost use Rattle.clap.specs.Words.{rule_of};
 ghost use Rattle.fare_program.specs.Options.{form_of, program, request_by, request_in, text_rules};
-ghost use Rattle.fare_program.specs.Options.{with_rules};
-ghost use Rattle.fare_program.specs.inside.Options.{request_of};
+ghost use Rattle.fare_program.specs.{Options.with_rules, inside.Options.request_of};
+ghost use Rattle.std.specs.Prelude.{◌≡◌, ◌≤◌, IfOk, map, string_bytes};
 
 use crate::options::Options;
 use clap::{Arg, ArgAction, ArgMatches, Command, Error};

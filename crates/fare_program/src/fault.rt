@@ -1,11 +1,10 @@
 //! Why the program fails, with the line that says so.
-ghost use Rattle.std.specs.Prelude.{◌≡◌, ◌≢◌, ℕ, List, Option, Some, IfErr, map};
+ghost use Rattle.fare_program.specs.{Causes.IsRightOfSorted, Fault.class_text, Fault.fault_text};
+ghost use Rattle.fare_program.specs.inside.{Ends.IsLate, Fault.IsOfOutput, Fault.IsRightOfUploads};
+ghost use Rattle.fare_program.specs.inside.Fault.{as_remembered, ended_as, printed_as};
 ghost use Rattle.fare_service.specs.Faults.{MissesNothing};
-ghost use Rattle.fare_program.specs.Fault.{class_text, fault_text};
-ghost use Rattle.fare_program.specs.inside.Fault.{IsOfOutput, IsRightOfUploads, as_remembered, ended_as, printed_as};
-ghost use Rattle.fare_program.specs.inside.Ends.{IsLate};
-ghost use Rattle.fare_program.specs.Causes.{IsRightOfSorted};
 ghost use Rattle.sorted_bills.specs.Faults.{IsBeforeText, IsBillFault};
+ghost use Rattle.std.specs.Prelude.{◌≡◌, ◌≢◌, ℕ, List, Option, Some, IfErr, map};
 
 use crate::sorted_fault::{LateFault, UnopenedFile, UnsortedFile};
 use fare_service::{GatherFault, OpenFault, PrintFault, RunFault};

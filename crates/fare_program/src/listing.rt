@@ -1,11 +1,10 @@
 //! The liveness of each tap of a listing, from the taps before it.
-ghost use Rattle.std.specs.Prelude.{◌≡◌, ◌+◌, ◌^◌, ◌<◌, ℕ, List, [], ◌∷◌, ◌++◌, IfOk, OnOk, OnErr};
-ghost use Rattle.std.specs.Prelude.{◌&&◌, if◌then◌else◌};
-ghost use Rattle.std.specs.Str.{bytes_eq};
-ghost use Rattle.tap_views.specs.Layout.{num};
 ghost use Rattle.fare_program.specs.Listing.{AddsUp, Listed, RepresentsListing, counted, counts_of};
 ghost use Rattle.fare_program.specs.Listing.{is_after_last, last_of, listed_of, liveness_of};
 ghost use Rattle.fare_program.specs.inside.Listing.{last_after, liveness_by};
+ghost use Rattle.std.specs.Prelude.{◌≡◌, ◌+◌, ◌^◌, ◌<◌, ℕ, List, [], ◌∷◌, ◌++◌, IfOk, OnOk, OnErr};
+ghost use Rattle.std.specs.{Prelude.◌&&◌, Prelude.if◌then◌else◌, Str.bytes_eq};
+ghost use Rattle.tap_views.specs.Layout.{num};
 
 use std::alloc::Global;
 use std::collections::BTreeMap;

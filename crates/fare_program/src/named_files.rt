@@ -1,9 +1,8 @@
 //! Named files that are read while their taps are charged.
-ghost use Rattle.std.specs.Prelude.{◌≡◌, ◌<◌, length, None, Some, IfErr, IfSome};
-ghost use Rattle.std.specs.Io.KnownBytes.{Keeps};
 ghost use Rattle.fare_program.specs.Program.{Charges};
-ghost use Rattle.fare_program.specs.inside.Ends.{Gives, IsLate};
-ghost use Rattle.fare_program.specs.inside.Options.{request_of};
+ghost use Rattle.fare_program.specs.inside.{Ends.Gives, Ends.IsLate, Options.request_of};
+ghost use Rattle.std.specs.Io.KnownBytes.{Keeps};
+ghost use Rattle.std.specs.Prelude.{◌≡◌, ◌<◌, length, None, Some, IfErr, IfSome};
 
 use crate::fault::Fault;
 use crate::noting::NotingGatekeeper;

@@ -1,14 +1,12 @@
 //! What is requested of a part of sorted files: of the taps of a range of tokens.
-ghost use Rattle.std.specs.Prelude.{◌≡◌, ◌≤◌, ◌^◌, ◌++◌, ℕ, List, Option, None, IfErr, false, length};
-ghost use Rattle.std.specs.Prelude.{map, true};
+ghost use Rattle.fare_program.specs.{Causes.IsRightOfSorted, Parts.report_over};
+ghost use Rattle.fare_program.specs.TokenRanges.{range_fault};
+ghost use Rattle.fare_program.specs.inside.{Ends.Gives, Ends.GivesPart, Options.request_of};
 ghost use Rattle.histories.specs.declared.entry.Entry.{Entry};
 ghost use Rattle.part_texts.specs.Heads.{part_head};
 ghost use Rattle.settlement.specs.Bills.{IsBillOf};
-ghost use Rattle.fare_program.specs.Causes.{IsRightOfSorted};
-ghost use Rattle.fare_program.specs.Parts.{report_over};
-ghost use Rattle.fare_program.specs.TokenRanges.{range_fault};
-ghost use Rattle.fare_program.specs.inside.Ends.{Gives, GivesPart};
-ghost use Rattle.fare_program.specs.inside.Options.{request_of};
+ghost use Rattle.std.specs.Prelude.{◌≡◌, ◌≤◌, ◌^◌, ◌++◌, ℕ, List, Option, None, IfErr, false};
+ghost use Rattle.std.specs.Prelude.{length, map, true};
 
 use crate::bill::write_billed;
 use crate::fault::Fault;

@@ -1,13 +1,10 @@
 //! The text that is asked for of files, which are posted as they are or settled.
-ghost use Rattle.std.specs.Prelude.{◌≡◌, ℕ, List, IfErr, OnOk, false, length, map};
-ghost use Rattle.std.specs.Io.KnownBytes.{Appends};
-ghost use Rattle.fare_texts.specs.PrintFaults.{UnchangedUnlessWrite};
-ghost use Rattle.fare_texts.specs.WrittenOut.{Begins};
-ghost use Rattle.fare_program.specs.inside.Fault.{IsRightOfUploads};
-ghost use Rattle.fare_program.specs.inside.Options.{request_of};
-ghost use Rattle.fare_program.specs.inside.Ends.{Gives};
-ghost use Rattle.fare_program.specs.inside.PostedFiles.{Posts};
 ghost use Rattle.fare_program.specs.Program.{ShowsOf, ShowsRequest};
+ghost use Rattle.fare_program.specs.inside.{Ends.Gives, Fault.IsRightOfUploads, Options.request_of};
+ghost use Rattle.fare_program.specs.inside.PostedFiles.{Posts};
+ghost use Rattle.fare_texts.specs.{PrintFaults.UnchangedUnlessWrite, WrittenOut.Begins};
+ghost use Rattle.std.specs.Io.KnownBytes.{Appends};
+ghost use Rattle.std.specs.Prelude.{◌≡◌, ℕ, List, IfErr, OnOk, false, length, map};
 
 use crate::fault::{Fault, ended};
 use crate::noting::{NotedUploads, NotingGatekeeper, sizes_in};

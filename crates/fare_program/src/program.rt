@@ -1,21 +1,16 @@
 //! The whole program, over any source of bytes and any two writers.
-ghost use Rattle.std.specs.Prelude.{◌≡◌, ◌++◌, ◌∷◌, [], List, Option, None, Some, IfErr, IfOk, OnOk};
-ghost use Rattle.std.specs.Prelude.{codes, map, string_bytes};
-ghost use Rattle.std.specs.Option.{option_and_then, option_copied};
 ghost use Rattle.fare_program.specs.Causes.{IsFileFault, IsRightFault, names_reported};
-ghost use Rattle.fare_program.specs.Ends.{Ends, IsPartLedger, did_over};
-ghost use Rattle.fare_program.specs.inside.Ends.{Gives, GivesIf};
-ghost use Rattle.fare_program.specs.Fault.{fault_text};
+ghost use Rattle.fare_program.specs.{Ends.Ends, Ends.IsPartLedger, Ends.did_over, Fault.fault_text};
 ghost use Rattle.fare_program.specs.FilesLoaded.{LoadsFiles, names_to_load};
-ghost use Rattle.fare_program.specs.inside.Options.{request_of};
 ghost use Rattle.fare_program.specs.Program.{Charges, Does, DoesBy, IsTokenIn, Lists};
 ghost use Rattle.fare_program.specs.TokenRanges.{range_fault};
-ghost use Rattle.program_manners.specs.Loads.{Loaded, LoadsOne};
-ghost use Rattle.program_manners.specs.LineWritten.{LineWritten};
-ghost use Rattle.program_manners.specs.Refusals.{HasRefused};
-ghost use Rattle.program_manners.specs.TableLoads.{LoadsTables};
-ghost use Rattle.program_manners.specs.TableViews.{names_of};
-ghost use Rattle.program_manners.specs.TableWords.{wrong_word};
+ghost use Rattle.fare_program.specs.inside.{Ends.Gives, Ends.GivesIf, Options.request_of};
+ghost use Rattle.program_manners.specs.{LineWritten.LineWritten, Loads.Loaded, Loads.LoadsOne};
+ghost use Rattle.program_manners.specs.{Refusals.HasRefused, TableLoads.LoadsTables};
+ghost use Rattle.program_manners.specs.{TableViews.names_of, TableWords.wrong_word};
+ghost use Rattle.std.specs.Option.{option_and_then, option_copied};
+ghost use Rattle.std.specs.Prelude.{◌≡◌, ◌++◌, ◌∷◌, [], List, Option, None, Some, IfErr, IfOk};
+ghost use Rattle.std.specs.Prelude.{OnOk, codes, map, string_bytes};
 
 use crate::fault::Fault;
 use crate::named_files::charge_prefetched;

@@ -1,12 +1,11 @@
 //! A run of the service over uploads that are provided.
-ghost use Rattle.std.specs.Prelude.{◌≡◌, ◌≢◌, ℕ, true, List, Option, IfErr, IfOk, length};
-ghost use Rattle.tariffs.specs.Fares.{Fares};
-ghost use Rattle.tap_views.specs.declared.token.Token.{Token};
+ghost use Rattle.fare_program.specs.{Options.Request, Program.ShowsOf, Program.ShowsPlain};
 ghost use Rattle.fare_program.specs.inside.Fault.{IsRightOfUploads};
-ghost use Rattle.tap_views.specs.UploadEnds.{are_posted, is_posted};
-ghost use Rattle.fare_program.specs.Options.{Request};
-ghost use Rattle.fare_program.specs.Program.{ShowsOf, ShowsPlain};
 ghost use Rattle.fare_service.specs.Headline.{HasRun, HasRunOver};
+ghost use Rattle.std.specs.Prelude.{◌≡◌, ◌≢◌, ℕ, true, List, Option, IfErr, IfOk, length};
+ghost use Rattle.tap_views.specs.UploadEnds.{are_posted, is_posted};
+ghost use Rattle.tap_views.specs.declared.token.Token.{Token};
+ghost use Rattle.tariffs.specs.Fares.{Fares};
 
 use crate::fault::Fault;
 use crate::options::Options;

@@ -1,9 +1,7 @@
 //! What is requested of settled files, whose taps are charged account by account in one order.
-ghost use Rattle.std.specs.Prelude.{◌≡◌, IfErr, None, true};
-ghost use Rattle.fare_program.specs.inside.Fault.{IsOfOutput};
-ghost use Rattle.fare_program.specs.inside.Ends.{Gives};
-ghost use Rattle.fare_program.specs.inside.Options.{request_of};
+ghost use Rattle.fare_program.specs.inside.{Ends.Gives, Fault.IsOfOutput, Options.request_of};
 ghost use Rattle.fare_program.specs.inside.PostedFiles.{Settles};
+ghost use Rattle.std.specs.Prelude.{◌≡◌, IfErr, None, true};
 
 use crate::bill::write_bill;
 use crate::fault::{Fault, ended};

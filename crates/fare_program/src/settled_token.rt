@@ -1,18 +1,13 @@
 //! What is printed of one token of settled files, from its taps alone.
-ghost use Rattle.std.specs.Prelude.{◌≡◌, ℕ, List, All, Some, IfErr};
-ghost use Rattle.std.specs.Prelude.{OnOk};
-ghost use Rattle.std.specs.Io.KnownBytes.{Appends};
-ghost use Rattle.fare_texts.specs.PrintFaults.{UnchangedUnlessWrite};
-ghost use Rattle.fare_texts.specs.WrittenOut.{Begins};
-ghost use Rattle.tap_views.specs.Encoding.{AreEarly};
-ghost use Rattle.histories.specs.Entry.{own};
-ghost use Rattle.histories.specs.declared.entry.Entry.{Entry};
-ghost use Rattle.settlement.specs.Posted.{posted, token_of_tap};
-ghost use Rattle.fare_program.specs.inside.Fault.{IsOfOutput};
-ghost use Rattle.fare_program.specs.inside.Ends.{Gives};
-ghost use Rattle.fare_program.specs.inside.PostedFiles.{Settles};
 ghost use Rattle.fare_program.specs.Settling.{ShowsOver};
-ghost use Rattle.fare_program.specs.inside.Options.{request_of};
+ghost use Rattle.fare_program.specs.inside.{Ends.Gives, Fault.IsOfOutput, Options.request_of};
+ghost use Rattle.fare_program.specs.inside.PostedFiles.{Settles};
+ghost use Rattle.fare_texts.specs.{PrintFaults.UnchangedUnlessWrite, WrittenOut.Begins};
+ghost use Rattle.histories.specs.{Entry.own, declared.entry.Entry.Entry};
+ghost use Rattle.settlement.specs.Posted.{posted, token_of_tap};
+ghost use Rattle.std.specs.Io.KnownBytes.{Appends};
+ghost use Rattle.std.specs.Prelude.{◌≡◌, ℕ, List, All, Some, IfErr, OnOk};
+ghost use Rattle.tap_views.specs.Encoding.{AreEarly};
 
 use crate::fault::{Fault, ended};
 use crate::options::Options;

@@ -1,14 +1,10 @@
 //! What is requested of sorted files, which are read in pieces and merged.
-ghost use Rattle.std.specs.Prelude.{◌≡◌, Option, None, Some, IfErr, IfOk, false, map, true};
-ghost use Rattle.std.specs.Option.{option_and_then};
-ghost use Rattle.fare_program.specs.Causes.{IsRightOfSorted};
-ghost use Rattle.fare_program.specs.Parts.{ShowsSorted};
-ghost use Rattle.fare_program.specs.TokenRanges.{range_fault};
-ghost use Rattle.fare_program.specs.Ends.{IsPartLedger};
-ghost use Rattle.fare_program.specs.Program.{IsTokenIn};
-ghost use Rattle.fare_program.specs.inside.Ends.{GivesKnown, GivesSettled};
-ghost use Rattle.fare_program.specs.inside.Options.{request_of};
+ghost use Rattle.fare_program.specs.{Causes.IsRightOfSorted, Ends.IsPartLedger, Parts.ShowsSorted};
+ghost use Rattle.fare_program.specs.{Program.IsTokenIn, TokenRanges.range_fault};
+ghost use Rattle.fare_program.specs.inside.{Ends.GivesKnown, Ends.GivesSettled, Options.request_of};
 ghost use Rattle.program_manners.specs.Refusals.{IsOneOf};
+ghost use Rattle.std.specs.Option.{option_and_then};
+ghost use Rattle.std.specs.Prelude.{◌≡◌, Option, None, Some, IfErr, IfOk, false, map, true};
 
 use crate::bill::write_billed;
 use crate::fault::{Fault, ended};

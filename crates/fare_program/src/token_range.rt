@@ -1,8 +1,7 @@
 //! The range of tokens that `--tokens` names, and what is wrong with it.
-ghost use Rattle.std.specs.Prelude.{◌≡◌, false, true, None, Some, IfErr, IfOk, OnOk};
-ghost use Rattle.std.specs.Prelude.{option_map};
 ghost use Rattle.fare_program.specs.TokenRanges.{bytes_of_side, is_side, order_fault, range_fault};
 ghost use Rattle.fare_program.specs.TokenRanges.{sides_of};
+ghost use Rattle.std.specs.Prelude.{◌≡◌, false, true, None, Some, IfErr, IfOk, OnOk, option_map};
 
 use hex::FromHex;
 use std::fmt;

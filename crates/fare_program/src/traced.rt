@@ -1,17 +1,12 @@
 //! The traced ledger of files.
+ghost use Rattle.class_names.specs.Names.{class_by};
+ghost use Rattle.fare_program.specs.{Causes.IsRightFault, Program.Traces};
+ghost use Rattle.fare_program.specs.inside.{Ends.Gives, Fault.IsOfOutput, Options.request_of};
+ghost use Rattle.program_manners.specs.{Loads.Loaded, TableLoads.LoadsTables, TableViews.names_of};
+ghost use Rattle.program_manners.specs.TableWords.{table_files};
+ghost use Rattle.settled_texts.specs.Ledgers.{IsTracedLedger};
 ghost use Rattle.std.specs.Prelude.{◌≡◌, ◌≤◌, List, Option, Some, IfErr, IfSome, length, map};
 ghost use Rattle.std.specs.Prelude.{slice_get, true};
-ghost use Rattle.fare_program.specs.Causes.{IsRightFault};
-ghost use Rattle.fare_program.specs.Program.{Traces};
-ghost use Rattle.fare_program.specs.inside.Fault.{IsOfOutput};
-ghost use Rattle.fare_program.specs.inside.Ends.{Gives};
-ghost use Rattle.fare_program.specs.inside.Options.{request_of};
-ghost use Rattle.program_manners.specs.Loads.{Loaded};
-ghost use Rattle.program_manners.specs.TableLoads.{LoadsTables};
-ghost use Rattle.program_manners.specs.TableViews.{names_of};
-ghost use Rattle.program_manners.specs.TableWords.{table_files};
-ghost use Rattle.class_names.specs.Names.{class_by};
-ghost use Rattle.settled_texts.specs.Ledgers.{IsTracedLedger};
 
 use crate::fault::{ClassLine, Fault};
 use crate::options::Options;

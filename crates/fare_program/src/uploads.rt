@@ -1,10 +1,9 @@
 //! The text of a listing of whole files.
-ghost use Rattle.std.specs.Prelude.{◌≡◌, ◌+◌, ◌^◌, ◌<◌, ◌≤◌, ◌∷◌, [], IfOk, OnOk, length, map};
-ghost use Rattle.std.specs.Prelude.{string_bytes};
-ghost use Rattle.std.specs.Option.{option_copied};
 ghost use Rattle.fare_program.specs.Listing.{RepresentsListing};
 ghost use Rattle.fare_program.specs.Uploads.{IsListing, is_known, listed};
 ghost use Rattle.fare_program.specs.inside.Uploads.{Lists, ListsUpload, ListsUploads};
+ghost use Rattle.std.specs.{Option.option_copied, Prelude.◌≡◌, Prelude.◌+◌};
+ghost use Rattle.std.specs.Prelude.{◌^◌, ◌<◌, ◌≤◌, ◌∷◌, [], IfOk, OnOk, length, map, string_bytes};
 
 use crate::lines::{write_counts, write_refused, write_tap};
 use crate::listing::Listing;

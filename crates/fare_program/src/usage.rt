@@ -1,12 +1,9 @@
 //! Which requests are usage errors.
-ghost use Rattle.std.specs.Prelude.{◌≡◌, IfOk, OnErr, OnOk, false, is_none, option_map, true};
-ghost use Rattle.std.specs.List.{list_all};
-ghost use Rattle.std.specs.Option.{option_and_then};
-ghost use Rattle.fare_program.specs.inside.Options.{request_of};
-ghost use Rattle.fare_program.specs.Program.{IsTokenIn};
-ghost use Rattle.fare_program.specs.TokenRanges.{range_fault};
-ghost use Rattle.fare_program.specs.Usage.{has_digits, is_usable, keeps_rules};
+ghost use Rattle.fare_program.specs.{Program.IsTokenIn, TokenRanges.range_fault, Usage.has_digits};
+ghost use Rattle.fare_program.specs.{Usage.is_usable, Usage.keeps_rules, inside.Options.request_of};
 ghost use Rattle.program_manners.specs.TableWords.{wrong_word};
+ghost use Rattle.std.specs.{List.list_all, Option.option_and_then};
+ghost use Rattle.std.specs.Prelude.{◌≡◌, IfOk, OnErr, OnOk, false, is_none, option_map, true};
 
 use crate::options::Options;
 use crate::token_range::{RangeFault, TokenRange};

@@ -1,46 +1,34 @@
 -- Sums over the books, over the workers and over the uploads are one.
+use Rattle.std.proofs.Common.{refl, sym, ◌∙◌, ap, inl, inr, arith, eq-eqb, ne_eqb}
+use Rattle.account_rule.specs.declared.reply.Reply.{Reply}
+use Rattle.fare_service.proofs.GatherLemmas.{times_same, fewer_after, not_drawn, end_same}
+use Rattle.fare_service.proofs.{GatherLemmas.end_other, GatheredShares.has_gathered}
+use Rattle.fare_service.proofs.GatheredWork.{Given, IsBookOfWork, IsGathered, given_of}
+use Rattle.fare_service.specs.{Adding.AddUp, Headline.Signed, Headline.end_of, Outcomes.OutcomeView}
+use Rattle.fare_service.specs.Runs.{RunVisit, IsEntered, entries_of, taps_posted}
+use Rattle.fare_service.specs.{ServiceView.ServiceView, ShareView.ShareView, Shares.Worked}
+use Rattle.fare_service.specs.Shares.{all_visits, IsWorkOf, IsEndOf, IsShareOf, all_works, file_at}
+use Rattle.fare_service.specs.inside.{Closing.IsClosedWork, Joining.with_all_done, Runs.visits_to}
+use Rattle.fare_service.specs.inside.ServiceView.{IsService}
+use Rattle.histories.proofs.SumsLemmas.{same_seven, sums-append, add_none}
+use Rattle.histories.specs.Entry.{reply_of}
+use Rattle.histories.specs.Sums.{Sums, sums, sums_of, sums_of_replies, add_sums, is_paid}
+use Rattle.histories.specs.Sums.{is_transfer, is_capped, is_stale, is_unknown, add_all}
+use Rattle.histories.specs.declared.{entry.Entry.Entry, sums.totals.Totals.Totals}
+use Rattle.shard_book.specs.Book.{Book, all_entries}
+use Rattle.shared_books.specs.{Drawing.NoneTwice, Marks.history_of_visits}
+use Rattle.std.proofs.lemmas.{Bool.Decides.eqb_tells, Grind.flat_map-append}
+use Rattle.std.proofs.lemmas.List.{length-append, append-nil, take_more, drop_more, drop_all}
+use Rattle.std.proofs.lemmas.List.Elements.{All-nil, All-head, All-tail, All-append, All-weaker}
+use Rattle.std.proofs.lemmas.List.Sums.{sum_by-cons, sum_by-append}
+use Rattle.std.specs.List.{flat_map}
 use Rattle.std.specs.Prelude.{ℕ, zero, suc, ◌≡◌, ◌≢◌, ◌⊎◌, ◌+◌, ◌<◌, ◌≤◌, ◌==◌, Bool, true, false}
 use Rattle.std.specs.Prelude.{cond, List, [], ◌∷◌, ◌++◌, length, map, filter, take, drop, get_or}
 use Rattle.std.specs.Prelude.{replicate, All, slice_get, Some, sum_by}
-use Rattle.std.specs.List.{flat_map}
-use Rattle.std.proofs.Common.{refl, sym, ◌∙◌, ap, inl, inr, arith, eq-eqb, ne_eqb}
-use Rattle.std.proofs.lemmas.Bool.Decides.{eqb_tells}
-use Rattle.std.proofs.lemmas.List.{length-append, append-nil, take_more, drop_more, drop_all}
-use Rattle.std.proofs.lemmas.Grind.{flat_map-append}
-use Rattle.std.proofs.lemmas.List.Sums.{sum_by-cons, sum_by-append}
-use Rattle.std.proofs.lemmas.List.Elements.{All-nil, All-head, All-tail, All-append, All-weaker}
-use Rattle.account_rule.specs.declared.reply.Reply.{Reply}
-use Rattle.histories.specs.declared.entry.Entry.{Entry}
-use Rattle.shard_book.specs.Book.{Book}
-use Rattle.histories.specs.Entry.{reply_of}
-use Rattle.shard_book.specs.Book.{all_entries}
-use Rattle.histories.specs.declared.sums.totals.Totals.{Totals}
-use Rattle.histories.specs.Sums.{Sums, sums, sums_of, sums_of_replies, add_sums, is_paid}
-use Rattle.histories.specs.Sums.{is_transfer, is_capped, is_stale, is_unknown, add_all}
-use Rattle.shared_books.specs.Drawing.{NoneTwice}
-use Rattle.shared_books.specs.Marks.{history_of_visits}
-use Rattle.tariffs.specs.Fares.{Fares}
-use Rattle.tap_views.specs.declared.upload_end.UploadEnd.{UploadEnd}
+use Rattle.tap_views.specs.{UploadEnds.taps_of_end, declared.upload_end.UploadEnd.UploadEnd}
 use Rattle.tap_views.specs.declared.upload_end.UploadEnd.TheVariants.{Posted, Refused, Cut, Undrawn}
-use Rattle.tap_views.specs.UploadEnds.{taps_of_end}
-use Rattle.fare_service.specs.Adding.{AddUp}
-use Rattle.histories.proofs.SumsLemmas.{same_seven, sums-append, add_none}
-use Rattle.fare_service.specs.Headline.{Signed, end_of}
-use Rattle.fare_service.specs.inside.Closing.{IsClosedWork}
-use Rattle.fare_service.specs.ServiceView.{ServiceView}
-use Rattle.fare_service.specs.inside.ServiceView.{IsService}
-use Rattle.fare_service.specs.ShareView.{ShareView}
-use Rattle.fare_service.specs.inside.Joining.{with_all_done}
-use Rattle.fare_service.specs.Outcomes.{OutcomeView}
+use Rattle.tariffs.specs.Fares.{Fares}
 use Rattle.world.specs.Run.{nothing_yet}
-use Rattle.fare_service.specs.Runs.{RunVisit, IsEntered, entries_of, taps_posted}
-use Rattle.fare_service.specs.inside.Runs.{visits_to}
-use Rattle.fare_service.specs.Shares.{Worked, all_visits, IsWorkOf, IsEndOf, IsShareOf, all_works}
-use Rattle.fare_service.specs.Shares.{file_at}
-use Rattle.fare_service.proofs.GatherLemmas.{times_same, fewer_after, not_drawn}
-use Rattle.fare_service.proofs.GatherLemmas.{end_same, end_other}
-use Rattle.fare_service.proofs.GatheredShares.{has_gathered}
-use Rattle.fare_service.proofs.GatheredWork.{Given, IsBookOfWork, IsGathered, given_of}
 
 -- f of the first n numbers, added up
 abbrev pub sum_below : (ℕ → ℕ) → ℕ → ℕ

@@ -1,19 +1,15 @@
 -- What workers answer: shares, or an upload that was not lent.
-use Rattle.std.specs.Prelude.{◌≡◌, ℕ, List, [], ◌∷◌, length, map, All, Result, Ok, Err, IfErr}
-use Rattle.std.specs.List.{AllZip}
 use Rattle.std.proofs.Common.{refl, subst, arith}
-use Rattle.std.proofs.lemmas.List.Elements.{All-nil, All-cons, All-contains}
-use Rattle.fare_service.specs.ServiceView.{ServiceView}
-use Rattle.fare_service.specs.ShareView.{ShareView}
-use Rattle.fare_service.specs.Shares.{IsShareOf}
-use Rattle.fare_service.specs.declared.lending.Unavailable.{Unavailable}
-use Rattle.fare_service.specs.Lending.{IsUnavailable}
-use Rattle.fare_service.specs.Refusals.{WasNotGathered}
+use Rattle.fare_service.specs.{Lending.IsUnavailable, Refusals.WasNotGathered}
+use Rattle.fare_service.specs.{ServiceView.ServiceView, ShareView.ShareView, Shares.IsShareOf}
 use Rattle.fare_service.specs.declared.faults.RunFault.{RunFault}
 use Rattle.fare_service.specs.declared.faults.RunFault.TheVariants.{Workers, NoMemory, Gather}
 use Rattle.fare_service.specs.declared.faults.RunFault.TheVariants.{Unavailable as ForUnavailable}
-use Rattle.fare_service.specs.inside.Lending.{IsAnswer, IsFaultOf}
-use Rattle.fare_service.specs.inside.Stopping.{WorkedOn}
+use Rattle.fare_service.specs.declared.lending.Unavailable.{Unavailable}
+use Rattle.fare_service.specs.inside.{Lending.IsAnswer, Lending.IsFaultOf, Stopping.WorkedOn}
+use Rattle.std.proofs.lemmas.List.Elements.{All-nil, All-cons, All-contains}
+use Rattle.std.specs.List.{AllZip}
+use Rattle.std.specs.Prelude.{◌≡◌, ℕ, List, [], ◌∷◌, length, map, All, Result, Ok, Err, IfErr}
 
 -- all workers gave their shares back
 pub record Answered (service : ServiceView) (olds news : List ShareView) : Type 0 where

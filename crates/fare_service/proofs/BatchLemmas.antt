@@ -1,17 +1,14 @@
 -- A batch, posted run by run.
-use Rattle.std.specs.Prelude.{ℕ, ◌≡◌, ◌+◌, ◌-◌, ◌<◌, List, ◌++◌, Result, Ok, Err, is_ok, IsErr}
 use Rattle.std.proofs.Common.{sym, subst, arith}
-use Rattle.histories.specs.Sums.{Sums}
-use Rattle.shared_books.specs.Passes.{PassView}
-use Rattle.tap_views.specs.Shards.{run_of}
-use Rattle.fare_service.specs.declared.service.working.Stop.{Stop}
-use Rattle.tap_views.specs.Layout.{Tap}
-use Rattle.fare_service.specs.Runs.{PostedRun, if_any, runs_below, RunVisit}
-use Rattle.fare_service.specs.Runs.{ArePostedWhole, AreCut}
-use Rattle.fare_service.specs.inside.Runs.{ArePostedOrCut}
-use Rattle.fare_service.specs.Shares.{HasVisited}
 use Rattle.fare_service.proofs.RunLemmas.{posted_posted, posted_cut, below_more, below_cut}
 use Rattle.fare_service.proofs.VisitLemmas.{made_more}
+use Rattle.fare_service.specs.Runs.{PostedRun, if_any, runs_below, RunVisit, ArePostedWhole, AreCut}
+use Rattle.fare_service.specs.{Shares.HasVisited, declared.service.working.Stop.Stop}
+use Rattle.fare_service.specs.inside.Runs.{ArePostedOrCut}
+use Rattle.histories.specs.Sums.{Sums}
+use Rattle.shared_books.specs.Passes.{PassView}
+use Rattle.std.specs.Prelude.{ℕ, ◌≡◌, ◌+◌, ◌-◌, ◌<◌, List, ◌++◌, Result, Ok, Err, is_ok, IsErr}
+use Rattle.tap_views.specs.{Layout.Tap, Shards.run_of}
 
 -- some runs were posted whole, and then others, whole or up to a cut
 abbrev pub Posts : ℕ → List PassView → List PassView → Sums → Sums → List PostedRun → Type 0

@@ -1,21 +1,18 @@
 -- The claims of shares, split and put together again.
-use Rattle.std.specs.Prelude.{ℕ, zero, suc, ◌≡◌, ◌≢◌, ◌⊎◌, ◌+◌, ◌-◌, ◌*◌, ◌<◌, ◌≤◌, ◌==◌, true}
-use Rattle.std.specs.Prelude.{false, List, [], ◌∷◌, ◌++◌, length, sum_by, map}
-use Rattle.std.specs.List.{AllZip}
 use Rattle.std.proofs.Common.{refl, sym, ◌∙◌, ap, inl, inr, subst, arith, get_or, set}
 use Rattle.std.proofs.Common.{length-append}
-use Rattle.std.proofs.lemmas.List.{map-set, length-map, get_or-set_same, get_or-set_other}
-use Rattle.std.proofs.lemmas.List.{get_or-map}
-use Rattle.std.proofs.lemmas.List.Sums.{sum_by_push, sum_by-cons}
-use Rattle.std.proofs.lemmas.Bool.Decides.{eqb_tells}
+use Rattle.fare_service.proofs.ShareLemmas.{claims_left_at}
+use Rattle.fare_service.specs.Claims.{claims_of, claims_at, HaveAllClaims, HasAllClaims, left_share}
+use Rattle.fare_service.specs.{Claims.HasHalf, ServiceView.ServiceView, ServiceView.shards_of}
+use Rattle.fare_service.specs.{ShareView.ShareView, Shares.WentOn}
 use Rattle.shared_books.specs.Claims.{all_claims, claims_given, claims_left}
 use Rattle.shared_books.specs.Passes.{PassView, left_pass}
-use Rattle.fare_service.specs.ServiceView.{ServiceView, shards_of}
-use Rattle.fare_service.specs.ShareView.{ShareView}
-use Rattle.fare_service.specs.Claims.{claims_of, claims_at, HaveAllClaims, HasAllClaims, left_share}
-use Rattle.fare_service.specs.Claims.{HasHalf}
-use Rattle.fare_service.specs.Shares.{WentOn}
-use Rattle.fare_service.proofs.ShareLemmas.{claims_left_at}
+use Rattle.std.proofs.lemmas.{Bool.Decides.eqb_tells, List.map-set}
+use Rattle.std.proofs.lemmas.List.{length-map, get_or-set_same, get_or-set_other, get_or-map}
+use Rattle.std.proofs.lemmas.List.Sums.{sum_by_push, sum_by-cons}
+use Rattle.std.specs.List.{AllZip}
+use Rattle.std.specs.Prelude.{ℕ, zero, suc, ◌≡◌, ◌≢◌, ◌⊎◌, ◌+◌, ◌-◌, ◌*◌, ◌<◌, ◌≤◌, ◌==◌, true}
+use Rattle.std.specs.Prelude.{false, List, [], ◌∷◌, ◌++◌, length, sum_by, map}
 
 -- the passes of which the first n were split
 abbrev pub left_until : ℕ → List PassView → List PassView

@@ -1,32 +1,25 @@
 -- Books and the drawing are closed.
-use Rattle.std.specs.Prelude.{ℕ, zero, suc, ◌≡◌, ◌⊎◌, ◌+◌, ◌<◌, ◌≤◌, List, [], ◌∷◌, length}
-use Rattle.std.specs.Prelude.{slice_get, Some, option_map, sum_by}
-use Rattle.std.specs.Prelude.{remove, Bool, true, false, ◌==◌}
-use Rattle.std.specs.List.{flat_map}
 use Rattle.std.proofs.Common.{refl, sym, ◌∙◌, ap, inl, inr, subst, arith, get_or, eqb-true}
-use Rattle.std.proofs.lemmas.Bool.{cases_lt}
-use Rattle.std.proofs.lemmas.List.Elements.{All-nil, All-weaker}
-use Rattle.std.proofs.lemmas.List.Concat.{length-flat_map}
-use Rattle.std.proofs.lemmas.Option.{slice_get-map}
-use Rattle.std.proofs.lemmas.Slice.Zip.{AllZip-long}
-use Rattle.shard_book.specs.Book.{Book}
-use Rattle.shared_books.specs.declared.turns.rule.Mark.{Mark}
-use Rattle.shared_books.specs.Claims.{all_claims}
+use Rattle.fare_service.proofs.Signing.{all_signed, signs_visits}
 use Rattle.fare_service.specs.Claims.{HaveAllClaims}
-use Rattle.shared_books.specs.Drawing.{Drawing, DrawerView, HasAll, IsCount, times}
-use Rattle.shared_books.specs.Marks.{history_of_visits}
-use Rattle.shared_books.specs.Passes.{SharedBookView, PassView}
-use Rattle.fare_service.specs.declared.faults.GatherFault.{GatherFault}
-use Rattle.fare_service.specs.declared.faults.GatherFault.TheVariants.{NoMemory, Missing, Drawn}
 use Rattle.fare_service.specs.Closing.{IsHistoryOf, HoldAllVisits, ReportsFirst}
+use Rattle.fare_service.specs.{Faults.uploads_held, ShareView.ShareView, Shares.books_of}
+use Rattle.fare_service.specs.{Shares.marks_at, declared.faults.GatherFault.GatherFault}
+use Rattle.fare_service.specs.declared.faults.GatherFault.TheVariants.{NoMemory, Missing, Drawn}
 use Rattle.fare_service.specs.inside.Closing.{AreClosed, AreUnseen, IsClosedBy, IsUnseen}
 use Rattle.fare_service.specs.inside.Closing.{IsClosedWork, IsFirstMissing, IsFirstUnseen}
 use Rattle.fare_service.specs.inside.Closing.{LacksClaims}
-use Rattle.fare_service.specs.Faults.{uploads_held}
-use Rattle.fare_service.specs.ShareView.{ShareView}
 use Rattle.fare_service.specs.inside.Joining.{AreSigns, IsJoinedOf, IsSign}
-use Rattle.fare_service.specs.Shares.{books_of, marks_at}
-use Rattle.fare_service.proofs.Signing.{all_signed, signs_visits}
+use Rattle.shard_book.specs.Book.{Book}
+use Rattle.shared_books.specs.Claims.{all_claims}
+use Rattle.shared_books.specs.Drawing.{Drawing, DrawerView, HasAll, IsCount, times}
+use Rattle.shared_books.specs.{Marks.history_of_visits, Passes.SharedBookView, Passes.PassView}
+use Rattle.shared_books.specs.declared.turns.rule.Mark.{Mark}
+use Rattle.std.proofs.lemmas.{Bool.cases_lt, List.Concat.length-flat_map, List.Elements.All-nil}
+use Rattle.std.proofs.lemmas.{List.Elements.All-weaker, Option.slice_get-map, Slice.Zip.AllZip-long}
+use Rattle.std.specs.List.{flat_map}
+use Rattle.std.specs.Prelude.{ℕ, zero, suc, ◌≡◌, ◌⊎◌, ◌+◌, ◌<◌, ◌≤◌, List, [], ◌∷◌, length}
+use Rattle.std.specs.Prelude.{slice_get, Some, option_map, sum_by, remove, Bool, true, false, ◌==◌}
 
 -- the first of some elements was taken out
 pub split_first : {A : Type 0} (xs : List A) (first : A) (rest : List A) → 0 < length xs

@@ -1,19 +1,16 @@
 -- Entries that are collected one after another.
 use Rattle.std.proofs.Common.{◌≡◌, ℕ, ◌+◌, List, [], ◌∷◌, ◌++◌, Option, Some, unwrap_or, take, sym}
 use Rattle.std.proofs.Common.{ap, ◌∙◌, append_assoc, ◌<◌, length, get_or}
-use Rattle.std.specs.Prelude.{option_and_then, slice_get}
+use Rattle.fare_service.specs.{declared.spot.Spot.Spot, inside.Spots.book_at, inside.Spots.entry_in}
+use Rattle.fare_service.specs.inside.Spots.{entry_at_spot, no_entry, position_at, entries_at_spots}
+use Rattle.histories.proofs.OwnEntries.{own-append}
+use Rattle.histories.specs.{Entry.own, declared.entry.Entry.Entry}
+use Rattle.shard_book.specs.Book.{Book, all_entries}
 use Rattle.std.proofs.lemmas.List.{flat_map_more, map-append, take_more}
 use Rattle.std.proofs.lemmas.Option.{slice_get_within, slice_get-get_or, get_or_from_slice_get}
-use Rattle.shard_book.specs.Book.{Book}
-use Rattle.histories.specs.Entry.{own}
-use Rattle.shard_book.specs.Book.{all_entries}
-use Rattle.histories.specs.declared.entry.Entry.{Entry}
-use Rattle.histories.proofs.OwnEntries.{own-append}
-use Rattle.tap_views.specs.declared.token.Token.{Token}
+use Rattle.std.specs.Prelude.{option_and_then, slice_get}
 use Rattle.tap_views.proofs.Lists.{take_next}
-use Rattle.fare_service.specs.inside.Spots.{book_at, entry_in, entry_at_spot, no_entry, position_at}
-use Rattle.fare_service.specs.inside.Spots.{entries_at_spots}
-use Rattle.fare_service.specs.declared.spot.Spot.{Spot}
+use Rattle.tap_views.specs.declared.token.Token.{Token}
 
 -- the entry at a spot
 pub spot_entry : (books : List Book) (spot : Spot) (index position : ℕ) (book : Book)

@@ -1,15 +1,13 @@
 -- The uploads that were drawn: each whose end is told, once.
-use Rattle.std.specs.Prelude.{ℕ, ◌≡◌, ◌≢◌, ◌⊎◌, ◌<◌, ◌≤◌, List, slice_get, Some}
 use Rattle.std.proofs.Common.{◌∙◌, inl, inr, arith}
-use Rattle.std.proofs.lemmas.Bool.{cases_lt}
-use Rattle.tariffs.specs.Fares.{Fares}
-use Rattle.shared_books.specs.Drawing.{times}
-use Rattle.tap_views.specs.declared.upload_end.UploadEnd.{UploadEnd}
-use Rattle.tap_views.specs.declared.upload_end.UploadEnd.TheVariants.{Undrawn}
-use Rattle.fare_service.specs.Headline.{Headline, drawn_by}
-use Rattle.fare_service.specs.Outcomes.{OutcomeView}
-use Rattle.fare_service.specs.Shares.{Worked, all_works}
 use Rattle.fare_service.proofs.GatherLemmas.{drawn_times, not_drawn}
+use Rattle.fare_service.specs.Headline.{Headline, drawn_by}
+use Rattle.fare_service.specs.{Outcomes.OutcomeView, Shares.Worked, Shares.all_works}
+use Rattle.shared_books.specs.Drawing.{times}
+use Rattle.std.proofs.lemmas.Bool.{cases_lt}
+use Rattle.std.specs.Prelude.{ℕ, ◌≡◌, ◌≢◌, ◌⊎◌, ◌<◌, ◌≤◌, List, slice_get, Some}
+use Rattle.tap_views.specs.declared.upload_end.UploadEnd.{UploadEnd, TheVariants.Undrawn}
+use Rattle.tariffs.specs.Fares.{Fares}
 
 pub each_drawn_once : (fares : Fares) (shards : ℕ) (files : List (List ℕ))
     (works : List (List Worked))

@@ -1,59 +1,41 @@
 -- How the workers of an outcome stopped, counted.
+use Rattle.std.proofs.Common.{refl, sym, ◌∙◌, ap, inl, inr, subst, arith, append-nil, length-append}
+use Rattle.fare_service.proofs.AddingLemmas.{ends_are, length_sum, sum_by_key, sum_by-map}
+use Rattle.fare_service.proofs.AddingLemmas.{sum_by-flat_map, sum_of_positions, reported_end_taps}
+use Rattle.fare_service.proofs.{CloseLemmas.there, FullLemmas.marks_seen, GatherLemmas.kept_length}
+use Rattle.fare_service.proofs.GatheredWork.{Given, given_of, IsGathered}
+use Rattle.fare_service.proofs.{HeadlineLemmas.gathered_of, RunVisits.marks_here}
+use Rattle.fare_service.proofs.{ShareLemmas.own_left, UploadFileSource.provided_number}
+use Rattle.fare_service.proofs.VisitLemmas.{no_taps}
+use Rattle.fare_service.specs.{Claims.left_share, Closing.IsHistoryOf, Faults.visits_held}
+use Rattle.fare_service.specs.Headline.{Signed, HasOutcome, Headline, AreUndrawnReported}
+use Rattle.fare_service.specs.{Outcomes.OutcomeView, Plain.WasNotCut, Runs.PostedRun}
+use Rattle.fare_service.specs.Runs.{posted_run, if_any, runs_below, runs_of, RunVisit, run_of_visit}
+use Rattle.fare_service.specs.Runs.{ArePostedWhole, AreCut, IsEntered, entries_to, entries_of}
+use Rattle.fare_service.specs.{Runs.taps_posted, ServiceView.ServiceView, ServiceView.shards_of}
+use Rattle.fare_service.specs.{ShareView.ShareView, Shares.Worked}
+use Rattle.fare_service.specs.Shares.{done_of, all_visits, file_at, IsEndOf, IsFresh, IsShareOf}
+use Rattle.fare_service.specs.Shares.{IsWorkOf, KeepsWorks, made_visits_at, marks_at, books_of}
+use Rattle.fare_service.specs.Stopping.{SomeFull, MayGoOn, WasCut, StoppedCleanly, HaveStopped}
+use Rattle.fare_service.specs.Stopping.{FullIsMade, is_cut, cuts, posting}
+use Rattle.fare_service.specs.declared.service.share.Done.{Done}
+use Rattle.fare_service.specs.inside.{Closing.IsClosedWork, Runs.visits_to, ServiceView.IsService}
+use Rattle.fare_service.specs.inside.{ServiceView.IsBookOf, Stopping.WorkedOn}
+use Rattle.histories.specs.{Entry.IsEntryOf, Sums.Sums, Sums.sums}
+use Rattle.shard_book.specs.Book.{Book}
+use Rattle.shared_books.specs.Passes.{PassView, SharedBookView}
+use Rattle.std.proofs.lemmas.List.{length-map, Elements.All-nil}
+use Rattle.std.proofs.lemmas.List.Elements.{All-cons, All-head, All-tail, All-append, All-weaker}
+use Rattle.std.proofs.lemmas.List.Sums.{sum_by-cons, sum_by-append, length-filter}
+use Rattle.std.proofs.lemmas.{List.Sums.count_by-le-length, Option.slice_get-get_or}
+use Rattle.std.proofs.lemmas.{Option.slice_get-map, Option.slice_get_within, Slice.Zip.AllZip-long}
+use Rattle.std.specs.{List.AllZip, Option.option_to_list}
 use Rattle.std.specs.Prelude.{ℕ, zero, suc, ◌≡◌, ◌⊎◌, ◌+◌, ◌^◌, ◌<◌, ◌≤◌, nat_lt, ◌==◌, Bool, true}
 use Rattle.std.specs.Prelude.{false, cond, take, List, [], ◌∷◌, ◌++◌, length, map, filter, All}
 use Rattle.std.specs.Prelude.{slice_get, option_map, Option, Some, None, MatchOption, sum_by}
-use Rattle.std.specs.List.{AllZip}
-use Rattle.std.specs.Option.{option_to_list}
-use Rattle.std.proofs.Common.{refl, sym, ◌∙◌, ap, inl, inr, subst, arith, append-nil, length-append}
-use Rattle.std.proofs.lemmas.List.{length-map}
-use Rattle.std.proofs.lemmas.List.Sums.{sum_by-cons, sum_by-append, length-filter}
-use Rattle.std.proofs.lemmas.List.Sums.{count_by-le-length}
-use Rattle.std.proofs.lemmas.List.Elements.{All-nil, All-cons, All-head, All-tail, All-append}
-use Rattle.std.proofs.lemmas.List.Elements.{All-weaker}
-use Rattle.std.proofs.lemmas.Option.{slice_get-get_or, slice_get-map, slice_get_within}
-use Rattle.std.proofs.lemmas.Slice.Zip.{AllZip-long}
-use Rattle.tap_views.specs.Layout.{Tap}
-use Rattle.shard_book.specs.Book.{Book}
-use Rattle.histories.specs.Entry.{IsEntryOf}
-use Rattle.histories.specs.Sums.{Sums, sums}
-use Rattle.shared_books.specs.Passes.{PassView, SharedBookView}
-use Rattle.tap_views.specs.Shards.{run_of}
-use Rattle.fare_service.specs.declared.service.share.Done.{Done}
+use Rattle.tap_views.specs.{Layout.Tap, Shards.run_of, UploadEnds.taps_of_end}
 use Rattle.tap_views.specs.declared.upload_end.UploadEnd.{UploadEnd}
 use Rattle.tap_views.specs.declared.upload_end.UploadEnd.TheVariants.{Posted, Refused, Cut, Undrawn}
-use Rattle.tap_views.specs.UploadEnds.{taps_of_end}
-use Rattle.fare_service.specs.Claims.{left_share}
-use Rattle.fare_service.specs.Closing.{IsHistoryOf}
-use Rattle.fare_service.specs.Faults.{visits_held}
-use Rattle.fare_service.specs.Headline.{Signed, HasOutcome, Headline, AreUndrawnReported}
-use Rattle.fare_service.specs.Outcomes.{OutcomeView}
-use Rattle.fare_service.specs.Plain.{WasNotCut}
-use Rattle.fare_service.specs.Runs.{PostedRun, posted_run, if_any}
-use Rattle.fare_service.specs.Runs.{runs_below, runs_of, RunVisit, run_of_visit, ArePostedWhole}
-use Rattle.fare_service.specs.Runs.{AreCut, IsEntered, entries_to, entries_of}
-use Rattle.fare_service.specs.Runs.{taps_posted}
-use Rattle.fare_service.specs.inside.Runs.{visits_to}
-use Rattle.fare_service.specs.ServiceView.{ServiceView, shards_of}
-use Rattle.fare_service.specs.ShareView.{ShareView}
-use Rattle.fare_service.specs.Shares.{Worked, done_of, all_visits, file_at, IsEndOf, IsFresh}
-use Rattle.fare_service.specs.Shares.{IsShareOf, IsWorkOf, KeepsWorks, made_visits_at, marks_at}
-use Rattle.fare_service.specs.Shares.{books_of}
-use Rattle.fare_service.specs.Stopping.{SomeFull, MayGoOn, WasCut, StoppedCleanly, HaveStopped}
-use Rattle.fare_service.specs.Stopping.{FullIsMade, is_cut, cuts, posting}
-use Rattle.fare_service.specs.inside.Stopping.{WorkedOn}
-use Rattle.fare_service.specs.inside.Closing.{IsClosedWork}
-use Rattle.fare_service.specs.inside.ServiceView.{IsService, IsBookOf}
-use Rattle.fare_service.proofs.AddingLemmas.{ends_are, length_sum, sum_by_key, sum_by-map}
-use Rattle.fare_service.proofs.AddingLemmas.{sum_by-flat_map, sum_of_positions, reported_end_taps}
-use Rattle.fare_service.proofs.CloseLemmas.{there}
-use Rattle.fare_service.proofs.GatheredWork.{Given, given_of, IsGathered}
-use Rattle.fare_service.proofs.HeadlineLemmas.{gathered_of}
-use Rattle.fare_service.proofs.GatherLemmas.{kept_length}
-use Rattle.fare_service.proofs.UploadFileSource.{provided_number}
-use Rattle.fare_service.proofs.RunVisits.{marks_here}
-use Rattle.fare_service.proofs.ShareLemmas.{own_left}
-use Rattle.fare_service.proofs.VisitLemmas.{no_taps}
-use Rattle.fare_service.proofs.FullLemmas.{marks_seen}
 
 -- one, for an upload that was cut
 abbrev pub cut_one : UploadEnd → ℕ

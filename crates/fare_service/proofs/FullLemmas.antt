@@ -1,22 +1,19 @@
 -- What passes know of full shards.
-use Rattle.std.specs.Prelude.{ℕ, ◌≡◌, ◌≢◌, ◌<◌, ◌⊎◌, ◌==◌, true, false, List, [], ◌∷◌, ◌++◌, length}
-use Rattle.std.specs.Prelude.{Result, Ok, Err}
-use Rattle.std.specs.Result.{IsErrAnd}
 use Rattle.std.proofs.Common.{zero, suc, refl, sym, ◌∙◌, ap, inl, inr, subst, arith, get_or, set}
 use Rattle.std.proofs.Common.{length-append}
-use Rattle.std.proofs.lemmas.List.{get_or-set_same, get_or-set_other, length-map, length-set}
-use Rattle.std.proofs.lemmas.Bool.Decides.{eqb_tells}
-use Rattle.histories.specs.declared.entry.Entry.{Entry}
-use Rattle.shared_books.specs.declared.turns.rule.Mark.{Mark}
-use Rattle.shared_books.specs.Marks.{mark, others}
-use Rattle.shared_books.specs.Passes.{PassView, IsFull, Visits, seen_by}
-use Rattle.fare_service.specs.declared.service.working.Stop.{Stop}
-use Rattle.fare_service.specs.declared.service.working.Stop.TheVariants.{Memory, Full}
-use Rattle.fare_service.specs.Shares.{made_visits, made_visits_at}
-use Rattle.fare_service.specs.Stopping.{KnowsFull, SomeFull}
-use Rattle.fare_service.specs.inside.Stopping.{ReportsFull}
 use Rattle.fare_service.proofs.RunVisits.{marks_here}
 use Rattle.fare_service.proofs.VisitLemmas.{marks-set_same, own-visits}
+use Rattle.fare_service.specs.{Shares.made_visits, Shares.made_visits_at, Stopping.KnowsFull}
+use Rattle.fare_service.specs.{Stopping.SomeFull, declared.service.working.Stop.Stop}
+use Rattle.fare_service.specs.declared.service.working.Stop.TheVariants.{Memory, Full}
+use Rattle.fare_service.specs.inside.Stopping.{ReportsFull}
+use Rattle.histories.specs.declared.entry.Entry.{Entry}
+use Rattle.shared_books.specs.{Marks.mark, Marks.others, Passes.PassView, Passes.IsFull}
+use Rattle.shared_books.specs.{Passes.Visits, Passes.seen_by, declared.turns.rule.Mark.Mark}
+use Rattle.std.proofs.lemmas.Bool.Decides.{eqb_tells}
+use Rattle.std.proofs.lemmas.List.{get_or-set_same, get_or-set_other, length-map, length-set}
+use Rattle.std.specs.Prelude.{ℕ, ◌≡◌, ◌≢◌, ◌<◌, ◌⊎◌, ◌==◌, true, false, List, [], ◌∷◌, ◌++◌, length}
+use Rattle.std.specs.{Prelude.Result, Prelude.Ok, Prelude.Err, Result.IsErrAnd}
 
 -- how many visits a pass has seen
 pub marks_seen : (pass : PassView) → length (seen_by pass) ≡ length pass.marks

@@ -1,41 +1,29 @@
 -- Shares are gathered: their ends, books and sums by what their workers did.
-use Rattle.std.specs.Prelude.{ℕ, zero, suc, ◌≡◌, ◌≢◌, ◌⊎◌, ◌+◌, ◌<◌, ◌≤◌, ◌==◌, true, false, List}
-use Rattle.std.specs.Prelude.{[], ◌∷◌, ◌++◌, length, map, replicate, slice_set, All, slice_get}
-use Rattle.std.specs.Prelude.{Some, cond}
-use Rattle.std.specs.List.{flat_map, AllZip}
-use Rattle.std.proofs.Common.{refl, sym, ◌∙◌, ap, inl, inr, subst, arith, eq-eqb}
-use Rattle.std.proofs.Common.{append_assoc, append-nil}
-use Rattle.std.proofs.lemmas.Bool.{cases_lt}
-use Rattle.std.proofs.lemmas.Bool.Decides.{eqb_tells}
-use Rattle.std.proofs.lemmas.List.{map-append}
-use Rattle.std.proofs.lemmas.List.Sums.{sum_by-cons}
-use Rattle.std.proofs.lemmas.List.Elements.{All-nil, All-cons, All-head, All-tail, All-append}
-use Rattle.std.proofs.lemmas.List.Elements.{All-map, All-weaker}
-use Rattle.shard_book.specs.Book.{Book}
-use Rattle.shard_book.specs.Book.{all_entries}
-use Rattle.histories.specs.History.{IsLegal}
-use Rattle.tariffs.specs.Fares.{Fares}
-use Rattle.histories.specs.Sums.{Sums, sums}
+use Rattle.std.proofs.Common.{refl, sym, ◌∙◌, ap, inl, inr, subst, arith, eq-eqb, append_assoc}
+use Rattle.std.proofs.Common.{append-nil}
+use Rattle.fare_service.proofs.GatheredWork.{Given, IsBookOfWork}
+use Rattle.fare_service.proofs.{PlainLists.All-flat, ShareLemmas.loads_append}
+use Rattle.fare_service.specs.{Closing.IsHistoryOf, Headline.end_of, Runs.entries_of}
+use Rattle.fare_service.specs.{ServiceView.ServiceView, ServiceView.shards_of, ShareView.ShareView}
+use Rattle.fare_service.specs.Shares.{Worked, all_visits, all_works, done_of, IsWorked, IsWorkOf}
+use Rattle.fare_service.specs.Shares.{KeepsWorks, IsShareOf, IsEndOf, loads_of}
+use Rattle.fare_service.specs.{declared.service.share.Done.Done, inside.Closing.IsClosedWork}
+use Rattle.fare_service.specs.inside.Joining.{with_done, with_all_done, with_runs}
+use Rattle.fare_service.specs.inside.Outcomes.{IsOutcome}
+use Rattle.fare_service.specs.inside.ServiceView.{IsService, IsBookOf}
+use Rattle.histories.specs.{History.IsLegal, Sums.Sums, Sums.sums}
+use Rattle.shard_book.specs.Book.{Book, all_entries}
 use Rattle.shared_books.specs.Drawing.{AllBelow, NoneTwice, times}
-use Rattle.fare_service.specs.Closing.{IsHistoryOf}
-use Rattle.fare_service.specs.inside.Closing.{IsClosedWork}
-use Rattle.fare_service.specs.declared.service.share.Done.{Done}
+use Rattle.std.proofs.lemmas.{Bool.cases_lt, Bool.Decides.eqb_tells, List.map-append}
+use Rattle.std.proofs.lemmas.List.Elements.{All-nil, All-cons, All-head, All-tail, All-append}
+use Rattle.std.proofs.lemmas.List.{Elements.All-map, Elements.All-weaker, Sums.sum_by-cons}
+use Rattle.std.specs.{List.flat_map, List.AllZip, Prelude.ℕ, Prelude.zero}
+use Rattle.std.specs.Prelude.{suc, ◌≡◌, ◌≢◌, ◌⊎◌, ◌+◌, ◌<◌, ◌≤◌, ◌==◌, true, false, List, [], ◌∷◌}
+use Rattle.std.specs.Prelude.{◌++◌, length, map, replicate, slice_set, All, slice_get, Some, cond}
 use Rattle.tap_views.specs.declared.upload_end.UploadEnd.{UploadEnd}
 use Rattle.tap_views.specs.declared.upload_end.UploadEnd.TheVariants.{Posted, Refused, Cut, Undrawn}
-use Rattle.fare_service.specs.Headline.{end_of}
-use Rattle.fare_service.specs.ServiceView.{ServiceView, shards_of}
-use Rattle.fare_service.specs.inside.ServiceView.{IsService, IsBookOf}
-use Rattle.fare_service.specs.ShareView.{ShareView}
-use Rattle.fare_service.specs.inside.Joining.{with_done, with_all_done, with_runs}
-use Rattle.world.specs.Origins.{with_loads}
-use Rattle.world.specs.Run.{Load, Run, nothing_yet, with_all}
-use Rattle.fare_service.specs.inside.Outcomes.{IsOutcome}
-use Rattle.fare_service.specs.Runs.{entries_of}
-use Rattle.fare_service.specs.Shares.{Worked, all_visits, all_works, done_of, IsWorked}
-use Rattle.fare_service.specs.Shares.{IsWorkOf, KeepsWorks, IsShareOf, IsEndOf, loads_of}
-use Rattle.fare_service.proofs.GatheredWork.{Given, IsBookOfWork}
-use Rattle.fare_service.proofs.PlainLists.{All-flat}
-use Rattle.fare_service.proofs.ShareLemmas.{loads_append}
+use Rattle.tariffs.specs.Fares.{Fares}
+use Rattle.world.specs.{Origins.with_loads, Run.Load, Run.Run, Run.nothing_yet, Run.with_all}
 
 -- what each share keeps
 abbrev pub Kept : ServiceView → List ShareView → List (List Worked) → Type 0

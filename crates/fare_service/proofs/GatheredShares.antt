@@ -1,34 +1,27 @@
 -- Shares are gathered: what their workers did is an outcome of files, with which the uploads were
 -- lent.
-use Rattle.std.specs.Prelude.{ℕ, ◌≡◌, List, [], ◌∷◌, ◌++◌, length, map, replicate, All}
-use Rattle.std.specs.Prelude.{slice_index_or}
-use Rattle.std.specs.List.{AllZip, flat_map}
 use Rattle.std.proofs.Common.{refl, sym, ◌∙◌, ap, inl, inr, subst}
+use Rattle.fare_service.proofs.GatherLemmas.{Reported, all_each, book_of_work, drawn_all}
+use Rattle.fare_service.proofs.GatherLemmas.{ends_reported, get_replicate, keepings, kept_length}
+use Rattle.fare_service.proofs.GatherLemmas.{not_drawn, totals_all}
+use Rattle.fare_service.proofs.GatheredWork.{given_of, IsGathered}
+use Rattle.fare_service.proofs.PlainLists.{All-flat, flat-All}
+use Rattle.fare_service.proofs.UploadFileSource.{upload_file_source, provided_number}
+use Rattle.fare_service.specs.Headline.{end_of, HasOutcome, HasRunOver, loads_at}
+use Rattle.fare_service.specs.{Lending.AreProvidedAs, Lending.origin_at, Outcomes.OutcomeView}
+use Rattle.fare_service.specs.{ServiceView.ServiceView, ServiceView.shards_of, ShareView.ShareView}
+use Rattle.fare_service.specs.Shares.{Worked, all_works, IsShareOf, IsWorked, IsWorkOf, KeepsWorks}
+use Rattle.fare_service.specs.{Shares.file_at, Shares.loads_of, inside.Closing.IsClosedWork}
+use Rattle.fare_service.specs.inside.{Joining.with_all_done, ServiceView.IsService}
+use Rattle.histories.specs.Sums.{Sums}
+use Rattle.shard_book.specs.Book.{Book}
+use Rattle.shared_books.specs.Drawing.{NoneTwice}
 use Rattle.std.proofs.lemmas.List.Elements.{All-head, All-map, All-tail}
+use Rattle.std.specs.{List.AllZip, List.flat_map, Prelude.ℕ}
+use Rattle.std.specs.Prelude.{◌≡◌, List, [], ◌∷◌, ◌++◌, length, map, replicate, All, slice_index_or}
+use Rattle.tap_views.specs.declared.upload_end.UploadEnd.{UploadEnd, TheVariants.Undrawn}
 use Rattle.world.specs.Origins.{Origin, IsFrom, loads_from, with_loads}
 use Rattle.world.specs.Run.{Run, nothing_yet}
-use Rattle.shard_book.specs.Book.{Book}
-use Rattle.histories.specs.Sums.{Sums}
-use Rattle.shared_books.specs.Drawing.{NoneTwice}
-use Rattle.tap_views.specs.declared.upload_end.UploadEnd.{UploadEnd}
-use Rattle.tap_views.specs.declared.upload_end.UploadEnd.TheVariants.{Undrawn}
-use Rattle.fare_service.specs.Headline.{end_of, HasOutcome, HasRunOver, loads_at}
-use Rattle.fare_service.specs.Lending.{AreProvidedAs, origin_at}
-use Rattle.fare_service.specs.Outcomes.{OutcomeView}
-use Rattle.fare_service.specs.ServiceView.{ServiceView, shards_of}
-use Rattle.fare_service.specs.ShareView.{ShareView}
-use Rattle.fare_service.specs.Shares.{Worked, all_works, IsShareOf, IsWorked, IsWorkOf, KeepsWorks}
-use Rattle.fare_service.specs.Shares.{file_at, loads_of}
-use Rattle.fare_service.specs.inside.Closing.{IsClosedWork}
-use Rattle.fare_service.specs.inside.Joining.{with_all_done}
-use Rattle.fare_service.specs.inside.ServiceView.{IsService}
-use Rattle.fare_service.proofs.GatheredWork.{given_of, IsGathered}
-use Rattle.fare_service.proofs.GatherLemmas.{Reported, all_each, book_of_work, drawn_all}
-use Rattle.fare_service.proofs.GatherLemmas.{ends_reported}
-use Rattle.fare_service.proofs.GatherLemmas.{get_replicate, keepings, kept_length, not_drawn}
-use Rattle.fare_service.proofs.GatherLemmas.{totals_all}
-use Rattle.fare_service.proofs.UploadFileSource.{upload_file_source, provided_number}
-use Rattle.fare_service.proofs.PlainLists.{All-flat, flat-All}
 
 -- what was gathered of shares, by what each keeps
 pub record HasGathered (service : ServiceView) (shares : List ShareView) (outcome : OutcomeView)

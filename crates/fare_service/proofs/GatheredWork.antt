@@ -1,17 +1,14 @@
 -- What was gathered, before the promises that follow from it: the form that lemmas use.
-use Rattle.std.specs.Prelude.{ℕ, ◌≡◌, ◌<◌, List, length, map, All, slice_get, Some}
-use Rattle.tariffs.specs.Fares.{Fares}
-use Rattle.shard_book.specs.Book.{Book}
-use Rattle.histories.specs.History.{IsLegal}
-use Rattle.histories.specs.Sums.{sums}
-use Rattle.shared_books.specs.Drawing.{NoneTwice}
-use Rattle.shared_books.specs.Marks.{history_of_visits}
-use Rattle.tap_views.specs.declared.upload_end.UploadEnd.{UploadEnd}
-use Rattle.fare_service.specs.ServiceView.{ServiceView, shards_of}
 use Rattle.fare_service.specs.Headline.{Signed, by_worker, end_of}
-use Rattle.fare_service.specs.Outcomes.{OutcomeView}
-use Rattle.fare_service.specs.Runs.{entries_to, entries_of}
+use Rattle.fare_service.specs.{Outcomes.OutcomeView, Runs.entries_to, Runs.entries_of}
+use Rattle.fare_service.specs.ServiceView.{ServiceView, shards_of}
 use Rattle.fare_service.specs.Shares.{Worked, all_works, all_visits, IsWorkOf}
+use Rattle.histories.specs.{History.IsLegal, Sums.sums}
+use Rattle.shard_book.specs.Book.{Book}
+use Rattle.shared_books.specs.{Drawing.NoneTwice, Marks.history_of_visits}
+use Rattle.std.specs.Prelude.{ℕ, ◌≡◌, ◌<◌, List, length, map, All, slice_get, Some}
+use Rattle.tap_views.specs.declared.upload_end.UploadEnd.{UploadEnd}
+use Rattle.tariffs.specs.Fares.{Fares}
 
 -- what a service was given: its table, how many shards there are, and the bytes with which the
 -- uploads

@@ -1,30 +1,23 @@
 -- The headline, from what was gathered, and what was gathered, from the headline.
-use Rattle.std.specs.Prelude.{ℕ, ◌≡◌, ◌≢◌, ◌⊎◌, ◌<◌, ◌≤◌, ◌==◌, true, false, List, [], ◌∷◌, ◌++◌}
-use Rattle.std.specs.Prelude.{length, map, All, Some, slice_get, slice_index_or}
-use Rattle.std.specs.List.{flat_map}
 use Rattle.std.proofs.Common.{refl, sym, ◌∙◌, ap, inl, inr, subst, arith, eq-eqb, ne_eqb}
-use Rattle.std.proofs.lemmas.Bool.{cases_lt}
-use Rattle.std.proofs.lemmas.Bool.Decides.{eqb_tells}
-use Rattle.std.proofs.lemmas.List.{get_or_past}
-use Rattle.std.proofs.lemmas.List.Elements.{All-nil, All-cons, All-weaker}
-use Rattle.std.proofs.lemmas.Option.{slice_get-get_or, get_or_from_slice_get}
-use Rattle.tariffs.specs.Fares.{Fares}
-use Rattle.shard_book.specs.Book.{Book}
-use Rattle.shard_book.specs.Book.{all_entries}
-use Rattle.histories.specs.Sums.{sums}
-use Rattle.shard_book.specs.Windows.{WindowsKeepLimits}
-use Rattle.shared_books.specs.Marks.{history_of_visits}
-use Rattle.tap_views.specs.declared.upload_end.UploadEnd.TheVariants.{Undrawn}
-use Rattle.fare_service.specs.Headline.{Signed, by_worker, end_of, IsOneThread, Headline}
-use Rattle.fare_service.specs.Limits.{BookKeepsLimits}
-use Rattle.fare_service.specs.Outcomes.{OutcomeView}
-use Rattle.fare_service.specs.Runs.{entries_to}
-use Rattle.fare_service.specs.Shares.{Worked, all_works, all_visits}
 use Rattle.fare_service.proofs.AddingLemmas.{gathered_sums}
 use Rattle.fare_service.proofs.GatheredWork.{Given, IsBookOfWork, IsGathered}
-use Rattle.fare_service.proofs.OwnVisits.{filter_none}
-use Rattle.fare_service.proofs.PlacingLemmas.{occurs_once}
+use Rattle.fare_service.proofs.{OwnVisits.filter_none, PlacingLemmas.occurs_once}
 use Rattle.fare_service.proofs.Signing.{step_no, step_yes}
+use Rattle.fare_service.specs.Headline.{Signed, by_worker, end_of, IsOneThread, Headline}
+use Rattle.fare_service.specs.{Limits.BookKeepsLimits, Outcomes.OutcomeView, Runs.entries_to}
+use Rattle.fare_service.specs.Shares.{Worked, all_works, all_visits}
+use Rattle.histories.specs.Sums.{sums}
+use Rattle.shard_book.specs.{Book.Book, Book.all_entries, Windows.WindowsKeepLimits}
+use Rattle.shared_books.specs.Marks.{history_of_visits}
+use Rattle.std.proofs.lemmas.{Bool.cases_lt, Bool.Decides.eqb_tells, List.get_or_past}
+use Rattle.std.proofs.lemmas.List.Elements.{All-nil, All-cons, All-weaker}
+use Rattle.std.proofs.lemmas.Option.{slice_get-get_or, get_or_from_slice_get}
+use Rattle.std.specs.List.{flat_map}
+use Rattle.std.specs.Prelude.{ℕ, ◌≡◌, ◌≢◌, ◌⊎◌, ◌<◌, ◌≤◌, ◌==◌, true, false, List, [], ◌∷◌, ◌++◌}
+use Rattle.std.specs.Prelude.{length, map, All, Some, slice_get, slice_index_or}
+use Rattle.tap_views.specs.declared.upload_end.UploadEnd.TheVariants.{Undrawn}
+use Rattle.tariffs.specs.Fares.{Fares}
 
 -- visits one after another, in either word
 joined_visits : (visits : List Signed)

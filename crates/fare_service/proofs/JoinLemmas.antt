@@ -1,31 +1,24 @@
 -- Passes that are joined, one shard after another.
-use Rattle.std.specs.Prelude.{ℕ, zero, suc, ◌≡◌, ◌≢◌, ◌⊎◌, ◌+◌, ◌<◌, ◌≤◌, ◌==◌, true, false, List}
-use Rattle.std.specs.Prelude.{[], ◌∷◌, ◌++◌, length, slice_get, Some}
-use Rattle.std.specs.List.{flat_map}
 use Rattle.std.proofs.Common.{refl, sym, ◌∙◌, ap, inl, inr, subst, arith, get_or, set, append-nil}
 use Rattle.std.proofs.Common.{length-append}
-use Rattle.std.proofs.lemmas.List.{map-append}
-use Rattle.std.proofs.lemmas.List.Elements.{All-nil, All-cons, All-push, All-weaker}
-use Rattle.std.proofs.lemmas.List.Sums.{sum_by-append, sum_by-cons}
-use Rattle.std.proofs.lemmas.Grind.{flat_map-append}
-use Rattle.std.proofs.lemmas.Bool.Decides.{eqb_tells}
-use Rattle.std.proofs.lemmas.Option.{slice_get_within}
-use Rattle.shared_books.specs.declared.turns.rule.Mark.{Mark}
-use Rattle.shared_books.specs.Drawing.{Drawing, DrawerView, IsJoinedDrawer}
-use Rattle.shared_books.specs.Marks.{visits_of, joined_marks}
-use Rattle.shared_books.specs.Passes.{SharedBookView, PassView, IsJoined}
-use Rattle.world.specs.Run.{Run, with_all}
-use Rattle.fare_service.specs.Claims.{claims_at}
-use Rattle.fare_service.specs.Headline.{by_worker}
-use Rattle.fare_service.specs.ShareView.{ShareView}
+use Rattle.fare_service.proofs.{PositionLemmas.position_more, RunVisits.marks_here, Signing.signed}
+use Rattle.fare_service.proofs.Signing.{signs_more, earlier_stay, new_own, merged-nil, made_own}
+use Rattle.fare_service.proofs.VisitLemmas.{marks-set_same, marks-set_other}
+use Rattle.fare_service.specs.{Claims.claims_at, Headline.by_worker, ShareView.ShareView}
+use Rattle.fare_service.specs.Shares.{books_of, marks_at, made_visits_at}
 use Rattle.fare_service.specs.inside.Joining.{AreSigns, AreJoined, AreJoinedAt, AreSignedAt}
 use Rattle.fare_service.specs.inside.Joining.{Belongs, IsJoinedOf, with_runs}
-use Rattle.fare_service.specs.Shares.{books_of, marks_at, made_visits_at}
-use Rattle.fare_service.proofs.PositionLemmas.{position_more}
-use Rattle.fare_service.proofs.Signing.{signed, signs_more, earlier_stay, new_own, merged-nil}
-use Rattle.fare_service.proofs.Signing.{made_own}
-use Rattle.fare_service.proofs.VisitLemmas.{marks-set_same, marks-set_other}
-use Rattle.fare_service.proofs.RunVisits.{marks_here}
+use Rattle.shared_books.specs.Drawing.{Drawing, DrawerView, IsJoinedDrawer}
+use Rattle.shared_books.specs.{Marks.visits_of, Marks.joined_marks, Passes.SharedBookView}
+use Rattle.shared_books.specs.{Passes.PassView, Passes.IsJoined, declared.turns.rule.Mark.Mark}
+use Rattle.std.proofs.lemmas.{Bool.Decides.eqb_tells, Grind.flat_map-append, List.map-append}
+use Rattle.std.proofs.lemmas.List.Elements.{All-nil, All-cons, All-push, All-weaker}
+use Rattle.std.proofs.lemmas.List.Sums.{sum_by-append, sum_by-cons}
+use Rattle.std.proofs.lemmas.Option.{slice_get_within}
+use Rattle.std.specs.List.{flat_map}
+use Rattle.std.specs.Prelude.{ℕ, zero, suc, ◌≡◌, ◌≢◌, ◌⊎◌, ◌+◌, ◌<◌, ◌≤◌, ◌==◌, true, false, List}
+use Rattle.std.specs.Prelude.{[], ◌∷◌, ◌++◌, length, slice_get, Some}
+use Rattle.world.specs.Run.{Run, with_all}
 
 marks_beyond : (shard : ℕ) (passes : List PassView) → length passes ≤ shard
     → marks_at shard passes ≡ []

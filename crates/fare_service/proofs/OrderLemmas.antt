@@ -1,19 +1,15 @@
 -- The posting order has each tap of the batches, once.
-use Rattle.std.specs.Prelude.{ℕ, zero, suc, ◌≡◌, ◌≢◌, ◌⊎◌, ◌<◌, ◌≤◌, ◌==◌, true, false, cond}
-use Rattle.std.specs.Prelude.{List, [], ◌∷◌, ◌++◌, All, sum_by}
-use Rattle.std.specs.List.{flat_map}
 use Rattle.std.proofs.Common.{refl, sym, ◌∙◌, ap, inl, inr, append-nil, arith, eq-eqb, ne_eqb}
-use Rattle.std.proofs.lemmas.Bool.{cases_lt}
-use Rattle.std.proofs.lemmas.Bool.Decides.{eqb_tells}
-use Rattle.std.proofs.lemmas.List.Concat.{flat_map-append}
-use Rattle.std.proofs.lemmas.List.Elements.{All-nil, All-cons, All-weaker, filter-append}
-use Rattle.tap_views.specs.Layout.{Tap}
-use Rattle.tap_views.specs.Shards.{shard_of_token, run_of}
-use Rattle.fare_service.specs.Placing.{in_posting_order, in_file_order, IsReordered}
-use Rattle.fare_service.specs.Runs.{PostedRun, if_any, runs_below}
-use Rattle.fare_service.specs.Runs.{runs_of}
 use Rattle.fare_service.proofs.AddingLemmas.{sum_below, sum_by_key, length_sum}
 use Rattle.fare_service.proofs.OwnVisits.{filter_all, filter_none, own_taps}
+use Rattle.fare_service.specs.Placing.{in_posting_order, in_file_order, IsReordered}
+use Rattle.fare_service.specs.Runs.{PostedRun, if_any, runs_below, runs_of}
+use Rattle.std.proofs.lemmas.{Bool.cases_lt, Bool.Decides.eqb_tells, List.Concat.flat_map-append}
+use Rattle.std.proofs.lemmas.List.Elements.{All-nil, All-cons, All-weaker, filter-append}
+use Rattle.std.specs.List.{flat_map}
+use Rattle.std.specs.Prelude.{ℕ, zero, suc, ◌≡◌, ◌≢◌, ◌⊎◌, ◌<◌, ◌≤◌, ◌==◌, true, false, cond, List}
+use Rattle.std.specs.Prelude.{[], ◌∷◌, ◌++◌, All, sum_by}
+use Rattle.tap_views.specs.{Layout.Tap, Shards.shard_of_token, Shards.run_of}
 
 any_taps : (shard : ℕ) (taps : List Tap) → flat_map (λ r. r.taps) (if_any shard taps) ≡ taps
 any_taps shard [] = refl

@@ -1,33 +1,28 @@
 -- What was posted of an upload: its visits' taps, shard by shard.
-use Rattle.std.specs.Prelude.{ℕ, zero, suc, ◌≡◌, ◌≢◌, ◌⊎◌, ◌+◌, ◌<◌, ◌==◌, Bool, true, false, cond}
-use Rattle.std.specs.Prelude.{List, [], ◌∷◌, ◌++◌, length, map, filter, take, drop, All}
-use Rattle.std.specs.List.{flat_map}
 use Rattle.std.proofs.Common.{refl, sym, ◌∙◌, ap, inl, inr, subst, append-nil, append_assoc, arith}
 use Rattle.std.proofs.Common.{length-append, eqb-true, eq-eqb, ne_eqb}
-use Rattle.std.proofs.lemmas.Bool.Decides.{eqb_tells}
-use Rattle.std.proofs.lemmas.List.{length-take-le, take_at, take-append-drop}
-use Rattle.std.proofs.lemmas.List.Concat.{flat_map-append}
+use Rattle.fare_service.proofs.GatherLemmas.{drawn_times, times_same, times_other, fewer_after}
+use Rattle.fare_service.proofs.{GatherLemmas.end_same, GatherLemmas.end_other, GatheredWork.Given}
+use Rattle.fare_service.specs.{Headline.end_of, Placing.posted_of, Placing.in_posting_order}
+use Rattle.fare_service.specs.{Placing.WerePostedOf, Runs.PostedRun}
+use Rattle.fare_service.specs.Runs.{posted_run, if_any, runs_below, runs_of, RunVisit, IsEntered}
+use Rattle.fare_service.specs.Runs.{run_of_visit, ArePostedWhole, AreCut, entries_of, taps_posted}
+use Rattle.fare_service.specs.Shares.{Worked, all_visits, IsWorkOf, IsEndOf, file_at}
+use Rattle.fare_service.specs.inside.Runs.{visits_to}
+use Rattle.histories.specs.Entry.{IsEntryOf}
+use Rattle.shared_books.specs.Drawing.{NoneTwice}
+use Rattle.std.proofs.lemmas.{Bool.Decides.eqb_tells, List.length-take-le}
+use Rattle.std.proofs.lemmas.List.{take_at, take-append-drop, Concat.flat_map-append}
 use Rattle.std.proofs.lemmas.List.Elements.{All-nil, All-cons, All-head, All-tail, All-append}
 use Rattle.std.proofs.lemmas.List.Elements.{All-take, All-weaker, filter-append, filter_passes}
 use Rattle.std.proofs.lemmas.Slice.Zip.{AllZip-long}
-use Rattle.tap_views.specs.Layout.{Tap}
-use Rattle.tap_views.specs.Files.{IsFile}
-use Rattle.tap_views.specs.Shards.{shard_of_token, run_of}
+use Rattle.std.specs.List.{flat_map}
+use Rattle.std.specs.Prelude.{ℕ, zero, suc, ◌≡◌, ◌≢◌, ◌⊎◌, ◌+◌, ◌<◌, ◌==◌, Bool, true, false, cond}
+use Rattle.std.specs.Prelude.{List, [], ◌∷◌, ◌++◌, length, map, filter, take, drop, All}
 use Rattle.tap_views.proofs.Lists.{All-front, All-back, All-unmap}
-use Rattle.histories.specs.Entry.{IsEntryOf}
-use Rattle.shared_books.specs.Drawing.{NoneTwice}
+use Rattle.tap_views.specs.{Files.IsFile, Layout.Tap, Shards.shard_of_token, Shards.run_of}
 use Rattle.tap_views.specs.declared.upload_end.UploadEnd.{UploadEnd}
 use Rattle.tap_views.specs.declared.upload_end.UploadEnd.TheVariants.{Posted, Refused, Cut, Undrawn}
-use Rattle.fare_service.specs.Headline.{end_of}
-use Rattle.fare_service.specs.Placing.{posted_of, in_posting_order, WerePostedOf}
-use Rattle.fare_service.specs.Runs.{PostedRun}
-use Rattle.fare_service.specs.Runs.{posted_run, if_any, runs_below, runs_of, RunVisit, IsEntered}
-use Rattle.fare_service.specs.Runs.{run_of_visit, ArePostedWhole, AreCut, entries_of, taps_posted}
-use Rattle.fare_service.specs.inside.Runs.{visits_to}
-use Rattle.fare_service.specs.Shares.{Worked, all_visits, IsWorkOf, IsEndOf, file_at}
-use Rattle.fare_service.proofs.GatherLemmas.{drawn_times, times_same, times_other, fewer_after}
-use Rattle.fare_service.proofs.GatherLemmas.{end_same, end_other}
-use Rattle.fare_service.proofs.GatheredWork.{Given}
 
 -- each tap of a run is of its shard
 pub IsOwnRun : ℕ → PostedRun → Type 0

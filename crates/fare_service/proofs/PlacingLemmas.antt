@@ -1,38 +1,30 @@
 -- For which tap each entry of a book stands.
-use Rattle.std.specs.Prelude.{ℕ, zero, suc, ◌≡◌, ◌≢◌, ◌⊎◌, ◌+◌, ◌<◌, ◌≤◌, ◌==◌, Bool, true, false}
-use Rattle.std.specs.Prelude.{cond, List, [], ◌∷◌, ◌++◌, length, map, filter, All, slice_get, Some}
-use Rattle.std.specs.List.{flat_map, AllZip}
 use Rattle.std.proofs.Common.{refl, sym, ◌∙◌, ap, inl, inr, subst, arith, get_or, eq-eqb, eqb-true}
 use Rattle.std.proofs.Common.{ne_eqb}
-use Rattle.std.proofs.lemmas.Bool.{cases_lt, cases_Bool}
-use Rattle.std.proofs.lemmas.Bool.Decides.{eqb_tells}
+use Rattle.fare_service.proofs.GatherLemmas.{drawn_times, times_same, each_work}
+use Rattle.fare_service.proofs.GatheredWork.{Given, IsBookOfWork, IsGathered}
+use Rattle.fare_service.proofs.OwnVisits.{IsOwnVisit, own_worked, shard_taps, works_on, no_works_on}
+use Rattle.fare_service.proofs.OwnVisits.{end_posted, filter_none}
+use Rattle.fare_service.proofs.Signing.{step_no, step_yes}
+use Rattle.fare_service.specs.{Headline.Signed, Headline.by_worker, Outcomes.OutcomeView}
+use Rattle.fare_service.specs.Placing.{Origin, of_upload, posted_of, OccurOnce, WerePostedOf}
+use Rattle.fare_service.specs.Runs.{RunVisit, IsEntered, entries_to}
+use Rattle.fare_service.specs.Shares.{Worked, all_visits, IsWorkOf, all_works, file_at}
+use Rattle.fare_service.specs.inside.Runs.{visits_to}
+use Rattle.histories.specs.{Entry.IsEntryOf, declared.entry.Entry.Entry}
+use Rattle.shard_book.specs.Book.{Book}
+use Rattle.shared_books.specs.{Drawing.NoneTwice, Drawing.times, Marks.history_of_visits}
+use Rattle.std.proofs.lemmas.Bool.{cases_lt, cases_Bool, Decides.eqb_tells}
 use Rattle.std.proofs.lemmas.List.{map-append, length-map, nil_from_length, get_or_past}
 use Rattle.std.proofs.lemmas.List.Elements.{All-nil, All-cons, All-head, All-tail, All-append}
 use Rattle.std.proofs.lemmas.List.Elements.{All-filter, All-weaker, All-map, filter-append}
-use Rattle.std.proofs.lemmas.List.Sums.{sum_by-append, sum_by-cons}
+use Rattle.std.proofs.lemmas.List.{Folds.flat_map-map, Sums.sum_by-append, Sums.sum_by-cons}
 use Rattle.std.proofs.lemmas.Option.{slice_get-get_or}
-use Rattle.std.proofs.lemmas.List.Folds.{flat_map-map}
-use Rattle.histories.specs.declared.entry.Entry.{Entry}
-use Rattle.shard_book.specs.Book.{Book}
-use Rattle.histories.specs.Entry.{IsEntryOf}
-use Rattle.shared_books.specs.Drawing.{NoneTwice, times}
-use Rattle.shared_books.specs.Marks.{history_of_visits}
-use Rattle.tap_views.specs.declared.upload_end.UploadEnd.{UploadEnd}
-use Rattle.tap_views.specs.Shards.{run_of}
-use Rattle.fare_service.specs.Headline.{Signed, by_worker}
-use Rattle.fare_service.specs.Outcomes.{OutcomeView}
-use Rattle.fare_service.specs.Placing.{Origin, of_upload, posted_of, OccurOnce, WerePostedOf}
-use Rattle.tap_views.specs.Layout.{Tap}
-use Rattle.fare_service.specs.Runs.{RunVisit, IsEntered}
-use Rattle.fare_service.specs.Runs.{entries_to}
-use Rattle.fare_service.specs.inside.Runs.{visits_to}
-use Rattle.fare_service.specs.Shares.{Worked, all_visits, IsWorkOf, all_works, file_at}
-use Rattle.fare_service.proofs.GatherLemmas.{drawn_times, times_same, each_work}
-use Rattle.fare_service.proofs.OwnVisits.{IsOwnVisit, own_worked, shard_taps, works_on}
-use Rattle.fare_service.proofs.OwnVisits.{no_works_on, end_posted, filter_none}
-use Rattle.fare_service.proofs.Signing.{step_no, step_yes}
-use Rattle.fare_service.proofs.GatheredWork.{Given, IsBookOfWork, IsGathered}
+use Rattle.std.specs.List.{flat_map, AllZip}
+use Rattle.std.specs.Prelude.{ℕ, zero, suc, ◌≡◌, ◌≢◌, ◌⊎◌, ◌+◌, ◌<◌, ◌≤◌, ◌==◌, Bool, true, false}
+use Rattle.std.specs.Prelude.{cond, List, [], ◌∷◌, ◌++◌, length, map, filter, All, slice_get, Some}
 use Rattle.tap_views.proofs.Lists.{filter-filter, AllZip-append}
+use Rattle.tap_views.specs.{Layout.Tap, Shards.run_of, declared.upload_end.UploadEnd.UploadEnd}
 
 -- a visit, and the upload of its taps
 record Labeled : Type 0 where

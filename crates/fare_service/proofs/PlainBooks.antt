@@ -1,47 +1,37 @@
 -- The entries of a token in what was gathered are those of the plain history.
-use Rattle.std.specs.Prelude.{ℕ, zero, suc, ◌≡◌, ◌≢◌, ◌⊎◌, ◌<◌, ◌==◌, Bool, true, false, cond, List}
-use Rattle.std.specs.Prelude.{[], ◌∷◌, ◌++◌, length, map, filter, All, Contains, Some, slice_get}
-use Rattle.std.specs.Prelude.{slice_index_or}
-use Rattle.std.specs.List.{flat_map, AllZip}
 use Rattle.std.proofs.Common.{refl, sym, ◌∙◌, ap, inl, inr, subst, arith, get_or, eq-eqb, mod-lt}
-use Rattle.std.proofs.lemmas.Bool.Decides.{eqb_tells}
-use Rattle.std.proofs.lemmas.List.{map-append, length-map}
-use Rattle.std.proofs.lemmas.List.Elements.{All-nil, All-cons, All-head, All-tail, All-append}
-use Rattle.std.proofs.lemmas.List.Concat.{flat_map-append}
-use Rattle.std.proofs.lemmas.Option.{slice_get-get_or}
-use Rattle.std.proofs.lemmas.List.Folds.{flat_map-map}
-use Rattle.tap_views.specs.Layout.{Tap}
-use Rattle.tap_views.specs.Shards.{shard_of_token, run_of}
-use Rattle.shard_book.specs.Book.{Book}
-use Rattle.histories.specs.declared.entry.Entry.{Entry}
-use Rattle.tap_views.specs.declared.token.Token.{Token}
-use Rattle.histories.specs.Entry.{is_of, own, IsEntryOf}
-use Rattle.histories.specs.Keys.{same_token}
-use Rattle.tap_views.specs.Token.{bytes_of}
-use Rattle.shared_books.specs.Drawing.{NoneTwice}
-use Rattle.shared_books.specs.Marks.{history_of_visits}
-use Rattle.shared_books.proofs.MarkLists.{joined-append}
-use Rattle.tap_views.specs.declared.upload_end.UploadEnd.{UploadEnd}
-use Rattle.tap_views.specs.declared.upload_end.UploadEnd.TheVariants.{Posted, Refused, Cut, Undrawn}
-use Rattle.fare_service.specs.Headline.{Signed, by_worker, end_of}
-use Rattle.fare_service.specs.Outcomes.{OutcomeView}
-use Rattle.tap_views.specs.Files.{AreValidTaps, AreValidTapsOfEach, HasUniqueParse}
-use Rattle.tap_views.proofs.Lists.{All-split}
-use Rattle.fare_service.specs.Plain.{AreApart, WasNotCut}
-use Rattle.histories.specs.Plain.{IsNamed, unanswered, token_of_bytes, plain}
-use Rattle.fare_service.specs.Runs.{RunVisit, ArePostedWhole, runs_of, entries_to}
-use Rattle.fare_service.specs.Shares.{Worked, all_visits, IsWorkOf, IsEndOf, all_works, file_at}
+use Rattle.fare_service.proofs.GatherLemmas.{end_other, end_same, fewer_after}
+use Rattle.fare_service.proofs.GatheredWork.{Given, IsBookOfWork, IsGathered}
 use Rattle.fare_service.proofs.PlainLists.{All-flat, flat-All, All-at, mapped_at, count, count_same}
 use Rattle.fare_service.proofs.PlainLists.{count_other, DoTheirs, done_alone, done_none, flat_alone}
 use Rattle.fare_service.proofs.PlainLists.{flat_none, HasOne, none_or_one}
-use Rattle.histories.proofs.PlainReplies.{bare, own_bare, plain_bare, plain_legal, same_replies}
-use Rattle.histories.proofs.OwnEntries.{own-append, own_none}
-use Rattle.histories.proofs.PlainFields.{IsName}
 use Rattle.fare_service.proofs.PlainRuns.{shard_entries, named_entries, all_shards, own_run}
-use Rattle.fare_service.proofs.VisitLemmas.{entries_to-append}
-use Rattle.fare_service.proofs.GatheredWork.{Given, IsBookOfWork, IsGathered}
-use Rattle.fare_service.proofs.GatherLemmas.{end_other, end_same, fewer_after}
 use Rattle.fare_service.proofs.UploadFileSource.{IsTest, not_again}
+use Rattle.fare_service.proofs.VisitLemmas.{entries_to-append}
+use Rattle.fare_service.specs.Headline.{Signed, by_worker, end_of}
+use Rattle.fare_service.specs.{Outcomes.OutcomeView, Plain.AreApart, Plain.WasNotCut}
+use Rattle.fare_service.specs.Runs.{RunVisit, ArePostedWhole, runs_of, entries_to}
+use Rattle.fare_service.specs.Shares.{Worked, all_visits, IsWorkOf, IsEndOf, all_works, file_at}
+use Rattle.histories.proofs.{OwnEntries.own-append, OwnEntries.own_none, PlainFields.IsName}
+use Rattle.histories.proofs.PlainReplies.{bare, own_bare, plain_bare, plain_legal, same_replies}
+use Rattle.histories.specs.{Entry.is_of, Entry.own, Entry.IsEntryOf, Keys.same_token}
+use Rattle.histories.specs.Plain.{IsNamed, unanswered, token_of_bytes, plain}
+use Rattle.histories.specs.declared.entry.Entry.{Entry}
+use Rattle.shard_book.specs.Book.{Book}
+use Rattle.shared_books.proofs.MarkLists.{joined-append}
+use Rattle.shared_books.specs.{Drawing.NoneTwice, Marks.history_of_visits}
+use Rattle.std.proofs.lemmas.Bool.Decides.{eqb_tells}
+use Rattle.std.proofs.lemmas.List.{map-append, length-map, Concat.flat_map-append}
+use Rattle.std.proofs.lemmas.List.Elements.{All-nil, All-cons, All-head, All-tail, All-append}
+use Rattle.std.proofs.lemmas.{List.Folds.flat_map-map, Option.slice_get-get_or}
+use Rattle.std.specs.{List.flat_map, List.AllZip, Prelude.ℕ, Prelude.zero, Prelude.suc, Prelude.◌≡◌}
+use Rattle.std.specs.Prelude.{◌≢◌, ◌⊎◌, ◌<◌, ◌==◌, Bool, true, false, cond, List, [], ◌∷◌, ◌++◌}
+use Rattle.std.specs.Prelude.{length, map, filter, All, Contains, Some, slice_get, slice_index_or}
+use Rattle.tap_views.proofs.Lists.{All-split}
+use Rattle.tap_views.specs.Files.{AreValidTaps, AreValidTapsOfEach, HasUniqueParse}
+use Rattle.tap_views.specs.{Layout.Tap, Shards.shard_of_token, Shards.run_of, Token.bytes_of}
+use Rattle.tap_views.specs.declared.{token.Token.Token, upload_end.UploadEnd.UploadEnd}
+use Rattle.tap_views.specs.declared.upload_end.UploadEnd.TheVariants.{Posted, Refused, Cut, Undrawn}
 
 entries-cons : (shard : ℕ) (w : Worked) (done : List Worked)
     → history_of_visits (entries_to shard (all_visits (w ∷ done)))

@@ -1,22 +1,18 @@
 -- The ends of uploads that were posted whole are those that their bytes call for.
-use Rattle.std.specs.Prelude.{ℕ, suc, ◌≡◌, ◌<◌, List, [], ◌∷◌, length, All, Some, None, slice_get}
-use Rattle.std.specs.List.{flat_map, AllZip}
 use Rattle.std.proofs.Common.{refl, sym, ◌∙◌, ap, subst, arith, mod-lt}
-use Rattle.std.proofs.lemmas.List.Concat.{length-flat_map}
-use Rattle.std.proofs.lemmas.Option.{get_or_from_slice_get}
-use Rattle.tap_views.specs.Layout.{Tap}
-use Rattle.tap_views.specs.declared.upload_end.UploadEnd.{UploadEnd}
-use Rattle.tap_views.specs.declared.upload_end.UploadEnd.TheVariants.{Posted, Refused, Cut, Undrawn}
-use Rattle.fare_service.specs.Headline.{end_of}
-use Rattle.fare_service.specs.Outcomes.{OutcomeView}
-use Rattle.fare_service.specs.Plain.{WasNotCut}
-use Rattle.tap_views.specs.UploadEnds.{IsPlainEnd, ArePlainEnds}
-use Rattle.fare_service.specs.Runs.{RunVisit, IsEntered, ArePostedWhole, runs_of, taps_posted}
-use Rattle.fare_service.specs.Shares.{Worked, IsWorkOf, IsEndOf, all_works, file_at}
+use Rattle.fare_service.proofs.GatheredWork.{Given, IsGathered}
 use Rattle.fare_service.proofs.PlainBooks.{drawn_by, end_reported, whole_posted}
 use Rattle.fare_service.proofs.PlainLists.{All-flat, All-at}
 use Rattle.fare_service.proofs.TapCounts.{posted_taps, all_runs_taps}
-use Rattle.fare_service.proofs.GatheredWork.{Given, IsGathered}
+use Rattle.fare_service.specs.{Headline.end_of, Outcomes.OutcomeView, Plain.WasNotCut}
+use Rattle.fare_service.specs.Runs.{RunVisit, IsEntered, ArePostedWhole, runs_of, taps_posted}
+use Rattle.fare_service.specs.Shares.{Worked, IsWorkOf, IsEndOf, all_works, file_at}
+use Rattle.std.proofs.lemmas.{List.Concat.length-flat_map, Option.get_or_from_slice_get}
+use Rattle.std.specs.List.{flat_map, AllZip}
+use Rattle.std.specs.Prelude.{ℕ, suc, ◌≡◌, ◌<◌, List, [], ◌∷◌, length, All, Some, None, slice_get}
+use Rattle.tap_views.specs.{Layout.Tap, UploadEnds.IsPlainEnd, UploadEnds.ArePlainEnds}
+use Rattle.tap_views.specs.declared.upload_end.UploadEnd.{UploadEnd}
+use Rattle.tap_views.specs.declared.upload_end.UploadEnd.TheVariants.{Posted, Refused, Cut, Undrawn}
 
 zip_at : {A B : Type 0} (R : A → B → Type 0) (xs : List A) (ys : List B) → length xs ≡ length ys
     → ((i : ℕ) (x : A) (y : B) → slice_get xs i ≡ Some x → slice_get ys i ≡ Some y → R x y)

@@ -1,27 +1,21 @@
 -- The entries that an upload's visits brought to a shard, by the taps of the upload.
-use Rattle.std.specs.Prelude.{ℕ, zero, suc, ◌≡◌, ◌≢◌, ◌⊎◌, ◌<◌, ◌≤◌, ◌==◌, Bool, true, false}
-use Rattle.std.specs.Prelude.{cond, List, [], ◌∷◌, ◌++◌, map, filter, All}
-use Rattle.std.specs.List.{flat_map, AllZip}
 use Rattle.std.proofs.Common.{refl, sym, ◌∙◌, ap, inl, inr, subst, arith, append-nil, eq-eqb}
 use Rattle.std.proofs.Common.{mod-lt}
-use Rattle.std.proofs.lemmas.Bool.Decides.{eqb_tells}
-use Rattle.std.proofs.lemmas.List.Elements.{All-nil, All-cons, All-head, All-tail, filter-append}
-use Rattle.std.proofs.lemmas.List.Concat.{flat_map-append}
-use Rattle.tap_views.specs.Layout.{Tap, num}
-use Rattle.tap_views.specs.Shards.{shard_of_token, run_of}
-use Rattle.histories.specs.declared.entry.Entry.{Entry}
-use Rattle.tap_views.specs.declared.token.Token.{Token}
-use Rattle.histories.specs.Entry.{IsEntryOf, is_of, own}
-use Rattle.histories.specs.Keys.{same_token}
-use Rattle.tap_views.specs.Token.{bytes_of}
-use Rattle.tap_views.proofs.Lists.{AllZip-append}
-use Rattle.shared_books.specs.Marks.{history_of_visits}
+use Rattle.fare_service.specs.Runs.{PostedRun, posted_run, if_any, runs_below, runs_of, RunVisit}
+use Rattle.fare_service.specs.Runs.{IsEntered, run_of_visit, ArePostedWhole, entries_to}
+use Rattle.histories.proofs.{PlainFields.IsName, PlainReplies.bare}
+use Rattle.histories.specs.{Entry.IsEntryOf, Entry.is_of, Entry.own, Keys.same_token}
 use Rattle.histories.specs.Plain.{unanswered, token_of_bytes, IsNamed}
-use Rattle.fare_service.specs.Runs.{PostedRun}
-use Rattle.fare_service.specs.Runs.{posted_run, if_any, runs_below, runs_of, RunVisit, IsEntered}
-use Rattle.fare_service.specs.Runs.{run_of_visit, ArePostedWhole, entries_to}
-use Rattle.histories.proofs.PlainFields.{IsName}
-use Rattle.histories.proofs.PlainReplies.{bare}
+use Rattle.histories.specs.declared.entry.Entry.{Entry}
+use Rattle.shared_books.specs.Marks.{history_of_visits}
+use Rattle.std.proofs.lemmas.{Bool.Decides.eqb_tells, List.Concat.flat_map-append}
+use Rattle.std.proofs.lemmas.List.Elements.{All-nil, All-cons, All-head, All-tail, filter-append}
+use Rattle.std.specs.List.{flat_map, AllZip}
+use Rattle.std.specs.Prelude.{ℕ, zero, suc, ◌≡◌, ◌≢◌, ◌⊎◌, ◌<◌, ◌≤◌, ◌==◌, Bool, true, false, cond}
+use Rattle.std.specs.Prelude.{List, [], ◌∷◌, ◌++◌, map, filter, All}
+use Rattle.tap_views.proofs.Lists.{AllZip-append}
+use Rattle.tap_views.specs.{Layout.Tap, Layout.num, Shards.shard_of_token, Shards.run_of}
+use Rattle.tap_views.specs.{Token.bytes_of, declared.token.Token.Token}
 
 -- the taps of some runs to a shard
 abbrev taps_at : ℕ → List PostedRun → List Tap

@@ -1,19 +1,15 @@
 -- Two gatherings of the same uploads under one table have the same texts.
-use Rattle.std.specs.Prelude.{ℕ, ◌≡◌, List, [], ◌∷◌, length, All, Option, Some, None}
-use Rattle.std.specs.List.{flat_map}
 use Rattle.std.proofs.Common.{refl, sym, ◌∙◌, ap, subst, arith}
-use Rattle.std.proofs.lemmas.List.Elements.{All-head, All-tail}
-use Rattle.tap_views.specs.Layout.{Tap}
-use Rattle.tap_views.specs.declared.fault.LayoutFault.{LayoutFault}
+use Rattle.histories.specs.{Sums.sums, SumsByKey.sums_by_validator, SumsByKey.sums_by_token}
 use Rattle.histories.specs.declared.entry.Entry.{Entry}
-use Rattle.histories.specs.SumsByKey.{sums_by_validator, sums_by_token}
-use Rattle.histories.specs.Sums.{sums}
-use Rattle.tap_views.specs.declared.upload_end.UploadEnd.{UploadEnd}
-use Rattle.tap_views.specs.UploadEnds.{end_by, IsPlainEnd, ArePlainEnds}
-use Rattle.report_texts.specs.OverHistory.{IsReportOver}
-use Rattle.tap_views.specs.Files.{IsEndAfterBatches, HasUniqueParse}
+use Rattle.report_texts.specs.{OverHistory.IsReportOver, Report.report}
+use Rattle.std.proofs.lemmas.List.Elements.{All-head, All-tail}
+use Rattle.std.specs.List.{flat_map}
+use Rattle.std.specs.Prelude.{ℕ, ◌≡◌, List, [], ◌∷◌, length, All, Option, Some, None}
 use Rattle.tap_views.proofs.Deciding.{same_fault}
-use Rattle.report_texts.specs.Report.{report}
+use Rattle.tap_views.specs.{Files.IsEndAfterBatches, Files.HasUniqueParse, Layout.Tap}
+use Rattle.tap_views.specs.UploadEnds.{end_by, IsPlainEnd, ArePlainEnds}
+use Rattle.tap_views.specs.declared.{fault.LayoutFault.LayoutFault, upload_end.UploadEnd.UploadEnd}
 
 same_reported : (file rest : List ℕ) (fault other : Option (ℕ × LayoutFault))
     → IsEndAfterBatches file rest fault → IsEndAfterBatches file rest other → fault ≡ other

@@ -1,35 +1,25 @@
 -- The sums over the books are those over the plain history.
-use Rattle.std.specs.Prelude.{ℕ, zero, suc, ◌≡◌, ◌≢◌, ◌<◌, Bool, true, false, List, [], ◌∷◌, ◌++◌}
-use Rattle.std.specs.Prelude.{length, map, filter, All, Some, slice_get}
-use Rattle.std.specs.List.{flat_map}
 use Rattle.std.proofs.Common.{refl, sym, ◌∙◌, ap, subst, get_or, mod-lt}
-use Rattle.std.proofs.lemmas.List.Elements.{All-head, All-tail}
-use Rattle.std.proofs.lemmas.Option.{slice_get-get_or}
-use Rattle.tap_views.specs.Shards.{shard_of_token}
-use Rattle.shard_book.specs.Book.{Book, AreOfShard}
-use Rattle.histories.specs.declared.entry.Entry.{Entry}
-use Rattle.tap_views.specs.declared.token.Token.{Token}
-use Rattle.histories.specs.Entry.{is_of, own}
-use Rattle.shard_book.specs.Book.{all_entries}
-use Rattle.histories.specs.SumsByKey.{sums_by_validator, sums_by_token}
-use Rattle.histories.specs.Keys.{same_token}
-use Rattle.histories.specs.Sums.{sums}
+use Rattle.fare_service.proofs.{GatheredWork.Given, HeadlineLemmas.gathered_of}
+use Rattle.fare_service.proofs.{PlainEnds.plain_ends, PlainLists.flat_alone, PlainLists.mapped_at}
+use Rattle.fare_service.proofs.PlainUploads.{AllNamed, same_own}
+use Rattle.fare_service.specs.{Outcomes.OutcomeView, Plain.IsUncutGathering}
+use Rattle.fare_service.specs.Printed.{report_of, report_with}
 use Rattle.histories.proofs.OwnEntries.{own-append}
 use Rattle.histories.proofs.SameEntries.{IncreasingNumbers, IncreasingTokens, same_by_token}
 use Rattle.histories.proofs.SameEntries.{same_by_validator, same_entries, same_sums}
-use Rattle.tap_views.specs.Token.{bytes_of}
-use Rattle.fare_service.specs.Outcomes.{OutcomeView}
-use Rattle.fare_service.specs.Plain.{IsUncutGathering}
-use Rattle.report_texts.specs.OverHistory.{IsReportOver}
-use Rattle.tap_views.specs.Files.{HasUniqueParse}
-use Rattle.fare_service.specs.Printed.{report_of, report_with}
-use Rattle.report_texts.specs.Report.{report}
-use Rattle.tap_views.specs.declared.upload_end.UploadEnd.{UploadEnd}
-use Rattle.fare_service.proofs.HeadlineLemmas.{gathered_of}
-use Rattle.fare_service.proofs.PlainEnds.{plain_ends}
-use Rattle.fare_service.proofs.PlainLists.{flat_alone, mapped_at}
-use Rattle.fare_service.proofs.PlainUploads.{AllNamed, same_own}
-use Rattle.fare_service.proofs.GatheredWork.{Given}
+use Rattle.histories.specs.{Entry.is_of, Entry.own, Keys.same_token, Sums.sums}
+use Rattle.histories.specs.SumsByKey.{sums_by_validator, sums_by_token}
+use Rattle.histories.specs.declared.entry.Entry.{Entry}
+use Rattle.report_texts.specs.{OverHistory.IsReportOver, Report.report}
+use Rattle.shard_book.specs.Book.{Book, AreOfShard, all_entries}
+use Rattle.std.proofs.lemmas.List.Elements.{All-head, All-tail}
+use Rattle.std.proofs.lemmas.Option.{slice_get-get_or}
+use Rattle.std.specs.List.{flat_map}
+use Rattle.std.specs.Prelude.{ℕ, zero, suc, ◌≡◌, ◌≢◌, ◌<◌, Bool, true, false, List, [], ◌∷◌, ◌++◌}
+use Rattle.std.specs.Prelude.{length, map, filter, All, Some, slice_get}
+use Rattle.tap_views.specs.{Files.HasUniqueParse, Shards.shard_of_token, Token.bytes_of}
+use Rattle.tap_views.specs.declared.{token.Token.Token, upload_end.UploadEnd.UploadEnd}
 
 -- ---- the books' entries
 

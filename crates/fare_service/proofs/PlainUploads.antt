@@ -1,29 +1,20 @@
 -- The plain history of uploads is there, and there is one; and what laws on it stand on.
-use Rattle.std.specs.Prelude.{ℕ, ◌≡◌, ◌↔◌, ◌<◌, List, [], length, map, All, Some, slice_get}
 use Rattle.std.proofs.Common.{sym, ◌∙◌, ap, subst, arith, get_or, mod-lt}
-use Rattle.std.proofs.lemmas.Option.{slice_get-get_or}
-use Rattle.fare_caps.specs.CapMeanings.{capped_rules_of}
-use Rattle.fare_caps.specs.CappedReplies.{capped_window}
-use Rattle.tariffs.specs.Fares.{Fares}
-use Rattle.tap_views.specs.Shards.{shard_of_token}
-use Rattle.shard_book.specs.Book.{Book}
-use Rattle.histories.specs.declared.entry.Entry.{Entry}
-use Rattle.histories.specs.declared.statement.Statement.{Statement}
-use Rattle.tap_views.specs.declared.token.Token.{Token}
-use Rattle.histories.specs.Entry.{own, tap_of, taps_of}
-use Rattle.histories.specs.Statement.{IsStatement}
-use Rattle.histories.specs.Sums.{sums}
-use Rattle.tap_views.specs.Token.{bytes_of}
-use Rattle.fare_service.specs.Outcomes.{OutcomeView}
-use Rattle.tap_views.specs.Files.{HasUniqueParse}
-use Rattle.histories.specs.Plain.{IsNamed}
-use Rattle.fare_service.specs.Plain.{IsUncutGathering}
-use Rattle.report_texts.specs.OverHistory.{IsStatementOver}
-use Rattle.fare_service.specs.Printed.{IsStatementOf}
-use Rattle.fare_texts.specs.StatementText.{IsStatementText}
-use Rattle.fare_service.proofs.HeadlineLemmas.{gathered_of}
+use Rattle.fare_caps.specs.{CapMeanings.capped_rules_of, CappedReplies.capped_window}
+use Rattle.fare_service.proofs.{GatheredWork.Given, HeadlineLemmas.gathered_of}
 use Rattle.fare_service.proofs.PlainBooks.{Represents, own_plain}
-use Rattle.fare_service.proofs.GatheredWork.{Given}
+use Rattle.fare_service.specs.{Outcomes.OutcomeView, Plain.IsUncutGathering, Printed.IsStatementOf}
+use Rattle.fare_texts.specs.StatementText.{IsStatementText}
+use Rattle.histories.specs.Entry.{own, tap_of, taps_of}
+use Rattle.histories.specs.{Plain.IsNamed, Statement.IsStatement, Sums.sums}
+use Rattle.histories.specs.declared.{entry.Entry.Entry, statement.Statement.Statement}
+use Rattle.report_texts.specs.OverHistory.{IsStatementOver}
+use Rattle.shard_book.specs.Book.{Book}
+use Rattle.std.proofs.lemmas.Option.{slice_get-get_or}
+use Rattle.std.specs.Prelude.{ℕ, ◌≡◌, ◌↔◌, ◌<◌, List, [], length, map, All, Some, slice_get}
+use Rattle.tap_views.specs.{Files.HasUniqueParse, Shards.shard_of_token, Token.bytes_of}
+use Rattle.tap_views.specs.declared.token.Token.{Token}
+use Rattle.tariffs.specs.Fares.{Fares}
 
 -- ---- statements
 abbrev pub AllNamed : OutcomeView → Type 0

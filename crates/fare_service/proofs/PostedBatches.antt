@@ -1,26 +1,19 @@
 -- Batches, posted one after the other.
-use Rattle.std.specs.Prelude.{ℕ, ◌≡◌, ◌+◌, ◌*◌, ◌^◌, ◌<◌, ◌≤◌, Bool, true, false, List, []}
-use Rattle.std.specs.Prelude.{◌∷◌, ◌++◌, length, map, Result, Ok, Err, IfOk, is_ok, IsErr, Option}
-use Rattle.std.proofs.Common.{refl, sym, ◌∙◌, ap, subst, append_assoc, append-nil}
-use Rattle.std.proofs.Common.{arith}
-use Rattle.std.proofs.lemmas.List.{length-map}
-use Rattle.std.proofs.lemmas.List.Sums.{sum_by-append}
-use Rattle.tap_views.specs.Layout.{Tap}
-use Rattle.tap_views.specs.Files.{IsFile, IsEndAfterBatches}
-use Rattle.tap_views.specs.declared.fault.LayoutFault.{LayoutFault}
-use Rattle.histories.specs.Entry.{reply_of}
-use Rattle.histories.specs.Sums.{Sums}
-use Rattle.shared_books.specs.Passes.{PassView}
-use Rattle.fare_service.specs.declared.service.working.Stop.{Stop}
-use Rattle.fare_service.specs.Runs.{PostedRun, RunVisit, runs_below, runs_of, AreCut}
-use Rattle.fare_service.specs.Runs.{entries_of, taps_posted}
-use Rattle.fare_service.specs.inside.Runs.{ArePostedOrCut}
-use Rattle.fare_service.specs.Shares.{HasVisited}
-use Rattle.fare_service.proofs.RunLemmas.{cut_early}
-use Rattle.fare_service.proofs.VisitLemmas.{taps_after}
+use Rattle.std.proofs.Common.{refl, sym, ◌∙◌, ap, subst, append_assoc, append-nil, arith}
 use Rattle.fare_service.proofs.BatchLemmas.{Posts, Cuts, posts_more, posts_cut}
-use Rattle.fare_service.proofs.TapCounts.{batches_taps, runs_taps, posted_taps, cut_taps, runs_few}
-use Rattle.fare_service.proofs.TapCounts.{file_room}
+use Rattle.fare_service.proofs.{RunLemmas.cut_early, TapCounts.batches_taps}
+use Rattle.fare_service.proofs.TapCounts.{runs_taps, posted_taps, cut_taps, runs_few, file_room}
+use Rattle.fare_service.proofs.VisitLemmas.{taps_after}
+use Rattle.fare_service.specs.Runs.{PostedRun, RunVisit, runs_below, runs_of, AreCut, entries_of}
+use Rattle.fare_service.specs.{Runs.taps_posted, Shares.HasVisited}
+use Rattle.fare_service.specs.{declared.service.working.Stop.Stop, inside.Runs.ArePostedOrCut}
+use Rattle.histories.specs.{Entry.reply_of, Sums.Sums}
+use Rattle.shared_books.specs.Passes.{PassView}
+use Rattle.std.proofs.lemmas.List.{length-map, Sums.sum_by-append}
+use Rattle.std.specs.Prelude.{ℕ, ◌≡◌, ◌+◌, ◌*◌, ◌^◌, ◌<◌, ◌≤◌, Bool, true, false, List, [], ◌∷◌}
+use Rattle.std.specs.Prelude.{◌++◌, length, map, Result, Ok, Err, IfOk, is_ok, IsErr, Option}
+use Rattle.tap_views.specs.Files.{IsFile, IsEndAfterBatches}
+use Rattle.tap_views.specs.{Layout.Tap, declared.fault.LayoutFault.LayoutFault}
 
 -- the runs of batches and of others after them
 pub runs_of-append : (shards : ℕ) (xs ys : List (List Tap))

@@ -1,13 +1,11 @@
 -- Runs that were posted, one list of them after another.
-use Rattle.std.specs.Prelude.{ℕ, zero, suc, ◌≡◌, ◌⊎◌, ◌+◌, ◌<◌, List, []}
-use Rattle.std.specs.Prelude.{◌∷◌, ◌++◌, length, map, take}
 use Rattle.std.proofs.Common.{refl, sym, ◌∙◌, ap, inl, inr, subst, append_assoc, arith}
+use Rattle.fare_service.specs.Runs.{PostedRun, posted_run, if_any, runs_below, RunVisit}
+use Rattle.fare_service.specs.Runs.{run_of_visit, ArePostedWhole, AreCut}
 use Rattle.std.proofs.lemmas.List.{map-append}
-use Rattle.tap_views.specs.Layout.{Tap}
-use Rattle.tap_views.specs.Shards.{run_of}
-use Rattle.fare_service.specs.Runs.{PostedRun}
-use Rattle.fare_service.specs.Runs.{posted_run, if_any, runs_below, RunVisit, run_of_visit}
-use Rattle.fare_service.specs.Runs.{ArePostedWhole, AreCut}
+use Rattle.std.specs.Prelude.{ℕ, zero, suc, ◌≡◌, ◌⊎◌, ◌+◌, ◌<◌, List, [], ◌∷◌, ◌++◌, length, map}
+use Rattle.std.specs.Prelude.{take}
+use Rattle.tap_views.specs.{Layout.Tap, Shards.run_of}
 
 -- a run with a tap is there
 pub some_run : (shard : ℕ) (taps : List Tap) → 0 < length taps

@@ -1,32 +1,25 @@
 -- One run: the visit that it makes, and what that changes.
-use Rattle.std.specs.Prelude.{ℕ, ◌≡◌, ◌≢◌, ◌<◌, ◌≤◌, ◌==◌, Bool, true, false, cond, ◌⊎◌, List, []}
-use Rattle.std.specs.Prelude.{◌∷◌, ◌++◌, length, map, take, Result, Ok, Err, is_ok, IsErr, Some}
 use Rattle.std.proofs.Common.{refl, sym, ◌∙◌, ap, inl, inr, subst, append-nil, arith, get_or, set}
 use Rattle.std.proofs.Common.{eq-eqb, length-take}
-use Rattle.std.proofs.lemmas.List.Elements.{All-nil, All-cons}
-use Rattle.std.proofs.lemmas.Option.{slice_get-get_or}
-use Rattle.std.proofs.lemmas.Bool.Decides.{eqb_tells}
-use Rattle.std.proofs.lemmas.List.{get_or-map}
-use Rattle.std.proofs.lemmas.Slice.Zip.{AllZip-long}
-use Rattle.tap_views.specs.Layout.{Tap}
-use Rattle.tap_views.specs.Shards.{run_of, run_taps, ShardRun}
-use Rattle.histories.specs.declared.entry.Entry.{Entry}
-use Rattle.shard_book.specs.declared.run_end.RunEnd.{RunEnd}
-use Rattle.shard_book.specs.declared.run_end.RunEnd.TheVariants.{Whole, Cut}
-use Rattle.histories.specs.Entry.{IsEntryOf}
-use Rattle.histories.specs.Sums.{Sums, sums, add_sums}
-use Rattle.shard_book.specs.Visits.{IsVisit}
-use Rattle.histories.proofs.SumsLemmas.{add_none}
-use Rattle.shared_books.specs.Passes.{PassView, SharedBookView, HasSeenMore, Visits}
-use Rattle.fare_service.specs.declared.service.working.Stop.{Stop}
-use Rattle.fare_service.specs.ServiceView.{ServiceView, shards_of}
-use Rattle.fare_service.specs.inside.ServiceView.{IsService, IsBookOf}
-use Rattle.fare_service.specs.Runs.{PostedRun, if_any, RunVisit}
-use Rattle.fare_service.specs.Runs.{IsEntered, ArePostedWhole, AreCut, entries_to}
-use Rattle.fare_service.specs.inside.Runs.{ArePostedOrCut}
-use Rattle.fare_service.specs.Shares.{made_visits, marks_at, made_visits_at, HasVisited}
 use Rattle.fare_service.proofs.RunLemmas.{no_run, cut_none, cut_some, whole_run}
 use Rattle.fare_service.proofs.VisitLemmas.{made_none, made_by_pass, own-visits, own-later}
+use Rattle.fare_service.specs.Runs.{PostedRun, if_any, RunVisit, IsEntered, ArePostedWhole, AreCut}
+use Rattle.fare_service.specs.{Runs.entries_to, ServiceView.ServiceView, ServiceView.shards_of}
+use Rattle.fare_service.specs.Shares.{made_visits, marks_at, made_visits_at, HasVisited}
+use Rattle.fare_service.specs.{declared.service.working.Stop.Stop, inside.Runs.ArePostedOrCut}
+use Rattle.fare_service.specs.inside.ServiceView.{IsService, IsBookOf}
+use Rattle.histories.proofs.SumsLemmas.{add_none}
+use Rattle.histories.specs.{Entry.IsEntryOf, Sums.Sums, Sums.sums, Sums.add_sums}
+use Rattle.histories.specs.declared.entry.Entry.{Entry}
+use Rattle.shard_book.specs.Visits.{IsVisit}
+use Rattle.shard_book.specs.declared.run_end.RunEnd.{RunEnd, TheVariants.Whole, TheVariants.Cut}
+use Rattle.shared_books.specs.Passes.{PassView, SharedBookView, HasSeenMore, Visits}
+use Rattle.std.proofs.lemmas.{Bool.Decides.eqb_tells, List.get_or-map}
+use Rattle.std.proofs.lemmas.List.Elements.{All-nil, All-cons}
+use Rattle.std.proofs.lemmas.{Option.slice_get-get_or, Slice.Zip.AllZip-long}
+use Rattle.std.specs.Prelude.{ℕ, ◌≡◌, ◌≢◌, ◌<◌, ◌≤◌, ◌==◌, Bool, true, false, cond, ◌⊎◌, List, []}
+use Rattle.std.specs.Prelude.{◌∷◌, ◌++◌, length, map, take, Result, Ok, Err, is_ok, IsErr, Some}
+use Rattle.tap_views.specs.{Layout.Tap, Shards.run_of, Shards.run_taps, Shards.ShardRun}
 
 -- an answer that is an error means a cut
 pub was_cut : (r : Result (Unit {0}) Stop) (runs : List PostedRun) (visits : List RunVisit)

@@ -1,33 +1,28 @@
 -- What a share keeps, one upload after another.
-use Rattle.std.specs.Prelude.{ℕ, zero, suc, ◌≡◌, ◌+◌, ◌*◌, ◌^◌, ◌≤◌, ◌<◌, List, [], ◌∷◌, ◌++◌}
-use Rattle.std.specs.Prelude.{length, map}
 use Rattle.std.proofs.Common.{refl, sym, ◌∙◌, ap, subst, arith, append_assoc, append-nil}
 use Rattle.std.proofs.Common.{length-append}
-use Rattle.std.proofs.lemmas.List.{map-append}
-use Rattle.std.proofs.lemmas.List.Elements.{All-nil, All-cons, All-append}
-use Rattle.std.proofs.lemmas.Grind.{flat_map-append}
-use Rattle.histories.specs.Sums.{Sums, sums, add_sums}
-use Rattle.histories.proofs.SumsLemmas.{sums-append}
-use Rattle.shared_books.specs.Drawing.{DrawerView}
-use Rattle.shared_books.specs.Claims.{all_claims, claims_given, claims_left}
-use Rattle.shared_books.specs.Passes.{PassView, SharedBookView, new_pass, fresh_pass, left_pass}
-use Rattle.shared_books.specs.Passes.{seen_by}
-use Rattle.fare_service.specs.declared.service.share.Done.{Done}
-use Rattle.tap_views.specs.declared.upload_end.UploadEnd.{UploadEnd}
-use Rattle.fare_service.specs.Claims.{claims_at, left_share}
-use Rattle.fare_service.specs.ServiceView.{ServiceView, shards_of}
-use Rattle.fare_service.specs.ShareView.{ShareView}
+use Rattle.fare_service.proofs.VisitLemmas.{made_none, made_more, entries_to-append, own-others}
+use Rattle.fare_service.proofs.VisitLemmas.{no_taps}
+use Rattle.fare_service.specs.{Claims.claims_at, Claims.left_share, Lending.origin_at}
 use Rattle.fare_service.specs.Runs.{RunVisit, entries_to, entries_of}
-use Rattle.fare_service.specs.Shares.{Worked, all_visits, done_of, IsWorked, KeepsWorks, IsShareOf}
-use Rattle.fare_service.specs.Shares.{IsFresh, HasWorked, HasVisited, made_visits_at}
-use Rattle.fare_service.specs.Shares.{made_visits, books_of, loads_of}
-use Rattle.fare_service.specs.Lending.{origin_at}
+use Rattle.fare_service.specs.ServiceView.{ServiceView, shards_of}
+use Rattle.fare_service.specs.{ShareView.ShareView, Shares.Worked, Shares.all_visits}
+use Rattle.fare_service.specs.Shares.{done_of, IsWorked, KeepsWorks, IsShareOf, IsFresh, HasWorked}
+use Rattle.fare_service.specs.Shares.{HasVisited, made_visits_at, made_visits, books_of, loads_of}
+use Rattle.fare_service.specs.{declared.service.share.Done.Done, inside.Shares.worked}
+use Rattle.histories.proofs.SumsLemmas.{sums-append}
+use Rattle.histories.specs.Sums.{Sums, sums, add_sums}
+use Rattle.shared_books.specs.Claims.{all_claims, claims_given, claims_left}
+use Rattle.shared_books.specs.{Drawing.DrawerView, Passes.PassView}
+use Rattle.shared_books.specs.Passes.{SharedBookView, new_pass, fresh_pass, left_pass, seen_by}
+use Rattle.std.proofs.lemmas.{Grind.flat_map-append, List.map-append}
+use Rattle.std.proofs.lemmas.List.Elements.{All-nil, All-cons, All-append}
+use Rattle.std.specs.Prelude.{ℕ, zero, suc, ◌≡◌, ◌+◌, ◌*◌, ◌^◌, ◌≤◌, ◌<◌, List, [], ◌∷◌, ◌++◌}
+use Rattle.std.specs.Prelude.{length, map}
+use Rattle.tap_views.specs.declared.upload_end.UploadEnd.{UploadEnd}
 use Rattle.world.proofs.Laws.{more_loads, no_loads}
 use Rattle.world.specs.Origins.{Origin, loads_from, with_loads}
 use Rattle.world.specs.Run.{Run, nothing_yet}
-use Rattle.fare_service.specs.inside.Shares.{worked}
-use Rattle.fare_service.proofs.VisitLemmas.{made_none, made_more, entries_to-append, own-others}
-use Rattle.fare_service.proofs.VisitLemmas.{no_taps}
 
 pub all_visits-append : (xs ys : List Worked)
     → all_visits (xs ++ ys) ≡ all_visits xs ++ all_visits ys

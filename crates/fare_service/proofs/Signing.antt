@@ -1,21 +1,17 @@
 -- Who made which visit to a book. A sign is a visit with the worker that made it; a visit that no
 -- joined worker made is signed by nobody, who has a number above all workers.
+use Rattle.std.proofs.Common.{refl, sym, ◌∙◌, ap, inl, inr, subst, arith, eq-eqb, ne_eqb}
+use Rattle.fare_service.specs.{Headline.Signed, Headline.by_worker, Shares.made_visits}
+use Rattle.fare_service.specs.inside.Joining.{IsSign, AreSigns, AreJoined}
+use Rattle.histories.specs.declared.entry.Entry.{Entry}
+use Rattle.shared_books.proofs.MarkLists.{made_at-few, made_few}
+use Rattle.shared_books.specs.Marks.{mark, visits_of, joined_marks, Apart, Begins, made_from}
+use Rattle.shared_books.specs.{Marks.numbered, declared.turns.rule.Mark.Mark}
+use Rattle.std.proofs.Math.Bool.{or-false, or-true}
+use Rattle.std.proofs.lemmas.Bool.{ltb-true, Decides.nat_tests}
+use Rattle.std.proofs.lemmas.List.{length-map, Elements.All-nil, Elements.All-cons}
 use Rattle.std.specs.Prelude.{ℕ, suc, ◌≡◌, ◌≢◌, ◌⊎◌, ◌+◌, ◌<◌, ◌≤◌, ◌==◌, ◌||◌, nat_lt, Bool, true}
 use Rattle.std.specs.Prelude.{false, cond, List, [], ◌∷◌, ◌++◌, length, map, filter, All}
-use Rattle.std.proofs.Common.{refl, sym, ◌∙◌, ap, inl, inr, subst, arith, eq-eqb, ne_eqb}
-use Rattle.std.proofs.lemmas.Bool.Decides.{nat_tests}
-use Rattle.std.proofs.lemmas.List.{length-map}
-use Rattle.std.proofs.lemmas.List.Elements.{All-nil, All-cons}
-use Rattle.std.proofs.lemmas.Bool.{ltb-true}
-use Rattle.std.proofs.Math.Bool.{or-false, or-true}
-use Rattle.histories.specs.declared.entry.Entry.{Entry}
-use Rattle.shared_books.specs.declared.turns.rule.Mark.{Mark}
-use Rattle.shared_books.specs.Marks.{mark, visits_of, joined_marks, Apart, Begins, made_from}
-use Rattle.shared_books.specs.Marks.{numbered}
-use Rattle.shared_books.proofs.MarkLists.{made_at-few, made_few}
-use Rattle.fare_service.specs.Headline.{Signed, by_worker}
-use Rattle.fare_service.specs.inside.Joining.{IsSign, AreSigns, AreJoined}
-use Rattle.fare_service.specs.Shares.{made_visits}
 
 abbrev pub sign : ℕ → List Entry → Signed
 sign worker entries = record { worker = worker; entries = entries }

@@ -1,22 +1,17 @@
 -- A stable sort by token.
 use Rattle.std.proofs.Common.{◌≡◌, suc, ◌+◌, Bool, true, false, cond, ◌&&◌, ◌||◌, not, List, []}
 use Rattle.std.proofs.Common.{◌∷◌, get_or, refl, sym, ap, subst, ◌∙◌, arith}
-use Rattle.std.specs.List.{filter, list_any}
-use Rattle.std.specs.List.Sorted.{IsPermutation, IsSortedByKey, IsStableByKey, ties}
-use Rattle.std.specs.Ordering.{is_lt}
-use Rattle.std.proofs.lemmas.Bool.{false≢true}
-use Rattle.std.proofs.lemmas.Bool.Decides.{nat_tests}
-use Rattle.std.proofs.lemmas.List.Sorted.{IsPermutation-map, list_any-IsPermutation}
-use Rattle.histories.specs.Entry.{is_of, own}
-use Rattle.tap_views.specs.Token.{token_cmp, token_eq}
-use Rattle.histories.specs.declared.entry.Entry.{Entry}
-use Rattle.tap_views.specs.declared.token.Token.{Token}
-use Rattle.fare_texts.specs.Lines.{Nondecreasing, NondecreasingFrom}
-use Rattle.fare_texts.specs.ByToken.{IsByToken}
-use Rattle.fare_service.specs.inside.Spots.{entry_at_spot, entries_at_spots}
 use Rattle.fare_service.specs.declared.spot.Spot.{Spot}
-use Rattle.tap_views.proofs.TokenLemmas.{same_token}
+use Rattle.fare_service.specs.inside.Spots.{entry_at_spot, entries_at_spots}
+use Rattle.fare_texts.specs.{ByToken.IsByToken, Lines.Nondecreasing, Lines.NondecreasingFrom}
+use Rattle.histories.specs.{Entry.is_of, Entry.own, declared.entry.Entry.Entry}
 use Rattle.shard_book.specs.Book.{Book}
+use Rattle.std.proofs.lemmas.Bool.{false≢true, Decides.nat_tests}
+use Rattle.std.proofs.lemmas.List.Sorted.{IsPermutation-map, list_any-IsPermutation}
+use Rattle.std.specs.List.{filter, list_any, Sorted.IsPermutation, Sorted.IsSortedByKey}
+use Rattle.std.specs.{List.Sorted.IsStableByKey, List.Sorted.ties, Ordering.is_lt}
+use Rattle.tap_views.proofs.TokenLemmas.{same_token}
+use Rattle.tap_views.specs.{Token.token_cmp, Token.token_eq, declared.token.Token.Token}
 
 abbrev pub key : List Book → Spot → Token
 key books spot = (entry_at_spot books spot).token

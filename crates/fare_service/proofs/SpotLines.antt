@@ -1,18 +1,15 @@
 -- What stands at spots, from a place on.
-use Rattle.std.proofs.Common.{◌≡◌, ℕ, ◌+◌, ◌<◌, List, [], ◌∷◌, ◌++◌, Some}
-use Rattle.std.proofs.Common.{length, take, drop, get_or, ap, subst, ◌∙◌}
-use Rattle.std.proofs.Common.{add-one, drop-cons, arith}
-use Rattle.std.specs.Prelude.{slice_get}
-use Rattle.std.proofs.lemmas.List.{get_or-map, length-map}
-use Rattle.std.proofs.Math.Seq.{take-suc}
-use Rattle.histories.specs.declared.entry.Entry.{Entry}
-use Rattle.tap_views.specs.declared.token.Token.{Token}
-use Rattle.fare_texts.specs.Lines.{Nondecreasing, NondecreasingFrom}
-use Rattle.tap_views.specs.TokenOrder.{IsUpTo}
-use Rattle.fare_service.specs.inside.Spots.{entry_at_spot, entries_at_spots}
+use Rattle.std.proofs.Common.{◌≡◌, ℕ, ◌+◌, ◌<◌, List, [], ◌∷◌, ◌++◌, Some, length, take, drop}
+use Rattle.std.proofs.Common.{get_or, ap, subst, ◌∙◌, add-one, drop-cons, arith}
 use Rattle.fare_service.specs.declared.spot.Spot.{Spot}
+use Rattle.fare_service.specs.inside.Spots.{entry_at_spot, entries_at_spots}
+use Rattle.fare_texts.specs.Lines.{Nondecreasing, NondecreasingFrom}
+use Rattle.histories.specs.declared.entry.Entry.{Entry}
 use Rattle.shard_book.specs.Book.{Book}
+use Rattle.std.proofs.{Math.Seq.take-suc, lemmas.List.get_or-map, lemmas.List.length-map}
+use Rattle.std.specs.Prelude.{slice_get}
 use Rattle.tap_views.proofs.TokensUp.{up_itself}
+use Rattle.tap_views.specs.{TokenOrder.IsUpTo, declared.token.Token.Token}
 
 -- what stands before, at and from a place of what stands at spots
 pub seen_taken : (books : List Book) (list : List Spot) (position : ℕ) (other : Spot)

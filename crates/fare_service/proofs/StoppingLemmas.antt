@@ -1,24 +1,17 @@
 -- A worker that goes on, and where it stops.
-use Rattle.std.specs.Prelude.{◌≡◌, ◌⊎◌, ℕ, List, [], ◌∷◌, ◌++◌, All, length, Some, None}
 use Rattle.std.proofs.Common.{refl, inl, inr}
+use Rattle.fare_service.proofs.ShareLemmas.{holding, next_done, worked_none, worked_more}
+use Rattle.fare_service.specs.{Lending.origin_at, Plain.WasNotCut, Runs.RunVisit}
+use Rattle.fare_service.specs.{ServiceView.ServiceView, ServiceView.shards_of, ShareView.ShareView}
+use Rattle.fare_service.specs.Shares.{Worked, HasWorked, IsWorked, HasVisited, WentOn}
+use Rattle.fare_service.specs.Stopping.{SomeFull, MayGoOn, StoppedCleanly, WasCut}
+use Rattle.fare_service.specs.{declared.service.share.Done.Done, inside.Shares.worked}
+use Rattle.histories.specs.Sums.{Sums}
+use Rattle.shared_books.specs.{Drawing.DrawerView, Passes.PassView}
 use Rattle.std.proofs.lemmas.List.Elements.{All-nil, All-cons, All-append, All-weaker}
 use Rattle.std.specs.Option.{option_to_list}
-use Rattle.histories.specs.Sums.{Sums}
-use Rattle.shared_books.specs.Drawing.{DrawerView}
-use Rattle.shared_books.specs.Passes.{PassView}
-use Rattle.fare_service.specs.declared.service.share.Done.{Done}
-use Rattle.fare_service.specs.ServiceView.{ServiceView, shards_of}
-use Rattle.fare_service.specs.ShareView.{ShareView}
-use Rattle.fare_service.specs.Plain.{WasNotCut}
-use Rattle.fare_service.specs.Runs.{RunVisit}
-use Rattle.fare_service.specs.Shares.{Worked, HasWorked, IsWorked, HasVisited, WentOn}
-use Rattle.fare_service.specs.inside.Shares.{worked}
-use Rattle.fare_service.specs.Lending.{origin_at}
-use Rattle.world.specs.Origins.{loads_from, with_loads}
-use Rattle.world.specs.Run.{Run}
-use Rattle.fare_service.specs.Stopping.{SomeFull, MayGoOn, StoppedCleanly, WasCut}
-use Rattle.fare_service.proofs.ShareLemmas.{holding, next_done, worked_none}
-use Rattle.fare_service.proofs.ShareLemmas.{worked_more}
+use Rattle.std.specs.Prelude.{◌≡◌, ◌⊎◌, ℕ, List, [], ◌∷◌, ◌++◌, All, length, Some, None}
+use Rattle.world.specs.{Origins.loads_from, Origins.with_loads, Run.Run}
 
 -- the worker worked on these uploads, and went on after each
 abbrev pub Going : ServiceView → ShareView → ShareView → Type 0

@@ -1,22 +1,18 @@
 -- How many taps visits post: no more than the batches have, which their file has room for.
-use Rattle.std.specs.Prelude.{ℕ, zero, suc, ◌≡◌, ◌⊎◌, ◌+◌, ◌*◌, ◌<◌, ◌≤◌, ◌==◌, nat_lt, Bool, true}
-use Rattle.std.specs.Prelude.{false, cond, List, [], ◌∷◌, ◌++◌, length, map, filter, take, sum_by}
-use Rattle.std.specs.Prelude.{All}
 use Rattle.std.proofs.Common.{refl, sym, ◌∙◌, ap, inl, inr, arith, length-append, length-take}
 use Rattle.std.proofs.Common.{add-zero}
-use Rattle.std.proofs.lemmas.List.Sums.{sum_by-append, sum_by-cons}
-use Rattle.std.proofs.lemmas.List.Elements.{All-head, All-tail}
-use Rattle.std.proofs.lemmas.Bool.Decides.{nat_tests}
-use Rattle.std.proofs.lemmas.Bool.{lt-ltb}
-use Rattle.std.proofs.lemmas.Slice.Zip.{AllZip-long}
-use Rattle.tap_views.specs.Layout.{Tap}
-use Rattle.tap_views.specs.Files.{IsFile}
-use Rattle.tap_views.specs.Shards.{shard_of_token, run_of}
-use Rattle.tap_views.proofs.ParseLemmas.{batch_room}
-use Rattle.histories.specs.Entry.{IsEntryOf}
 use Rattle.fare_service.specs.Runs.{PostedRun, posted_run, if_any, runs_below, runs_of, RunVisit}
 use Rattle.fare_service.specs.Runs.{IsEntered, run_of_visit, ArePostedWhole, AreCut, entries_of}
 use Rattle.fare_service.specs.Runs.{taps_posted}
+use Rattle.histories.specs.Entry.{IsEntryOf}
+use Rattle.std.proofs.lemmas.Bool.{lt-ltb, Decides.nat_tests}
+use Rattle.std.proofs.lemmas.List.Elements.{All-head, All-tail}
+use Rattle.std.proofs.lemmas.{List.Sums.sum_by-append, List.Sums.sum_by-cons, Slice.Zip.AllZip-long}
+use Rattle.std.specs.Prelude.{ℕ, zero, suc, ◌≡◌, ◌⊎◌, ◌+◌, ◌*◌, ◌<◌, ◌≤◌, ◌==◌, nat_lt, Bool, true}
+use Rattle.std.specs.Prelude.{false, cond, List, [], ◌∷◌, ◌++◌, length, map, filter, take, sum_by}
+use Rattle.std.specs.Prelude.{All}
+use Rattle.tap_views.proofs.ParseLemmas.{batch_room}
+use Rattle.tap_views.specs.{Files.IsFile, Layout.Tap, Shards.shard_of_token, Shards.run_of}
 
 abbrev pub runs_taps : List PostedRun → ℕ
 runs_taps runs = sum_by (λ r. length r.taps) runs

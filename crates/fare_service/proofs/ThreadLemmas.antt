@@ -1,10 +1,9 @@
 -- What threads promised, one after another.
-use Rattle.std.specs.Prelude.{ℕ, zero, suc, ◌≡◌, ◌≤◌, List, [], ◌∷◌, length, map, All}
-use Rattle.std.specs.List.{AllZip}
 use Rattle.std.proofs.Common.{subst, arith}
 use Rattle.std.proofs.lemmas.List.Elements.{All-head, All-tail}
-use Rattle.std.specs.PromisedHandle.{KeepsEach}
-use Rattle.std.specs.declared.thread.PromisedHandle.{PromisedHandle}
+use Rattle.std.specs.List.{AllZip}
+use Rattle.std.specs.Prelude.{ℕ, zero, suc, ◌≡◌, ◌≤◌, List, [], ◌∷◌, length, map, All}
+use Rattle.std.specs.{PromisedHandle.KeepsEach, declared.thread.PromisedHandle.PromisedHandle}
 use Rattle.std.specs.declared.thread.Promise as Promise
 
 -- each result is what its thread promised

@@ -1,17 +1,16 @@
 -- The files of uploads that were lent: the bytes with which each was lent.
-use Rattle.std.specs.Prelude.{ℕ, zero, suc, ◌≡◌, ◌≢◌, ◌⊎◌, ◌+◌, ◌<◌, ◌==◌, true, false, cond, List}
-use Rattle.std.specs.Prelude.{[], ◌∷◌, length, map, All, slice_index_or}
 use Rattle.std.proofs.Common.{refl, sym, ◌∙◌, ap, inl, inr, subst, arith, eq-eqb}
-use Rattle.std.proofs.lemmas.Bool.Decides.{eqb_tells}
-use Rattle.std.proofs.lemmas.List.Elements.{All-nil, All-cons}
-use Rattle.tap_views.specs.Files.{IsFile}
-use Rattle.shared_books.specs.Drawing.{NoneTwice}
-use Rattle.world.specs.Origins.{Origin, nowhere, memory, file, anywhere, IsFrom}
+use Rattle.fare_service.proofs.GatherLemmas.{fewer_after}
+use Rattle.fare_service.proofs.PlainLists.{count, count_other, count_same}
 use Rattle.fare_service.specs.Lending.{AreProvidedAs, origin_at}
 use Rattle.fare_service.specs.ServiceView.{ServiceView, shards_of}
 use Rattle.fare_service.specs.Shares.{Worked, IsEndOf, IsWorked, IsWorkOf, file_at}
-use Rattle.fare_service.proofs.GatherLemmas.{fewer_after}
-use Rattle.fare_service.proofs.PlainLists.{count, count_other, count_same}
+use Rattle.shared_books.specs.Drawing.{NoneTwice}
+use Rattle.std.proofs.lemmas.{Bool.Decides.eqb_tells, List.Elements.All-nil, List.Elements.All-cons}
+use Rattle.std.specs.Prelude.{ℕ, zero, suc, ◌≡◌, ◌≢◌, ◌⊎◌, ◌+◌, ◌<◌, ◌==◌, true, false, cond, List}
+use Rattle.std.specs.Prelude.{[], ◌∷◌, length, map, All, slice_index_or}
+use Rattle.tap_views.specs.Files.{IsFile}
+use Rattle.world.specs.Origins.{Origin, nowhere, memory, file, anywhere, IsFrom}
 
 abbrev pub IsTest : ℕ → ℕ → Type 0
 IsTest m n = (((m == n) ≡ true) × (m ≡ n)) ⊎ (((m == n) ≡ false) × (m ≢ n))

@@ -1,24 +1,19 @@
 -- An upload that was posted: how it ended.
-use Rattle.std.specs.Prelude.{ℕ, ◌≡◌, ◌-◌, ◌<◌, List, Result, Ok, Err, IfOk, is_ok, Option}
-use Rattle.std.specs.Prelude.{Some, None, length}
 use Rattle.std.proofs.Common.{subst, arith}
-use Rattle.tap_views.specs.Layout.{Tap}
-use Rattle.tap_views.specs.Files.{IsFile, IsEndAfterBatches}
-use Rattle.tap_views.specs.declared.fault.LayoutFault.{LayoutFault}
+use Rattle.fare_service.proofs.PostedBatches.{counted_taps}
+use Rattle.fare_service.specs.Lending.{origin_at}
+use Rattle.fare_service.specs.Runs.{RunVisit, runs_of, ArePostedWhole, taps_posted}
+use Rattle.fare_service.specs.{ServiceView.ServiceView, ServiceView.shards_of, Shares.HasVisited}
+use Rattle.fare_service.specs.{Shares.IsWorked, Shares.IsEndOf, declared.service.working.Stop.Stop}
+use Rattle.fare_service.specs.inside.{Runs.ArePostedOrCut, Shares.worked}
 use Rattle.histories.specs.Sums.{Sums}
 use Rattle.shared_books.specs.Passes.{PassView}
-use Rattle.tap_views.specs.declared.upload_end.UploadEnd.{UploadEnd}
-use Rattle.tap_views.specs.declared.upload_end.UploadEnd.TheVariants.{Cut}
-use Rattle.fare_service.specs.declared.service.working.Stop.{Stop}
-use Rattle.tap_views.specs.UploadEnds.{end_by}
-use Rattle.fare_service.specs.ServiceView.{ServiceView, shards_of}
-use Rattle.fare_service.specs.Lending.{origin_at}
+use Rattle.std.specs.Prelude.{ℕ, ◌≡◌, ◌-◌, ◌<◌, List, Result, Ok, Err, IfOk, is_ok, Option, Some}
+use Rattle.std.specs.Prelude.{None, length}
+use Rattle.tap_views.specs.Files.{IsFile, IsEndAfterBatches}
+use Rattle.tap_views.specs.{Layout.Tap, UploadEnds.end_by, declared.fault.LayoutFault.LayoutFault}
+use Rattle.tap_views.specs.declared.upload_end.UploadEnd.{UploadEnd, TheVariants.Cut}
 use Rattle.world.specs.Origins.{IsFrom}
-use Rattle.fare_service.specs.Runs.{RunVisit, runs_of, ArePostedWhole, taps_posted}
-use Rattle.fare_service.specs.inside.Runs.{ArePostedOrCut}
-use Rattle.fare_service.specs.Shares.{HasVisited, IsWorked, IsEndOf}
-use Rattle.fare_service.specs.inside.Shares.{worked}
-use Rattle.fare_service.proofs.PostedBatches.{counted_taps}
 
 -- what is known of an upload whose batches were posted
 abbrev pub Ended : ℕ → List ℕ → List PassView → List PassView → Sums → Sums

@@ -1,25 +1,22 @@
 -- What a worker's visits change.
-use Rattle.std.specs.Prelude.{ℕ, ◌≡◌, ◌≢◌, ◌⊎◌, ◌+◌, ◌<◌, ◌==◌, true, false, List, [], ◌∷◌, ◌++◌}
-use Rattle.std.specs.Prelude.{length, map, filter, take, All, slice_get, Some}
 use Rattle.std.proofs.Common.{refl, sym, ◌∙◌, ap, inl, inr, subst, append_assoc, append-nil, arith}
 use Rattle.std.proofs.Common.{get_or, set}
-use Rattle.std.proofs.lemmas.List.{map-append, map-set, length-map, get_or-set_same}
-use Rattle.std.proofs.lemmas.List.{get_or-set_other, take_more}
-use Rattle.std.proofs.lemmas.List.Elements.{filter-append, All-nil, All-append}
-use Rattle.std.proofs.lemmas.Grind.{flat_map-append}
-use Rattle.std.proofs.lemmas.Option.{slice_get_within, get_or_from_slice_get}
-use Rattle.std.proofs.lemmas.Bool.Decides.{eqb_tells}
-use Rattle.std.proofs.Math.Seq.{map-set_same}
 use Rattle.account_rule.specs.declared.reply.Reply.{Reply}
-use Rattle.histories.specs.declared.entry.Entry.{Entry}
-use Rattle.histories.specs.Sums.{Sums, sums, sums_of_replies, add_sums}
-use Rattle.histories.proofs.SumsLemmas.{replies-append, sums-append, add_none, add_assoc}
-use Rattle.shared_books.specs.declared.turns.rule.Mark.{Mark}
-use Rattle.shared_books.specs.Marks.{mark, others}
-use Rattle.shared_books.specs.Passes.{PassView, HasSeenMore, Visits}
 use Rattle.fare_service.specs.Runs.{RunVisit, IsEntered, entries_to, entries_of}
-use Rattle.fare_service.specs.inside.Runs.{visits_to}
 use Rattle.fare_service.specs.Shares.{made_visits, marks_at, made_visits_at, HasVisited}
+use Rattle.fare_service.specs.inside.Runs.{visits_to}
+use Rattle.histories.proofs.SumsLemmas.{replies-append, sums-append, add_none, add_assoc}
+use Rattle.histories.specs.Sums.{Sums, sums, sums_of_replies, add_sums}
+use Rattle.histories.specs.declared.entry.Entry.{Entry}
+use Rattle.shared_books.specs.{Marks.mark, Marks.others, Passes.PassView, Passes.HasSeenMore}
+use Rattle.shared_books.specs.{Passes.Visits, declared.turns.rule.Mark.Mark}
+use Rattle.std.proofs.{Math.Seq.map-set_same, lemmas.Bool.Decides.eqb_tells}
+use Rattle.std.proofs.lemmas.{Grind.flat_map-append, List.map-append, List.map-set}
+use Rattle.std.proofs.lemmas.List.{length-map, get_or-set_same, get_or-set_other, take_more}
+use Rattle.std.proofs.lemmas.List.Elements.{filter-append, All-nil, All-append}
+use Rattle.std.proofs.lemmas.Option.{slice_get_within, get_or_from_slice_get}
+use Rattle.std.specs.Prelude.{ℕ, ◌≡◌, ◌≢◌, ◌⊎◌, ◌+◌, ◌<◌, ◌==◌, true, false, List, [], ◌∷◌, ◌++◌}
+use Rattle.std.specs.Prelude.{length, map, filter, take, All, slice_get, Some}
 
 pub own-append : (xs ys : List Mark) → made_visits (xs ++ ys) ≡ made_visits xs ++ made_visits ys
 own-append xs ys =

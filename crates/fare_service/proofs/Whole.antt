@@ -1,17 +1,13 @@
 -- The whole ledger: its head line and the lines of each token.
 use Rattle.std.proofs.Common.{◌≡◌, ℕ, List, [], ◌++◌, Some, None, ap, subst}
+use Rattle.fare_service.specs.Ledger.{IsLedgerOfBooks}
+use Rattle.fare_texts.proofs.ByToken.{every_token}
+use Rattle.fare_texts.specs.{ByToken.IsByToken, Ledger.AreLinesOfEach, LedgerLines.head_text}
+use Rattle.fare_texts.specs.Lines.{AreLinesAlong}
+use Rattle.histories.specs.{SumsByKey.tokens, declared.entry.Entry.Entry}
+use Rattle.shard_book.specs.Book.{Book, all_entries}
 use Rattle.std.specs.Prelude.{slice_get}
 use Rattle.tariffs.specs.Fares.{Fares}
-use Rattle.shard_book.specs.Book.{Book}
-use Rattle.shard_book.specs.Book.{all_entries}
-use Rattle.histories.specs.SumsByKey.{tokens}
-use Rattle.histories.specs.declared.entry.Entry.{Entry}
-use Rattle.fare_texts.specs.LedgerLines.{head_text}
-use Rattle.fare_texts.specs.Ledger.{AreLinesOfEach}
-use Rattle.fare_service.specs.Ledger.{IsLedgerOfBooks}
-use Rattle.fare_texts.specs.Lines.{AreLinesAlong}
-use Rattle.fare_texts.specs.ByToken.{IsByToken}
-use Rattle.fare_texts.proofs.ByToken.{every_token}
 
 pub ledger_of_all : (books : List Book) (first : Book) (fares : Fares) (list : List Entry)
     (head lines : List ℕ) → slice_get books 0 ≡ Some first → fares ≡ first.table

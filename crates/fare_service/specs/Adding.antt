@@ -1,10 +1,9 @@
 -- Totals that add up: over the books, over the workers and, of taps, over the uploads.
-use Rattle.std.specs.Prelude.{◌≡◌, List, map, sum_by}
-use Rattle.histories.specs.Sums.{sums, add_all}
-use Rattle.tap_views.specs.UploadEnds.{taps_of_end}
-use Rattle.fare_service.specs.Outcomes.{OutcomeView}
-use Rattle.fare_service.specs.Runs.{entries_of}
+use Rattle.fare_service.specs.{Outcomes.OutcomeView, Runs.entries_of}
 use Rattle.fare_service.specs.Shares.{Worked, all_visits}
+use Rattle.histories.specs.Sums.{sums, add_all}
+use Rattle.std.specs.Prelude.{◌≡◌, List, map, sum_by}
+use Rattle.tap_views.specs.UploadEnds.{taps_of_end}
 
 -- Each worker's totals are those of its replies. The totals are the sum of the workers', and of the
 -- books', and their taps are as many as the uploads' ends say.

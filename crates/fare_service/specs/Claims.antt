@@ -1,10 +1,9 @@
 -- The claims of shares. A split halves them, work keeps them, and whoever gathers shares that have
 -- all claims misses nothing.
-use Rattle.std.specs.Prelude.{◌≡◌, ℕ, ◌<◌, List, [], ◌∷◌, map, sum_by, slice_index_or}
-use Rattle.shared_books.specs.Claims.{all_claims, claims_given, claims_left}
-use Rattle.shared_books.specs.Drawing.{DrawerView}
-use Rattle.shared_books.specs.Passes.{PassView, left_pass}
 use Rattle.fare_service.specs.ShareView.{ShareView}
+use Rattle.shared_books.specs.Claims.{all_claims, claims_given, claims_left}
+use Rattle.shared_books.specs.{Drawing.DrawerView, Passes.PassView, Passes.left_pass}
+use Rattle.std.specs.Prelude.{◌≡◌, ℕ, ◌<◌, List, [], ◌∷◌, map, sum_by, slice_index_or}
 
 -- the claims of each pass
 abbrev pub claims_of : List PassView → List ℕ

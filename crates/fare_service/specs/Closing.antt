@@ -1,15 +1,12 @@
 -- Books that are closed.
-use Rattle.std.specs.Prelude.{◌≡◌, ℕ, ◌<◌, ◌≤◌, List, length, map, All, slice_get, Some}
-use Rattle.shard_book.specs.Book.{Book}
-use Rattle.histories.specs.History.{IsLegal}
-use Rattle.shared_books.specs.Passes.{SharedBookView}
-use Rattle.fare_service.specs.declared.faults.GatherFault.{GatherFault}
-use Rattle.fare_service.specs.declared.faults.GatherFault.TheVariants.{NoMemory, Missing, Drawn}
-use Rattle.shared_books.specs.Marks.{history_of_visits}
 use Rattle.fare_service.specs.Headline.{Signed, by_worker}
-use Rattle.fare_service.specs.Limits.{BookKeepsLimits}
-use Rattle.fare_service.specs.ShareView.{ShareView}
-use Rattle.fare_service.specs.Shares.{marks_at, made_visits_at}
+use Rattle.fare_service.specs.{Limits.BookKeepsLimits, ShareView.ShareView, Shares.marks_at}
+use Rattle.fare_service.specs.{Shares.made_visits_at, declared.faults.GatherFault.GatherFault}
+use Rattle.fare_service.specs.declared.faults.GatherFault.TheVariants.{NoMemory, Missing, Drawn}
+use Rattle.histories.specs.History.{IsLegal}
+use Rattle.shard_book.specs.Book.{Book}
+use Rattle.shared_books.specs.{Marks.history_of_visits, Passes.SharedBookView}
+use Rattle.std.specs.Prelude.{◌≡◌, ℕ, ◌<◌, ◌≤◌, List, length, map, All, slice_get, Some}
 
 -- The history of a book is its visits. Each was made by one share, and those that a share made are
 -- exactly its visits to the shard, in its order. No share has seen a visit more.

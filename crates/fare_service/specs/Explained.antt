@@ -1,9 +1,8 @@
 -- The explained statement of a token of books.
-use Rattle.std.specs.Prelude.{◌≡◌, ℕ, List, Some, slice_get}
+use Rattle.fare_texts.specs.{ExplainedForms.IsExplainedOver, declared.form.Form.Form}
 use Rattle.shard_book.specs.Book.{Book, all_entries}
+use Rattle.std.specs.Prelude.{◌≡◌, ℕ, List, Some, slice_get}
 use Rattle.tap_views.specs.declared.token.Token.{Token}
-use Rattle.fare_texts.specs.ExplainedForms.{IsExplainedOver}
-use Rattle.fare_texts.specs.declared.form.Form.{Form}
 
 -- the explained statement of a token over books, in this form: that over the entries of all of
 -- them, under the table of the first

@@ -1,13 +1,11 @@
 -- Why a service does not open, run or gather.
-use Rattle.std.specs.Prelude.{◌≡◌, ◌⊎◌, ℕ, ◌<◌, ◌≤◌, List, length, sum_by}
-use Rattle.fare_service.specs.declared.faults.OpenFault.{OpenFault}
+use Rattle.fare_service.specs.{ShareView.ShareView, Shares.made_visits_at}
+use Rattle.fare_service.specs.declared.faults.{GatherFault.GatherFault, OpenFault.OpenFault}
 use Rattle.fare_service.specs.declared.faults.OpenFault.TheVariants.{Shards, Uploads, NoMemory}
-use Rattle.fare_service.specs.declared.faults.GatherFault.{GatherFault}
-use Rattle.fare_service.specs.declared.faults.GatherFault.TheVariants as gather
 use Rattle.fare_service.specs.declared.faults.RunFault.{RunFault}
+use Rattle.std.specs.Prelude.{◌≡◌, ◌⊎◌, ℕ, ◌<◌, ◌≤◌, List, length, sum_by}
+use Rattle.fare_service.specs.declared.faults.GatherFault.TheVariants as gather
 use Rattle.fare_service.specs.declared.faults.RunFault.TheVariants as run
-use Rattle.fare_service.specs.ShareView.{ShareView}
-use Rattle.fare_service.specs.Shares.{made_visits_at}
 
 -- the number of shards is refused first, and then the number of uploads; memory is taken last
 abbrev pub IsOpenFault : ℕ → ℕ → OpenFault → Type 0

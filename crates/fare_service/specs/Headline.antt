@@ -1,25 +1,18 @@
 -- THE HEADLINE: what the books, the ends and the totals of an outcome are, by what each worker did.
+use Rattle.fare_service.specs.{Adding.AddUp, Lending.AreProvidedAs, Lending.origin_at}
+use Rattle.fare_service.specs.{Outcomes.OutcomeView, Placing.OccurOnce, Runs.entries_to}
+use Rattle.fare_service.specs.ServiceView.{ServiceView, shards_of}
+use Rattle.fare_service.specs.{ShareView.ShareView, Shares.Worked, Shares.all_works}
+use Rattle.fare_service.specs.Shares.{all_visits, IsWorkOf, KeepsWorks, file_at, loads_of}
+use Rattle.histories.specs.{History.IsLegal, declared.entry.Entry.Entry}
+use Rattle.shard_book.specs.{Book.EachBook, Windows.WindowsKeepLimits}
+use Rattle.shared_books.specs.Drawing.{NoneTwice}
+use Rattle.std.specs.List.{flat_map, AllZip}
 use Rattle.std.specs.Prelude.{◌≡◌, ℕ, ◌<◌, ◌≤◌, ◌==◌, if◌then◌else◌, List, [], ◌∷◌, length, map}
 use Rattle.std.specs.Prelude.{filter, All, slice_get, slice_index_or, Some}
-use Rattle.std.specs.List.{flat_map, AllZip}
-use Rattle.tariffs.specs.Fares.{Fares}
-use Rattle.histories.specs.declared.entry.Entry.{Entry}
 use Rattle.tap_views.specs.declared.token.Token.{Token}
-use Rattle.shard_book.specs.Book.{EachBook}
-use Rattle.histories.specs.History.{IsLegal}
-use Rattle.shard_book.specs.Windows.{WindowsKeepLimits}
-use Rattle.shared_books.specs.Drawing.{NoneTwice}
-use Rattle.tap_views.specs.declared.upload_end.UploadEnd.{UploadEnd}
-use Rattle.tap_views.specs.declared.upload_end.UploadEnd.TheVariants.{Undrawn}
-use Rattle.fare_service.specs.Adding.{AddUp}
-use Rattle.fare_service.specs.Lending.{AreProvidedAs, origin_at}
-use Rattle.fare_service.specs.ServiceView.{ServiceView, shards_of}
-use Rattle.fare_service.specs.ShareView.{ShareView}
-use Rattle.fare_service.specs.Outcomes.{OutcomeView}
-use Rattle.fare_service.specs.Placing.{OccurOnce}
-use Rattle.fare_service.specs.Runs.{entries_to}
-use Rattle.fare_service.specs.Shares.{Worked, all_works, all_visits, IsWorkOf, KeepsWorks}
-use Rattle.fare_service.specs.Shares.{file_at, loads_of}
+use Rattle.tap_views.specs.declared.upload_end.UploadEnd.{UploadEnd, TheVariants.Undrawn}
+use Rattle.tariffs.specs.Fares.{Fares}
 use Rattle.world.specs.Origins.{Origin, IsFrom, loads_from, with_loads}
 use Rattle.world.specs.Run.{Load, Run, nothing_yet}
 

@@ -1,17 +1,12 @@
 -- Where the posted taps are: each in one entry of its shard's book, and the books have no other
 -- entries.
-use Rattle.std.specs.Prelude.{◌≡◌, ℕ, ◌<◌, ◌==◌, Bool, List, [], length, map, filter, take, All}
-use Rattle.std.specs.Prelude.{count_by}
-use Rattle.std.specs.List.{flat_map, AllZip}
-use Rattle.tap_views.specs.Layout.{Tap}
-use Rattle.tap_views.specs.Files.{IsFile, IsFaultAt}
-use Rattle.tap_views.specs.Shards.{run_of, shard_of_token}
-use Rattle.histories.specs.declared.entry.Entry.{Entry}
-use Rattle.histories.specs.Entry.{IsEntryOf}
-use Rattle.tap_views.specs.declared.upload_end.UploadEnd.{UploadEnd}
+use Rattle.fare_service.specs.{Runs.runs_of, Shares.Worked, Shares.all_visits}
+use Rattle.histories.specs.{Entry.IsEntryOf, declared.entry.Entry.Entry}
+use Rattle.std.specs.{List.flat_map, List.AllZip, Prelude.◌≡◌, Prelude.ℕ}
+use Rattle.std.specs.Prelude.{◌<◌, ◌==◌, Bool, List, [], length, map, filter, take, All, count_by}
+use Rattle.tap_views.specs.{Files.IsFile, Files.IsFaultAt, Layout.Tap, Shards.run_of}
+use Rattle.tap_views.specs.{Shards.shard_of_token, declared.upload_end.UploadEnd.UploadEnd}
 use Rattle.tap_views.specs.declared.upload_end.UploadEnd.TheVariants.{Posted, Refused, Cut, Undrawn}
-use Rattle.fare_service.specs.Runs.{runs_of}
-use Rattle.fare_service.specs.Shares.{Worked, all_visits}
 
 -- the taps of an upload's batches in the order in which they are posted: batch by batch, and each
 -- batch by increasing shard

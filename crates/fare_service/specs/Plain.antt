@@ -1,14 +1,10 @@
 -- What was gathered from uploads of which none was cut.
+use Rattle.fare_service.specs.{Headline.Headline, Outcomes.OutcomeView, Shares.Worked}
+use Rattle.histories.specs.{Plain.IsPlain, declared.entry.Entry.Entry}
 use Rattle.std.specs.Prelude.{◌≡◌, ℕ, List, slice_get, Some, All, Contains}
-use Rattle.tap_views.specs.Layout.{Tap}
-use Rattle.tariffs.specs.Fares.{Fares}
-use Rattle.histories.specs.Plain.{IsPlain}
-use Rattle.histories.specs.declared.entry.Entry.{Entry}
+use Rattle.tap_views.specs.{Layout.Tap, declared.upload_end.UploadEnd.UploadEnd}
 use Rattle.tap_views.specs.declared.upload_end.UploadEnd.TheVariants.{Posted, Refused, Cut, Undrawn}
-use Rattle.tap_views.specs.declared.upload_end.UploadEnd.{UploadEnd}
-use Rattle.fare_service.specs.Headline.{Headline}
-use Rattle.fare_service.specs.Outcomes.{OutcomeView}
-use Rattle.fare_service.specs.Shares.{Worked}
+use Rattle.tariffs.specs.Fares.{Fares}
 
 -- no token has taps in two uploads
 abbrev pub AreApart : List (List Tap) → Type 0

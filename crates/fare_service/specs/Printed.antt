@@ -1,18 +1,13 @@
 -- What is printed of an outcome.
-use Rattle.std.specs.Prelude.{◌≡◌, ℕ, List, length, slice_get, Some}
-use Rattle.tap_views.specs.Shards.{shard_of_token}
-use Rattle.shard_book.specs.Book.{Book}
-use Rattle.histories.specs.declared.statement.Statement.{Statement}
-use Rattle.tap_views.specs.declared.token.Token.{Token}
-use Rattle.shard_book.specs.Book.{all_entries}
-use Rattle.histories.specs.SumsByKey.{sums_by_validator, sums_by_token}
-use Rattle.histories.specs.Statement.{IsStatement}
-use Rattle.histories.specs.Sums.{sums}
-use Rattle.tap_views.specs.Token.{bytes_of}
-use Rattle.tap_views.specs.declared.upload_end.UploadEnd.{UploadEnd}
 use Rattle.fare_service.specs.Outcomes.{OutcomeView}
 use Rattle.fare_texts.specs.StatementText.{IsStatementText}
+use Rattle.histories.specs.{Statement.IsStatement, Sums.sums, SumsByKey.sums_by_validator}
+use Rattle.histories.specs.{SumsByKey.sums_by_token, declared.statement.Statement.Statement}
 use Rattle.report_texts.specs.Report.{report}
+use Rattle.shard_book.specs.Book.{Book, all_entries}
+use Rattle.std.specs.Prelude.{◌≡◌, ℕ, List, length, slice_get, Some}
+use Rattle.tap_views.specs.{Shards.shard_of_token, Token.bytes_of}
+use Rattle.tap_views.specs.declared.{token.Token.Token, upload_end.UploadEnd.UploadEnd}
 
 -- the report of an outcome with these ends of uploads: the ends, and the sums of all entries of its
 -- books

@@ -1,14 +1,10 @@
 -- Why the shares of a run were not gathered.
-use Rattle.std.specs.Prelude.{◌≡◌, ℕ, List, length, All}
-use Rattle.fare_service.specs.declared.faults.RunFault.{RunFault}
-use Rattle.fare_service.specs.declared.faults.RunFault.TheVariants.{Workers, NoMemory, Gather}
-use Rattle.fare_service.specs.declared.faults.RunFault.TheVariants.{Unavailable}
-use Rattle.fare_service.specs.Lending.{IsUnavailable}
-use Rattle.fare_service.specs.Closing.{ReportsFirst}
-use Rattle.fare_service.specs.Faults.{IsGatherFault}
+use Rattle.fare_service.specs.{Closing.ReportsFirst, Faults.IsGatherFault, Lending.IsUnavailable}
 use Rattle.fare_service.specs.ServiceView.{ServiceView, shards_of}
-use Rattle.fare_service.specs.ShareView.{ShareView}
-use Rattle.fare_service.specs.Shares.{IsShareOf}
+use Rattle.fare_service.specs.{ShareView.ShareView, Shares.IsShareOf}
+use Rattle.fare_service.specs.declared.faults.RunFault.{RunFault, TheVariants.Workers}
+use Rattle.fare_service.specs.declared.faults.RunFault.TheVariants.{NoMemory, Gather, Unavailable}
+use Rattle.std.specs.Prelude.{◌≡◌, ℕ, List, length, All}
 
 -- There were as many shares of the service as workers, and gathering them was refused for this. Of
 -- an upload that was not lent, the bytes are not known.

@@ -1,12 +1,9 @@
 -- What is posted of an upload: the runs of its batches, one for each shard that has a tap, in an
 -- order that is fixed.
-use Rattle.std.specs.Prelude.{◌≡◌, ◌⊎◌, ℕ, zero, suc, ◌<◌, ◌==◌, List, [], ◌∷◌, ◌++◌, length}
-use Rattle.std.specs.Prelude.{map, filter, take}
-use Rattle.std.specs.List.{flat_map, AllZip}
-use Rattle.tap_views.specs.Layout.{Tap}
-use Rattle.tap_views.specs.Shards.{run_of}
-use Rattle.histories.specs.declared.entry.Entry.{Entry}
-use Rattle.histories.specs.Entry.{IsEntryOf}
+use Rattle.histories.specs.{Entry.IsEntryOf, declared.entry.Entry.Entry}
+use Rattle.std.specs.{List.flat_map, List.AllZip, Prelude.◌≡◌, Prelude.◌⊎◌, Prelude.ℕ}
+use Rattle.std.specs.Prelude.{zero, suc, ◌<◌, ◌==◌, List, [], ◌∷◌, ◌++◌, length, map, filter, take}
+use Rattle.tap_views.specs.{Layout.Tap, Shards.run_of}
 
 -- taps of one shard that one turn posts
 pub record PostedRun : Type 0 where

@@ -1,8 +1,7 @@
 -- What contracts see of a service.
+use Rattle.shared_books.specs.{Drawing.Drawing, Passes.SharedBookView}
 use Rattle.std.specs.Prelude.{ℕ, List, length}
 use Rattle.tariffs.specs.Fares.{Fares}
-use Rattle.shared_books.specs.Drawing.{Drawing}
-use Rattle.shared_books.specs.Passes.{SharedBookView}
 use Rattle.world.specs.Origins.{Origin}
 
 -- a service: its table, the drawing of its uploads, a shared book for each shard, and where each

@@ -1,25 +1,19 @@
 -- What a share keeps: the uploads that it drew, each with its end, the visits that it made for
 -- them, and the totals of the replies.
-use Rattle.std.specs.Prelude.{◌≡◌, ℕ, ◌*◌, ◌^◌, ◌<◌, ◌≤◌, List, [], ◌++◌, length, map, filter}
-use Rattle.std.specs.Prelude.{All, slice_index_or}
-use Rattle.std.specs.List.{flat_map}
-use Rattle.tap_views.specs.Layout.{Tap}
-use Rattle.tap_views.specs.Files.{IsFile, IsFaultAt}
-use Rattle.histories.specs.declared.entry.Entry.{Entry}
-use Rattle.histories.specs.Sums.{Sums, sums, add_sums}
-use Rattle.shared_books.specs.declared.turns.rule.Mark.{Mark}
+use Rattle.fare_service.specs.{Claims.claims_of, Lending.origin_at, Runs.RunVisit, Runs.IsEntered}
+use Rattle.fare_service.specs.Runs.{ArePostedWhole, AreCut, runs_of, entries_to, entries_of}
+use Rattle.fare_service.specs.{Runs.taps_posted, ServiceView.ServiceView, ServiceView.shards_of}
+use Rattle.fare_service.specs.{ShareView.ShareView, declared.service.share.Done.Done}
+use Rattle.histories.specs.{Sums.Sums, Sums.sums, Sums.add_sums, declared.entry.Entry.Entry}
 use Rattle.shared_books.specs.Passes.{SharedBookView, PassView}
-use Rattle.tap_views.specs.declared.upload_end.UploadEnd.{UploadEnd}
+use Rattle.shared_books.specs.declared.turns.rule.Mark.{Mark}
+use Rattle.std.specs.{List.flat_map, Prelude.◌≡◌, Prelude.ℕ, Prelude.◌*◌, Prelude.◌^◌}
+use Rattle.std.specs.Prelude.{◌<◌, ◌≤◌, List, [], ◌++◌, length, map, filter, All, slice_index_or}
+use Rattle.tap_views.specs.Files.{IsFile, IsFaultAt}
+use Rattle.tap_views.specs.{Layout.Tap, declared.upload_end.UploadEnd.UploadEnd}
 use Rattle.tap_views.specs.declared.upload_end.UploadEnd.TheVariants.{Posted, Refused, Cut, Undrawn}
 use Rattle.world.specs.Origins.{Origin, IsFrom, loads_from, with_loads}
 use Rattle.world.specs.Run.{Load, nothing_yet}
-use Rattle.fare_service.specs.declared.service.share.Done.{Done}
-use Rattle.fare_service.specs.Claims.{claims_of}
-use Rattle.fare_service.specs.Lending.{origin_at}
-use Rattle.fare_service.specs.ServiceView.{ServiceView, shards_of}
-use Rattle.fare_service.specs.ShareView.{ShareView}
-use Rattle.fare_service.specs.Runs.{RunVisit, IsEntered, ArePostedWhole, AreCut, runs_of}
-use Rattle.fare_service.specs.Runs.{entries_to, entries_of, taps_posted}
 
 -- the books that the passes belong to
 abbrev pub books_of : List PassView → List SharedBookView

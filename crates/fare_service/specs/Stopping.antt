@@ -1,14 +1,11 @@
 -- When a worker stops: with no upload left to draw, or at one that was cut because memory ran out.
+use Rattle.fare_service.specs.{Faults.visits_held, Outcomes.OutcomeView, Plain.WasNotCut}
+use Rattle.fare_service.specs.{ServiceView.ServiceView, ShareView.ShareView}
+use Rattle.fare_service.specs.Shares.{Worked, HasWorked}
+use Rattle.shared_books.specs.Passes.{PassView, seen_by}
+use Rattle.std.specs.Option.{option_to_list}
 use Rattle.std.specs.Prelude.{◌≡◌, ◌⊎◌, ℕ, ◌+◌, ◌^◌, ◌≤◌, nat_lt, List, ◌++◌, length, All, Any}
 use Rattle.std.specs.Prelude.{Bool, true, false, count_by, slice_get, Option, Some, MatchOption}
-use Rattle.std.specs.Option.{option_to_list}
-use Rattle.shared_books.specs.Passes.{PassView, seen_by}
-use Rattle.fare_service.specs.Faults.{visits_held}
-use Rattle.fare_service.specs.Outcomes.{OutcomeView}
-use Rattle.fare_service.specs.ServiceView.{ServiceView}
-use Rattle.fare_service.specs.ShareView.{ShareView}
-use Rattle.fare_service.specs.Plain.{WasNotCut}
-use Rattle.fare_service.specs.Shares.{Worked, HasWorked}
 use Rattle.tap_views.specs.declared.upload_end.UploadEnd.{UploadEnd}
 use Rattle.tap_views.specs.declared.upload_end.UploadEnd.TheVariants.{Cut, Undrawn}
 

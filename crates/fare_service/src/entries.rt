@@ -1,11 +1,10 @@
 //! The entries of all books, in order of token.
 
-ghost use Rattle.std.specs.Prelude.{◌≡◌, ◌++◌, IfOk, OnOk, Some};
-ghost use Rattle.std.specs.Prelude.{slice_get};
+ghost use Rattle.fare_service.specs.inside.Spots.{entries_at_spots};
+ghost use Rattle.fare_texts.specs.ByToken.{IsByToken};
 ghost use Rattle.histories.specs.Entry.{own};
 ghost use Rattle.shard_book.specs.Book.{all_entries};
-ghost use Rattle.fare_texts.specs.ByToken.{IsByToken};
-ghost use Rattle.fare_service.specs.inside.Spots.{entries_at_spots};
+ghost use Rattle.std.specs.Prelude.{◌≡◌, ◌++◌, IfOk, OnOk, Some, slice_get};
 
 use crate::spot::Spot;
 use shard_book::{Entry, ShardBook};

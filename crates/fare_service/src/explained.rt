@@ -1,12 +1,10 @@
 //! The explained statement of a token of books: why each line costs what it costs.
 
-ghost use Rattle.std.specs.Prelude.{◌≡◌, ◌<◌, ℕ, List, ◌++◌, IfErr, IfOk, OnOk, length};
-ghost use Rattle.std.specs.Prelude.{string_bytes};
-ghost use Rattle.std.specs.Io.KnownBytes.{Appends};
 ghost use Rattle.fare_service.specs.Explained.{IsExplainedOf};
-ghost use Rattle.fare_texts.specs.PrintFaults.{UnchangedUnlessWrite};
-ghost use Rattle.fare_texts.specs.WrittenOut.{Begins};
+ghost use Rattle.fare_texts.specs.{PrintFaults.UnchangedUnlessWrite, WrittenOut.Begins};
 ghost use Rattle.fare_texts.specs.declared.print_fault.PrintFault.TheVariants.{Write as ForWrite};
+ghost use Rattle.std.specs.{Io.KnownBytes.Appends, Prelude.◌≡◌};
+ghost use Rattle.std.specs.Prelude.{◌<◌, ℕ, List, ◌++◌, IfErr, IfOk, OnOk, length, string_bytes};
 
 use crate::entries::own_of;
 use crate::ledger::table_of;

@@ -1,16 +1,13 @@
 //! The ledger of books.
 
-ghost use Rattle.std.specs.Prelude.{◌≡◌, ◌<◌, ℕ, List, ◌++◌, IfErr, IfOk, OnOk, None, Some};
-ghost use Rattle.std.specs.Prelude.{length, slice_get, string_bytes};
-ghost use Rattle.std.specs.Io.KnownBytes.{Appends};
-ghost use Rattle.fare_texts.specs.PrintFaults.{UnchangedUnlessWrite};
-ghost use Rattle.fare_texts.specs.WrittenOut.{Begins};
+ghost use Rattle.fare_service.specs.{Ledger.IsLedgerOfBooks, inside.Spots.entries_at_spots};
+ghost use Rattle.fare_texts.specs.{ByToken.IsByToken, LedgerLines.head_text};
+ghost use Rattle.fare_texts.specs.{PrintFaults.UnchangedUnlessWrite, WrittenOut.Begins};
 ghost use Rattle.fare_texts.specs.declared.print_fault.PrintFault.TheVariants.{Write as ForWrite};
 ghost use Rattle.shard_book.specs.Book.{Book, all_entries};
-ghost use Rattle.fare_texts.specs.LedgerLines.{head_text};
-ghost use Rattle.fare_service.specs.Ledger.{IsLedgerOfBooks};
-ghost use Rattle.fare_texts.specs.ByToken.{IsByToken};
-ghost use Rattle.fare_service.specs.inside.Spots.{entries_at_spots};
+ghost use Rattle.std.specs.Io.KnownBytes.{Appends};
+ghost use Rattle.std.specs.Prelude.{◌≡◌, ◌<◌, ℕ, List, ◌++◌, IfErr, IfOk, OnOk, None, Some, length};
+ghost use Rattle.std.specs.Prelude.{slice_get, string_bytes};
 
 use crate::entries::{by_token, own_of};
 use crate::lines::write_lines;

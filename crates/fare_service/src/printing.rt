@@ -1,15 +1,13 @@
 //! Prints the report and the statements of an outcome.
 
-ghost use Rattle.std.specs.Prelude.{◌≡◌, ℕ, List, OnOk, IfOk, IfErr, string_bytes};
-ghost use Rattle.std.specs.Prelude.{map};
-ghost use Rattle.std.specs.Io.KnownBytes.{Appends};
-ghost use Rattle.histories.specs.Shown.{validator_sum};
-ghost use Rattle.shard_book.specs.Book.{all_entries};
-ghost use Rattle.histories.specs.SumsByKey.{sums_by_token, sums_by_validator};
 ghost use Rattle.fare_service.specs.Printed.{report_of, report_with, IsStatementOf};
-ghost use Rattle.fare_texts.specs.PrintFaults.{UnchangedUnlessWrite};
-ghost use Rattle.fare_texts.specs.WrittenOut.{Begins};
+ghost use Rattle.fare_texts.specs.{PrintFaults.UnchangedUnlessWrite, WrittenOut.Begins};
 ghost use Rattle.fare_texts.specs.declared.print_fault.PrintFault.TheVariants.{Write as ForWrite};
+ghost use Rattle.histories.specs.Shown.{validator_sum};
+ghost use Rattle.histories.specs.SumsByKey.{sums_by_token, sums_by_validator};
+ghost use Rattle.shard_book.specs.Book.{all_entries};
+ghost use Rattle.std.specs.Io.KnownBytes.{Appends};
+ghost use Rattle.std.specs.Prelude.{◌≡◌, ℕ, List, OnOk, IfOk, IfErr, string_bytes, map};
 
 use crate::outcome::Outcome;
 use fare_texts::{PrintFault, statement_text, write_out};

@@ -2,33 +2,27 @@
 use Rattle.std.proofs.Common.{◌≡◌, ◌⊎◌, ◌↔◌, ℕ, ◌<◌, ◌≤◌, ◌||◌, Bool, true, false, List, [], ◌∷◌}
 use Rattle.std.proofs.Common.{Option, Some, None, Ok, Err, cond, option_map, refl, sym, ap, ◌∙◌}
 use Rattle.std.proofs.Common.{arith, inl, inr, ⊎_elim, zero, suc, codes, le-leb}
-use Rattle.std.proofs.lemmas.Bool.{and_parts, cases_Bool, false≢true, leb-true, or_parts}
-use Rattle.std.specs.BTreeMap.{insert_entry}
-use Rattle.std.specs.List.{find, list_any}
-use Rattle.std.specs.Ordering.{nat_cmp}
-use Rattle.std.specs.Prelude.{pos, nat_le, if◌then◌else◌}
-use Rattle.toml.specs.Data.{Data, Items, no_items, item, Members, string, integer, array, table}
-use Rattle.toml.specs.Data.{get_member, get_item}
-use Rattle.fare_table.proofs.OverlapLemmas.{holds-insert, comes_after, comes_before}
-use Rattle.fare_table.proofs.OverlapLemmas.{free_apart, rest_holds, with_one}
+use Rattle.fare_table.proofs.OverlapLemmas.{holds-insert, comes_after, comes_before, free_apart}
+use Rattle.fare_table.proofs.OverlapLemmas.{rest_holds, with_one}
 use Rattle.fare_table.proofs.PartLemmas.{bind_ok, parts}
 use Rattle.fare_table.proofs.ReadLemmas.{array-read, is_table, number-read, text-read}
-use Rattle.fare_table.specs.TextRanges.{RangeGives, RangeHas, HasRange, HasValidator, NamesMode}
-use Rattle.tariffs.specs.Fares.{has_number, mode_in, range_at}
-use Rattle.fare_table.specs.Members.{are_tables}
-use Rattle.fare_table.specs.Modes.{mode_named}
-use Rattle.fare_table.specs.OrFault.{OrFault}
-use Rattle.tariffs.specs.TableMeaning.{TableMeaning}
+use Rattle.fare_table.specs.{Members.are_tables, Modes.mode_named, OrFault.OrFault}
 use Rattle.fare_table.specs.TableMeaning.{meaning_of_tree}
-use Rattle.tariffs.specs.Validators.{are_disjoint}
-use Rattle.fare_table.specs.Validators.{range_in, range_of, ranges_from, ranges_of}
-use Rattle.fare_table.specs.Validators.{share_number, with_range}
-use Rattle.fare_table.specs.declared.fault.Key.TheVariants as the_key
-use Rattle.fare_table.specs.declared.fault.TableFault.{TableFault}
+use Rattle.fare_table.specs.TextRanges.{RangeGives, RangeHas, HasRange, HasValidator, NamesMode}
+use Rattle.fare_table.specs.Validators.{range_in, range_of, ranges_from, ranges_of, share_number}
+use Rattle.fare_table.specs.{Validators.with_range, declared.fault.TableFault.TableFault}
 use Rattle.fare_table.specs.declared.fault.TableFault.TheVariants.{Kind, Overlap}
-use Rattle.tariffs.specs.declared.validators.RangeRest.{RangeRest}
-use Rattle.tariffs.proofs.ApartLemmas.{begins_first}
+use Rattle.std.proofs.lemmas.Bool.{and_parts, cases_Bool, false≢true, leb-true, or_parts}
+use Rattle.std.specs.{BTreeMap.insert_entry, List.find, List.list_any, Ordering.nat_cmp}
+use Rattle.std.specs.Prelude.{pos, nat_le, if◌then◌else◌}
 use Rattle.tap_views.proofs.Choices.{cond_swap}
+use Rattle.tariffs.proofs.ApartLemmas.{begins_first}
+use Rattle.tariffs.specs.Fares.{has_number, mode_in, range_at}
+use Rattle.tariffs.specs.{TableMeaning.TableMeaning, Validators.are_disjoint}
+use Rattle.tariffs.specs.declared.validators.RangeRest.{RangeRest}
+use Rattle.toml.specs.Data.{Data, Items, no_items, item, Members, string, integer, array, table}
+use Rattle.toml.specs.Data.{get_member, get_item}
+use Rattle.fare_table.specs.declared.fault.Key.TheVariants as the_key
 
 -- ---- ranges that stand apart, and one more
 

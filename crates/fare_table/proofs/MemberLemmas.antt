@@ -1,14 +1,10 @@
 -- What holds of each value in turn, as the specs of a table's members say it.
 use Rattle.std.proofs.Common.{◌≡◌, ◌&&◌, List, [], ◌∷◌, String, Global, Bool, refl, ap}
-use Rattle.std.specs.List.{list_all}
-use Rattle.std.specs.Map.{values_of}
-use Rattle.std.specs.Option.{is_some}
-use Rattle.toml.specs.Data.{as_integer, as_str, as_table}
-use Rattle.toml.specs.View.{items_view, members_view, view}
-use Rattle.toml.specs.declared.value.Value.{Value}
-use Rattle.fare_table.specs.Members.{are_tables, are_texts, hold_numbers, hold_strings}
-use Rattle.fare_table.specs.Members.{hold_tables}
+use Rattle.fare_table.specs.Members.{are_tables, are_texts, hold_numbers, hold_strings, hold_tables}
 use Rattle.fare_table.specs.Transfers.{are_pairs, is_pair}
+use Rattle.std.specs.{List.list_all, Map.values_of, Option.is_some}
+use Rattle.toml.specs.Data.{as_integer, as_str, as_table}
+use Rattle.toml.specs.{View.items_view, View.members_view, View.view, declared.value.Value.Value}
 
 -- the value is a table, a string, and a number
 abbrev pub is_table : Value → Bool

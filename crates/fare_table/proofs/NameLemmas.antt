@@ -2,25 +2,19 @@
 use Rattle.std.proofs.Common.{◌≡◌, ℕ, zero, suc, ◌<◌, true, false, List, [], ◌∷◌, ◌++◌, Some, refl}
 use Rattle.std.proofs.Common.{sym, ap, ◌∙◌, arith, length, get_or, map, Less, Equal, Bor, String}
 use Rattle.std.proofs.Common.{Global, string_bytes}
-use Rattle.std.proofs.lemmas.Bool.{and_parts, and_from}
-use Rattle.std.proofs.lemmas.List.{get_or-map, length-map}
-use Rattle.std.proofs.lemmas.Map.Lookups.{exact_bytes}
-use Rattle.std.proofs.lemmas.Map.Text.{is_eq-slice_cmp}
+use Rattle.fare_table.specs.Classes.{count_of, position_of}
+use Rattle.fare_table.specs.{Members.names_in, inside.ByteOrder.in_byte_order}
+use Rattle.std.proofs.lemmas.{Bool.and_parts, Bool.and_from, List.get_or-map, List.length-map}
+use Rattle.std.proofs.lemmas.Map.{Lookups.exact_bytes, Text.is_eq-slice_cmp}
 use Rattle.std.specs.Cmp.Lexicographic.{nat_list_cmp_total, slice_cmp}
-use Rattle.std.specs.List.Sorted.{IsStrictlySortedBy}
-use Rattle.std.specs.Map.{keys_of}
-use Rattle.std.specs.Ordering.{is_eq, is_lt, nat_cmp, ordering_reverse}
-use Rattle.std.specs.String.{string_cmp}
+use Rattle.std.specs.{List.Sorted.IsStrictlySortedBy, Map.keys_of, Ordering.is_eq, Ordering.is_lt}
+use Rattle.std.specs.{Ordering.nat_cmp, Ordering.ordering_reverse, String.string_cmp}
+use Rattle.tap_views.proofs.Orderings.{less_of}
+use Rattle.tariffs.proofs.ByteLemmas.{is_itself}
+use Rattle.tariffs.specs.Names.{same_name}
 use Rattle.toml.proofs.Views.{is_before-sorted}
 use Rattle.toml.specs.Data.{Members, no_members, member, is_before}
-use Rattle.toml.specs.View.{members_view}
-use Rattle.toml.specs.declared.value.Value.{Value}
-use Rattle.fare_table.specs.inside.ByteOrder.{in_byte_order}
-use Rattle.fare_table.specs.Classes.{count_of, position_of}
-use Rattle.tariffs.specs.Names.{same_name}
-use Rattle.fare_table.specs.Members.{names_in}
-use Rattle.tariffs.proofs.ByteLemmas.{is_itself}
-use Rattle.tap_views.proofs.Orderings.{less_of}
+use Rattle.toml.specs.{View.members_view, declared.value.Value.Value}
 
 -- the keys of a map come in byte order
 pub ordered_view : (entries : List (String Global × Value))

@@ -1,22 +1,17 @@
 -- When a new range shares a number with ranges that stand apart, and that they stay apart if not.
-use Rattle.std.proofs.Common.{◌≡◌, ◌⊎◌, ℕ, ◌<◌, ◌≤◌, not, Bool, true, false, List, [], ◌∷◌}
-use Rattle.std.proofs.Common.{◌++◌, refl, sym, ap, ◌∙◌, arith, Option, Some, None, cond, inl, inr}
-use Rattle.std.proofs.Common.{le-leb, Ordering, Less, Equal, Greater}
+use Rattle.std.proofs.Common.{◌≡◌, ◌⊎◌, ℕ, ◌<◌, ◌≤◌, not, Bool, true, false, List, [], ◌∷◌, ◌++◌}
+use Rattle.std.proofs.Common.{refl, sym, ap, ◌∙◌, arith, Option, Some, None, cond, inl, inr, le-leb}
+use Rattle.std.proofs.Common.{Ordering, Less, Equal, Greater}
+use Rattle.fare_table.specs.Validators.{share_number}
+use Rattle.std.proofs.Math.Bool.{or-false, and-false, and-true}
 use Rattle.std.proofs.lemmas.Bool.{and_parts, false≢true, or_parts}
 use Rattle.std.proofs.lemmas.Bool.Decides.{leb_tells, nat_tests}
-use Rattle.std.proofs.Math.Bool.{or-false, and-false, and-true}
-use Rattle.std.specs.BTreeMap.{insert_entry}
-use Rattle.std.specs.BTreeMap.Range.{entries_between}
-use Rattle.std.specs.List.{list_any}
-use Rattle.std.specs.Option.{option_or}
-use Rattle.std.specs.Cmp.{nat_cmp_is}
-use Rattle.std.specs.Ordering.{nat_cmp, is_lt, match_ordering}
-use Rattle.std.specs.Prelude.{nat_le, nat_lt}
+use Rattle.std.specs.BTreeMap.{insert_entry, Range.entries_between}
+use Rattle.std.specs.{Cmp.nat_cmp_is, List.list_any, Option.option_or, Ordering.nat_cmp}
+use Rattle.std.specs.{Ordering.is_lt, Ordering.match_ordering, Prelude.nat_le, Prelude.nat_lt}
 use Rattle.std.specs.declared.ops.Bound.TheVariants.{Unbounded, Included}
 use Rattle.tariffs.proofs.ApartLemmas.{AreApart, apart, or_twice, begins_first}
-use Rattle.tariffs.specs.Validators.{are_modes_below, are_disjoint}
-use Rattle.fare_table.specs.Validators.{share_number}
-use Rattle.tariffs.specs.Validators.{last_started}
+use Rattle.tariffs.specs.Validators.{are_modes_below, are_disjoint, last_started}
 use Rattle.tariffs.specs.declared.validators.RangeRest.{RangeRest}
 
 -- the last element of a list

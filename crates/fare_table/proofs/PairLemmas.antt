@@ -1,28 +1,23 @@
 -- The pairs of places of a table are those of the pairs of names that its text lists.
-use Rattle.std.proofs.Common.{◌≡◌, ◌⊎◌, ◌↔◌, ℕ, ◌<◌, ◌==◌, ◌||◌, Bool, true, false, List, []}
-use Rattle.std.proofs.Common.{◌∷◌, ◌++◌, length, Err, Ok, refl, sym, ap, ◌∙◌, subst, arith, inl, inr}
+use Rattle.std.proofs.Common.{◌≡◌, ◌⊎◌, ◌↔◌, ℕ, ◌<◌, ◌==◌, ◌||◌, Bool, true, false, List, [], ◌∷◌}
+use Rattle.std.proofs.Common.{◌++◌, length, Err, Ok, refl, sym, ap, ◌∙◌, subst, arith, inl, inr}
 use Rattle.std.proofs.Common.{⊎_elim, slice_index_or, zero, suc, ◌&&◌, not, Option, None, Some}
-use Rattle.std.specs.List.{find, list_any}
-use Rattle.std.specs.Option.{is_some}
-use Rattle.std.specs.Prelude.{Contains, if◌then◌else◌}
-use Rattle.std.proofs.lemmas.List.Elements.{Contains-append_right, Contains-get_or}
-use Rattle.std.proofs.lemmas.List.Folds.{list_any-append}
-use Rattle.std.proofs.lemmas.Bool.{and_from, and_parts, eq-eqb, eqb-true, or_cases, or_left}
-use Rattle.std.proofs.lemmas.Bool.{or_right}
-use Rattle.toml.specs.Data.{Members}
 use Rattle.fare_table.proofs.PartLemmas.{bind_ok, parts}
-use Rattle.tariffs.specs.TableMeaning.{TableMeaning}
 use Rattle.fare_table.specs.TableMeaning.{meaning_of_tree}
-use Rattle.tariffs.specs.Transfers.{has_pair, joins}
 use Rattle.fare_table.specs.Transfers.{ListsPair, NamedPair, TextTransfers, at_positions, is_new}
 use Rattle.fare_table.specs.Transfers.{is_other_price, named_pairs, pairs_with, positions_of}
 use Rattle.fare_table.specs.Transfers.{prices_of, same_modes, text_transfers, transfers_from}
-use Rattle.fare_table.specs.Transfers.{transfers_of}
-use Rattle.tariffs.specs.Transfers.{with_pair}
-use Rattle.tariffs.specs.declared.price.Price.{Price}
-use Rattle.fare_table.specs.declared.fault.Key.TheVariants as the_key
-use Rattle.fare_table.specs.declared.fault.TableFault.TheVariants.{Range}
+use Rattle.fare_table.specs.{Transfers.transfers_of, declared.fault.TableFault.TheVariants.Range}
 use Rattle.fare_table.specs.declared.read.transfers.TextTransfer.{TextTransfer}
+use Rattle.std.proofs.lemmas.Bool.{and_from, and_parts, eq-eqb, eqb-true, or_cases, or_left}
+use Rattle.std.proofs.lemmas.{Bool.or_right, List.Elements.Contains-append_right}
+use Rattle.std.proofs.lemmas.List.{Elements.Contains-get_or, Folds.list_any-append}
+use Rattle.std.specs.{List.find, List.list_any, Option.is_some}
+use Rattle.std.specs.Prelude.{Contains, if◌then◌else◌}
+use Rattle.tariffs.specs.{TableMeaning.TableMeaning, Transfers.has_pair, Transfers.joins}
+use Rattle.tariffs.specs.{Transfers.with_pair, declared.price.Price.Price}
+use Rattle.toml.specs.Data.{Members}
+use Rattle.fare_table.specs.declared.fault.Key.TheVariants as the_key
 
 abbrev pub pair_by : ℕ → ℕ → ℕ × ℕ
 pair_by a b = (a, b)

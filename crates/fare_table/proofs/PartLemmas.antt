@@ -1,18 +1,12 @@
 -- Rules that were read, taken apart into what each key of the text gives.
 use Rattle.std.proofs.Common.{◌≡◌, [], Ok, Err, refl, subst}
-use Rattle.toml.specs.Data.{Members}
-use Rattle.fare_table.specs.Caps.{caps_of, text_caps}
-use Rattle.fare_table.specs.Classes.{classes_from, classes_of, default_of}
-use Rattle.fare_table.specs.Members.{names_in}
-use Rattle.fare_table.specs.Modes.{modes_of}
-use Rattle.fare_table.specs.OrFault.{OrFault, ◌>>=◌}
-use Rattle.fare_table.specs.Riders.{riders_of}
-use Rattle.tariffs.specs.TableMeaning.{TableMeaning}
-use Rattle.fare_table.specs.TableMeaning.{meaning_of_tree}
+use Rattle.fare_table.specs.{Caps.caps_of, Caps.text_caps, Classes.classes_from, Classes.classes_of}
+use Rattle.fare_table.specs.{Classes.default_of, Members.names_in, Modes.modes_of, OrFault.OrFault}
+use Rattle.fare_table.specs.{OrFault.◌>>=◌, Riders.riders_of, TableMeaning.meaning_of_tree}
 use Rattle.fare_table.specs.Transfers.{text_transfers, transfers_of}
-use Rattle.fare_table.specs.Validators.{ranges_of}
-use Rattle.fare_table.specs.Window.{window_of}
-use Rattle.fare_table.specs.Zone.{zone_of}
+use Rattle.fare_table.specs.{Validators.ranges_of, Window.window_of, Zone.zone_of}
+use Rattle.tariffs.specs.TableMeaning.{TableMeaning}
+use Rattle.toml.specs.Data.{Members}
 
 -- two steps that came to an end: the first gave a value, and the second went on with it
 pub bind_ok : {A B : Type 0} (o : OrFault A) (f : A → OrFault B) (b : B) → (o >>= f) ≡ Ok b

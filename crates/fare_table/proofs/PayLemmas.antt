@@ -2,40 +2,27 @@
 use Rattle.std.proofs.Common.{◌≡◌, ◌⊎◌, ◌↔◌, ℕ, Bool, true, false, List, [], ◌∷◌, Option, Some}
 use Rattle.std.proofs.Common.{None, Ok, Err, cond, refl, sym, ap, ◌∙◌, subst, inl, inr, ⊎_elim}
 use Rattle.std.proofs.Common.{codes, zero-add, ◌++◌, ◌+◌, length, suc, zero, option_map, arith}
-use Rattle.std.proofs.lemmas.Bool.{cases_Bool}
-use Rattle.std.specs.Cmp.Lexicographic.{slice_cmp}
-use Rattle.std.specs.Option.{ok_or, unwrap_or}
-use Rattle.std.specs.Ordering.{nat_cmp}
-use Rattle.std.specs.Prelude.{pos, if◌then◌else◌, slice_get, slice_index_or}
-use Rattle.toml.specs.Data.{Data, Members, no_members, member, string, integer, table}
-use Rattle.toml.specs.Data.{get_member}
-use Rattle.fare_table.proofs.ElementLemmas.{if_ok}
+use Rattle.fare_table.proofs.{ElementLemmas.if_ok, KeyLemmas.choice, KeyLemmas.member-later}
 use Rattle.fare_table.proofs.PartLemmas.{bind_ok, parts}
-use Rattle.fare_table.proofs.ReadLemmas.{is_number_or, is_table, number-read, table-read}
-use Rattle.fare_table.proofs.ReadLemmas.{text-read}
+use Rattle.fare_table.proofs.ReadLemmas.{is_number_or, is_table, number-read, table-read, text-read}
+use Rattle.fare_table.proofs.RiderLemmas.{Came, Named, came, one_key, there}
 use Rattle.fare_table.specs.Classes.{ceilings_of, class_in, class_named, class_of, classes_from}
-use Rattle.fare_table.specs.Classes.{own_ceiling}
-use Rattle.fare_table.specs.Classes.{classes_of, default_of, fares_of, is_empty, position_of}
-use Rattle.fare_table.specs.Classes.{terms_of}
-use Rattle.fare_table.specs.Classes.{ride_transfers_of}
-use Rattle.tariffs.specs.Names.{same_name}
-use Rattle.tariffs.specs.declared.class.Class.{Class}
-use Rattle.std.proofs.lemmas.Map.Text.{is_eq-slice_cmp}
-use Rattle.tariffs.specs.Fares.{class_of as class_of_token, no_class, terms_at}
-use Rattle.std.proofs.lemmas.Option.{get_or_from_slice_get}
-use Rattle.fare_table.specs.Members.{hold_strings, hold_tables}
-use Rattle.fare_table.specs.OrFault.{OrFault}
+use Rattle.fare_table.specs.Classes.{own_ceiling, classes_of, default_of, fares_of, is_empty}
+use Rattle.fare_table.specs.Classes.{position_of, terms_of, ride_transfers_of}
+use Rattle.fare_table.specs.{Members.hold_strings, Members.hold_tables, OrFault.OrFault}
 use Rattle.fare_table.specs.Paying.{HasTerms, IsClassOf, IsNumberOr, NamesRider, Pays}
 use Rattle.fare_table.specs.Riders.{riders_from, riders_at, riders_of}
-use Rattle.tariffs.specs.TableMeaning.{TableMeaning}
-use Rattle.fare_table.specs.TableMeaning.{meaning_of_tree}
-use Rattle.fare_table.specs.declared.fault.Key.TheVariants as the_key
-use Rattle.fare_table.specs.declared.fault.TableFault.{TableFault}
+use Rattle.fare_table.specs.{TableMeaning.meaning_of_tree, declared.fault.TableFault.TableFault}
 use Rattle.fare_table.specs.declared.fault.TableFault.TheVariants.{Kind, Range, Rider}
-use Rattle.tariffs.specs.declared.terms.Terms.{Terms}
-use Rattle.tariffs.specs.declared.transfer_terms.TransferTerms.{TransferTerms}
-use Rattle.fare_table.proofs.KeyLemmas.{choice, member-later}
-use Rattle.fare_table.proofs.RiderLemmas.{Came, Named, came, one_key, there}
+use Rattle.std.proofs.lemmas.{Bool.cases_Bool, Map.Text.is_eq-slice_cmp}
+use Rattle.std.proofs.lemmas.Option.{get_or_from_slice_get}
+use Rattle.std.specs.{Cmp.Lexicographic.slice_cmp, Option.ok_or, Option.unwrap_or, Ordering.nat_cmp}
+use Rattle.std.specs.Prelude.{pos, if◌then◌else◌, slice_get, slice_index_or}
+use Rattle.tariffs.specs.Fares.{class_of as class_of_token, no_class, terms_at}
+use Rattle.tariffs.specs.{Names.same_name, TableMeaning.TableMeaning, declared.class.Class.Class}
+use Rattle.tariffs.specs.declared.{terms.Terms.Terms, transfer_terms.TransferTerms.TransferTerms}
+use Rattle.toml.specs.Data.{Data, Members, no_members, member, string, integer, table, get_member}
+use Rattle.fare_table.specs.declared.fault.Key.TheVariants as the_key
 
 -- ---- the terms of a class
 abbrev pub terms_by : ℕ → ℕ → ℕ → Terms

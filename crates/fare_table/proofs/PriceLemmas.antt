@@ -1,28 +1,21 @@
 -- A transfer pays what a pair of its modes says that the text lists.
-use Rattle.std.proofs.Common.{◌≡◌, ℕ, ◌==◌, ◌&&◌, Bool, true, false, not, List, [], ◌∷◌, ◌++◌}
-use Rattle.std.proofs.Common.{Option, None, Some, Ok, refl, sym, ap, ◌∙◌, subst, arith, cond, ⊎_elim}
-use Rattle.std.proofs.Common.{inl, inr, option_map}
-use Rattle.std.specs.List.{cons_option, find}
-use Rattle.std.specs.Option.{option_and_then, option_or}
-use Rattle.std.specs.Prelude.{Contains}
-use Rattle.std.proofs.lemmas.Bool.{and_parts, cases_Bool, eq-eqb, eqb-true, false≢true}
-use Rattle.std.proofs.lemmas.Bool.{not-false}
-use Rattle.std.proofs.lemmas.Bool.Decides.{nat_tests}
-use Rattle.std.proofs.lemmas.List.Folds.{find-append}
-use Rattle.toml.specs.Data.{Members}
-use Rattle.tariffs.specs.Fares.{price_of as paid_for}
-use Rattle.tariffs.specs.Prices.{price_in}
-use Rattle.tariffs.specs.TableMeaning.{TableMeaning}
-use Rattle.tariffs.specs.declared.price.Pays.{Pays}
-use Rattle.tariffs.specs.declared.price.Pays.TheVariants.{Difference, More}
-use Rattle.tariffs.specs.declared.price.Price.{Price}
+use Rattle.std.proofs.Common.{◌≡◌, ℕ, ◌==◌, ◌&&◌, Bool, true, false, List, [], ◌∷◌, ◌++◌}
+use Rattle.std.proofs.Common.{Option, None, Some, Ok, refl, sym, ap, ◌∙◌, subst, arith, cond}
+use Rattle.std.proofs.Common.{⊎_elim, inl, inr, option_map}
 use Rattle.fare_table.proofs.PairLemmas.{added, between, cons_cases, lists, next, pair_by}
 use Rattle.fare_table.proofs.PartLemmas.{parts}
-use Rattle.fare_table.specs.TableMeaning.{meaning_of_tree}
-use Rattle.fare_table.specs.Transfers.{ListsPair, NamedPair, at_positions, is_other_price}
-use Rattle.fare_table.specs.Transfers.{positions_of, price_of, prices_of, same_modes, same_pays}
-use Rattle.fare_table.specs.Transfers.{transfers_from}
+use Rattle.fare_table.specs.{TableMeaning.meaning_of_tree, Transfers.ListsPair}
+use Rattle.fare_table.specs.Transfers.{NamedPair, at_positions, is_other_price, positions_of}
+use Rattle.fare_table.specs.Transfers.{price_of, prices_of, same_modes, same_pays, transfers_from}
 use Rattle.fare_table.specs.declared.read.transfers.TextTransfer.{TextTransfer}
+use Rattle.std.proofs.lemmas.Bool.{and_parts, cases_Bool, eq-eqb, eqb-true, false≢true, not-false}
+use Rattle.std.proofs.lemmas.{Bool.Decides.nat_tests, List.Folds.find-append}
+use Rattle.std.specs.List.{cons_option, find}
+use Rattle.std.specs.{Option.option_and_then, Option.option_or, Prelude.Contains}
+use Rattle.tariffs.specs.{Fares.price_of as paid_for, Prices.price_in, TableMeaning.TableMeaning}
+use Rattle.tariffs.specs.declared.price.Pays.{Pays, TheVariants.Difference, TheVariants.More}
+use Rattle.tariffs.specs.declared.price.Price.{Price}
+use Rattle.toml.specs.Data.{Members}
 
 -- ---- options
 or_none : {A : Type 0} (o : Option A) → option_or o None ≡ o

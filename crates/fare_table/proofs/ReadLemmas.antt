@@ -1,17 +1,15 @@
 -- What stands in the text if a step that reads a key came to an end.
 use Rattle.std.proofs.Common.{◌≡◌, ℕ, ◌≤◌, ◌&&◌, Bool, true, false, List, Option, Some, None, Ok}
 use Rattle.std.proofs.Common.{Err, refl, sym, ap, arith}
+use Rattle.fare_table.specs.Members.{array_at, number_at, number_in, of_kind, table_at, text_at}
+use Rattle.fare_table.specs.Members.{number_or, within}
+use Rattle.fare_table.specs.{OrFault.◌>>=◌, Paying.IsNumberOr, declared.fault.Key.Key}
+use Rattle.fare_table.specs.declared.fault.TableFault.TheVariants.{Missing, Range}
 use Rattle.std.proofs.lemmas.Bool.{and_parts, leb-true}
 use Rattle.std.specs.Option.{ok_or}
 use Rattle.std.specs.Prelude.{ℤ, pos, negsuc, nat_le, if◌then◌else◌}
 use Rattle.toml.specs.Data.{Data, Items, Members, string, integer, array, table, as_str, as_array}
 use Rattle.toml.specs.Data.{as_table, get_member}
-use Rattle.fare_table.specs.Members.{array_at, number_at, number_in, of_kind, table_at, text_at}
-use Rattle.fare_table.specs.Members.{number_or, within}
-use Rattle.fare_table.specs.OrFault.{◌>>=◌}
-use Rattle.fare_table.specs.Paying.{IsNumberOr}
-use Rattle.fare_table.specs.declared.fault.Key.{Key}
-use Rattle.fare_table.specs.declared.fault.TableFault.TheVariants.{Missing, Range}
 
 pub is_text : (value : Data) (key : Key) (text : List ℕ) → of_kind key (as_str value) ≡ Ok text
     → value ≡ string text

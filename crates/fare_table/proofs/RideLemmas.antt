@@ -4,40 +4,30 @@ use Rattle.std.proofs.Common.{◌≡◌, ◌≢◌, ℕ, ◌*◌, ◌<◌, ◌�
 use Rattle.std.proofs.Common.{Some, None, Ok, Err, cond, refl, sym, ap, ◌∙◌, subst, inl, inr, arith}
 use Rattle.std.proofs.Common.{codes, get_or, get_or-set_other, length, length-set, set, replicate}
 use Rattle.std.proofs.Common.{zero-add}
-use Rattle.std.proofs.lemmas.Bool.{and_parts, false≢true, leb-true, ltb-true}
-use Rattle.std.proofs.lemmas.Grind.{get_or-set_at}
-use Rattle.std.proofs.lemmas.List.{get_or-replicate, length-replicate}
-use Rattle.std.proofs.lemmas.List.Sums.{passes_at_first}
-use Rattle.std.proofs.lemmas.Map.Text.{is_eq-slice_cmp}
-use Rattle.std.proofs.lemmas.Option.{get_or_from_slice_get}
-use Rattle.std.specs.List.{list_all, position_or_len}
-use Rattle.std.specs.Option.{ok_or}
-use Rattle.std.specs.Prelude.{nat_le, nat_lt, pos, position, if◌then◌else◌}
-use Rattle.toml.specs.Data.{Data, Members, no_members, member, integer}
-use Rattle.toml.specs.Data.{get_member, string}
-use Rattle.fare_table.proofs.ElementLemmas.{if_ok}
-use Rattle.fare_table.proofs.PartLemmas.{bind_ok, parts}
+use Rattle.fare_table.proofs.{ElementLemmas.if_ok, PartLemmas.bind_ok, PartLemmas.parts}
 use Rattle.fare_table.proofs.PayLemmas.{AreClassParts, class_if, class_parts, classes_read}
 use Rattle.fare_table.proofs.PayLemmas.{has_terms, position_found, placed, riders_read, same_ok}
 use Rattle.fare_table.proofs.ReadLemmas.{is_number, is_number_or, is_table}
-use Rattle.fare_table.specs.Classes.{fares_from, fares_of, position_of}
-use Rattle.fare_table.specs.Classes.{ride_transfers_of, taps_of}
-use Rattle.tariffs.specs.Fares.{class_at, class_of, no_class, ride_terms, transfer_terms}
+use Rattle.fare_table.proofs.RiderLemmas.{Named}
+use Rattle.fare_table.specs.Classes.{fares_from, fares_of, position_of, ride_transfers_of, taps_of}
 use Rattle.fare_table.specs.Members.{array_at, hold_numbers}
 use Rattle.fare_table.specs.Modes.{are_distinct, are_mode_names, is_mode_name, modes_of}
-use Rattle.tariffs.specs.Names.{same_name}
-use Rattle.fare_table.specs.Modes.{strings_from}
-use Rattle.fare_table.specs.OrFault.{OrFault}
-use Rattle.fare_table.specs.Paying.{AreTaps, Gives, HasTerms, IsClassOf, IsElementOf, IsFareOn}
-use Rattle.fare_table.specs.Paying.{IsNumberOr, PaysOn, last_named}
-use Rattle.tariffs.specs.TableMeaning.{TableMeaning}
-use Rattle.fare_table.specs.TableMeaning.{meaning_of_tree}
-use Rattle.tariffs.specs.declared.class.Class.{Class}
-use Rattle.fare_table.specs.declared.fault.Key.TheVariants as the_key
+use Rattle.fare_table.specs.{Modes.strings_from, OrFault.OrFault, Paying.AreTaps, Paying.Gives}
+use Rattle.fare_table.specs.Paying.{HasTerms, IsClassOf, IsElementOf, IsFareOn, IsNumberOr, PaysOn}
+use Rattle.fare_table.specs.{Paying.last_named, TableMeaning.meaning_of_tree}
 use Rattle.fare_table.specs.declared.fault.TableFault.TheVariants.{Kind, Mode, Range}
-use Rattle.tariffs.specs.declared.transfer_terms.TransferTerms.{TransferTerms}
-use Rattle.fare_table.proofs.RiderLemmas.{Named}
+use Rattle.std.proofs.lemmas.Bool.{and_parts, false≢true, leb-true, ltb-true}
+use Rattle.std.proofs.lemmas.Grind.{get_or-set_at}
+use Rattle.std.proofs.lemmas.List.{get_or-replicate, length-replicate, Sums.passes_at_first}
+use Rattle.std.proofs.lemmas.{Map.Text.is_eq-slice_cmp, Option.get_or_from_slice_get}
+use Rattle.std.specs.{List.list_all, List.position_or_len, Option.ok_or}
+use Rattle.std.specs.Prelude.{nat_le, nat_lt, pos, position, if◌then◌else◌}
 use Rattle.tariffs.proofs.ByteLemmas.{is_itself, same_bytes}
+use Rattle.tariffs.specs.Fares.{class_at, class_of, no_class, ride_terms, transfer_terms}
+use Rattle.tariffs.specs.{Names.same_name, TableMeaning.TableMeaning}
+use Rattle.tariffs.specs.declared.{class.Class.Class, transfer_terms.TransferTerms.TransferTerms}
+use Rattle.toml.specs.Data.{Data, Members, no_members, member, integer, get_member, string}
+use Rattle.fare_table.specs.declared.fault.Key.TheVariants as the_key
 
 -- ---- names of modes
 same_by : (name key other : List ℕ) → same_name name other ≡ true → same_name key other ≡ true

@@ -1,27 +1,20 @@
 -- The riders of a text, one after another: which key names a rider, and that one key does.
-use Rattle.std.proofs.Common.{◌≡◌, ◌⊎◌, ℕ, Bool, true, false, List, [], ◌∷◌, Option, Some}
-use Rattle.std.proofs.Common.{Ok, Err, cond, refl, sym, ap, ◌∙◌, inl, inr, ⊎_elim}
-use Rattle.std.proofs.Common.{Ordering, Less, Equal, Greater}
-use Rattle.std.proofs.lemmas.Bool.{cases_Bool, false≢true}
-use Rattle.std.specs.BTreeMap.{insert_entry, is_at}
-use Rattle.std.specs.Cmp.{Equal-is}
-use Rattle.std.specs.Cmp.Lexicographic.{slice_cmp}
-use Rattle.std.specs.Map.{lookup}
-use Rattle.std.specs.Option.{is_some}
-use Rattle.std.specs.Ordering.{is_eq, match_ordering, nat_cmp}
-use Rattle.std.specs.Prelude.{if◌then◌else◌}
-use Rattle.toml.specs.Data.{Data, Members, no_members, member, string, get_member}
-use Rattle.fare_table.proofs.PartLemmas.{bind_ok}
-use Rattle.fare_table.proofs.ReadLemmas.{is_text}
-use Rattle.fare_table.specs.Classes.{class_named}
-use Rattle.fare_table.specs.OrFault.{OrFault}
+use Rattle.std.proofs.Common.{◌≡◌, ◌⊎◌, ℕ, Bool, true, false, List, [], ◌∷◌, Option, Some, Ok, Err}
+use Rattle.std.proofs.Common.{cond, refl, sym, ap, ◌∙◌, inl, inr, ⊎_elim, Ordering, Less, Equal}
+use Rattle.std.proofs.Common.{Greater}
+use Rattle.fare_table.proofs.KeyLemmas.{member-here, member-later, member-found}
+use Rattle.fare_table.proofs.{PartLemmas.bind_ok, ReadLemmas.is_text}
+use Rattle.fare_table.specs.{Classes.class_named, OrFault.OrFault}
 use Rattle.fare_table.specs.Riders.{is_rider, rider_of, riders_from, token_of_digits, with_rider}
-use Rattle.fare_table.specs.declared.fault.Key.TheVariants as the_key
 use Rattle.fare_table.specs.declared.fault.TableFault.TheVariants.{Rider}
-use Rattle.tariffs.proofs.ByteLemmas.{is_itself, same_bytes}
-use Rattle.fare_table.proofs.KeyLemmas.{member-here, member-later}
-use Rattle.fare_table.proofs.KeyLemmas.{member-found}
+use Rattle.std.proofs.lemmas.Bool.{cases_Bool, false≢true}
+use Rattle.std.specs.{BTreeMap.insert_entry, BTreeMap.is_at, Cmp.Equal-is}
+use Rattle.std.specs.{Cmp.Lexicographic.slice_cmp, Map.lookup, Option.is_some, Ordering.is_eq}
+use Rattle.std.specs.{Ordering.match_ordering, Ordering.nat_cmp, Prelude.if◌then◌else◌}
 use Rattle.tap_views.proofs.Choices.{cond_swap}
+use Rattle.tariffs.proofs.ByteLemmas.{is_itself, same_bytes}
+use Rattle.toml.specs.Data.{Data, Members, no_members, member, string, get_member}
+use Rattle.fare_table.specs.declared.fault.Key.TheVariants as the_key
 
 abbrev pub Named : List ℕ → List (List ℕ × ℕ) → Option ℕ
 Named token riders = lookup (is_at (slice_cmp nat_cmp token)) riders

@@ -1,20 +1,16 @@
 -- The key `caps`: how long the windows of caps beside `window` are, and which modes these count.
-use Rattle.std.specs.Prelude.{ℕ, ◌&&◌, ◌++◌, ◌∷◌, [], Bool, true, false, List, Option, Some, None}
-use Rattle.std.specs.Prelude.{Ok, Err, codes, if◌then◌else◌, length, nat_le, position, replicate}
-use Rattle.std.specs.Prelude.{slice_set}
-use Rattle.std.specs.List.{list_all}
-use Rattle.std.specs.Option.{ok_or}
-use Rattle.toml.specs.Data.{Data, Items, no_items, item, Members, no_members, member, get_member}
-use Rattle.toml.specs.Data.{as_array, as_str, as_table}
-use Rattle.tariffs.specs.Names.{same_name}
-use Rattle.tariffs.specs.WindowSpan.{length_named}
+use Rattle.fare_table.specs.Members.{are_texts, hold_tables, names_in, of_kind, text_at}
+use Rattle.fare_table.specs.{Modes.is_mode_name, Modes.mode_named, OrFault.OrFault}
+use Rattle.fare_table.specs.declared.fault.TableFault.TheVariants.{Kind, Range, Cap}
+use Rattle.std.specs.{List.list_all, Option.ok_or, Prelude.ℕ, Prelude.◌&&◌}
+use Rattle.std.specs.Prelude.{◌++◌, ◌∷◌, [], Bool, true, false, List, Option, Some, None, Ok, Err}
+use Rattle.std.specs.Prelude.{codes, if◌then◌else◌, length, nat_le, position, replicate, slice_set}
+use Rattle.tariffs.specs.{Names.same_name, WindowSpan.length_named}
 use Rattle.tariffs.specs.declared.cap_terms.CapTerms.{CapTerms}
 use Rattle.tariffs.specs.declared.window_span.WindowLength.{WindowLength}
-use Rattle.fare_table.specs.Members.{are_texts, hold_tables, names_in, of_kind, text_at}
-use Rattle.fare_table.specs.Modes.{is_mode_name, mode_named}
-use Rattle.fare_table.specs.OrFault.{OrFault, ◌>>=◌}
+use Rattle.toml.specs.Data.{Data, Items, no_items, item, Members, no_members, member, get_member}
+use Rattle.toml.specs.Data.{as_array, as_str, as_table}
 use Rattle.fare_table.specs.declared.fault.Key.TheVariants as the_key
-use Rattle.fare_table.specs.declared.fault.TableFault.TheVariants.{Kind, Range, Cap}
 
 -- the names of a text's caps, and the caps, by their places
 pub record TextCaps : Type 0 where

@@ -1,20 +1,15 @@
 -- The keys `classes` and `default_class`: what rider classes pay, and what their rides give.
-use Rattle.std.specs.Prelude.{ℕ, suc, ◌*◌, Bool, true, false, List, [], ◌∷◌, ◌++◌, Option, Some}
-use Rattle.std.specs.Prelude.{◌&&◌, None, Ok, Err, codes, if◌then◌else◌, nat_le, option_map}
-use Rattle.std.specs.Prelude.{replicate, slice_set}
-use Rattle.std.specs.Option.{ok_or}
-use Rattle.toml.specs.Data.{Data, Members, no_members, member, get_member, as_str, as_table}
-use Rattle.fare_table.specs.Caps.{cap_named}
-use Rattle.fare_table.specs.Members.{hold_numbers, hold_tables, number_at, number_in, number_or}
-use Rattle.fare_table.specs.Members.{of_kind, table_at, text_at}
-use Rattle.fare_table.specs.Modes.{mode_named}
-use Rattle.tariffs.specs.Names.{same_name}
-use Rattle.fare_table.specs.OrFault.{OrFault, ◌>>=◌}
-use Rattle.fare_table.specs.declared.fault.Key.TheVariants as the_key
+use Rattle.fare_table.specs.{Caps.cap_named, Members.hold_numbers, Members.hold_tables}
+use Rattle.fare_table.specs.Members.{number_at, number_in, number_or, of_kind, table_at, text_at}
+use Rattle.fare_table.specs.{Modes.mode_named, OrFault.OrFault}
 use Rattle.fare_table.specs.declared.fault.TableFault.TheVariants.{Kind, Range, Rider}
-use Rattle.tariffs.specs.declared.class.Class.{Class}
-use Rattle.tariffs.specs.declared.terms.Terms.{Terms}
-use Rattle.tariffs.specs.declared.transfer_terms.TransferTerms.{TransferTerms}
+use Rattle.std.specs.{Option.ok_or, Prelude.ℕ, Prelude.suc, Prelude.◌*◌}
+use Rattle.std.specs.Prelude.{Bool, true, false, List, [], ◌∷◌, ◌++◌, Option, Some, ◌&&◌, None, Ok}
+use Rattle.std.specs.Prelude.{Err, codes, if◌then◌else◌, nat_le, option_map, replicate, slice_set}
+use Rattle.tariffs.specs.{Names.same_name, declared.class.Class.Class}
+use Rattle.tariffs.specs.declared.{terms.Terms.Terms, transfer_terms.TransferTerms.TransferTerms}
+use Rattle.toml.specs.Data.{Data, Members, no_members, member, get_member, as_str, as_table}
+use Rattle.fare_table.specs.declared.fault.Key.TheVariants as the_key
 
 -- the ceiling of a class that names none: the price of all rides, and the highest one if no limit
 -- of rides is named, or they cost nothing

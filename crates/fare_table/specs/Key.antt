@@ -1,14 +1,12 @@
 -- The words for keys, in fault lines and in the text, and the bounds of their numbers.
-use Rattle.std.specs.Prelude.{ℕ, List, None, Option, Some, codes}
-use Rattle.fare_table.specs.declared.fault.Key.{Key}
-use Rattle.fare_table.specs.declared.fault.Key.TheVariants.{Modes, Transfers, Caps, CapWindow}
-use Rattle.fare_table.specs.declared.fault.Key.TheVariants.{CapModes, Classes, Fare, Rides}
-use Rattle.fare_table.specs.declared.fault.Key.TheVariants.{Ceiling, ClassCaps, Fares}
+use Rattle.fare_table.specs.declared.fault.Key.{Key, TheVariants.Modes, TheVariants.Transfers}
+use Rattle.fare_table.specs.declared.fault.Key.TheVariants.{Caps, CapWindow, CapModes, Classes}
+use Rattle.fare_table.specs.declared.fault.Key.TheVariants.{Fare, Rides, Ceiling, ClassCaps, Fares}
 use Rattle.fare_table.specs.declared.fault.Key.TheVariants.{From, Pays, RideTransfers, To}
 use Rattle.fare_table.specs.declared.fault.Key.TheVariants.{TransferMinutes, DefaultClass}
-use Rattle.fare_table.specs.declared.fault.Key.TheVariants.{Validators}
-use Rattle.fare_table.specs.declared.fault.Key.TheVariants.{First, Last, ModeName, Riders, Window}
-use Rattle.fare_table.specs.declared.fault.Key.TheVariants.{DayStarts, Zone}
+use Rattle.fare_table.specs.declared.fault.Key.TheVariants.{Validators, First, Last, ModeName}
+use Rattle.fare_table.specs.declared.fault.Key.TheVariants.{Riders, Window, DayStarts, Zone}
+use Rattle.std.specs.Prelude.{ℕ, List, None, Option, Some, codes}
 
 -- the bytes of the variant's name
 abbrev pub key_name : Key → List ℕ

@@ -1,10 +1,7 @@
 -- What the text of a fare table means.
+use Rattle.fare_table.specs.{TableMeaning.meaning_in, Zone.IsZoneOf}
 use Rattle.std.specs.Prelude.{◌≡◌, ℕ, List, [], Ok}
-use Rattle.tariffs.specs.ClockView.{ClockView}
-use Rattle.tariffs.specs.Fares.{Fares}
-use Rattle.tariffs.specs.TableMeaning.{TableMeaning}
-use Rattle.fare_table.specs.TableMeaning.{meaning_in}
-use Rattle.fare_table.specs.Zone.{IsZoneOf}
+use Rattle.tariffs.specs.{ClockView.ClockView, Fares.Fares, TableMeaning.TableMeaning}
 
 -- the rule is that of the zone's text
 abbrev pub IsClockOf : TableMeaning → ClockView → Type 0

@@ -1,13 +1,11 @@
 -- The values at the keys of a TOML table.
-use Rattle.std.specs.Prelude.{ℕ, ℤ, pos, ◌&&◌, ◌∷◌, [], Bool, true, List, Option, None, Some}
-use Rattle.std.specs.Prelude.{Ok, Err, int_le, unsigned_abs, if◌then◌else◌}
-use Rattle.std.specs.Option.{is_some}
-use Rattle.std.specs.Option.{ok_or}
+use Rattle.fare_table.specs.{OrFault.OrFault, declared.fault.Key.Key}
+use Rattle.fare_table.specs.declared.fault.TableFault.TheVariants.{Missing, Kind, Range}
+use Rattle.std.specs.Option.{is_some, ok_or}
+use Rattle.std.specs.Prelude.{ℕ, ℤ, pos, ◌&&◌, ◌∷◌, [], Bool, true, List, Option, None, Some, Ok}
+use Rattle.std.specs.Prelude.{Err, int_le, unsigned_abs, if◌then◌else◌}
 use Rattle.toml.specs.Data.{Data, Items, no_items, item, Members, no_members, member, get_member}
 use Rattle.toml.specs.Data.{as_str, as_integer, as_array, as_table}
-use Rattle.fare_table.specs.OrFault.{OrFault, ◌>>=◌}
-use Rattle.fare_table.specs.declared.fault.Key.{Key}
-use Rattle.fare_table.specs.declared.fault.TableFault.TheVariants.{Missing, Kind, Range}
 
 -- the value at a key that has to be there
 abbrev pub needed : List ℕ → Key → Members → OrFault Data

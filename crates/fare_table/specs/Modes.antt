@@ -1,15 +1,12 @@
 -- The key `modes`: the names of the modes by their places.
+use Rattle.fare_table.specs.Members.{array_at, of_kind}
+use Rattle.fare_table.specs.{OrFault.OrFault, OrFault.◌>>=◌, declared.fault.Key.TheVariants.Modes}
+use Rattle.fare_table.specs.declared.fault.TableFault.TheVariants.{Range, Mode}
+use Rattle.std.specs.{Char.is_ascii_lowercase, List.list_all, List.list_any, Option.ok_or}
 use Rattle.std.specs.Prelude.{ℕ, ◌&&◌, ◌++◌, ◌∷◌, [], Bool, true, not, List, Ok, Err, codes, length}
 use Rattle.std.specs.Prelude.{nat_le, position, if◌then◌else◌}
-use Rattle.std.specs.Char.{is_ascii_lowercase}
-use Rattle.std.specs.List.{list_all, list_any}
-use Rattle.std.specs.Option.{ok_or}
-use Rattle.toml.specs.Data.{Items, no_items, item, Members, as_str}
 use Rattle.tariffs.specs.Names.{same_name}
-use Rattle.fare_table.specs.Members.{array_at, of_kind}
-use Rattle.fare_table.specs.OrFault.{OrFault, ◌>>=◌}
-use Rattle.fare_table.specs.declared.fault.Key.TheVariants.{Modes}
-use Rattle.fare_table.specs.declared.fault.TableFault.TheVariants.{Range, Mode}
+use Rattle.toml.specs.Data.{Items, no_items, item, Members, as_str}
 
 -- the strings found and those of the items
 abbrev pub strings_from : List (List ℕ) → Items → OrFault (List (List ℕ))

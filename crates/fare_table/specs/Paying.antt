@@ -1,12 +1,10 @@
 -- What a token pays by the text: its class, the terms of the class, and what its rides give.
+use Rattle.fare_table.specs.{Classes.own_ceiling, Riders.token_of_digits}
 use Rattle.std.specs.Prelude.{◌≡◌, ◌⊎◌, ℕ, ◌*◌, pos, List, Option, None, Some, Ok, codes}
 use Rattle.std.specs.Prelude.{if◌then◌else◌}
-use Rattle.toml.specs.Data.{Data, Members, no_members, member, string, integer, table, get_member}
-use Rattle.fare_table.specs.Classes.{own_ceiling}
-use Rattle.fare_table.specs.Riders.{token_of_digits}
 use Rattle.tariffs.specs.Names.{same_name}
-use Rattle.tariffs.specs.declared.terms.Terms.{Terms}
-use Rattle.tariffs.specs.declared.transfer_terms.TransferTerms.{TransferTerms}
+use Rattle.tariffs.specs.declared.{terms.Terms.Terms, transfer_terms.TransferTerms.TransferTerms}
+use Rattle.toml.specs.Data.{Data, Members, no_members, member, string, integer, table, get_member}
 
 -- this key of the text's `riders` names the token, and its value is the name of this class
 pub record NamesRider (tree : Members) (token key class : List ℕ) : Type 0 where

@@ -1,20 +1,14 @@
 -- The key `riders`: the classes of single riders by their tokens.
-use Rattle.std.specs.Prelude.{ℕ, Bool, List, [], Option, Some, None, Ok, Err, codes}
-use Rattle.std.specs.Prelude.{if◌then◌else◌}
-use Rattle.std.specs.BTreeMap.{insert_entry, is_at}
-use Rattle.std.specs.Cmp.Lexicographic.{slice_cmp}
-use Rattle.std.specs.Map.{lookup}
-use Rattle.std.specs.Option.{is_some}
-use Rattle.std.specs.Ordering.{nat_cmp}
-use Rattle.std.specs.Option.{ok_or}
-use Rattle.std.specs.Result.{result_ok}
-use Rattle.hex.specs.Hex.{decode_sized}
-use Rattle.toml.specs.Data.{Data, Members, no_members, member, get_member, as_str, as_table}
-use Rattle.fare_table.specs.Classes.{class_named}
-use Rattle.fare_table.specs.Members.{of_kind, hold_strings}
-use Rattle.fare_table.specs.OrFault.{OrFault, ◌>>=◌}
-use Rattle.fare_table.specs.declared.fault.Key.TheVariants as the_key
+use Rattle.fare_table.specs.{Classes.class_named, Members.of_kind, Members.hold_strings}
+use Rattle.fare_table.specs.OrFault.{OrFault}
 use Rattle.fare_table.specs.declared.fault.TableFault.TheVariants.{Kind, Rider}
+use Rattle.hex.specs.Hex.{decode_sized}
+use Rattle.std.specs.{BTreeMap.insert_entry, BTreeMap.is_at, Cmp.Lexicographic.slice_cmp}
+use Rattle.std.specs.{Map.lookup, Option.is_some, Option.ok_or, Ordering.nat_cmp}
+use Rattle.std.specs.Prelude.{ℕ, Bool, List, [], Option, Some, None, Ok, Err, codes, if◌then◌else◌}
+use Rattle.std.specs.Result.{result_ok}
+use Rattle.toml.specs.Data.{Data, Members, no_members, member, get_member, as_str, as_table}
+use Rattle.fare_table.specs.declared.fault.Key.TheVariants as the_key
 
 -- the token that 32 hexadecimal digits name, of either case
 abbrev pub token_of_digits : List ℕ → OrFault (List ℕ)

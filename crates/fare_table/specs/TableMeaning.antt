@@ -1,20 +1,12 @@
 -- What the keys of a table's text mean.
-use Rattle.std.specs.Prelude.{ℕ, List, [], Ok}
-use Rattle.std.specs.Option.{ok_or}
-use Rattle.toml.specs.Data.{Members}
-use Rattle.toml.specs.Parse.{parse_document}
-use Rattle.fare_table.specs.Caps.{caps_of}
-use Rattle.fare_table.specs.Classes.{classes_from, classes_of, default_of}
-use Rattle.fare_table.specs.Members.{names_in}
-use Rattle.fare_table.specs.Modes.{modes_of}
-use Rattle.fare_table.specs.OrFault.{OrFault, ◌>>=◌}
-use Rattle.fare_table.specs.Riders.{riders_of}
-use Rattle.fare_table.specs.Transfers.{transfers_of}
-use Rattle.fare_table.specs.Validators.{ranges_of}
-use Rattle.fare_table.specs.Window.{window_of}
-use Rattle.fare_table.specs.Zone.{zone_of}
+use Rattle.fare_table.specs.{Caps.caps_of, Classes.classes_from, Classes.classes_of}
+use Rattle.fare_table.specs.{Classes.default_of, Members.names_in, Modes.modes_of, OrFault.OrFault}
+use Rattle.fare_table.specs.{OrFault.◌>>=◌, Riders.riders_of, Transfers.transfers_of}
+use Rattle.fare_table.specs.{Validators.ranges_of, Window.window_of, Zone.zone_of}
 use Rattle.fare_table.specs.declared.fault.TableFault.TheVariants.{Text}
+use Rattle.std.specs.{Option.ok_or, Prelude.ℕ, Prelude.List, Prelude.[], Prelude.Ok}
 use Rattle.tariffs.specs.TableMeaning.{TableMeaning}
+use Rattle.toml.specs.{Data.Members, Parse.parse_document}
 
 -- the meaning of a table's tree, or the fault of the first key that has one
 unfoldable pub meaning_of_tree : Members → OrFault TableMeaning

@@ -1,21 +1,17 @@
 -- The key `transfers`: the pairs of modes between which a ride includes a transfer, and their prices.
+use Rattle.fare_table.specs.Members.{array_at, needed, number_in, of_kind, text_at}
+use Rattle.fare_table.specs.{Modes.mode_named, OrFault.OrFault, OrFault.◌>>=◌}
+use Rattle.fare_table.specs.declared.fault.TableFault.TheVariants.{Kind, Range}
+use Rattle.fare_table.specs.declared.read.transfers.TextTransfer.{TextTransfer}
+use Rattle.std.specs.{List.cons_option, List.find, Option.option_and_then}
 use Rattle.std.specs.Prelude.{ℕ, ◌≡◌, ◌==◌, ◌&&◌, ◌||◌, ◌++◌, ◌∷◌, [], Bool, true, false, not}
 use Rattle.std.specs.Prelude.{Contains, List, Option, None, Some, Ok, Err, codes, option_map}
 use Rattle.std.specs.Prelude.{if◌then◌else◌, is_some}
-use Rattle.std.specs.List.{cons_option, find}
-use Rattle.std.specs.Option.{option_and_then}
-use Rattle.toml.specs.Data.{Data, Items, no_items, item, Members, as_array, as_str, as_table}
-use Rattle.tariffs.specs.Names.{same_name}
-use Rattle.tariffs.specs.Transfers.{with_pair}
-use Rattle.tariffs.specs.declared.price.Pays.{Pays}
-use Rattle.tariffs.specs.declared.price.Pays.TheVariants.{Difference, More}
+use Rattle.tariffs.specs.{Names.same_name, Transfers.with_pair}
+use Rattle.tariffs.specs.declared.price.Pays.{Pays, TheVariants.Difference, TheVariants.More}
 use Rattle.tariffs.specs.declared.price.Price.{Price}
-use Rattle.fare_table.specs.Members.{array_at, needed, number_in, of_kind, text_at}
-use Rattle.fare_table.specs.Modes.{mode_named}
-use Rattle.fare_table.specs.OrFault.{OrFault, ◌>>=◌}
+use Rattle.toml.specs.Data.{Data, Items, no_items, item, Members, as_array, as_str, as_table}
 use Rattle.fare_table.specs.declared.fault.Key.TheVariants as the_key
-use Rattle.fare_table.specs.declared.fault.TableFault.TheVariants.{Kind, Range}
-use Rattle.fare_table.specs.declared.read.transfers.TextTransfer.{TextTransfer}
 
 -- the two strings of an array of exactly two strings
 abbrev pub two_strings : Items → Option (List ℕ × List ℕ)

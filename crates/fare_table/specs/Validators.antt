@@ -1,16 +1,12 @@
 -- The key `validators`: ranges of validators and their modes.
-use Rattle.std.specs.Prelude.{ℕ, ◌&&◌, Bool, List, [], Ok, Err, codes, nat_le}
-use Rattle.std.specs.Prelude.{if◌then◌else◌}
-use Rattle.std.specs.BTreeMap.{insert_entry}
-use Rattle.std.specs.List.{list_any}
-use Rattle.std.specs.Ordering.{nat_cmp}
-use Rattle.toml.specs.Data.{Data, Items, no_items, item, Members, as_table}
 use Rattle.fare_table.specs.Members.{array_at, number_at, of_kind, text_at, are_tables}
-use Rattle.fare_table.specs.Modes.{mode_named}
-use Rattle.fare_table.specs.OrFault.{OrFault, ◌>>=◌}
-use Rattle.fare_table.specs.declared.fault.Key.TheVariants as the_key
+use Rattle.fare_table.specs.{Modes.mode_named, OrFault.OrFault}
 use Rattle.fare_table.specs.declared.fault.TableFault.TheVariants.{Kind, Overlap}
+use Rattle.std.specs.{BTreeMap.insert_entry, List.list_any, Ordering.nat_cmp}
+use Rattle.std.specs.Prelude.{ℕ, ◌&&◌, Bool, List, [], Ok, Err, codes, nat_le, if◌then◌else◌}
 use Rattle.tariffs.specs.declared.validators.RangeRest.{RangeRest}
+use Rattle.toml.specs.Data.{Data, Items, no_items, item, Members, as_table}
+use Rattle.fare_table.specs.declared.fault.Key.TheVariants as the_key
 
 -- the two ranges have a validator in common
 abbrev pub share_number : ℕ × RangeRest → ℕ × RangeRest → Bool

@@ -1,15 +1,13 @@
 -- The keys `window` and `day_starts`: texts that say how long windows are, and when a day starts.
-use Rattle.std.specs.Prelude.{ℕ, Option, Some, None, Ok, codes}
+use Rattle.fare_table.specs.{Members.of_kind, OrFault.OrFault}
 use Rattle.std.specs.Option.{ok_or}
-use Rattle.toml.specs.Data.{Data, Members, get_member, as_str}
-use Rattle.fare_table.specs.Members.{of_kind}
-use Rattle.fare_table.specs.OrFault.{OrFault, ◌>>=◌}
+use Rattle.std.specs.Prelude.{ℕ, Option, Some, None, Ok, codes}
 use Rattle.tariffs.specs.WindowSpan.{length_named, minutes_named}
+use Rattle.tariffs.specs.declared.window_span.WindowLength.{WindowLength, TheVariants.Days}
+use Rattle.tariffs.specs.declared.window_span.WindowSpan.{WindowSpan}
+use Rattle.toml.specs.Data.{Data, Members, get_member, as_str}
 use Rattle.fare_table.specs.declared.fault.Key.TheVariants as the_key
 use Rattle.fare_table.specs.declared.fault.TableFault.TheVariants as the_fault
-use Rattle.tariffs.specs.declared.window_span.WindowSpan.{WindowSpan}
-use Rattle.tariffs.specs.declared.window_span.WindowLength.{WindowLength}
-use Rattle.tariffs.specs.declared.window_span.WindowLength.TheVariants.{Days}
 
 -- the length of windows that the value names, and seven days if there is none
 abbrev pub length_in : Option Data → OrFault WindowLength

@@ -1,13 +1,12 @@
 -- The key `zone`: a text, and the rule that it reads as.
-use Rattle.std.specs.Prelude.{◌≡◌, ℕ, List, Option, Some, None, Ok, Err, codes, if◌then◌else◌}
-use Rattle.std.specs.Option.{is_some}
-use Rattle.toml.specs.Data.{Data, Members, get_member, as_str}
-use Rattle.fare_table.specs.Members.{of_kind}
-use Rattle.fare_table.specs.OrFault.{OrFault, ◌>>=◌}
-use Rattle.fare_table.specs.declared.fault.Key.TheVariants as the_key
-use Rattle.fare_table.specs.declared.fault.TableFault.TheVariants as the_fault
+use Rattle.fare_table.specs.{Members.of_kind, OrFault.OrFault}
 use Rattle.jiff.specs.Words.{read_whole, tz_view}
 use Rattle.jiff_tz.specs.declared.posix.TimeZone.{TimeZone as PosixRule}
+use Rattle.std.specs.Option.{is_some}
+use Rattle.std.specs.Prelude.{◌≡◌, ℕ, List, Option, Some, None, Ok, Err, codes, if◌then◌else◌}
+use Rattle.toml.specs.Data.{Data, Members, get_member, as_str}
+use Rattle.fare_table.specs.declared.fault.Key.TheVariants as the_key
+use Rattle.fare_table.specs.declared.fault.TableFault.TheVariants as the_fault
 
 -- the rule is what the zone's text reads as, and there is none without a text
 abbrev pub IsZoneOf : Option (List ℕ) → Option PosixRule → Type 0

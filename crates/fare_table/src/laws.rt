@@ -1,16 +1,12 @@
 //! Theorems about fare tables, each the contract of a function that does nothing.
-ghost use Rattle.std.specs.Prelude.{◌≡◌, ◌↔◌, ℕ, true, List, None, Ok, Some, position};
-ghost use Rattle.toml.specs.Data.{Members};
-ghost use Rattle.fare_table.specs.TextRanges.{RangeGives, RangeHas};
-ghost use Rattle.tariffs.specs.Fares.{class_of, mode_in, price_of, ride_terms};
-ghost use Rattle.tariffs.specs.Fares.{terms_at, transfer_terms};
-ghost use Rattle.tariffs.specs.Names.{same_name};
 ghost use Rattle.fare_table.specs.Paying.{Gives, NamesRider, Pays, PaysOn};
-ghost use Rattle.tariffs.specs.TableMeaning.{TableMeaning};
-ghost use Rattle.fare_table.specs.TableMeaning.{meaning_of_tree};
-ghost use Rattle.tariffs.specs.Transfers.{has_pair};
-ghost use Rattle.fare_table.specs.Transfers.{ListsPair};
-ghost use Rattle.tariffs.specs.declared.terms.Terms.{Terms};
+ghost use Rattle.fare_table.specs.{TableMeaning.meaning_of_tree, TextRanges.RangeGives};
+ghost use Rattle.fare_table.specs.{TextRanges.RangeHas, Transfers.ListsPair};
+ghost use Rattle.std.specs.Prelude.{◌≡◌, ◌↔◌, ℕ, true, List, None, Ok, Some, position};
+ghost use Rattle.tariffs.specs.Fares.{class_of, mode_in, price_of, ride_terms, terms_at};
+ghost use Rattle.tariffs.specs.{Fares.transfer_terms, Names.same_name, TableMeaning.TableMeaning};
+ghost use Rattle.tariffs.specs.{Transfers.has_pair, declared.terms.Terms.Terms};
+ghost use Rattle.toml.specs.Data.{Members};
 
 /// A table permits a transfer between two modes exactly if its text lists the pair of their names,
 /// and the transfer pays what each such pair says.

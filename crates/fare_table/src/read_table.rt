@@ -1,9 +1,8 @@
 //! Reads a fare table from its text, or from the text's tree.
+ghost use Rattle.fare_table.specs.{Meaning.IsClockOf, TableMeaning.meaning_of_tree};
+ghost use Rattle.fare_table.specs.inside.OrFault.{Answers};
 ghost use Rattle.std.specs.Prelude.{◌≡◌, [], IfOk};
 ghost use Rattle.toml.specs.View.{table_view};
-ghost use Rattle.fare_table.specs.Meaning.{IsClockOf};
-ghost use Rattle.fare_table.specs.TableMeaning.{meaning_of_tree};
-ghost use Rattle.fare_table.specs.inside.OrFault.{Answers};
 
 use crate::fault::TableFault;
 use crate::read::tariff::tariff_of;

@@ -1,11 +1,10 @@
 -- A text that goes out in pieces.
-use Rattle.std.proofs.Common.{◌≡◌, ℕ, List, [], ◌++◌, ◌-◌, Option, refl, sym, ap, ◌∙◌}
-use Rattle.std.proofs.Common.{append_assoc, append-nil, arith, drop, length, length-drop, subst}
-use Rattle.std.proofs.Common.{take, take_all}
+use Rattle.std.proofs.Common.{◌≡◌, ℕ, List, [], ◌++◌, ◌-◌, Option, refl, sym, ap, ◌∙◌, append_assoc}
+use Rattle.std.proofs.Common.{append-nil, arith, drop, length, length-drop, subst, take, take_all}
+use Rattle.fare_texts.specs.WrittenOut.{Begins, GoesOut}
+use Rattle.std.proofs.KnownBytes.{Appends-kept, Appends-nil, Appends-trans}
 use Rattle.std.proofs.lemmas.List.{take-append-drop}
 use Rattle.std.specs.Io.KnownBytes.{Appends, Keeps}
-use Rattle.std.proofs.KnownBytes.{Appends-kept, Appends-nil, Appends-trans}
-use Rattle.fare_texts.specs.WrittenOut.{Begins, GoesOut}
 
 -- ---- beginnings
 pub begins_nothing : (o : Option (List ℕ)) (text : List ℕ) → Begins o o text

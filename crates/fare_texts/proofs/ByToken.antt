@@ -1,33 +1,24 @@
 -- The lines of entries in order of token are the lines of each token.
 use Rattle.std.proofs.Common.{◌≡◌, ℕ, ◌+◌, Bool, true, false, ◌||◌, List, [], ◌∷◌, ◌++◌, length}
 use Rattle.std.proofs.Common.{map, refl, sym, ap, subst, ◌∙◌, append_assoc, ⊎_elim}
-use Rattle.std.specs.List.Sorted.{IsStrictlySortedBy}
-use Rattle.std.specs.Ordering.{eq_by_cmp}
-use Rattle.std.proofs.lemmas.Bool.{cases_Bool}
-use Rattle.std.proofs.lemmas.List.Sorted.{IsPermutation-map, list_any-IsPermutation}
-use Rattle.std.proofs.Math.Bool.{or_self_left}
-use Rattle.tariffs.specs.Fares.{Fares}
-use Rattle.histories.specs.Entry.{own}
-use Rattle.histories.specs.SumsByKey.{token_of, tokens}
-use Rattle.histories.specs.Increasing.{IsIncreasing, increasing}
-use Rattle.tap_views.specs.Token.{token_cmp, token_eq}
-use Rattle.histories.specs.declared.entry.Entry.{Entry}
-use Rattle.tap_views.specs.declared.token.Token.{Token}
-use Rattle.tap_views.proofs.TokenLemmas.{same_token, token_eq-refl, token_eq-sym, token_cmp-total}
-use Rattle.tap_views.proofs.TokenLemmas.{token_cmp-ties}
-use Rattle.tap_views.proofs.TokenLemmas.{among}
+use Rattle.fare_texts.proofs.Increasing.{none_above, none_below, own_push, up_push, up_weaker}
+use Rattle.fare_texts.specs.{ByToken.IsByToken, Ledger.AreLinesOfEach}
+use Rattle.fare_texts.specs.LedgerLines.{AreLedgerLinesAfter, AreLedgerLines, IsLedgerLine}
+use Rattle.fare_texts.specs.{LedgerLines.reason_after, Lines.AreLinesAlong}
+use Rattle.fare_texts.specs.Lines.{AreUpTo, IsLineAfter, Nondecreasing, NondecreasingFrom}
 use Rattle.histories.proofs.IncreasingLemmas.{increasing-only, below_all}
 use Rattle.histories.proofs.OwnEntries.{own-append, own_none, own_other, own_same}
-use Rattle.fare_texts.specs.LedgerLines.{AreLedgerLinesAfter, AreLedgerLines, IsLedgerLine}
-use Rattle.fare_texts.specs.LedgerLines.{reason_after}
-use Rattle.fare_texts.specs.Ledger.{AreLinesOfEach}
-use Rattle.fare_texts.specs.Lines.{AreLinesAlong, AreUpTo, IsLineAfter, Nondecreasing}
-use Rattle.fare_texts.specs.Lines.{NondecreasingFrom}
-use Rattle.tap_views.specs.TokenOrder.{IsUpTo}
-use Rattle.fare_texts.specs.ByToken.{IsByToken}
-use Rattle.fare_texts.proofs.Increasing.{none_above, none_below}
-use Rattle.fare_texts.proofs.Increasing.{own_push, up_push, up_weaker}
+use Rattle.histories.specs.{Entry.own, Increasing.IsIncreasing, Increasing.increasing}
+use Rattle.histories.specs.{SumsByKey.token_of, SumsByKey.tokens, declared.entry.Entry.Entry}
+use Rattle.std.proofs.{Math.Bool.or_self_left, lemmas.Bool.cases_Bool}
+use Rattle.std.proofs.lemmas.List.Sorted.{IsPermutation-map, list_any-IsPermutation}
+use Rattle.std.specs.{List.Sorted.IsStrictlySortedBy, Ordering.eq_by_cmp}
+use Rattle.tap_views.proofs.TokenLemmas.{same_token, token_eq-refl, token_eq-sym, token_cmp-total}
+use Rattle.tap_views.proofs.TokenLemmas.{token_cmp-ties, among}
 use Rattle.tap_views.proofs.TokensUp.{up_apart, up_itself}
+use Rattle.tap_views.specs.Token.{token_cmp, token_eq}
+use Rattle.tap_views.specs.{TokenOrder.IsUpTo, declared.token.Token.Token}
+use Rattle.tariffs.specs.Fares.{Fares}
 
 abbrev ties : Token → Token → Bool
 ties key token = eq_by_cmp token_cmp key token

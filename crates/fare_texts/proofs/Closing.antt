@@ -1,10 +1,8 @@
 -- The windows before the last one, with one tap more.
 use Rattle.std.proofs.Common.{◌≡◌, Bool, List, [], ◌∷◌, ◌++◌, Option, sym, ap, ◌∙◌, append_assoc}
 use Rattle.std.proofs.Common.{append-nil, refl}
-use Rattle.account_rule.specs.Laws.{is_ride}
-use Rattle.account_rule.specs.declared.reply.Reply.{Reply}
-use Rattle.account_rule.specs.declared.tap.TapIn.{TapIn}
-use Rattle.account_rule.specs.declared.window.WindowView.{WindowView}
+use Rattle.account_rule.specs.{Laws.is_ride, declared.reply.Reply.Reply}
+use Rattle.account_rule.specs.declared.{tap.TapIn.TapIn, window.WindowView.WindowView}
 use Rattle.fare_caps.specs.CappedReplies.{capped_reply, capped_window}
 use Rattle.fare_caps.specs.Caps.{CappedRules}
 use Rattle.fare_texts.specs.Explained.{earlier_windows, window_ended, windows_ended}

@@ -1,21 +1,18 @@
 -- The explained lines of a token, and the lines of its windows, with one line more.
-use Rattle.std.specs.Prelude.{codes}
 use Rattle.std.proofs.Common.{◌≡◌, ℕ, ◌+◌, ◌<◌, List, [], ◌∷◌, ◌++◌, length, get_or, take, Option}
-use Rattle.std.proofs.Common.{refl, sym, ap, subst, ◌∙◌, append_assoc, append-nil}
+use Rattle.std.proofs.Common.{refl, sym, ap, subst, ◌∙◌, append_assoc, append-nil, add-one}
 use Rattle.account_rule.specs.declared.no_transfer.NoTransfer.{NoTransfer}
-use Rattle.fare_caps.specs.declared.capped_reason.CappedReason.{CappedReason}
 use Rattle.account_rule.specs.declared.window.WindowView.{WindowView}
-use Rattle.tariffs.specs.ClockView.{ClockView}
-use Rattle.tariffs.specs.Fares.{Fares}
-use Rattle.histories.specs.declared.entry.Entry.{Entry}
-use Rattle.tap_views.specs.declared.token.Token.{Token}
-use Rattle.fare_texts.specs.LedgerLines.{reason_after}
-use Rattle.fare_texts.specs.NoTransferWords.{no_transfer_after}
+use Rattle.fare_caps.specs.declared.capped_reason.CappedReason.{CappedReason}
 use Rattle.fare_texts.proofs.LineLists.{taken}
 use Rattle.fare_texts.specs.Explained.{AreEarlierLines, AreExplainedAfter, IsExplainedLine}
-use Rattle.fare_texts.specs.Explained.{IsExplainedWindow}
+use Rattle.fare_texts.specs.{Explained.IsExplainedWindow, LedgerLines.reason_after}
+use Rattle.fare_texts.specs.NoTransferWords.{no_transfer_after}
+use Rattle.histories.specs.declared.entry.Entry.{Entry}
 use Rattle.std.proofs.Math.Seq.{take-suc}
-use Rattle.std.proofs.Common.{add-one}
+use Rattle.std.specs.Prelude.{codes}
+use Rattle.tap_views.specs.declared.token.Token.{Token}
+use Rattle.tariffs.specs.{ClockView.ClockView, Fares.Fares}
 
 lines-push : (fares : Fares) (token : Token) (earlier entries : List Entry) (entry : Entry)
     (text line : List ℕ)

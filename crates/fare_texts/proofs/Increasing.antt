@@ -1,15 +1,11 @@
 -- The entries of one token among entries in order of token.
-use Rattle.std.proofs.Common.{◌≡◌, Bool, true, false, List, [], ◌∷◌, ◌++◌, refl, ap}
-use Rattle.std.proofs.Common.{subst, ◌∙◌}
-use Rattle.histories.specs.Entry.{own}
-use Rattle.tap_views.specs.Token.{token_eq}
-use Rattle.histories.specs.declared.entry.Entry.{Entry}
+use Rattle.std.proofs.Common.{◌≡◌, Bool, true, false, List, [], ◌∷◌, ◌++◌, refl, ap, subst, ◌∙◌}
+use Rattle.fare_texts.specs.Lines.{AreUpTo, NondecreasingFrom}
 use Rattle.histories.proofs.OwnEntries.{own-append, own_none, own_other, own_same}
-use Rattle.tap_views.specs.declared.token.Token.{Token}
+use Rattle.histories.specs.{Entry.own, declared.entry.Entry.Entry}
 use Rattle.tap_views.proofs.TokenLemmas.{same_token}
 use Rattle.tap_views.proofs.TokensUp.{not_apart, up_both, up_chain}
-use Rattle.fare_texts.specs.Lines.{AreUpTo, NondecreasingFrom}
-use Rattle.tap_views.specs.TokenOrder.{IsUpTo}
+use Rattle.tap_views.specs.{Token.token_eq, TokenOrder.IsUpTo, declared.token.Token.Token}
 
 pub own_push : (token : Token) (entries : List Entry) (entry : Entry)
     → token_eq entry.token token ≡ true

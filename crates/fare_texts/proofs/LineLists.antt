@@ -1,13 +1,12 @@
 -- The lines of a token with one line more.
 use Rattle.std.proofs.Common.{◌≡◌, ℕ, ◌+◌, ◌<◌, List, [], ◌∷◌, ◌++◌, length, get_or, map, take}
 use Rattle.std.proofs.Common.{refl, sym, ap, subst, ◌∙◌, append_assoc, append-nil, add-one}
-use Rattle.std.proofs.lemmas.List.{map-append}
-use Rattle.std.proofs.Math.Seq.{take-suc}
 use Rattle.account_rule.specs.declared.tap.TapIn.{TapIn}
-use Rattle.tariffs.specs.Fares.{Fares}
-use Rattle.histories.specs.declared.entry.Entry.{Entry}
-use Rattle.tap_views.specs.declared.token.Token.{Token}
 use Rattle.fare_texts.specs.LedgerLines.{AreLedgerLinesAfter, AreLedgerLines, IsLedgerLineAfter}
+use Rattle.histories.specs.declared.entry.Entry.{Entry}
+use Rattle.std.proofs.{Math.Seq.take-suc, lemmas.List.map-append}
+use Rattle.tap_views.specs.declared.token.Token.{Token}
+use Rattle.tariffs.specs.Fares.{Fares}
 
 lines-push : (fares : Fares) (token : Token) (earlier entries : List Entry) (entry : Entry)
     (text line : List ℕ)

@@ -1,10 +1,9 @@
 -- Lines of ledgers that are made from their ends to their beginnings.
-use Rattle.std.specs.Prelude.{ℕ, ◌≡◌, ◌≤◌, List, [], ◌++◌, codes, length}
 use Rattle.std.proofs.Common.{append_assoc, append-nil, ap, ◌∙◌, arith, refl}
-use Rattle.account_rule.specs.declared.reply.Answer.{Answer}
-use Rattle.account_rule.specs.declared.reply.Answer.TheVariants.{Paid, Transfer, Capped, Stale}
-use Rattle.account_rule.specs.declared.reply.Answer.TheVariants.{Unknown}
+use Rattle.account_rule.specs.declared.reply.Answer.{Answer, TheVariants.Paid}
+use Rattle.account_rule.specs.declared.reply.Answer.TheVariants.{Transfer, Capped, Stale, Unknown}
 use Rattle.fare_texts.specs.StatementText.{answer_text}
+use Rattle.std.specs.Prelude.{ℕ, ◌≡◌, ◌≤◌, List, [], ◌++◌, codes, length}
 
 -- what stands before the mode
 pub start_shown : (old one two three four five six seven eight : List ℕ)

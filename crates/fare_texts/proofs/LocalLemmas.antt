@@ -1,36 +1,27 @@
 -- What a clock shows, from the nanoseconds on it.
+use Rattle.std.proofs.Common.{refl, sym, ap, ◌∙◌, arith, inl, inr}
+use Rattle.fare_texts.specs.Local.{date_by, date_words, month_day, month_day_of, shown_words}
+use Rattle.fare_texts.specs.Local.{clock_words, local_at, time_words}
+use Rattle.jiff.proofs.Family.{time_nanos_bound, civil_nanos-parts, epoch_day-civil_nanos}
+use Rattle.jiff.proofs.SpanFacts.{signed_arith}
+use Rattle.jiff.specs.{Names.iso_datetime_text, Words.offset_at}
+use Rattle.jiff_core.proofs.CalendarLemmas.{days_from_civil-day_count, days_of_months-zero}
+use Rattle.jiff_core.proofs.CalendarLemmas.{days_of_months_mono, days_of_months_more}
+use Rattle.jiff_core.specs.Calendar.{day_count, days_from_civil, days_in_month, days_of_months}
+use Rattle.jiff_core.specs.{Calendar.days_of_years, Date.epoch_day, DateTime.civil_nanos}
+use Rattle.jiff_core.specs.{Time.time_nanos, Timestamp.nanos_of_seconds}
+use Rattle.jiff_core.specs.declared.civil.{date.Date.Date, datetime.DateTime.DateTime}
+use Rattle.jiff_core.specs.declared.{civil.time.Time.Time, offset.Offset.Offset}
+use Rattle.jiff_fmt.specs.Text.{date_text, fraction_part, offset_text, pad2, sign_byte, time_text}
+use Rattle.jiff_tz.proofs.YearLemmas.{year_of_day-date}
+use Rattle.jiff_tz.specs.declared.posix.TimeZone.{TimeZone as PosixRule}
+use Rattle.std.proofs.lemmas.Bool.{cases_lt, Decides.nat_tests}
+use Rattle.std.specs.Int.{int_div_euclid, int_rem_euclid}
 use Rattle.std.specs.Prelude.{ℕ, zero, suc, ◌≡◌, ◌+◌, ◌-◌, ◌/◌, ◌%◌, ◌<◌, ◌≤◌, ℤ, pos, ◌-ℤ◌}
 use Rattle.std.specs.Prelude.{unsigned_abs, nat_lt, if◌then◌else◌, List, ◌∷◌, ◌++◌, None, Some}
 use Rattle.std.specs.Prelude.{Option, option_map, ◌+ℤ◌, true, false}
-use Rattle.std.proofs.Common.{refl, sym, ap, ◌∙◌, arith, inl, inr}
-use Rattle.std.proofs.lemmas.Bool.{cases_lt}
-use Rattle.std.proofs.lemmas.Bool.Decides.{nat_tests}
-use Rattle.std.specs.Int.{int_div_euclid, int_rem_euclid}
-use Rattle.jiff_core.specs.declared.civil.date.Date.{Date}
-use Rattle.jiff_core.specs.declared.civil.datetime.DateTime.{DateTime}
-use Rattle.jiff_core.specs.declared.civil.time.Time.{Time}
-use Rattle.jiff_core.specs.declared.offset.Offset.{Offset}
-use Rattle.jiff_core.specs.Calendar.{day_count, days_from_civil, days_in_month, days_of_months}
-use Rattle.jiff_core.specs.Calendar.{days_of_years}
-use Rattle.jiff_core.proofs.CalendarLemmas.{days_from_civil-day_count}
-use Rattle.jiff_core.specs.Date.{epoch_day}
-use Rattle.jiff_core.specs.DateTime.{civil_nanos}
-use Rattle.jiff_core.specs.Time.{time_nanos}
-use Rattle.jiff_core.specs.Timestamp.{nanos_of_seconds}
-use Rattle.jiff_core.proofs.CalendarLemmas.{days_of_months-zero, days_of_months_mono}
-use Rattle.jiff_core.proofs.CalendarLemmas.{days_of_months_more}
-use Rattle.jiff.proofs.Family.{time_nanos_bound, civil_nanos-parts}
-use Rattle.jiff.proofs.Family.{epoch_day-civil_nanos}
-use Rattle.jiff.proofs.SpanFacts.{signed_arith}
-use Rattle.jiff.specs.Names.{iso_datetime_text}
-use Rattle.jiff.specs.Words.{offset_at}
-use Rattle.jiff_fmt.specs.Text.{date_text, fraction_part, offset_text, pad2, sign_byte, time_text}
-use Rattle.jiff_tz.specs.PosixRule as rule
-use Rattle.jiff_tz.specs.declared.posix.TimeZone.{TimeZone as PosixRule}
-use Rattle.jiff_tz.proofs.YearLemmas.{year_of_day-date}
-use Rattle.fare_texts.specs.Local.{date_by, date_words, month_day, month_day_of, shown_words}
-use Rattle.fare_texts.specs.Local.{clock_words, local_at, time_words}
 use Rattle.tariffs.specs.Until.{moment_nanos, seconds_ahead}
+use Rattle.jiff_tz.specs.PosixRule as rule
 
 -- the month and the day of a place in the year
 month_day-is : (year : ℤ) (from more days month day : ℕ) → 1 ≤ from → from ≤ month

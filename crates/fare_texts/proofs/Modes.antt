@@ -1,25 +1,21 @@
 -- The mode that gives a transfer is one of the table's.
 use Rattle.std.proofs.Common.{◌≡◌, ℕ, ◌<◌, List, Option, sym, ap, subst, ◌∙◌}
-use Rattle.tariffs.specs.Fares.{Fares}
-use Rattle.tariffs.specs.declared.mode.Mode.{Mode}
-use Rattle.account_rule.specs.Kept.{Kept, kept_of}
-use Rattle.account_rule.specs.Reasons.{reason}
-use Rattle.account_rule.specs.TokenRules.{TokenRules, rules_of}
-use Rattle.account_rule.specs.Represents as plain
-use Rattle.account_rule.specs.Represents.{KeepsOf}
-use Rattle.fare_caps.specs.CapMeanings.{capped_rules_of}
-use Rattle.fare_caps.specs.CappedReplies.{capped_reason}
+use Rattle.account_rule.proofs.ReasonLemmas.{giver-ride}
+use Rattle.account_rule.specs.{Kept.Kept, Kept.kept_of, Reasons.reason, Represents.KeepsOf}
+use Rattle.account_rule.specs.Taps.{LiveTap, live_at}
+use Rattle.account_rule.specs.{TokenRules.TokenRules, TokenRules.rules_of, declared.tap.TapIn.TapIn}
+use Rattle.fare_caps.proofs.AnswerLemmas.{capped-paid-transfer, capped-transfer}
+use Rattle.fare_caps.specs.{CapMeanings.capped_rules_of, CappedReplies.capped_reason}
 use Rattle.fare_caps.specs.Represents.{Represents}
 use Rattle.fare_caps.specs.declared.capped_account.CappedAccount.{CappedAccount}
-use Rattle.fare_caps.proofs.AnswerLemmas.{capped-paid-transfer, capped-transfer}
-use Rattle.account_rule.specs.Taps.{LiveTap, live_at}
-use Rattle.account_rule.specs.declared.reason.Reason.TheVariants as plain_reason
 use Rattle.fare_caps.specs.declared.capped_reason.CappedReason.{CappedReason}
 use Rattle.fare_caps.specs.declared.capped_reason.CappedReason.TheVariants.{PaidTransfer, Ride}
-use Rattle.fare_caps.specs.declared.capped_reason.CappedReason.TheVariants.{Stale, Transfer, Unknown}
-use Rattle.account_rule.specs.declared.tap.TapIn.{TapIn}
-use Rattle.account_rule.proofs.ReasonLemmas.{giver-ride}
+use Rattle.fare_caps.specs.declared.capped_reason.CappedReason.TheVariants.{Stale, Transfer}
+use Rattle.fare_caps.specs.declared.capped_reason.CappedReason.TheVariants.{Unknown}
 use Rattle.fare_texts.specs.ReasonWords.{HasModeOf}
+use Rattle.tariffs.specs.{Fares.Fares, declared.mode.Mode.Mode}
+use Rattle.account_rule.specs.Represents as plain
+use Rattle.account_rule.specs.declared.reason.Reason.TheVariants as plain_reason
 
 same-mode : (ride : LiveTap) (moment : ℕ) (mode : Mode) → ride ≡ live_at moment mode
     → ride.mode ≡ mode

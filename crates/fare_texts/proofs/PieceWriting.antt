@@ -1,23 +1,16 @@
 -- One line after another: what the explainer has come to, and what was written.
-use Rattle.std.proofs.Common.{◌≡◌, ℕ, true, false, List, [], ◌∷◌, ◌++◌, Option}
-use Rattle.std.proofs.Common.{take, drop, refl, sym, ap, subst, ◌∙◌}
-use Rattle.std.proofs.Common.{append_assoc, append-nil}
+use Rattle.std.proofs.Common.{◌≡◌, ℕ, true, false, List, [], ◌∷◌, ◌++◌, Option, take, drop, refl}
+use Rattle.std.proofs.Common.{sym, ap, subst, ◌∙◌, append_assoc, append-nil}
+use Rattle.fare_texts.proofs.{Beginnings.goes_then_on, Increasing.none_below, Increasing.own_push}
+use Rattle.fare_texts.proofs.{Increasing.up_push, Increasing.up_weaker, TextsExist.along_exist}
+use Rattle.fare_texts.specs.{Explainers.HasExplained, Lines.AreLinesAlong, Lines.AreUpTo}
+use Rattle.fare_texts.specs.{Lines.HasConsumed, Lines.IsLineAfter, WrittenOut.Begins}
+use Rattle.fare_texts.specs.{WrittenOut.GoesOut, declared.explainer.Explainer.Explainer}
+use Rattle.histories.specs.{Entry.own, declared.entry.Entry.Entry}
 use Rattle.std.proofs.lemmas.List.{take-append-drop}
+use Rattle.tap_views.proofs.{TokenLemmas.token_eq-refl, TokensUp.up_itself}
+use Rattle.tap_views.specs.{Token.token_eq, TokenOrder.IsUpTo, declared.token.Token.Token}
 use Rattle.tariffs.specs.Fares.{Fares}
-use Rattle.histories.specs.Entry.{own}
-use Rattle.tap_views.specs.Token.{token_eq}
-use Rattle.histories.specs.declared.entry.Entry.{Entry}
-use Rattle.tap_views.specs.declared.token.Token.{Token}
-use Rattle.tap_views.proofs.TokenLemmas.{token_eq-refl}
-use Rattle.fare_texts.specs.Explainers.{HasExplained}
-use Rattle.fare_texts.specs.WrittenOut.{Begins, GoesOut}
-use Rattle.fare_texts.specs.Lines.{AreLinesAlong, AreUpTo, HasConsumed, IsLineAfter}
-use Rattle.tap_views.specs.TokenOrder.{IsUpTo}
-use Rattle.fare_texts.specs.declared.explainer.Explainer.{Explainer}
-use Rattle.fare_texts.proofs.Increasing.{none_below, own_push, up_push, up_weaker}
-use Rattle.tap_views.proofs.TokensUp.{up_itself}
-use Rattle.fare_texts.proofs.Beginnings.{goes_then_on}
-use Rattle.fare_texts.proofs.TextsExist.{along_exist}
 
 -- ---- the explainer
 pub consumed_first : (fares : Fares) (explainer : Explainer) → HasExplained fares explainer []

@@ -1,11 +1,10 @@
 -- The lines of a statement, written one after another.
-use Rattle.std.specs.Prelude.{ℕ, ◌≡◌, ◌+◌, List, [], ◌∷◌, ◌++◌, take, Some, slice_get}
 use Rattle.std.proofs.Common.{refl, sym, ◌∙◌, ap, subst, append_assoc, append-nil}
-use Rattle.std.proofs.lemmas.List.{take_more}
-use Rattle.std.proofs.lemmas.Option.{slice_get_within, get_or_from_slice_get}
-use Rattle.tariffs.specs.Fares.{Fares}
-use Rattle.histories.specs.declared.entry.Entry.{Entry}
 use Rattle.fare_texts.specs.StatementText.{AreEntryLines, IsEntryLine}
+use Rattle.histories.specs.declared.entry.Entry.{Entry}
+use Rattle.std.proofs.lemmas.{List.take_more, Option.slice_get_within, Option.get_or_from_slice_get}
+use Rattle.std.specs.Prelude.{ℕ, ◌≡◌, ◌+◌, List, [], ◌∷◌, ◌++◌, take, Some, slice_get}
+use Rattle.tariffs.specs.Fares.{Fares}
 
 -- one entry more
 entries_more : (fares : Fares) (entries : List Entry) (entry : Entry) (text line : List ℕ)

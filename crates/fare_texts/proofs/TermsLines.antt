@@ -1,11 +1,9 @@
 -- The lines of the terms of tables that follow, written one after another.
-use Rattle.std.specs.Prelude.{ℕ, ◌≡◌, ◌+◌, List, [], ◌∷◌, ◌++◌, take, Some, slice_get}
 use Rattle.std.proofs.Common.{refl, sym, ◌∙◌, ap, subst, append_assoc, append-nil}
-use Rattle.std.proofs.lemmas.List.{take_more}
-use Rattle.std.proofs.lemmas.Option.{slice_get_within, get_or_from_slice_get}
-use Rattle.tariffs.specs.Fares.{terms_at}
-use Rattle.tariffs.specs.TableMeaning.{TableMeaning}
 use Rattle.fare_texts.specs.Explained.{AreLaterTerms, IsLaterTerms}
+use Rattle.std.proofs.lemmas.{List.take_more, Option.slice_get_within, Option.get_or_from_slice_get}
+use Rattle.std.specs.Prelude.{ℕ, ◌≡◌, ◌+◌, List, [], ◌∷◌, ◌++◌, take, Some, slice_get}
+use Rattle.tariffs.specs.{Fares.terms_at, TableMeaning.TableMeaning}
 
 -- one table more
 terms-push : (token : List ℕ) (later : List (ℕ × TableMeaning)) (next : ℕ × TableMeaning)

@@ -1,31 +1,26 @@
 -- Each moment has a text, and each entry a line, whichever it is.
-use Rattle.std.proofs.Common.{◌≡◌, ℕ, zero, suc, ◌+◌, ◌/◌, ◌%◌, ◌<◌, ◌≤◌, ℤ, pos}
-use Rattle.std.proofs.Common.{◌+ℤ◌, List, [], ◌∷◌, ◌++◌, length, refl, sym}
-use Rattle.std.proofs.Common.{ap, ◌∙◌, arith, rules, codes, ⊎_elim}
-use Rattle.std.proofs.lemmas.Bool.{cases_lt}
-use Rattle.std.proofs.lemmas.Int.{by_lt_z}
-use Rattle.std.specs.Fmt.{decimal}
-use Rattle.jiff_core.specs.declared.civil.date.Date.{Date}
-use Rattle.jiff_core.specs.Calendar.{days_from_civil, days_in_month}
-use Rattle.jiff_core.specs.Date.{epoch_day}
+use Rattle.std.proofs.Common.{◌≡◌, ℕ, zero, suc, ◌+◌, ◌/◌, ◌%◌, ◌<◌, ◌≤◌, ℤ, pos, ◌+ℤ◌, List, []}
+use Rattle.std.proofs.Common.{◌∷◌, ◌++◌, length, refl, sym, ap, ◌∙◌, arith, rules, codes, ⊎_elim}
+use Rattle.fare_caps.specs.declared.capped_reason.CappedReason.{CappedReason}
+use Rattle.fare_caps.specs.declared.capped_reason.CappedReason.TheVariants.{PaidTransfer, Ride}
+use Rattle.fare_caps.specs.declared.capped_reason.CappedReason.TheVariants.{Stale, Transfer}
+use Rattle.fare_caps.specs.declared.capped_reason.CappedReason.TheVariants.{Unknown}
+use Rattle.fare_texts.specs.LedgerLines.{IsLedgerLine, IsPointing, IsReasonFields, IsWindowFields}
+use Rattle.fare_texts.specs.LedgerLines.{entry_fields, line_head, reason_after, ride_rest}
+use Rattle.fare_texts.specs.{LedgerLines.transfer_words, Lines.AreLinesAlong}
+use Rattle.fare_texts.specs.Moments.{IsMomentText, clock_text}
+use Rattle.histories.specs.{Entry.own, declared.entry.Entry.Entry}
 use Rattle.jiff_core.proofs.CalendarLemmas.{days_in_month_bounds}
 use Rattle.jiff_core.proofs.DateLemmas.{days_from_civil-day, days_from_civil-max}
 use Rattle.jiff_core.proofs.DateLemmas.{days_from_civil-next_month, days_from_civil-next_year}
-use Rattle.jiff_core.proofs.SignedLemmas.{signed_arith}
-use Rattle.jiff_core.proofs.StandardFacts.{known_days}
+use Rattle.jiff_core.proofs.{SignedLemmas.signed_arith, StandardFacts.known_days}
+use Rattle.jiff_core.specs.Calendar.{days_from_civil, days_in_month}
+use Rattle.jiff_core.specs.{Date.epoch_day, declared.civil.date.Date.Date}
 use Rattle.jiff_fmt.specs.Text.{date_text}
-use Rattle.tariffs.specs.Fares.{Fares}
-use Rattle.fare_caps.specs.declared.capped_reason.CappedReason.{CappedReason}
-use Rattle.fare_caps.specs.declared.capped_reason.CappedReason.TheVariants.{PaidTransfer, Ride}
-use Rattle.fare_caps.specs.declared.capped_reason.CappedReason.TheVariants.{Stale, Transfer, Unknown}
-use Rattle.histories.specs.Entry.{own}
-use Rattle.histories.specs.declared.entry.Entry.{Entry}
+use Rattle.std.proofs.lemmas.{Bool.cases_lt, Int.by_lt_z}
+use Rattle.std.specs.Fmt.{decimal}
 use Rattle.tap_views.specs.declared.token.Token.{Token}
-use Rattle.fare_texts.specs.LedgerLines.{IsLedgerLine, IsPointing, IsReasonFields, IsWindowFields}
-use Rattle.fare_texts.specs.LedgerLines.{entry_fields, line_head, reason_after, ride_rest}
-use Rattle.fare_texts.specs.LedgerLines.{transfer_words}
-use Rattle.fare_texts.specs.Lines.{AreLinesAlong}
-use Rattle.fare_texts.specs.Moments.{IsMomentText, clock_text}
+use Rattle.tariffs.specs.Fares.{Fares}
 
 -- ---- days
 -- a day of the calendar

@@ -1,12 +1,10 @@
 -- The year of a date that is no day before 1970-01-01.
 use Rattle.std.proofs.Common.{◌≡◌, ℕ, ℤ, pos, negsuc, ◌<ℤ◌, ◌≤ℤ◌, refl, arith}
-use Rattle.std.proofs.lemmas.Int.{by_lt_z}
-use Rattle.jiff_core.specs.declared.civil.date.Date.{Date}
-use Rattle.jiff_core.specs.Date.{epoch_day}
 use Rattle.jiff_core.proofs.CalendarLemmas.{day_count-epoch, day_count-lt_year}
-use Rattle.jiff_core.proofs.CalendarLemmas.{days_from_civil-day_count}
-use Rattle.jiff_core.proofs.DateLemmas.{civil}
+use Rattle.jiff_core.proofs.{CalendarLemmas.days_from_civil-day_count, DateLemmas.civil}
 use Rattle.jiff_core.proofs.SignedLemmas.{signed_arith}
+use Rattle.jiff_core.specs.{Date.epoch_day, declared.civil.date.Date.Date}
+use Rattle.std.proofs.lemmas.Int.{by_lt_z}
 
 -- a date from 1970 on has a year that is not negative
 pub before_epoch : (date : Date) → date.year <ℤ pos 1970 → epoch_day date <ℤ pos 0

@@ -1,7 +1,6 @@
 -- The counts that end a line of the report, and the line of totals.
-use Rattle.std.specs.Prelude.{ℕ, List, ◌++◌, codes}
-use Rattle.std.specs.Fmt.{decimal}
 use Rattle.histories.specs.Sums.{Sums}
+use Rattle.std.specs.{Fmt.decimal, Prelude.ℕ, Prelude.List, Prelude.◌++◌, Prelude.codes}
 
 -- the counts of live taps, as `taps 2 paid 1 transfers 1 capped 0`
 unfoldable pub first_counts : Sums → List ℕ

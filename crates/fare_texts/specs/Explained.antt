@@ -1,32 +1,21 @@
 -- A token's explained statement: the lines of its statement with the reason behind each, the
 -- token's terms by each table before the lines, and all its windows.
-use Rattle.std.specs.Prelude.{◌≡◌, ℕ, ◌&&◌, not, Bool, if◌then◌else◌, List, [], ◌∷◌, ◌++◌, Option}
-use Rattle.std.specs.Prelude.{Some, None, codes, map, nat_lt}
-use Rattle.std.specs.Fmt.{decimal}
-use Rattle.tariffs.specs.ClockView.{ClockView}
-use Rattle.tariffs.specs.Fares.{Fares, terms_at}
-use Rattle.tariffs.specs.TableMeaning.{TableMeaning}
-use Rattle.tariffs.specs.declared.terms.Terms.{Terms}
-use Rattle.account_rule.specs.Laws.{is_ride}
-use Rattle.account_rule.specs.declared.no_transfer.NoTransfer.{NoTransfer}
-use Rattle.fare_caps.specs.declared.capped_reason.CappedReason.{CappedReason}
-use Rattle.account_rule.specs.declared.tap.TapIn.{TapIn}
-use Rattle.account_rule.specs.declared.window.WindowView.{WindowView}
+use Rattle.account_rule.specs.{Laws.is_ride, declared.no_transfer.NoTransfer.NoTransfer}
+use Rattle.account_rule.specs.declared.{tap.TapIn.TapIn, window.WindowView.WindowView}
 use Rattle.fare_caps.specs.CapMeanings.{capped_rules_of}
 use Rattle.fare_caps.specs.CappedReplies.{capped_reply, capped_window}
-use Rattle.fare_caps.specs.Caps.{CappedRules}
-use Rattle.histories.specs.Entry.{tap_of}
-use Rattle.histories.specs.Sums.{sums}
-use Rattle.tap_views.specs.Token.{bytes_of}
-use Rattle.histories.specs.declared.entry.Entry.{Entry}
-use Rattle.tap_views.specs.declared.token.Token.{Token}
-use Rattle.fare_texts.specs.Counts.{totals_line}
-use Rattle.fare_texts.specs.Local.{local_words}
-use Rattle.fare_texts.specs.Moments.{IsMomentText}
+use Rattle.fare_caps.specs.{Caps.CappedRules, declared.capped_reason.CappedReason.CappedReason}
+use Rattle.fare_texts.specs.{Counts.totals_line, LedgerLines.reason_after, Local.local_words}
+use Rattle.fare_texts.specs.{Moments.IsMomentText, NoTransferWords.IsNoTransferEnd}
+use Rattle.fare_texts.specs.{NoTransferWords.no_transfer_after, ReasonWords.IsReasonWords}
 use Rattle.fare_texts.specs.StatementText.{entry_words, statement_head, window_words}
-use Rattle.fare_texts.specs.LedgerLines.{reason_after}
-use Rattle.fare_texts.specs.NoTransferWords.{IsNoTransferEnd, no_transfer_after}
-use Rattle.fare_texts.specs.ReasonWords.{IsReasonWords}
+use Rattle.histories.specs.{Entry.tap_of, Sums.sums, declared.entry.Entry.Entry}
+use Rattle.std.specs.Fmt.{decimal}
+use Rattle.std.specs.Prelude.{◌≡◌, ℕ, ◌&&◌, not, Bool, if◌then◌else◌, List, [], ◌∷◌, ◌++◌, Option}
+use Rattle.std.specs.Prelude.{Some, None, codes, map, nat_lt}
+use Rattle.tap_views.specs.{Token.bytes_of, declared.token.Token.Token}
+use Rattle.tariffs.specs.{ClockView.ClockView, Fares.Fares, Fares.terms_at}
+use Rattle.tariffs.specs.{TableMeaning.TableMeaning, declared.terms.Terms.Terms}
 
 -- the window, if a ride at the moment opens another after it
 abbrev pub window_ended : Option WindowView → Bool → ℕ → List WindowView

@@ -1,13 +1,10 @@
 -- A token's explained statement in each form.
+use Rattle.fare_texts.specs.{Explained.IsExplained, ExplainedJson.json_of}
+use Rattle.fare_texts.specs.declared.form.Form.{Form, TheVariants.Text, TheVariants.Json}
+use Rattle.histories.specs.{Entry.own, declared.entry.Entry.Entry}
 use Rattle.std.specs.Prelude.{◌≡◌, ℕ, List}
-use Rattle.tariffs.specs.Fares.{Fares}
-use Rattle.histories.specs.Entry.{own}
-use Rattle.histories.specs.declared.entry.Entry.{Entry}
 use Rattle.tap_views.specs.declared.token.Token.{Token}
-use Rattle.fare_texts.specs.Explained.{IsExplained}
-use Rattle.fare_texts.specs.ExplainedJson.{json_of}
-use Rattle.fare_texts.specs.declared.form.Form.{Form}
-use Rattle.fare_texts.specs.declared.form.Form.TheVariants.{Text, Json}
+use Rattle.tariffs.specs.Fares.{Fares}
 
 -- the explained statement of a token with these entries, in this form
 abbrev pub IsExplainedIn : Form → Fares → Token → List Entry → List ℕ → Type 0

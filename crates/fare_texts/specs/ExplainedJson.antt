@@ -1,38 +1,30 @@
 -- A token's explained statement as JSON: what its text has, as a function of the same entries.
-use Rattle.std.specs.Prelude.{ℕ, zero, suc, ◌+◌, ◌-◌, ◌/◌, ◌%◌, List, [], ◌∷◌, ◌++◌, Option, Some}
-use Rattle.std.specs.Prelude.{None, codes, flat_map, length, map, slice_index_or}
-use Rattle.std.specs.Fmt.{decimal}
-use Rattle.hex.specs.Hex.{encode_lower}
-use Rattle.tariffs.specs.ClockView.{ClockView}
-use Rattle.tariffs.specs.Fares.{Fares, terms_at}
-use Rattle.tariffs.specs.TableMeaning.{TableMeaning}
-use Rattle.tariffs.specs.declared.terms.Terms.{Terms}
-use Rattle.fare_caps.specs.CapMeanings.{capped_rules_of}
-use Rattle.fare_caps.specs.CappedReplies.{capped_window}
-use Rattle.account_rule.specs.declared.no_transfer.NoTransfer.{NoTransfer}
-use Rattle.account_rule.specs.declared.no_transfer.NoTransfer.TheVariants.{FirstTap, TooLate}
-use Rattle.account_rule.specs.declared.no_transfer.NoTransfer.TheVariants.{AfterTransfer, NoneGiven}
-use Rattle.account_rule.specs.declared.no_transfer.NoTransfer.TheVariants.{NotPermitted}
+use Rattle.account_rule.specs.declared.no_transfer.NoTransfer.{NoTransfer, TheVariants.FirstTap}
+use Rattle.account_rule.specs.declared.no_transfer.NoTransfer.TheVariants.{TooLate, AfterTransfer}
+use Rattle.account_rule.specs.declared.no_transfer.NoTransfer.TheVariants.{NoneGiven, NotPermitted}
 use Rattle.account_rule.specs.declared.no_transfer.NoTransfer.TheVariants.{RideTooLate}
 use Rattle.account_rule.specs.declared.reason.Charge.{Charge}
 use Rattle.account_rule.specs.declared.reason.Charge.TheVariants.{Full, CeilingCut, CeilingReached}
 use Rattle.account_rule.specs.declared.reason.Charge.TheVariants.{RideLimitReached}
+use Rattle.account_rule.specs.declared.window.WindowView.{WindowView}
+use Rattle.fare_caps.specs.{CapMeanings.capped_rules_of, CappedReplies.capped_window}
 use Rattle.fare_caps.specs.declared.cap_charge.CapCharge.{CapCharge}
 use Rattle.fare_caps.specs.declared.cap_charge.CapCharge.TheVariants.{ByWindow, CapCut, CapReached}
 use Rattle.fare_caps.specs.declared.capped_reason.CappedReason.{CappedReason}
 use Rattle.fare_caps.specs.declared.capped_reason.CappedReason.TheVariants.{PaidTransfer, Ride}
-use Rattle.fare_caps.specs.declared.capped_reason.CappedReason.TheVariants.{Stale, Transfer, Unknown}
-use Rattle.account_rule.specs.declared.window.WindowView.{WindowView}
-use Rattle.histories.specs.Entry.{tap_of}
-use Rattle.histories.specs.Sums.{Sums, sums}
-use Rattle.histories.specs.declared.entry.Entry.{Entry}
-use Rattle.tap_views.specs.Token.{bytes_of}
-use Rattle.tap_views.specs.declared.token.Token.{Token}
-use Rattle.fare_texts.specs.Explained.{earlier_windows}
-use Rattle.fare_texts.specs.LedgerLines.{reason_after}
-use Rattle.fare_texts.specs.Local.{local_at}
+use Rattle.fare_caps.specs.declared.capped_reason.CappedReason.TheVariants.{Stale, Transfer}
+use Rattle.fare_caps.specs.declared.capped_reason.CappedReason.TheVariants.{Unknown}
+use Rattle.fare_texts.specs.{Explained.earlier_windows, LedgerLines.reason_after, Local.local_at}
 use Rattle.fare_texts.specs.NoTransferWords.{no_transfer_after}
 use Rattle.fare_texts.specs.StatementText.{answer_text, mode_text}
+use Rattle.hex.specs.Hex.{encode_lower}
+use Rattle.histories.specs.{Entry.tap_of, Sums.Sums, Sums.sums, declared.entry.Entry.Entry}
+use Rattle.std.specs.Fmt.{decimal}
+use Rattle.std.specs.Prelude.{ℕ, zero, suc, ◌+◌, ◌-◌, ◌/◌, ◌%◌, List, [], ◌∷◌, ◌++◌, Option, Some}
+use Rattle.std.specs.Prelude.{None, codes, flat_map, length, map, slice_index_or}
+use Rattle.tap_views.specs.{Token.bytes_of, declared.token.Token.Token}
+use Rattle.tariffs.specs.{ClockView.ClockView, Fares.Fares, Fares.terms_at}
+use Rattle.tariffs.specs.{TableMeaning.TableMeaning, declared.terms.Terms.Terms}
 
 -- a moment at which clocks show this
 abbrev pub shown_json : ℕ → Option (List ℕ) → List ℕ

@@ -1,15 +1,12 @@
 -- What an explainer represents.
-use Rattle.std.specs.Prelude.{◌≡◌, ℕ, List, length, map}
-use Rattle.tariffs.specs.Fares.{Fares}
 use Rattle.account_rule.specs.declared.reply.Answer.TheVariants.{Unknown}
-use Rattle.fare_caps.specs.CapMeanings.{capped_rules_of}
-use Rattle.fare_caps.specs.CappedReplies.{capped_reply}
+use Rattle.fare_caps.specs.{CapMeanings.capped_rules_of, CappedReplies.capped_reply}
 use Rattle.fare_caps.specs.Represents.{Represents}
-use Rattle.histories.specs.Entry.{tap_of}
-use Rattle.tap_views.specs.Token.{bytes_of}
-use Rattle.histories.specs.declared.entry.Entry.{Entry}
-use Rattle.tap_views.specs.declared.token.Token.{Token}
 use Rattle.fare_texts.specs.declared.explainer.Explainer.{Explainer}
+use Rattle.histories.specs.{Entry.tap_of, declared.entry.Entry.Entry}
+use Rattle.std.specs.Prelude.{◌≡◌, ℕ, List, length, map}
+use Rattle.tap_views.specs.{Token.bytes_of, declared.token.Token.Token}
+use Rattle.tariffs.specs.Fares.{Fares}
 
 -- the entry of a token's tap at a validator and a moment, which follows the token's earlier
 -- entries: it has the account rule's reply

@@ -1,11 +1,9 @@
 -- The ledger of a history: a header line, and the lines of each token, by increasing tokens.
-use Rattle.std.specs.Prelude.{◌≡◌, ℕ, List, [], ◌∷◌, ◌++◌, Option, Some, None}
-use Rattle.tariffs.specs.Fares.{Fares}
-use Rattle.histories.specs.Entry.{own}
-use Rattle.histories.specs.SumsByKey.{tokens}
-use Rattle.histories.specs.declared.entry.Entry.{Entry}
-use Rattle.tap_views.specs.declared.token.Token.{Token}
 use Rattle.fare_texts.specs.LedgerLines.{AreLedgerLines, head_text}
+use Rattle.histories.specs.{Entry.own, SumsByKey.tokens, declared.entry.Entry.Entry}
+use Rattle.std.specs.Prelude.{◌≡◌, ℕ, List, [], ◌∷◌, ◌++◌, Option, Some, None}
+use Rattle.tap_views.specs.declared.token.Token.{Token}
+use Rattle.tariffs.specs.Fares.{Fares}
 
 -- whose lines a ledger has: those of the one token that is asked for, or of all tokens of the
 -- history, increasing, each once

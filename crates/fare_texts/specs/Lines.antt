@@ -1,13 +1,10 @@
 -- The lines of entries in order of token, as they are written one after another.
-use Rattle.std.specs.Prelude.{◌≡◌, ℕ, List, [], ◌∷◌, ◌++◌}
-use Rattle.tariffs.specs.Fares.{Fares}
-use Rattle.histories.specs.Entry.{own}
-use Rattle.tap_views.specs.TokenOrder.{IsUpTo}
-use Rattle.histories.specs.declared.entry.Entry.{Entry}
-use Rattle.tap_views.specs.declared.token.Token.{Token}
-use Rattle.fare_texts.specs.LedgerLines.{IsLedgerLineAfter}
-use Rattle.fare_texts.specs.Explainers.{HasExplained}
+use Rattle.fare_texts.specs.{Explainers.HasExplained, LedgerLines.IsLedgerLineAfter}
 use Rattle.fare_texts.specs.declared.explainer.Explainer.{Explainer}
+use Rattle.histories.specs.{Entry.own, declared.entry.Entry.Entry}
+use Rattle.std.specs.Prelude.{◌≡◌, ℕ, List, [], ◌∷◌, ◌++◌}
+use Rattle.tap_views.specs.{TokenOrder.IsUpTo, declared.token.Token.Token}
+use Rattle.tariffs.specs.Fares.{Fares}
 
 -- no entry's token is above this one
 abbrev pub AreUpTo : List Entry → Token → Type 0

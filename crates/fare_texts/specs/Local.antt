@@ -1,16 +1,13 @@
 -- What clocks of a table's zone show at a moment.
-use Rattle.std.specs.Prelude.{ℕ, zero, suc, ◌+◌, ◌-◌, ◌/◌, ◌%◌, nat_lt, if◌then◌else◌, ℤ, ◌+ℤ◌}
-use Rattle.std.specs.Prelude.{◌-ℤ◌, pos, unsigned_abs, List, [], ◌∷◌, ◌++◌, Option, None, Some}
-use Rattle.std.specs.Prelude.{option_map}
-use Rattle.std.specs.Int.{int_div_euclid, int_rem_euclid}
 use Rattle.jiff_core.specs.Calendar.{days_from_civil, days_in_month}
 use Rattle.jiff_core.specs.Timestamp.{nanos_of_seconds}
 use Rattle.jiff_fmt.specs.Text.{fraction_part, offset_text, pad2, year_text}
-use Rattle.jiff_tz.specs.PosixRule.{offset_at}
-use Rattle.jiff_tz.specs.Year.{year_of_day}
+use Rattle.jiff_tz.specs.{PosixRule.offset_at, Year.year_of_day}
 use Rattle.jiff_tz.specs.declared.posix.TimeZone.{TimeZone as PosixRule}
-use Rattle.tariffs.specs.ClockView.{ClockView}
-use Rattle.tariffs.specs.Until.{moment_nanos}
+use Rattle.std.specs.{Int.int_div_euclid, Int.int_rem_euclid, Prelude.ℕ, Prelude.zero}
+use Rattle.std.specs.Prelude.{suc, ◌+◌, ◌-◌, ◌/◌, ◌%◌, nat_lt, if◌then◌else◌, ℤ, ◌+ℤ◌, ◌-ℤ◌, pos}
+use Rattle.std.specs.Prelude.{unsigned_abs, List, [], ◌∷◌, ◌++◌, Option, None, Some, option_map}
+use Rattle.tariffs.specs.{ClockView.ClockView, Until.moment_nanos}
 
 -- the month and the day of it that are so many days after the first of a month of the year, in that
 -- month or one of so many after it

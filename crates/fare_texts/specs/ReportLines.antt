@@ -1,11 +1,9 @@
 -- Lines of a report: the head of a section, and the sums of a validator and of a token.
-use Rattle.std.specs.Prelude.{ℕ, List, ◌++◌, codes}
-use Rattle.std.specs.Fmt.{decimal}
-use Rattle.hex.specs.Hex.{encode_lower}
-use Rattle.tap_views.specs.Token.{bytes_of}
-use Rattle.tap_views.specs.declared.token.Token.{Token}
-use Rattle.histories.specs.Sums.{Sums}
 use Rattle.fare_texts.specs.Counts.{counts_text}
+use Rattle.hex.specs.Hex.{encode_lower}
+use Rattle.histories.specs.Sums.{Sums}
+use Rattle.std.specs.{Fmt.decimal, Prelude.ℕ, Prelude.List, Prelude.◌++◌, Prelude.codes}
+use Rattle.tap_views.specs.{Token.bytes_of, declared.token.Token.Token}
 
 -- a word, a number and the end of the line, as `validators 3`
 abbrev pub number_line : List ℕ → ℕ → List ℕ

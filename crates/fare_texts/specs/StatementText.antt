@@ -1,20 +1,15 @@
 -- The text of a statement: a line for each entry of the token, its totals, and its last window.
-use Rattle.std.specs.Prelude.{◌≡◌, ℕ, List, [], ◌∷◌, ◌++◌, Option, Some, None, codes}
-use Rattle.std.specs.Prelude.{slice_index_or}
-use Rattle.std.specs.Fmt.{decimal}
-use Rattle.hex.specs.Hex.{encode_lower}
-use Rattle.tariffs.specs.Fares.{Fares, mode_at}
-use Rattle.account_rule.specs.declared.reply.Answer.{Answer}
-use Rattle.account_rule.specs.declared.reply.Answer.TheVariants.{Paid, Transfer, Capped, Stale}
-use Rattle.account_rule.specs.declared.reply.Answer.TheVariants.{Unknown}
+use Rattle.account_rule.specs.declared.reply.Answer.{Answer, TheVariants.Paid}
+use Rattle.account_rule.specs.declared.reply.Answer.TheVariants.{Transfer, Capped, Stale, Unknown}
 use Rattle.account_rule.specs.declared.window.WindowView.{WindowView}
-use Rattle.tap_views.specs.Token.{bytes_of}
+use Rattle.fare_texts.specs.{Counts.totals_line, Moments.IsMomentText}
+use Rattle.hex.specs.Hex.{encode_lower}
 use Rattle.histories.specs.Sums.{sums_of}
-use Rattle.tap_views.specs.declared.token.Token.{Token}
-use Rattle.histories.specs.declared.entry.Entry.{Entry}
-use Rattle.histories.specs.declared.statement.Statement.{Statement}
-use Rattle.fare_texts.specs.Moments.{IsMomentText}
-use Rattle.fare_texts.specs.Counts.{totals_line}
+use Rattle.histories.specs.declared.{entry.Entry.Entry, statement.Statement.Statement}
+use Rattle.std.specs.{Fmt.decimal, Prelude.◌≡◌}
+use Rattle.std.specs.Prelude.{ℕ, List, [], ◌∷◌, ◌++◌, Option, Some, None, codes, slice_index_or}
+use Rattle.tap_views.specs.{Token.bytes_of, declared.token.Token.Token}
+use Rattle.tariffs.specs.Fares.{Fares, mode_at}
 
 -- the word of an answer
 abbrev pub answer_text : Answer → List ℕ

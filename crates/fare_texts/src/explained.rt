@@ -1,14 +1,11 @@
 //! The explained statement of a token: why each line costs what it costs.
 
-ghost use Rattle.std.specs.Prelude.{◌≡◌, ℕ, List, ◌++◌, IfErr, IfOk, OnOk};
-ghost use Rattle.std.specs.Prelude.{string_bytes};
-ghost use Rattle.std.specs.Io.KnownBytes.{Appends};
-ghost use Rattle.histories.specs.Sums.{sums, sums_of};
-ghost use Rattle.fare_texts.specs.Explained.{IsExplained};
-ghost use Rattle.fare_texts.specs.ExplainedForms.{IsExplainedIn};
-ghost use Rattle.fare_texts.specs.PrintFaults.{UnchangedUnlessWrite};
-ghost use Rattle.fare_texts.specs.WrittenOut.{Begins};
+ghost use Rattle.fare_texts.specs.{Explained.IsExplained, ExplainedForms.IsExplainedIn};
+ghost use Rattle.fare_texts.specs.{PrintFaults.UnchangedUnlessWrite, WrittenOut.Begins};
 ghost use Rattle.fare_texts.specs.declared.print_fault.PrintFault.TheVariants.{Write as ForWrite};
+ghost use Rattle.histories.specs.Sums.{sums, sums_of};
+ghost use Rattle.std.specs.Io.KnownBytes.{Appends};
+ghost use Rattle.std.specs.Prelude.{◌≡◌, ℕ, List, ◌++◌, IfErr, IfOk, OnOk, string_bytes};
 
 mod json;
 mod json_parts;

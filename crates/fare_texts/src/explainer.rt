@@ -1,19 +1,16 @@
 //! A token's entries, explained one after another.
 
+ghost use Rattle.account_rule.specs.NoTransfers.{HasModesBelow};
+ghost use Rattle.fare_caps.specs.{CapMeanings.capped_rules_of, CappedReplies.capped_window};
+ghost use Rattle.fare_texts.specs.Explainers.{HasExplained, next_entry};
+ghost use Rattle.fare_texts.specs.LedgerLines.{IsLedgerLineAfter, reason_after};
+ghost use Rattle.fare_texts.specs.{NoTransferWords.no_transfer_after, ReasonWords.HasModeOf};
+ghost use Rattle.histories.specs.{Entry.tap_of, declared.entry.Entry.Entry};
+ghost use Rattle.std.specs.Option.{ForSome};
 ghost use Rattle.std.specs.Prelude.{◌≡◌, ◌+◌, ◌^◌, ◌<◌, ◌≤◌, ◌++◌, ◌∷◌, ◌⊎◌, [], List, ℕ, IfOk};
 ghost use Rattle.std.specs.Prelude.{length, map, string_bytes, OnErr, OnOk};
-ghost use Rattle.std.specs.Option.{ForSome};
-ghost use Rattle.fare_caps.specs.CapMeanings.{capped_rules_of};
-ghost use Rattle.fare_caps.specs.CappedReplies.{capped_window};
-ghost use Rattle.tariffs.specs.Fares.{Fares};
 ghost use Rattle.tap_views.specs.Token.{bytes_of};
-ghost use Rattle.histories.specs.Entry.{tap_of};
-ghost use Rattle.histories.specs.declared.entry.Entry.{Entry};
-ghost use Rattle.fare_texts.specs.LedgerLines.{IsLedgerLineAfter, reason_after};
-ghost use Rattle.fare_texts.specs.Explainers.{HasExplained, next_entry};
-ghost use Rattle.account_rule.specs.NoTransfers.{HasModesBelow};
-ghost use Rattle.fare_texts.specs.NoTransferWords.{no_transfer_after};
-ghost use Rattle.fare_texts.specs.ReasonWords.{HasModeOf};
+ghost use Rattle.tariffs.specs.Fares.{Fares};
 
 use crate::ledger_line::write_line;
 use account_rule::{NoTransfer, TapIn, WindowView};

@@ -1,15 +1,11 @@
 //! The ledger of one token's entries, and the header line.
 
-ghost use Rattle.std.specs.Prelude.{◌≡◌, ◌^◌, ◌<◌, ℕ, List, ◌++◌, IfErr, IfOk, OnOk, Some};
-ghost use Rattle.std.specs.Prelude.{string_bytes};
-ghost use Rattle.std.specs.Io.KnownBytes.{Appends};
-ghost use Rattle.fare_texts.specs.PrintFaults.{UnchangedUnlessWrite};
-ghost use Rattle.fare_texts.specs.WrittenOut.{Begins};
+ghost use Rattle.fare_texts.specs.{Ledger.IsLedgerOver, LedgerLines.head_text};
+ghost use Rattle.fare_texts.specs.{PrintFaults.UnchangedUnlessWrite, WrittenOut.Begins};
 ghost use Rattle.fare_texts.specs.declared.print_fault.PrintFault.TheVariants.{Write as ForWrite};
-ghost use Rattle.histories.specs.Entry.{own};
-ghost use Rattle.histories.specs.declared.entry.Entry.{Entry};
-ghost use Rattle.fare_texts.specs.LedgerLines.{head_text};
-ghost use Rattle.fare_texts.specs.Ledger.{IsLedgerOver};
+ghost use Rattle.histories.specs.{Entry.own, declared.entry.Entry.Entry};
+ghost use Rattle.std.specs.{Io.KnownBytes.Appends, Prelude.◌≡◌};
+ghost use Rattle.std.specs.Prelude.{◌^◌, ◌<◌, ℕ, List, ◌++◌, IfErr, IfOk, OnOk, Some, string_bytes};
 
 use crate::lines::{PIECE_BYTES, pass_on};
 use crate::{PrintFault, head_line, write_token_lines};

@@ -1,12 +1,9 @@
 //! One line of a ledger.
 
-ghost use Rattle.std.specs.Prelude.{◌≡◌, ◌+◌, ◌≤◌, ◌++◌, [], length, List, ℕ, OnOk, codes};
-ghost use Rattle.std.specs.Prelude.{string_bytes};
-ghost use Rattle.std.specs.Fmt.{decimal};
-ghost use Rattle.fare_texts.specs.LedgerLines.{IsLedgerLine, IsReasonFields, line_head};
-ghost use Rattle.fare_texts.specs.LedgerLines.{mode_field};
-ghost use Rattle.fare_texts.specs.Moments.{IsMomentText};
-ghost use Rattle.fare_texts.specs.StatementText.{answer_text};
+ghost use Rattle.fare_texts.specs.LedgerLines.{IsLedgerLine, IsReasonFields, line_head, mode_field};
+ghost use Rattle.fare_texts.specs.{Moments.IsMomentText, StatementText.answer_text};
+ghost use Rattle.std.specs.{Fmt.decimal, Prelude.◌≡◌};
+ghost use Rattle.std.specs.Prelude.{◌+◌, ◌≤◌, ◌++◌, [], length, List, ℕ, OnOk, codes, string_bytes};
 
 use crate::answer_name;
 use crate::line::Line;

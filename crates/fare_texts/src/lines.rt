@@ -1,13 +1,12 @@
 //! How lines that wait in a text are written in pieces.
 
-ghost use Rattle.std.specs.Prelude.{◌≡◌, ◌≤◌, List, [], IfErr, OnErr, OnOk, string_bytes};
-ghost use Rattle.std.specs.Io.KnownBytes.{Appends, Keeps, append_known};
+ghost use Rattle.fare_texts.specs.{Lines.HasConsumed, WrittenOut.Begins, WrittenOut.GoesOut};
 ghost use Rattle.fare_texts.specs.declared.print_fault.PrintFault.TheVariants.{Write as ForWrite};
-ghost use Rattle.fare_texts.specs.Lines.{HasConsumed};
-ghost use Rattle.tap_views.specs.TokenOrder.{IsUpTo};
-ghost use Rattle.fare_texts.specs.WrittenOut.{Begins, GoesOut};
-ghost use Rattle.tariffs.specs.Fares.{Fares};
 ghost use Rattle.histories.specs.declared.entry.Entry.{Entry};
+ghost use Rattle.std.specs.Io.KnownBytes.{Appends, Keeps, append_known};
+ghost use Rattle.std.specs.Prelude.{◌≡◌, ◌≤◌, List, [], IfErr, OnErr, OnOk, string_bytes};
+ghost use Rattle.tap_views.specs.TokenOrder.{IsUpTo};
+ghost use Rattle.tariffs.specs.Fares.{Fares};
 
 use crate::{Explainer, PrintFault, write_out};
 use std::io::Write;

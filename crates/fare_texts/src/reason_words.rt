@@ -1,13 +1,11 @@
 //! The words that end an explained line.
 
-ghost use Rattle.std.specs.Prelude.{◌≡◌, ◌<◌, ◌+◌, ◌++◌, [], length, List, ℕ, OnOk};
-ghost use Rattle.std.specs.Prelude.{slice_index_or, string_bytes};
 ghost use Rattle.fare_texts.specs.ReasonWords.{IsRideText, IsTransferText, IsReasonWords};
-ghost use Rattle.fare_texts.specs.ReasonWords.{IsWindowText};
-ghost use Rattle.fare_texts.specs.ReasonWords.{charge_end, charge_start, giver_start};
+ghost use Rattle.fare_texts.specs.ReasonWords.{IsWindowText, charge_end, charge_start, giver_start};
 ghost use Rattle.fare_texts.specs.ReasonWords.{position_start, transfer_end, window_charge_end};
-ghost use Rattle.fare_texts.specs.ReasonWords.{window_charge_start, window_transfer_end};
-ghost use Rattle.fare_texts.specs.ReasonWords.{HasModeOf};
+ghost use Rattle.fare_texts.specs.ReasonWords.{window_charge_start, window_transfer_end, HasModeOf};
+ghost use Rattle.std.specs.Prelude.{◌≡◌, ◌<◌, ◌+◌, ◌++◌, [], length, List, ℕ, OnOk, slice_index_or};
+ghost use Rattle.std.specs.Prelude.{string_bytes};
 
 use crate::names::cap_name;
 use crate::write_moment;

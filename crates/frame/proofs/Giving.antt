@@ -1,18 +1,12 @@
 -- What a run gave, and more of it.
-use Rattle.std.proofs.Common.{◌≡◌, ◌∙◌, ◌∷◌, ◌++◌, [], ℕ, List, None, Option, Some, ap, append-nil, append_assoc}
-use Rattle.std.proofs.Common.{refl, subst, sym}
-use Rattle.std.specs.Prelude.{IfSome}
-use Rattle.std.specs.Io.KnownBytes.{Appends}
-use Rattle.world.specs.Run.{Load, Named, Run, with_cut, with_flushed, with_load, with_made, with_said}
-use Rattle.world.specs.Run.{with_written}
-use Rattle.world.specs.Writes.{IsCut, IsUnmade}
-use Rattle.world.specs.declared.faults.MakeFault.{MakeFault}
-use Rattle.world.specs.declared.faults.WriteFault.{WriteFault}
-use Rattle.frame.specs.Given.{Given, IsPart, file_of, gave, nothing, with_files, with_loads, with_note}
-use Rattle.frame.specs.Given.{with_text}
-use Rattle.frame.specs.Outsides.{IsStoppedIn, Leaves}
-use Rattle.frame.specs.declared.outside.Outside.{Outside}
-use Rattle.frame.specs.declared.outside.Outside.TheVariants.{Unmade, Unwritten}
+use Rattle.std.proofs.Common.{◌≡◌, ◌∙◌, ◌∷◌, ◌++◌, [], ℕ, List, None, Option, Some, ap, append-nil}
+use Rattle.std.proofs.Common.{append_assoc, refl, subst, sym}
+use Rattle.frame.specs.Given.{Given, IsPart, file_of, gave, nothing, with_files, with_loads}
+use Rattle.frame.specs.{Given.with_note, Given.with_text, Outsides.IsStoppedIn, Outsides.Leaves}
+use Rattle.frame.specs.declared.outside.Outside.{Outside, TheVariants.Unwritten}
+use Rattle.std.specs.{Io.KnownBytes.Appends, Prelude.IfSome}
+use Rattle.world.specs.Run.{Named, Run, with_cut, with_flushed, with_load, with_made, with_said}
+use Rattle.world.specs.{Run.with_written, Writes.IsCut, declared.faults.WriteFault.WriteFault}
 
 pub gave_nothing : (r : Run) → r ≡ gave r nothing
 gave_nothing r =

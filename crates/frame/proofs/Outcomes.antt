@@ -1,15 +1,12 @@
 -- How a run ends that was stopped.
 use Rattle.std.proofs.Common.{◌≡◌, ◌∙◌, ℕ, List, [], ap, append-nil, inl, inr, refl, subst}
-use Rattle.world.specs.Origins.{with_loads}
-use Rattle.world.specs.Run.{Load, Run, with_cut}
-use Rattle.world.specs.declared.faults.WriteFault.{WriteFault}
 use Rattle.frame.proofs.Giving.{part_self}
-use Rattle.frame.specs.Given.{Given, IsPart, gave}
-use Rattle.frame.specs.Outcome.{IsHalted, rule_of}
+use Rattle.frame.specs.{Given.Given, Given.IsPart, Given.gave, Outcome.IsHalted, Outcome.rule_of}
 use Rattle.frame.specs.Outsides.{IsStoppedIn, Leaves, LeavesBy, Stops}
-use Rattle.frame.specs.declared.outside.Outside.{Outside}
-use Rattle.frame.specs.declared.outside.Outside.TheVariants.{NoMemory, Unmade, Unread, Untraced}
-use Rattle.frame.specs.declared.outside.Outside.TheVariants.{Unwritten, Wrong}
+use Rattle.frame.specs.declared.outside.Outside.{Outside, TheVariants.NoMemory, TheVariants.Unmade}
+use Rattle.frame.specs.declared.outside.Outside.TheVariants.{Unread, Untraced, Unwritten, Wrong}
+use Rattle.world.specs.{Origins.with_loads, Run.Load, Run.Run, Run.with_cut}
+use Rattle.world.specs.declared.faults.WriteFault.{WriteFault}
 
 -- what is said of a wrong file may say less
 pub leaves_weaker : {t u : Type 0} → (t → u) → (words : List (List ℕ)) (why : Outside)

@@ -1,5 +1,5 @@
 -- What a run loaded, wrote, said and made, or is to.
-use Rattle.std.specs.Prelude.{◌≡◌, ℕ, List, [], ◌∷◌, ◌++◌}
+use Rattle.std.specs.Prelude.{◌≡◌, ℕ, List, [], ◌++◌}
 use Rattle.world.specs.Run.{Load, Named, Run}
 use Rattle.frame.specs.Names.{file_named}
 

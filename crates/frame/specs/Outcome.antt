@@ -1,9 +1,8 @@
 -- How a run ends.
+use Rattle.frame.specs.Given.{Given, IsPart, gave, nothing}
+use Rattle.frame.specs.{Outsides.IsReported, Outsides.LeavesBy, declared.outside.Outside.Outside}
 use Rattle.std.specs.Prelude.{◌≡◌, ◌⊎◌, ℕ, List}
 use Rattle.world.specs.Run.{Load, Run, with_flushed}
-use Rattle.frame.specs.Given.{Given, IsPart, gave, nothing}
-use Rattle.frame.specs.Outsides.{IsReported, LeavesBy}
-use Rattle.frame.specs.declared.outside.Outside.{Outside}
 
 -- What is asked for: what is right with this status, what may have been given of it when something
 -- stops the run, and what this leaves of the run after that.

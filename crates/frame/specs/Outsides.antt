@@ -1,15 +1,11 @@
 -- What stops a run, and what it leaves.
+use Rattle.frame.specs.{Given.Given, Given.IsPart, Given.gave, Names.file_named}
+use Rattle.frame.specs.declared.outside.Outside.{Outside, TheVariants.NoMemory, TheVariants.Unmade}
+use Rattle.frame.specs.declared.outside.Outside.TheVariants.{Unread, Untraced, Unwritten, Wrong}
 use Rattle.std.specs.Prelude.{◌≡◌, ℕ, Bool, true, false, Contains, List, MatchBool}
-use Rattle.world.specs.Loads.{IsRefused}
-use Rattle.world.specs.Run.{Run, with_cut}
-use Rattle.world.specs.Writes.{IsSaid, IsUnmade}
+use Rattle.world.specs.{Loads.IsRefused, Run.Run, Run.with_cut, Writes.IsSaid, Writes.IsUnmade}
 use Rattle.world.specs.declared.faults.WriteFault.{WriteFault}
 use Rattle.world.specs.declared.faults.WriteFault.TheVariants.{Closed, Refused}
-use Rattle.frame.specs.Given.{Given, IsPart, gave}
-use Rattle.frame.specs.Names.{file_named}
-use Rattle.frame.specs.declared.outside.Outside.{Outside}
-use Rattle.frame.specs.declared.outside.Outside.TheVariants.{NoMemory, Unmade, Unread, Untraced}
-use Rattle.frame.specs.declared.outside.Outside.TheVariants.{Unwritten, Wrong}
 
 -- What stopped a run leaves this of it: of one of these words the file was refused, or not made; or
 -- what a file holds is wrong, and this is true.

@@ -2,40 +2,28 @@
 use Rattle.std.proofs.Common.{Ordering, take, ◌≡◌, ℕ, ◌+◌, ◌≤◌, ◌^◌, Bool, true, false, cond, ◌||◌}
 use Rattle.std.proofs.Common.{List, [], ◌∷◌, ◌++◌, length, map, Option, Some, None, refl, sym, ap}
 use Rattle.std.proofs.Common.{subst, ◌∙◌, ⊎_elim, arith}
-use Rattle.std.specs.Cmp.{IsEquivalence, IsTotalOrder}
-use Rattle.std.specs.List.{list_any, IsDistinct, slice_get}
-use Rattle.std.specs.HashMap.{HashMap, get, IsUnique, Updates}
-use Rattle.indexmap.specs.IndexMap.{set_value_at}
-use Rattle.indexmap.proofs.CallerLemmas.{updates-with_value_at}
-use Rattle.std.specs.Map.{lookup, keys_of}
-use Rattle.std.specs.List.Sorted.{IsPermutation, IsSorted}
-use Rattle.std.specs.Ordering.{eq_by_cmp, is_eq}
-use Rattle.std.proofs.lemmas.List.Sorted.{list_any-IsPermutation}
-use Rattle.std.proofs.lemmas.Map.Keys.{IsDistinct-IsPermutation}
-use Rattle.std.proofs.lemmas.Map.Made.{is_some-lookup}
-use Rattle.histories.specs.Increasing.{increasing}
-use Rattle.histories.proofs.IncreasingLemmas.{increasing-only, sorted-increases}
 use Rattle.account_rule.specs.declared.reply.Reply.{Reply}
-use Rattle.std.specs.Option.{is_some, unwrap_or}
-use Rattle.std.specs.Set.{is_member}
-use Rattle.std.proofs.lemmas.Bool.{cases_Bool}
-use Rattle.std.proofs.lemmas.List.{map-append, append-nil, take_all}
-use Rattle.std.proofs.lemmas.List.Elements.{filter-append}
-use Rattle.std.proofs.lemmas.List.Sums.{length-filter, count_by-le-length}
-use Rattle.std.proofs.lemmas.List.Folds.{list_any-append}
-use Rattle.histories.specs.declared.entry.Entry.{Entry}
-use Rattle.histories.specs.declared.sums.tally.Tally.{Tally}
-use Rattle.histories.specs.Entry.{reply_of, own}
-use Rattle.histories.specs.SumsByKey.{sums_by_token, tokens}
-use Rattle.histories.specs.ByKey.{with_key}
-use Rattle.histories.specs.SumsBy.{sums_by}
-use Rattle.histories.specs.Shown.{token_sum}
-use Rattle.histories.specs.declared.sums.TokenSum.{TokenSum}
-use Rattle.tap_views.specs.declared.token.Token.{Token}
-use Rattle.histories.specs.TalliesByKey.{AreByKey, HasRoom, kept_sums}
-use Rattle.histories.specs.Sums.{Sums, sums, sums_of_replies, add_sums}
-use Rattle.histories.specs.Tally.{sums_of_tally}
+use Rattle.histories.proofs.IncreasingLemmas.{increasing-only, sorted-increases}
 use Rattle.histories.proofs.SumsLemmas.{sums-append, sums-taps}
+use Rattle.histories.specs.{ByKey.with_key, Entry.reply_of, Entry.own, Increasing.increasing}
+use Rattle.histories.specs.{Shown.token_sum, Sums.Sums, Sums.sums, Sums.sums_of_replies}
+use Rattle.histories.specs.{Sums.add_sums, SumsBy.sums_by, SumsByKey.sums_by_token}
+use Rattle.histories.specs.{SumsByKey.tokens, TalliesByKey.AreByKey, TalliesByKey.HasRoom}
+use Rattle.histories.specs.{TalliesByKey.kept_sums, Tally.sums_of_tally, declared.entry.Entry.Entry}
+use Rattle.histories.specs.declared.sums.{TokenSum.TokenSum, tally.Tally.Tally}
+use Rattle.indexmap.proofs.CallerLemmas.{updates-with_value_at}
+use Rattle.indexmap.specs.IndexMap.{set_value_at}
+use Rattle.std.proofs.lemmas.Bool.{cases_Bool}
+use Rattle.std.proofs.lemmas.List.{map-append, append-nil, take_all, Elements.filter-append}
+use Rattle.std.proofs.lemmas.List.{Folds.list_any-append, Sorted.list_any-IsPermutation}
+use Rattle.std.proofs.lemmas.List.Sums.{length-filter, count_by-le-length}
+use Rattle.std.proofs.lemmas.Map.{Keys.IsDistinct-IsPermutation, Made.is_some-lookup}
+use Rattle.std.specs.Cmp.{IsEquivalence, IsTotalOrder}
+use Rattle.std.specs.HashMap.{HashMap, get, IsUnique, Updates}
+use Rattle.std.specs.List.{list_any, IsDistinct, slice_get, Sorted.IsPermutation, Sorted.IsSorted}
+use Rattle.std.specs.{Map.lookup, Map.keys_of, Option.is_some, Option.unwrap_or, Ordering.eq_by_cmp}
+use Rattle.std.specs.{Ordering.is_eq, Set.is_member}
+use Rattle.tap_views.specs.declared.token.Token.{Token}
 
 or-true : (a : Bool) → true ≡ (a || (true || false))
 or-true true = refl

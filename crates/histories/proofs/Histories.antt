@@ -1,18 +1,14 @@
 -- One entry more: the taps of its token, the legality of the history, and the accounts.
-use Rattle.std.proofs.Common.{◌≡◌, ℕ, true, false, cond, List, [], ◌∷◌, ◌++◌, length, map}
-use Rattle.std.proofs.Common.{Option, Some, None, refl, sym, ap, subst, ◌∙◌, ◌⊎◌, inl, inr, ⊎_elim}
-use Rattle.std.proofs.Common.{arith}
-use Rattle.std.specs.Option.{option_map}
-use Rattle.std.specs.List.{filter}
+use Rattle.std.proofs.Common.{◌≡◌, ℕ, true, false, cond, List, [], ◌∷◌, ◌++◌, length, map, Option}
+use Rattle.std.proofs.Common.{Some, None, refl, sym, ap, subst, ◌∙◌, ◌⊎◌, inl, inr, ⊎_elim, arith}
+use Rattle.account_rule.specs.declared.tap.TapIn.{TapIn}
+use Rattle.histories.specs.Entry.{is_of, own, tap_of, taps_of, mode_of_position}
+use Rattle.histories.specs.{History.IsReplied, History.IsLegal, declared.entry.Entry.Entry}
 use Rattle.std.proofs.lemmas.List.{length-append, map-append, append-nil, append_assoc}
 use Rattle.std.proofs.lemmas.List.Elements.{filter-append}
-use Rattle.tariffs.specs.Fares.{Fares, mode_at}
-use Rattle.tariffs.specs.declared.mode.Mode.{Mode}
-use Rattle.account_rule.specs.declared.tap.TapIn.{TapIn}
-use Rattle.histories.specs.declared.entry.Entry.{Entry}
+use Rattle.std.specs.{List.filter, Option.option_map}
 use Rattle.tap_views.specs.declared.token.Token.{Token}
-use Rattle.histories.specs.Entry.{is_of, own, tap_of, taps_of, mode_of_position}
-use Rattle.histories.specs.History.{IsReplied, IsLegal}
+use Rattle.tariffs.specs.{Fares.Fares, Fares.mode_at, declared.mode.Mode.Mode}
 
 -- a list with one element at its end, cut before some element: it is the last one, or it stands
 -- before the end

@@ -2,18 +2,14 @@
 -- the members of the keys.
 use Rattle.std.proofs.Common.{◌≡◌, ◌+◌, Bool, false, ◌||◌, List, [], ◌∷◌, get_or, Ordering, refl}
 use Rattle.std.proofs.Common.{sym, ap, subst, ◌∙◌, arith}
-use Rattle.std.specs.declared.cmp.Ordering.TheVariants.{Less, Equal, Greater}
-use Rattle.std.specs.BTreeSet.{insert_key}
-use Rattle.std.specs.Cmp.{IsTotalOrder}
-use Rattle.std.specs.List.{AllByRecursion, IsDistinct}
-use Rattle.std.specs.List.Sorted.{IsStrictlySortedBy, IsSorted}
+use Rattle.histories.specs.Increasing.{increasing, IsIncreasing}
+use Rattle.std.proofs.{Math.Bool.or_self_left, lemmas.Bool.false≢true, lemmas.Cmp.tied_itself}
+use Rattle.std.proofs.lemmas.Map.Keys.{sorted_from_all_adjacent, apart_from_distinct}
+use Rattle.std.specs.{BTreeSet.insert_key, Cmp.IsTotalOrder}
+use Rattle.std.specs.List.{AllByRecursion, IsDistinct, Sorted.IsStrictlySortedBy, Sorted.IsSorted}
 use Rattle.std.specs.Ordering.{eq_by_cmp, is_eq, is_lt, match_ordering, ordering_reverse}
 use Rattle.std.specs.Set.{is_member}
-use Rattle.std.proofs.lemmas.Bool.{false≢true}
-use Rattle.std.proofs.lemmas.Cmp.{tied_itself}
-use Rattle.std.proofs.lemmas.Map.Keys.{sorted_from_all_adjacent, apart_from_distinct}
-use Rattle.std.proofs.Math.Bool.{or_self_left}
-use Rattle.histories.specs.Increasing.{increasing, IsIncreasing}
+use Rattle.std.specs.declared.cmp.Ordering.TheVariants.{Less, Equal, Greater}
 use Rattle.tap_views.proofs.Choices.{or_swap}
 
 module _ {K : Type 0} {cmp : K → K → Ordering} (total : IsTotalOrder cmp)

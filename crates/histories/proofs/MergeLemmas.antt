@@ -1,26 +1,18 @@
 -- Tallies that are added key by key to those of other entries.
-use Rattle.std.proofs.Common.{◌≡◌, ℕ, ◌+◌, ◌≤◌, ◌^◌, Bool, true, false, cond, ◌||◌, List, []}
-use Rattle.std.proofs.Common.{◌∷◌, ◌++◌, length, map, Option, Some, None, refl, sym, ap, ◌∙◌}
-use Rattle.std.proofs.Common.{⊎_elim, arith}
-use Rattle.std.specs.Cmp.{IsEquivalence}
-use Rattle.std.specs.List.{list_any, IsDistinct}
-use Rattle.std.specs.HashMap.{HashMap, get, Updates}
-use Rattle.std.specs.Map.{lookup, keys_of}
-use Rattle.std.specs.Option.{is_some, unwrap_or}
-use Rattle.std.proofs.lemmas.Bool.{cases_Bool}
-use Rattle.std.proofs.lemmas.List.{map-append}
-use Rattle.std.proofs.lemmas.List.Elements.{filter-append}
+use Rattle.std.proofs.Common.{◌≡◌, ℕ, ◌+◌, ◌≤◌, ◌^◌, Bool, true, false, cond, ◌||◌, List, [], ◌∷◌}
+use Rattle.std.proofs.Common.{◌++◌, length, map, Option, Some, None, refl, sym, ap, ◌∙◌, ⊎_elim}
+use Rattle.std.proofs.Common.{arith}
+use Rattle.histories.proofs.{ByKeyLemmas.kept-or, SumsLemmas.sums-append, SumsLemmas.sums-taps}
+use Rattle.histories.specs.{ByKey.with_key, Sums.Sums, Sums.sums, Sums.sums_of_replies}
+use Rattle.histories.specs.{Sums.add_sums, TalliesByKey.AreByKey, TalliesByKey.HaveRoom}
+use Rattle.histories.specs.{TalliesByKey.kept_sums, Tally.sums_of_tally}
+use Rattle.histories.specs.declared.{entry.Entry.Entry, sums.tally.Tally.Tally}
+use Rattle.std.proofs.{Math.Bool.or-false, Math.Bool.or-true, lemmas.Bool.cases_Bool}
+use Rattle.std.proofs.lemmas.List.{map-append, Elements.filter-append, Folds.list_any-append}
 use Rattle.std.proofs.lemmas.List.Sums.{length-filter, count_by-le-length}
-use Rattle.std.proofs.lemmas.List.Folds.{list_any-append}
-use Rattle.std.proofs.Math.Bool.{or-false, or-true}
-use Rattle.histories.specs.declared.entry.Entry.{Entry}
-use Rattle.histories.specs.declared.sums.tally.Tally.{Tally}
-use Rattle.histories.specs.ByKey.{with_key}
-use Rattle.histories.specs.TalliesByKey.{AreByKey, HaveRoom, kept_sums}
-use Rattle.histories.specs.Sums.{Sums, sums, sums_of_replies, add_sums}
-use Rattle.histories.specs.Tally.{sums_of_tally}
-use Rattle.histories.proofs.ByKeyLemmas.{kept-or}
-use Rattle.histories.proofs.SumsLemmas.{sums-append, sums-taps}
+use Rattle.std.specs.{Cmp.IsEquivalence, HashMap.HashMap, HashMap.get, HashMap.Updates}
+use Rattle.std.specs.{List.list_any, List.IsDistinct, Map.lookup, Map.keys_of}
+use Rattle.std.specs.Option.{is_some, unwrap_or}
 
 -- what is kept of each key now and what is left to add make up what was kept at first and all that
 -- is to be added

@@ -1,12 +1,10 @@
 -- The entries of one token among entries: of one more, of two lists, and of its own alone.
-use Rattle.std.proofs.Common.{◌≡◌, true, false, List, [], ◌∷◌, ◌++◌, All, cond, filter}
-use Rattle.std.proofs.Common.{refl, ap, ◌∙◌}
+use Rattle.std.proofs.Common.{◌≡◌, true, false, List, [], ◌∷◌, ◌++◌, All, cond, filter, refl, ap}
+use Rattle.std.proofs.Common.{◌∙◌}
+use Rattle.histories.specs.{Entry.is_of, Entry.own, declared.entry.Entry.Entry}
 use Rattle.std.proofs.lemmas.List.Elements.{All-head, All-tail, filter-append}
-use Rattle.tap_views.specs.Token.{token_eq}
-use Rattle.tap_views.specs.declared.token.Token.{Token}
 use Rattle.tap_views.proofs.TokenLemmas.{token_eq-refl}
-use Rattle.histories.specs.declared.entry.Entry.{Entry}
-use Rattle.histories.specs.Entry.{is_of, own}
+use Rattle.tap_views.specs.{Token.token_eq, declared.token.Token.Token}
 
 -- no entries have none of the token
 pub own_none : (token : Token) → own token [] ≡ []

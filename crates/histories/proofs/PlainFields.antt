@@ -1,24 +1,19 @@
 -- The entries of a plain history have the fields of their taps' bytes.
-use Rattle.std.specs.Prelude.{ℕ, ◌≡◌, ◌⊎◌, ◌++◌, ◌<◌, ◌≤◌, List, [], ◌∷◌, length, take, drop, All}
-use Rattle.std.specs.List.{flat_map, AllByRecursion}
-use Rattle.std.specs.Int.{to_be_bytes, from_be_bytes, w64}
 use Rattle.std.proofs.Common.{refl, sym, ◌∙◌, ap, inl, inr, subst, arith, get_or, length-take-le}
 use Rattle.std.proofs.Common.{length-drop, take-append-drop}
-use Rattle.std.proofs.lemmas.Bool.{cases_lt}
-use Rattle.std.proofs.lemmas.List.{get_or_past}
-use Rattle.std.proofs.lemmas.List.Elements.{All-nil, All-cons, All-head, All-tail, All-append}
-use Rattle.std.proofs.lemmas.List.Elements.{All-take, All-drop, All-get_or}
-use Rattle.std.proofs.lemmas.Nat.{be_bytes_8}
-use Rattle.tariffs.specs.Fares.{Fares}
-use Rattle.tap_views.specs.Layout.{Tap, Layout, Tap1, Tap2, IsTapOf, spelling, magic, shared}
-use Rattle.tap_views.specs.Layout.{IsBatch}
-use Rattle.tap_views.specs.Files.{IsFile, AreValidTaps, AreValidTapsOfEach}
-use Rattle.histories.specs.declared.entry.Entry.{Entry}
-use Rattle.tap_views.specs.Token.{bytes_of}
+use Rattle.histories.specs.{Entry.AreEntriesOf, Plain.IsPlain, Plain.answered, Plain.unanswered}
+use Rattle.histories.specs.{Plain.plain_after, Plain.token_of_bytes, declared.entry.Entry.Entry}
+use Rattle.std.proofs.lemmas.{Bool.cases_lt, List.get_or_past, List.Elements.All-nil}
+use Rattle.std.proofs.lemmas.List.Elements.{All-cons, All-head, All-tail, All-append, All-take}
+use Rattle.std.proofs.lemmas.{List.Elements.All-drop, List.Elements.All-get_or, Nat.be_bytes_8}
+use Rattle.std.specs.Int.{to_be_bytes, from_be_bytes, w64}
+use Rattle.std.specs.List.{flat_map, AllByRecursion}
+use Rattle.std.specs.Prelude.{ℕ, ◌≡◌, ◌⊎◌, ◌++◌, ◌<◌, ◌≤◌, List, [], ◌∷◌, length, take, drop, All}
 use Rattle.tap_views.proofs.Lists.{All-split}
-use Rattle.histories.specs.Entry.{AreEntriesOf}
-use Rattle.histories.specs.Plain.{IsPlain}
-use Rattle.histories.specs.Plain.{answered, unanswered, plain_after, token_of_bytes}
+use Rattle.tap_views.specs.Files.{IsFile, AreValidTaps, AreValidTapsOfEach}
+use Rattle.tap_views.specs.Layout.{Tap, Layout, Tap1, Tap2, IsTapOf, spelling, magic, shared}
+use Rattle.tap_views.specs.{Layout.IsBatch, Token.bytes_of}
+use Rattle.tariffs.specs.Fares.{Fares}
 
 -- the tap's token is the name of its bytes
 abbrev pub IsName : Tap → Type 0

@@ -1,27 +1,20 @@
 -- Two legal histories in which the taps of a token are the same have the same entries of that
 -- token.
-use Rattle.std.specs.Prelude.{◌≡◌, Bool, true, false, cond, List, [], ◌∷◌, ◌++◌, length, map}
-use Rattle.std.specs.Prelude.{filter}
 use Rattle.std.proofs.Common.{refl, sym, ◌∙◌, ap, subst, arith, append-nil, append_assoc}
 use Rattle.std.proofs.Common.{length-append}
-use Rattle.std.proofs.lemmas.List.{map-append}
-use Rattle.std.proofs.lemmas.List.Elements.{filter-append}
-use Rattle.tariffs.specs.Fares.{Fares}
-use Rattle.tap_views.specs.Layout.{Tap}
-use Rattle.account_rule.specs.declared.reply.Answer.TheVariants.{Unknown}
-use Rattle.account_rule.specs.declared.tap.TapIn.{TapIn}
-use Rattle.fare_caps.specs.CapMeanings.{capped_rules_of}
-use Rattle.fare_caps.specs.CappedReplies.{capped_reply}
+use Rattle.account_rule.specs.declared.{reply.Answer.TheVariants.Unknown, tap.TapIn.TapIn}
+use Rattle.fare_caps.specs.{CapMeanings.capped_rules_of, CappedReplies.capped_reply}
 use Rattle.fare_caps.specs.Caps.{CappedRules}
-use Rattle.histories.specs.declared.entry.Entry.{Entry}
-use Rattle.tap_views.specs.declared.token.Token.{Token}
+use Rattle.histories.proofs.{Histories.legal-push, OwnEntries.own_other, OwnEntries.own_same}
 use Rattle.histories.specs.Entry.{is_of, own, tap_of, taps_of}
-use Rattle.histories.specs.History.{IsReplied, IsLegal}
-use Rattle.histories.specs.Keys.{same_token}
-use Rattle.tap_views.specs.Token.{bytes_of}
+use Rattle.histories.specs.{History.IsReplied, History.IsLegal, Keys.same_token}
 use Rattle.histories.specs.Plain.{with_reply, answered, unanswered, plain_after, plain}
-use Rattle.histories.proofs.Histories.{legal-push}
-use Rattle.histories.proofs.OwnEntries.{own_other, own_same}
+use Rattle.histories.specs.declared.entry.Entry.{Entry}
+use Rattle.std.proofs.lemmas.List.{map-append, Elements.filter-append}
+use Rattle.std.specs.Prelude.{◌≡◌, Bool, true, false, cond, List, [], ◌∷◌, ◌++◌, length, map}
+use Rattle.std.specs.Prelude.{filter}
+use Rattle.tap_views.specs.{Layout.Tap, Token.bytes_of, declared.token.Token.Token}
+use Rattle.tariffs.specs.Fares.{Fares}
 
 -- an entry without its reply
 abbrev pub bare : Entry → Entry

@@ -1,15 +1,11 @@
 -- Uploads have one plain history, and it is legal.
-use Rattle.std.specs.Prelude.{ℕ, ◌≡◌, List, All}
-use Rattle.std.specs.List.{flat_map}
 use Rattle.std.proofs.Common.{refl, sym, ◌∙◌, ap, subst}
-use Rattle.tariffs.specs.Fares.{Fares}
-use Rattle.tap_views.specs.Layout.{Tap}
-use Rattle.tap_views.specs.Files.{AreValidTapsOfEach, HasUniqueParse}
-use Rattle.tap_views.proofs.ParseLemmas.{one_list}
-use Rattle.histories.specs.declared.entry.Entry.{Entry}
-use Rattle.histories.specs.History.{IsLegal}
-use Rattle.histories.specs.Plain.{IsPlain, plain}
 use Rattle.histories.proofs.PlainReplies.{plain_legal}
+use Rattle.histories.specs.{History.IsLegal, Plain.IsPlain, Plain.plain, declared.entry.Entry.Entry}
+use Rattle.std.specs.{List.flat_map, Prelude.ℕ, Prelude.◌≡◌, Prelude.List, Prelude.All}
+use Rattle.tap_views.proofs.ParseLemmas.{one_list}
+use Rattle.tap_views.specs.{Files.AreValidTapsOfEach, Files.HasUniqueParse, Layout.Tap}
+use Rattle.tariffs.specs.Fares.{Fares}
 
 pub one_plain : (fares : Fares) (files : List (List ℕ)) (history other : List Entry)
     → All HasUniqueParse files → IsPlain fares files history → IsPlain fares files other

@@ -1,24 +1,20 @@
 -- Histories with the same entries of each token have the same sums, in all and by key.
-use Rattle.std.specs.Prelude.{ℕ, ◌≡◌, ◌↔◌, cond, List, map, filter, IsPermutation}
-use Rattle.std.specs.Ordering.{eq_by_cmp, nat_cmp}
-use Rattle.std.specs.declared.cmp.Ordering.{Ordering}
 use Rattle.std.proofs.Common.{refl, sym, ◌∙◌, ap}
+use Rattle.account_rule.specs.declared.reply.Reply.{Reply}
+use Rattle.histories.proofs.SameUnderKeys.{same_elements}
+use Rattle.histories.specs.Entry.{is_of, is_at, own, reply_of}
+use Rattle.histories.specs.{Increasing.increasing, Increasing.IsIncreasing, Keys.same_token}
+use Rattle.histories.specs.Sums.{sums, sums_of_replies, is_paid, is_transfer, is_capped, is_stale}
+use Rattle.histories.specs.{Sums.is_unknown, SumsByKey.entries_of_validator, SumsByKey.validators}
+use Rattle.histories.specs.SumsByKey.{tokens, sums_by_validator, sums_by_token, validator_of}
+use Rattle.histories.specs.{SumsByKey.token_of, declared.entry.Entry.Entry}
 use Rattle.std.proofs.lemmas.List.Sorted.{IsPermutation-map, length_permutation}
 use Rattle.std.proofs.lemmas.List.Sorted.{sum_by-IsPermutation, list_any-IsPermutation}
-use Rattle.account_rule.specs.declared.reply.Reply.{Reply}
-use Rattle.histories.specs.declared.entry.Entry.{Entry}
-use Rattle.tap_views.specs.declared.token.Token.{Token}
-use Rattle.histories.specs.Entry.{is_of, is_at, own, reply_of}
-use Rattle.histories.specs.SumsByKey.{entries_of_validator, validators, tokens, sums_by_validator}
-use Rattle.histories.specs.SumsByKey.{sums_by_token, validator_of, token_of}
-use Rattle.histories.specs.Keys.{same_token}
-use Rattle.histories.specs.Increasing.{increasing, IsIncreasing}
-use Rattle.histories.specs.Sums.{sums, sums_of_replies, is_paid, is_transfer, is_capped, is_stale}
-use Rattle.histories.specs.Sums.{is_unknown}
-use Rattle.tap_views.specs.Token.{token_cmp, token_eq}
-use Rattle.tap_views.proofs.Lists.{filter-filter}
-use Rattle.tap_views.proofs.TokenLemmas.{token_eq-refl}
-use Rattle.histories.proofs.SameUnderKeys.{same_elements}
+use Rattle.std.specs.Ordering.{eq_by_cmp, nat_cmp}
+use Rattle.std.specs.Prelude.{ℕ, ◌≡◌, ◌↔◌, cond, List, map, filter, IsPermutation}
+use Rattle.std.specs.declared.cmp.Ordering.{Ordering}
+use Rattle.tap_views.proofs.{Lists.filter-filter, TokenLemmas.token_eq-refl}
+use Rattle.tap_views.specs.{Token.token_cmp, Token.token_eq, declared.token.Token.Token}
 
 -- ---- the same elements have the same sums and keys
 pub same_sums : (xs ys : List Entry) → IsPermutation xs ys → sums xs ≡ sums ys

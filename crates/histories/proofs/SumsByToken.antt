@@ -2,28 +2,22 @@
 -- and of entries of one token.
 use Rattle.std.proofs.Common.{◌≡◌, false, ◌||◌, cond, List, ◌∷◌, ◌++◌, map, filter, [], refl, sym}
 use Rattle.std.proofs.Common.{ap, ◌∙◌, append-nil, All, ◌<◌, length, arith}
-use Rattle.std.specs.List.Sorted.{IsStrictlySortedBy}
-use Rattle.std.specs.declared.cmp.Ordering.TheVariants.{Less}
-use Rattle.std.proofs.lemmas.List.{map-append}
+use Rattle.histories.proofs.IncreasingLemmas.{increasing-is, increasing-only}
+use Rattle.histories.proofs.OwnEntries.{own_all}
+use Rattle.histories.specs.{Entry.is_of, Entry.own, Increasing.increasing, Sums.Sums, Sums.sums}
+use Rattle.histories.specs.SumsByKey.{sums_by_token, token_of, tokens}
+use Rattle.histories.specs.declared.entry.Entry.{Entry}
+use Rattle.std.proofs.{Math.Bool.or_self_left, lemmas.List.map-append}
 use Rattle.std.proofs.lemmas.List.Elements.{All-head, All-tail, All-nil, All-cons, filter-append}
 use Rattle.std.proofs.lemmas.List.Elements.{All-weaker, recursion_from_All}
 use Rattle.std.proofs.lemmas.Map.Views.{All-insert_key}
-use Rattle.tap_views.specs.Token.{token_cmp, token_eq}
-use Rattle.tap_views.specs.TokenOrder.{AreBelow}
-use Rattle.tap_views.specs.declared.token.Token.{Token}
-use Rattle.histories.specs.Entry.{is_of, own}
-use Rattle.histories.specs.Increasing.{increasing}
-use Rattle.histories.specs.Sums.{Sums, sums}
-use Rattle.histories.specs.SumsByKey.{sums_by_token, token_of, tokens}
-use Rattle.histories.specs.declared.entry.Entry.{Entry}
-use Rattle.tap_views.proofs.TokenLemmas.{token_eq-sym, token_cmp-total, token_cmp-ties}
-use Rattle.tap_views.proofs.TokenLemmas.{among, among-append, less_apart}
+use Rattle.std.specs.{List.Sorted.IsStrictlySortedBy, Ordering.eq_by_cmp, Set.is_member}
+use Rattle.std.specs.declared.cmp.Ordering.TheVariants.{Less}
 use Rattle.tap_views.proofs.Lists.{each-append}
-use Rattle.histories.proofs.IncreasingLemmas.{increasing-is, increasing-only}
-use Rattle.std.specs.Ordering.{eq_by_cmp}
-use Rattle.std.specs.Set.{is_member}
-use Rattle.std.proofs.Math.Bool.{or_self_left}
-use Rattle.histories.proofs.OwnEntries.{own_all}
+use Rattle.tap_views.proofs.TokenLemmas.{token_eq-sym, token_cmp-total, token_cmp-ties, among}
+use Rattle.tap_views.proofs.TokenLemmas.{among-append, less_apart}
+use Rattle.tap_views.specs.Token.{token_cmp, token_eq}
+use Rattle.tap_views.specs.{TokenOrder.AreBelow, declared.token.Token.Token}
 
 -- ---- two lists
 sorted_append : (xs ys : List Token) → IsStrictlySortedBy token_cmp xs

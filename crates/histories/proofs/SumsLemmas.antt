@@ -1,14 +1,13 @@
 -- Sums of two lists are the sums of both, joined.
 use Rattle.std.proofs.Common.{◌≡◌, ℕ, ◌+◌, ◌<◌, List, [], ◌∷◌, ◌++◌, length, take, get_or, map}
 use Rattle.std.proofs.Common.{cond, sym, ap, ◌∙◌}
+use Rattle.account_rule.specs.declared.reply.Reply.{Reply}
+use Rattle.histories.specs.{Entry.reply_of, Sums.Sums, Sums.sums, Sums.sums_of_replies}
+use Rattle.histories.specs.Sums.{add_sums, is_paid, is_transfer, is_capped, is_stale, is_unknown}
+use Rattle.histories.specs.declared.entry.Entry.{Entry}
+use Rattle.std.proofs.Math.Nat.{add-zero, add_assoc as plus_assoc, zero-add}
 use Rattle.std.proofs.lemmas.List.{length-append, map-append, length-map, take_more}
 use Rattle.std.proofs.lemmas.List.Sums.{sum_by-append}
-use Rattle.std.proofs.Math.Nat.{add-zero, add_assoc as plus_assoc, zero-add}
-use Rattle.account_rule.specs.declared.reply.Reply.{Reply}
-use Rattle.histories.specs.declared.entry.Entry.{Entry}
-use Rattle.histories.specs.Entry.{reply_of}
-use Rattle.histories.specs.Sums.{Sums, sums, sums_of_replies, add_sums, is_paid, is_transfer}
-use Rattle.histories.specs.Sums.{is_capped, is_stale, is_unknown}
 
 -- sums are their seven numbers
 abbrev pub seven : ℕ → ℕ → ℕ → ℕ → ℕ → ℕ → ℕ → Sums

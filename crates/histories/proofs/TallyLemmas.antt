@@ -1,14 +1,12 @@
 -- One reply more at the place of its answer.
 use Rattle.std.proofs.Common.{◌≡◌, ℕ, ◌+◌, List, [], ◌∷◌, length, set, arith}
-use Rattle.std.specs.Prelude.{slice_index}
-use Rattle.account_rule.specs.declared.reply.Answer.{Answer}
-use Rattle.account_rule.specs.declared.reply.Answer.TheVariants.{Paid, Transfer, Capped, Stale}
-use Rattle.account_rule.specs.declared.reply.Answer.TheVariants.{Unknown}
+use Rattle.account_rule.specs.declared.reply.Answer.{Answer, TheVariants.Paid}
+use Rattle.account_rule.specs.declared.reply.Answer.TheVariants.{Transfer, Capped, Stale, Unknown}
 use Rattle.account_rule.specs.declared.reply.Reply.{Reply}
-use Rattle.histories.specs.Positions.{count_position}
-use Rattle.histories.specs.Sums.{sums_of_replies, add_sums}
-use Rattle.histories.specs.Tally.{sums_of_positions}
 use Rattle.histories.proofs.SumsLemmas.{same_seven}
+use Rattle.histories.specs.{Positions.count_position, Sums.sums_of_replies, Sums.add_sums}
+use Rattle.histories.specs.Tally.{sums_of_positions}
+use Rattle.std.specs.Prelude.{slice_index}
 
 -- the count at the answer's place is one more, and the cents are the reply's more
 pub tallied : (counts : List ℕ) (cents : ℕ) (reply : Reply) → length counts ≡ 5

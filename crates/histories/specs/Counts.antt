@@ -1,9 +1,8 @@
 -- What small counts represent.
-use Rattle.std.specs.Prelude.{◌+◌}
-use Rattle.histories.specs.declared.sums.counts.Counts.{Counts}
-use Rattle.histories.specs.declared.sums.counts.TokenCounts.{TokenCounts}
-use Rattle.tap_views.specs.declared.token.Token.{Token}
 use Rattle.histories.specs.Sums.{Sums}
+use Rattle.histories.specs.declared.sums.counts.{Counts.Counts, TokenCounts.TokenCounts}
+use Rattle.std.specs.Prelude.{◌+◌}
+use Rattle.tap_views.specs.declared.token.Token.{Token}
 
 -- the sums that the counts hold
 abbrev pub sums_of_counts : Counts → Sums

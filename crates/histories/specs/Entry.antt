@@ -1,14 +1,11 @@
 -- Entries of a history, and the taps of one token among them.
-use Rattle.std.specs.Prelude.{◌≡◌, ℕ, Bool, List, All, option_map, map, filter, ◌==◌}
-use Rattle.std.specs.List.{AllZip}
-use Rattle.tap_views.specs.Layout.{Tap, num}
-use Rattle.tariffs.specs.Fares.{Fares, mode_at}
-use Rattle.tariffs.specs.declared.mode.Mode.{Mode}
-use Rattle.account_rule.specs.declared.reply.Reply.{Reply}
-use Rattle.account_rule.specs.declared.tap.TapIn.{TapIn}
+use Rattle.account_rule.specs.declared.{reply.Reply.Reply, tap.TapIn.TapIn}
 use Rattle.histories.specs.declared.entry.Entry.{Entry}
-use Rattle.tap_views.specs.declared.token.Token.{Token}
-use Rattle.tap_views.specs.Token.{Fits, bytes_of, token_eq}
+use Rattle.std.specs.List.{AllZip}
+use Rattle.std.specs.Prelude.{◌≡◌, ℕ, Bool, List, All, option_map, map, filter, ◌==◌}
+use Rattle.tap_views.specs.Layout.{Tap, num}
+use Rattle.tap_views.specs.{Token.Fits, Token.bytes_of, Token.token_eq, declared.token.Token.Token}
+use Rattle.tariffs.specs.{Fares.Fares, Fares.mode_at, declared.mode.Mode.Mode}
 
 -- the entry has the fields of the tap's bytes
 pub record IsEntryOf (tap : Tap) (entry : Entry) : Type 0 where

@@ -1,9 +1,8 @@
 -- The hash of the accounts: a product for each eight bytes, its halves joined by xor.
+use Rattle.histories.specs.declared.token_hash.{FoldedProduct.FoldedProduct, HashSeed.HashSeed}
+use Rattle.std.specs.Int.{from_le_bytes, w32, w64}
 use Rattle.std.specs.Prelude.{ℕ, ◌*◌, ◌/◌, ◌-◌, ◌^◌, List, [], ◌∷◌, length, nat_le, nat_lt}
 use Rattle.std.specs.Prelude.{if◌then◌else◌, slice_index, bit_and, bit_xor}
-use Rattle.std.specs.Int.{from_le_bytes, w32, w64}
-use Rattle.histories.specs.declared.token_hash.FoldedProduct.{FoldedProduct}
-use Rattle.histories.specs.declared.token_hash.HashSeed.{HashSeed}
 
 -- the two halves of the 128 bits of a * b, joined by xor
 unfoldable pub folded_multiply : ℕ → ℕ → ℕ

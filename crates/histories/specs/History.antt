@@ -1,11 +1,9 @@
 -- Legal histories: every reply is the account rule's.
+use Rattle.fare_caps.specs.{CapMeanings.capped_rules_of, CappedReplies.capped_reply}
+use Rattle.histories.specs.{Entry.reply_of, Entry.tap_of, Entry.taps_of, declared.entry.Entry.Entry}
 use Rattle.std.specs.Prelude.{◌≡◌, List, ◌∷◌, ◌++◌}
-use Rattle.tariffs.specs.Fares.{Fares}
-use Rattle.fare_caps.specs.CapMeanings.{capped_rules_of}
-use Rattle.fare_caps.specs.CappedReplies.{capped_reply}
-use Rattle.histories.specs.declared.entry.Entry.{Entry}
-use Rattle.histories.specs.Entry.{reply_of, tap_of, taps_of}
 use Rattle.tap_views.specs.Token.{bytes_of}
+use Rattle.tariffs.specs.Fares.{Fares}
 
 -- after these entries, the entry's reply is the account rule's for its token's earlier taps
 unfoldable pub IsReplied : Fares → List Entry → Entry → Type 0

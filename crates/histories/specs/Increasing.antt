@@ -1,10 +1,7 @@
 -- The keys of a list, each once and increasing.
+use Rattle.std.specs.{BTreeSet.insert_key, List.Sorted.IsStrictlySortedBy, Ordering.eq_by_cmp}
 use Rattle.std.specs.Prelude.{◌≡◌, List, [], ◌∷◌}
-use Rattle.std.specs.BTreeSet.{insert_key}
-use Rattle.std.specs.List.Sorted.{IsStrictlySortedBy}
-use Rattle.std.specs.Ordering.{eq_by_cmp}
-use Rattle.std.specs.Set.{is_member}
-use Rattle.std.specs.declared.cmp.Ordering.{Ordering}
+use Rattle.std.specs.{Set.is_member, declared.cmp.Ordering.Ordering}
 
 -- the keys of the list, each once, in their order
 unfoldable pub increasing : {K : Type 0} → (K → K → Ordering) → List K → List K

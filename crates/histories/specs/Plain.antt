@@ -1,19 +1,13 @@
 -- The sequential history of taps: each posted after those before it, with the account rule's reply.
 -- It has no shards, no visits and no workers.
-use Rattle.std.specs.List.{flat_map}
-use Rattle.std.specs.Int.{from_be_bytes, w64}
+use Rattle.account_rule.specs.declared.reply.{Answer.TheVariants.Unknown, Reply.Reply}
+use Rattle.fare_caps.specs.{CapMeanings.capped_rules_of, CappedReplies.capped_reply}
+use Rattle.histories.specs.{Entry.tap_of, Entry.taps_of, declared.entry.Entry.Entry}
+use Rattle.std.specs.{Int.from_be_bytes, Int.w64, List.flat_map}
 use Rattle.std.specs.Prelude.{◌≡◌, ℕ, List, [], ◌∷◌, ◌++◌, take, drop}
-use Rattle.tap_views.specs.Files.{AreValidTapsOfEach}
-use Rattle.tap_views.specs.Layout.{Tap, num}
-use Rattle.tariffs.specs.Fares.{Fares}
-use Rattle.tap_views.specs.Token.{bytes_of}
+use Rattle.tap_views.specs.{Files.AreValidTapsOfEach, Layout.Tap, Layout.num, Token.bytes_of}
 use Rattle.tap_views.specs.declared.token.Token.{Token}
-use Rattle.fare_caps.specs.CapMeanings.{capped_rules_of}
-use Rattle.fare_caps.specs.CappedReplies.{capped_reply}
-use Rattle.account_rule.specs.declared.reply.Answer.TheVariants.{Unknown}
-use Rattle.account_rule.specs.declared.reply.Reply.{Reply}
-use Rattle.histories.specs.Entry.{tap_of, taps_of}
-use Rattle.histories.specs.declared.entry.Entry.{Entry}
+use Rattle.tariffs.specs.Fares.{Fares}
 
 -- the token that 16 bytes name: its numbers are those of the first eight bytes and of the others
 abbrev pub token_of_bytes : List ℕ → Token

@@ -1,8 +1,7 @@
 -- Counts by the places of answers.
+use Rattle.account_rule.specs.declared.reply.Answer.{Answer, TheVariants.Paid}
+use Rattle.account_rule.specs.declared.reply.Answer.TheVariants.{Transfer, Capped, Stale, Unknown}
 use Rattle.std.specs.Prelude.{ℕ, ◌+◌, List, slice_index}
-use Rattle.account_rule.specs.declared.reply.Answer.{Answer}
-use Rattle.account_rule.specs.declared.reply.Answer.TheVariants.{Paid, Transfer, Capped, Stale}
-use Rattle.account_rule.specs.declared.reply.Answer.TheVariants.{Unknown}
 
 -- the place of an answer's count
 abbrev pub count_position : Answer → ℕ

@@ -1,9 +1,8 @@
 -- What the sums of a key show.
-use Rattle.std.specs.Prelude.{ℕ}
-use Rattle.histories.specs.declared.sums.TokenSum.{TokenSum}
-use Rattle.histories.specs.declared.sums.ValidatorSum.{ValidatorSum}
-use Rattle.tap_views.specs.declared.token.Token.{Token}
 use Rattle.histories.specs.Sums.{Sums, sums_of}
+use Rattle.histories.specs.declared.sums.{TokenSum.TokenSum, ValidatorSum.ValidatorSum}
+use Rattle.std.specs.Prelude.{ℕ}
+use Rattle.tap_views.specs.declared.token.Token.{Token}
 
 -- a validator with its sums
 abbrev pub validator_sum : ValidatorSum → ℕ × Sums

@@ -1,13 +1,11 @@
 -- Sums over replies and over entries.
+use Rattle.account_rule.specs.declared.reply.Answer.{Answer, TheVariants.Paid}
+use Rattle.account_rule.specs.declared.reply.Answer.TheVariants.{Transfer, Capped, Stale, Unknown}
+use Rattle.account_rule.specs.declared.reply.Reply.{Reply}
+use Rattle.histories.specs.Entry.{reply_of}
+use Rattle.histories.specs.declared.{entry.Entry.Entry, sums.totals.Totals.Totals}
 use Rattle.std.specs.Prelude.{ℕ, ◌+◌, ◌==◌, Bool, true, false, not, List, [], ◌∷◌, length, map}
 use Rattle.std.specs.Prelude.{count_by, sum_by}
-use Rattle.account_rule.specs.declared.reply.Answer.{Answer}
-use Rattle.account_rule.specs.declared.reply.Answer.TheVariants.{Paid, Transfer, Capped, Stale}
-use Rattle.account_rule.specs.declared.reply.Answer.TheVariants.{Unknown}
-use Rattle.account_rule.specs.declared.reply.Reply.{Reply}
-use Rattle.histories.specs.declared.entry.Entry.{Entry}
-use Rattle.histories.specs.declared.sums.totals.Totals.{Totals}
-use Rattle.histories.specs.Entry.{reply_of}
 
 -- whether the answer is that the ride is paid
 abbrev pub is_paid : Answer → Bool

@@ -1,10 +1,7 @@
 -- Sums by a key of the entries.
-use Rattle.std.specs.Prelude.{Bool, List, map}
-use Rattle.std.specs.declared.cmp.Ordering.{Ordering}
+use Rattle.histories.specs.{ByKey.with_key, Increasing.increasing, Sums.Sums, Sums.sums}
 use Rattle.histories.specs.declared.entry.Entry.{Entry}
-use Rattle.histories.specs.ByKey.{with_key}
-use Rattle.histories.specs.Increasing.{increasing}
-use Rattle.histories.specs.Sums.{Sums, sums}
+use Rattle.std.specs.{Prelude.Bool, Prelude.List, Prelude.map, declared.cmp.Ordering.Ordering}
 
 -- the keys of the entries, increasing, each with the sums of its entries
 unfoldable pub sums_by : {K : Type 0} → (K → K → Ordering) → (K → K → Bool) → (Entry → K)

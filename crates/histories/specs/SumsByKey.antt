@@ -1,12 +1,8 @@
 -- Sums of a history by the validators and by the tokens of its entries.
-use Rattle.std.specs.Prelude.{ℕ, List, map, filter}
-use Rattle.std.specs.Ordering.{nat_cmp}
-use Rattle.histories.specs.declared.entry.Entry.{Entry}
-use Rattle.tap_views.specs.declared.token.Token.{Token}
 use Rattle.histories.specs.Entry.{is_at, own}
-use Rattle.histories.specs.Increasing.{increasing}
-use Rattle.histories.specs.Sums.{Sums, sums}
-use Rattle.tap_views.specs.Token.{token_cmp}
+use Rattle.histories.specs.{Increasing.increasing, Sums.Sums, Sums.sums, declared.entry.Entry.Entry}
+use Rattle.std.specs.{Ordering.nat_cmp, Prelude.ℕ, Prelude.List, Prelude.map, Prelude.filter}
+use Rattle.tap_views.specs.{Token.token_cmp, declared.token.Token.Token}
 
 -- the validator of an entry
 abbrev pub validator_of : Entry → ℕ

@@ -1,13 +1,10 @@
 -- What tallies by key know of the entries that were added to them.
-use Rattle.std.specs.Prelude.{◌≡◌, ℕ, ◌+◌, ◌≤◌, ◌^◌, Bool, List, [], Option, Some, None, length}
-use Rattle.std.specs.Prelude.{map, is_some}
-use Rattle.std.specs.Map.{lookup}
-use Rattle.std.specs.Set.{is_member}
-use Rattle.histories.specs.declared.entry.Entry.{Entry}
-use Rattle.histories.specs.declared.sums.tally.Tally.{Tally}
-use Rattle.histories.specs.ByKey.{with_key}
-use Rattle.histories.specs.Sums.{Sums, sums, sums_of_replies}
+use Rattle.histories.specs.{ByKey.with_key, Sums.Sums, Sums.sums, Sums.sums_of_replies}
 use Rattle.histories.specs.Tally.{sums_of_tally}
+use Rattle.histories.specs.declared.{entry.Entry.Entry, sums.tally.Tally.Tally}
+use Rattle.std.specs.{Map.lookup, Prelude.◌≡◌}
+use Rattle.std.specs.Prelude.{ℕ, ◌+◌, ◌≤◌, ◌^◌, Bool, List, [], Option, Some, None, length, map}
+use Rattle.std.specs.{Prelude.is_some, Set.is_member}
 
 -- the sums that are kept for a key, of nothing if there are none
 abbrev pub kept_sums : Option Tally → Sums

@@ -1,8 +1,6 @@
 -- What a tally represents.
+use Rattle.histories.specs.{Positions.all_of, Sums.Sums, declared.sums.tally.Tally.Tally}
 use Rattle.std.specs.Prelude.{ℕ, List, slice_index}
-use Rattle.histories.specs.declared.sums.tally.Tally.{Tally}
-use Rattle.histories.specs.Positions.{all_of}
-use Rattle.histories.specs.Sums.{Sums}
 
 -- the sums that five counts and the cents are
 abbrev pub sums_of_positions : List ℕ → ℕ → Sums

@@ -1,14 +1,11 @@
 //! Theorems about the definitions, each the contract of a small function.
 
-ghost use Rattle.std.specs.Prelude.{◌≡◌, ◌↔◌, ◌++◌, ℕ, List};
+ghost use Rattle.histories.specs.{History.IsLegal, Increasing.increasing, Increasing.IsIncreasing};
+ghost use Rattle.histories.specs.{Sums.sums, Sums.add_sums, declared.entry.Entry.Entry};
 ghost use Rattle.std.specs.Ordering.{nat_cmp};
+ghost use Rattle.std.specs.Prelude.{◌≡◌, ◌↔◌, ◌++◌, ℕ, List};
+ghost use Rattle.tap_views.specs.{Token.token_cmp, declared.token.Token.Token};
 ghost use Rattle.tariffs.specs.Fares.{Fares};
-ghost use Rattle.histories.specs.declared.entry.Entry.{Entry};
-ghost use Rattle.tap_views.specs.declared.token.Token.{Token};
-ghost use Rattle.histories.specs.History.{IsLegal};
-ghost use Rattle.histories.specs.Increasing.{increasing, IsIncreasing};
-ghost use Rattle.histories.specs.Sums.{sums, add_sums};
-ghost use Rattle.tap_views.specs.Token.{token_cmp};
 
 mod plain;
 

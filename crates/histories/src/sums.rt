@@ -1,9 +1,7 @@
 //! Sums of histories: in all, by validator and by token.
 
+ghost use Rattle.histories.specs.{Counts.token_counts, Shown.token_sum, Sums.sums, Sums.sums_of};
 ghost use Rattle.std.specs.Prelude.{◌≡◌, ◌<◌, ◌^◌, map, IfOk};
-ghost use Rattle.histories.specs.Counts.{token_counts};
-ghost use Rattle.histories.specs.Shown.{token_sum};
-ghost use Rattle.histories.specs.Sums.{sums, sums_of};
 
 use crate::entry::Entry;
 use crate::sums::by_key::SumKey;

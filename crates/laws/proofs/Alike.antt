@@ -1,18 +1,15 @@
 -- Lists with the same elements, each as often, in whatever order.
-use Rattle.std.proofs.Common.{◌≡◌, Bool, true, List, [], ◌∷◌, ◌++◌, map, filter, cond}
-use Rattle.std.proofs.Common.{sym, ap, ◌∙◌, arith, All, inl, inr}
-use Rattle.std.specs.Prelude.{◌⊎◌, Contains}
-use Rattle.std.specs.List.Sorted.{IsPermutation}
+use Rattle.std.proofs.Common.{◌≡◌, Bool, true, List, [], ◌∷◌, ◌++◌, map, filter, cond, sym, ap, ◌∙◌}
+use Rattle.std.proofs.Common.{arith, All, inl, inr}
+use Rattle.fare_service.proofs.AddingLemmas.{sum_by-map}
+use Rattle.settlement.proofs.Contained.{kept_there, there_cases, was_there}
+use Rattle.settlement.proofs.{Placed.Pairs, Same.sum_filter, Unique.AreAlike}
 use Rattle.std.proofs.lemmas.List.Elements.{All-contains, All-contains_itself, All-head, All-tail}
 use Rattle.std.proofs.lemmas.List.Elements.{All-cons, filter_passes, All-weaker}
 use Rattle.std.proofs.lemmas.List.Sorted.{Contains-permutation, IsPermutation-sym}
 use Rattle.std.proofs.lemmas.List.Sorted.{sum_by-IsPermutation}
 use Rattle.std.proofs.lemmas.List.Sums.{sum_by-append, sum_by-cons}
-use Rattle.fare_service.proofs.AddingLemmas.{sum_by-map}
-use Rattle.settlement.proofs.Contained.{kept_there, there_cases, was_there}
-use Rattle.settlement.proofs.Placed.{Pairs}
-use Rattle.settlement.proofs.Same.{sum_filter}
-use Rattle.settlement.proofs.Unique.{AreAlike}
+use Rattle.std.specs.{List.Sorted.IsPermutation, Prelude.◌⊎◌, Prelude.Contains}
 
 pub permuted_alike : {X : Type 0} (xs ys : List X) → IsPermutation xs ys → AreAlike xs ys
 permuted_alike xs ys moved = λ f. sym (sum_by-IsPermutation f xs ys moved)

@@ -2,50 +2,38 @@
 use Rattle.std.proofs.Common.{◌≡◌, ℕ, ◌+◌, Bool, true, false, cond, List, [], ◌∷◌, ◌++◌, map}
 use Rattle.std.proofs.Common.{Option, Some, None, filter, refl, sym, ap, subst, ◌∙◌, arith, All}
 use Rattle.std.proofs.Common.{is_some}
-use Rattle.std.specs.Prelude.{Contains, sum_by}
-use Rattle.std.proofs.lemmas.List.{map-append}
-use Rattle.std.proofs.lemmas.List.Concat.{flat_map-append}
+use Rattle.account_rule.specs.Replies.{live_reply, reply, reply_with, ride_reply}
+use Rattle.account_rule.specs.{Taps.is_later, TokenRules.TokenRules, TokenRules.rules_of}
+use Rattle.account_rule.specs.Trips.{ends_in_transfer}
+use Rattle.account_rule.specs.declared.reply.Answer.{Answer, TheVariants.Paid}
+use Rattle.account_rule.specs.declared.reply.Answer.TheVariants.{Transfer, Capped, Stale, Unknown}
+use Rattle.account_rule.specs.declared.{reply.Reply.Reply, tap.TapIn.TapIn}
+use Rattle.fare_caps.proofs.AnswerLemmas.{is_charged, is_raised, is_same}
+use Rattle.fare_caps.specs.{CapMeanings.capped_rules_of, CappedReplies.capped_reply}
+use Rattle.fare_caps.specs.Caps.{CappedRules}
+use Rattle.histories.specs.Entry.{is_at, is_of, own, reply_of, tap_of, taps_of}
+use Rattle.histories.specs.Plain.{answered}
+use Rattle.histories.specs.Sums.{is_capped, is_paid, is_transfer, sums, sums_of_replies}
+use Rattle.histories.specs.{SumsByKey.entries_of_validator, declared.entry.Entry.Entry}
+use Rattle.laws.proofs.{Posts.SameBill, Posts.after, Posts.plain_is_after, Sets.same_bill}
+use Rattle.laws.proofs.States.{ride_is_live, same_windows, transfer_is_live}
+use Rattle.laws.specs.Bills.{BillAlike, ChargeAlike, is_live, is_live_answer, live_entries}
+use Rattle.laws.specs.TapSets.{AreSentAgain, HaveSameSetOfTaps, fields_of_uploads}
+use Rattle.settlement.proofs.Histories.{entry_of}
+use Rattle.settlement.specs.Settled.{IsSettledHistory}
+use Rattle.std.proofs.lemmas.{Bool.true≢false, List.map-append, List.Concat.flat_map-append}
 use Rattle.std.proofs.lemmas.List.Elements.{All-nil, All-cons, All-head, All-tail, All-filter}
 use Rattle.std.proofs.lemmas.List.Elements.{All-append, All-contains, All-contains_itself}
 use Rattle.std.proofs.lemmas.List.Elements.{All-weaker, Contains-append_left}
 use Rattle.std.proofs.lemmas.List.Sorted.{Contains-permutation, IsPermutation-sym}
 use Rattle.std.proofs.lemmas.List.Sums.{sum_by-cons}
-use Rattle.tap_views.specs.Encoding.{fields_of}
-use Rattle.tap_views.specs.Files.{AreValidTaps, HasUniqueParse}
-use Rattle.tap_views.specs.Layout.{Tap}
-use Rattle.tap_views.specs.declared.encoder.TapFields.{TapFields}
-use Rattle.tariffs.specs.Fares.{Fares}
-use Rattle.tap_views.specs.Token.{bytes_of}
-use Rattle.account_rule.specs.Trips.{ends_in_transfer}
-use Rattle.account_rule.specs.Replies.{live_reply, reply, reply_with, ride_reply}
-use Rattle.account_rule.specs.TokenRules.{TokenRules, rules_of}
-use Rattle.account_rule.specs.Taps.{is_later}
-use Rattle.fare_caps.specs.CapMeanings.{capped_rules_of}
-use Rattle.fare_caps.specs.CappedReplies.{capped_reply}
-use Rattle.fare_caps.specs.Caps.{CappedRules}
-use Rattle.fare_caps.proofs.AnswerLemmas as capped
-use Rattle.fare_caps.proofs.AnswerLemmas.{is_charged, is_raised, is_same}
-use Rattle.std.proofs.lemmas.Bool.{true≢false}
-use Rattle.account_rule.specs.declared.reply.Answer.{Answer}
-use Rattle.account_rule.specs.declared.reply.Answer.TheVariants.{Paid, Transfer, Capped, Stale}
-use Rattle.account_rule.specs.declared.reply.Answer.TheVariants.{Unknown}
-use Rattle.account_rule.specs.declared.reply.Reply.{Reply}
-use Rattle.account_rule.specs.declared.tap.TapIn.{TapIn}
-use Rattle.histories.specs.Entry.{is_at, is_of, own, reply_of, tap_of, taps_of}
-use Rattle.histories.specs.Sums.{is_capped, is_paid, is_transfer, sums, sums_of_replies}
-use Rattle.histories.specs.SumsByKey.{entries_of_validator}
-use Rattle.histories.specs.declared.entry.Entry.{Entry}
-use Rattle.histories.specs.Plain.{answered}
+use Rattle.std.specs.Prelude.{Contains, sum_by}
 use Rattle.tap_parts.specs.Parts.{taps_of_uploads}
-use Rattle.settlement.specs.Settled.{IsSettledHistory}
-use Rattle.settlement.proofs.Histories.{entry_of}
-use Rattle.tap_views.proofs.ParseLemmas.{one_list}
-use Rattle.tap_views.proofs.Lists.{filter-filter, AllZip-append}
-use Rattle.laws.specs.Bills.{BillAlike, ChargeAlike, is_live, is_live_answer, live_entries}
-use Rattle.laws.specs.TapSets.{AreSentAgain, HaveSameSetOfTaps, fields_of_uploads}
-use Rattle.laws.proofs.Posts.{SameBill, after, plain_is_after}
-use Rattle.laws.proofs.Sets.{same_bill}
-use Rattle.laws.proofs.States.{ride_is_live, same_windows, transfer_is_live}
+use Rattle.tap_views.proofs.{Lists.filter-filter, Lists.AllZip-append, ParseLemmas.one_list}
+use Rattle.tap_views.specs.{Encoding.fields_of, Files.AreValidTaps, Files.HasUniqueParse}
+use Rattle.tap_views.specs.{Layout.Tap, Token.bytes_of, declared.encoder.TapFields.TapFields}
+use Rattle.tariffs.specs.Fares.{Fares}
+use Rattle.fare_caps.proofs.AnswerLemmas as capped
 
 -- ---- what is no ride and no transfer costs nothing
 abbrev Free : Entry → Type 0

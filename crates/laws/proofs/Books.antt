@@ -2,27 +2,19 @@
 use Rattle.std.proofs.Common.{◌≡◌, ◌≢◌, ℕ, ◌+◌, ◌<◌, ◌≤◌, ◌^◌, true, false, List, [], ◌∷◌, ◌++◌}
 use Rattle.std.proofs.Common.{length, refl, sym, ap, subst, ◌∙◌, append-nil, arith, zero, suc}
 use Rattle.std.proofs.Common.{Option, Some, ⊎_elim, inl, inr}
-use Rattle.std.specs.Prelude.{slice_get, slice_index_or, ◌⊎◌}
-use Rattle.std.specs.List.{AllByRecursion}
-use Rattle.std.proofs.lemmas.Bool.{cases_Bool}
-use Rattle.tap_views.specs.Shards.{shard_of_token}
-use Rattle.tariffs.specs.Fares.{Fares}
-use Rattle.shard_book.specs.Book.{AreOfShard, Book}
-use Rattle.histories.specs.Entry.{is_of, own}
-use Rattle.shard_book.specs.Book.{all_entries}
-use Rattle.histories.specs.History.{IsLegal}
-use Rattle.tap_views.specs.Token.{bytes_of}
-use Rattle.histories.specs.declared.entry.Entry.{Entry}
-use Rattle.histories.proofs.OwnEntries.{own_other, own_none, own-append}
-use Rattle.tap_views.specs.declared.token.Token.{Token}
-use Rattle.tap_views.proofs.TokenLemmas.{same_token}
-use Rattle.ledger_check.specs.Ledger.{IsLedgerOf, IsPostable}
 use Rattle.fare_service.specs.Ledger.{IsLedgerOfBooks as IsWrittenOf}
 use Rattle.fare_texts.specs.Ledger.{IsLedgerOver}
-use Rattle.laws.specs.Written.{AreBooksOf, AreShort, CanBePrinted, HasLetterNames}
-use Rattle.laws.specs.Written.{reported_entries}
-use Rattle.laws.proofs.Owned.{own_is_legal}
-use Rattle.laws.proofs.LedgerTokens.{written_is_read}
+use Rattle.histories.proofs.OwnEntries.{own_other, own_none, own-append}
+use Rattle.histories.specs.{Entry.is_of, Entry.own, History.IsLegal, declared.entry.Entry.Entry}
+use Rattle.laws.proofs.{LedgerTokens.written_is_read, Owned.own_is_legal}
+use Rattle.laws.specs.Written.{AreBooksOf, AreShort, CanBePrinted, HasLetterNames, reported_entries}
+use Rattle.ledger_check.specs.Ledger.{IsLedgerOf, IsPostable}
+use Rattle.shard_book.specs.Book.{AreOfShard, Book, all_entries}
+use Rattle.std.proofs.lemmas.Bool.{cases_Bool}
+use Rattle.std.specs.{List.AllByRecursion, Prelude.slice_get, Prelude.slice_index_or, Prelude.◌⊎◌}
+use Rattle.tap_views.proofs.TokenLemmas.{same_token}
+use Rattle.tap_views.specs.{Shards.shard_of_token, Token.bytes_of, declared.token.Token.Token}
+use Rattle.tariffs.specs.Fares.{Fares}
 
 same_or_not : (a b : ℕ) → (a ≡ b) ⊎ (a ≢ b)
 same_or_not zero zero = inl refl

@@ -1,25 +1,17 @@
 -- No entry of taps that are posted costs more than the greatest fare of a table, and each has the
 -- sizes
 -- of its tap.
-use Rattle.std.specs.Prelude.{ℕ, List, [], ◌∷◌, ◌++◌, All, IfSome}
-use Rattle.std.proofs.lemmas.List.Elements.{All-cons, All-head, All-nil, All-tail}
-use Rattle.tariffs.specs.Fares.{Fares}
-use Rattle.tariffs.specs.Prices.{IsBoundedPays}
-use Rattle.tariffs.specs.declared.mode.Mode.{Mode}
-use Rattle.tap_views.specs.Token.{Fits, bytes_of}
-use Rattle.tap_views.specs.declared.encoder.TapFields.{TapFields}
-use Rattle.account_rule.specs.TokenRules.{rules_of, token_class}
-use Rattle.account_rule.specs.Taps.{live_at}
-use Rattle.fare_caps.specs.CapMeanings.{capped_rules_of}
-use Rattle.fare_caps.specs.Prices.{pays_to}
-use Rattle.fare_caps.proofs.AnswerLemmas.{capped_most}
-use Rattle.fare_caps.proofs.FurtherLemmas.{pays-by}
-use Rattle.histories.specs.declared.entry.Entry.{Entry}
-use Rattle.histories.specs.Entry.{tap_of, taps_of}
-use Rattle.histories.specs.Plain.{answered}
-use Rattle.settlement.specs.Posted.{HasName, posted_after, unposted}
-use Rattle.laws.specs.Sizes.{HaveBoundedTerms}
+use Rattle.account_rule.specs.{Taps.live_at, TokenRules.rules_of, TokenRules.token_class}
+use Rattle.fare_caps.proofs.{AnswerLemmas.capped_most, FurtherLemmas.pays-by}
+use Rattle.fare_caps.specs.{CapMeanings.capped_rules_of, Prices.pays_to}
+use Rattle.histories.specs.{Entry.tap_of, Entry.taps_of, Plain.answered, declared.entry.Entry.Entry}
 use Rattle.laws.proofs.SumsFit.{CostsFew}
+use Rattle.laws.specs.Sizes.{HaveBoundedTerms}
+use Rattle.settlement.specs.Posted.{HasName, posted_after, unposted}
+use Rattle.std.proofs.lemmas.List.Elements.{All-cons, All-head, All-nil, All-tail}
+use Rattle.std.specs.Prelude.{ℕ, List, [], ◌∷◌, ◌++◌, All, IfSome}
+use Rattle.tap_views.specs.{Token.Fits, Token.bytes_of, declared.encoder.TapFields.TapFields}
+use Rattle.tariffs.specs.{Fares.Fares, Prices.IsBoundedPays, declared.mode.Mode.Mode}
 
 -- what a pair pays is within its bound
 pays_few : (fares : Fares) → HaveBoundedTerms fares → (token : List ℕ) (from mode : Mode)

@@ -3,37 +3,35 @@ use Rattle.std.proofs.Common.{◌≡◌, ◌≢◌, ℕ, ◌+◌, ◌/◌, ◌%�
 use Rattle.std.proofs.Common.{true, false, cond, List, [], ◌∷◌, ◌++◌, zero, suc, refl, sym, ap}
 use Rattle.std.proofs.Common.{subst, ◌∙◌, arith, append_assoc, ⊎_elim, Option, Some, None}
 use Rattle.std.proofs.Common.{true≢false, codes, length, nat_le, nat_lt}
-use Rattle.std.specs.Prelude.{slice_index_or}
-use Rattle.std.specs.Char.{is_ascii_lowercase}
-use Rattle.std.specs.Fmt.{decimal, digit_glyph, digits, digits_onto}
-use Rattle.std.specs.List.{list_all}
-use Rattle.std.proofs.lemmas.Bool.{and_parts, cases_lt}
-use Rattle.hex.specs.Hex.{encode_lower, encode_with, lower_digits}
-use Rattle.jiff_core.specs.declared.civil.date.Date.{Date}
-use Rattle.jiff_fmt.specs.Text.{date_text, pad2, pad4, year_text}
-use Rattle.tariffs.specs.Fares.{Fares, mode_at}
 use Rattle.account_rule.specs.declared.reason.Charge.{Charge}
 use Rattle.account_rule.specs.declared.reason.Charge.TheVariants.{Full, CeilingCut, CeilingReached}
 use Rattle.account_rule.specs.declared.reason.Charge.TheVariants.{RideLimitReached}
+use Rattle.account_rule.specs.declared.reply.Answer.{Answer}
 use Rattle.fare_caps.specs.declared.cap_charge.CapCharge.{CapCharge}
 use Rattle.fare_caps.specs.declared.cap_charge.CapCharge.TheVariants.{ByWindow, CapCut, CapReached}
 use Rattle.fare_caps.specs.declared.capped_reason.CappedReason.{CappedReason}
 use Rattle.fare_caps.specs.declared.capped_reason.CappedReason.TheVariants.{PaidTransfer, Ride}
-use Rattle.fare_caps.specs.declared.capped_reason.CappedReason.TheVariants.{Stale, Transfer, Unknown}
-use Rattle.account_rule.specs.declared.reply.Answer.{Answer}
-use Rattle.account_rule.specs.declared.reply.Answer.TheVariants as answer
-use Rattle.tap_views.specs.Token.{bytes_of}
-use Rattle.histories.specs.declared.entry.Entry.{Entry}
-use Rattle.tap_views.specs.declared.token.Token.{Token}
-use Rattle.fare_texts.specs.Moments.{IsCivilText, IsMomentText, clock_text, pad3}
-use Rattle.fare_texts.specs.StatementText.{answer_text}
+use Rattle.fare_caps.specs.declared.capped_reason.CappedReason.TheVariants.{Stale, Transfer}
+use Rattle.fare_caps.specs.declared.capped_reason.CappedReason.TheVariants.{Unknown}
 use Rattle.fare_texts.specs.LedgerLines.{IsLedgerLine, IsReasonFields, IsWindowFields, cap_suffix}
 use Rattle.fare_texts.specs.LedgerLines.{entry_fields, line_head, mode_field, name_or_empty}
 use Rattle.fare_texts.specs.LedgerLines.{position_fields, ride_rest, transfer_reason}
 use Rattle.fare_texts.specs.LedgerLines.{transfer_words, window_rest, window_transfer_reason}
-use Rattle.ledger_check.specs.Lines.{Lacks}
-use Rattle.ledger_check.proofs.LineLemmas.{has_none, lacks-append, lacks-at, lacks-tested}
+use Rattle.fare_texts.specs.Moments.{IsCivilText, IsMomentText, clock_text, pad3}
+use Rattle.fare_texts.specs.StatementText.{answer_text}
+use Rattle.hex.specs.Hex.{encode_lower, encode_with, lower_digits}
+use Rattle.histories.specs.declared.entry.Entry.{Entry}
+use Rattle.jiff_core.specs.declared.civil.date.Date.{Date}
+use Rattle.jiff_fmt.specs.Text.{date_text, pad2, pad4, year_text}
 use Rattle.laws.specs.Written.{AreLetters, HasLetterNames}
+use Rattle.ledger_check.proofs.LineLemmas.{has_none, lacks-append, lacks-at, lacks-tested}
+use Rattle.ledger_check.specs.Lines.{Lacks}
+use Rattle.std.proofs.lemmas.Bool.{and_parts, cases_lt}
+use Rattle.std.specs.{Char.is_ascii_lowercase, Fmt.decimal, Fmt.digit_glyph, Fmt.digits}
+use Rattle.std.specs.{Fmt.digits_onto, List.list_all, Prelude.slice_index_or}
+use Rattle.tap_views.specs.{Token.bytes_of, declared.token.Token.Token}
+use Rattle.tariffs.specs.Fares.{Fares, mode_at}
+use Rattle.account_rule.specs.declared.reply.Answer.TheVariants as answer
 
 -- ---- numbers
 glyph_other : (d : ℕ) → digit_glyph false d ≢ 10

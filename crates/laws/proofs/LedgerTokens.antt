@@ -2,31 +2,25 @@
 use Rattle.std.proofs.Common.{◌≡◌, ℕ, ◌+◌, ◌≤◌, ◌^◌, List, [], ◌∷◌, ◌++◌, length, length-append}
 use Rattle.std.proofs.Common.{flat_map, map, refl, sym, ap, subst, ◌∙◌, append_assoc, append-nil}
 use Rattle.std.proofs.Common.{arith, Option, Some, None, codes}
-use Rattle.std.proofs.lemmas.List.Elements.{All-from_recursion}
-use Rattle.std.specs.List.{AllByRecursion}
-use Rattle.std.specs.List.Sorted.{IsStrictlySortedBy}
-use Rattle.std.specs.declared.cmp.Ordering.TheVariants.{Less}
-use Rattle.tariffs.specs.Fares.{Fares}
-use Rattle.histories.specs.Entry.{own}
-use Rattle.histories.specs.SumsByKey.{token_of, tokens}
-use Rattle.histories.specs.History.{IsLegal}
-use Rattle.tap_views.specs.Token.{token_cmp}
-use Rattle.histories.specs.declared.entry.Entry.{Entry}
-use Rattle.tap_views.specs.declared.token.Token.{Token}
-use Rattle.histories.proofs.IncreasingLemmas.{increasing-is}
-use Rattle.histories.proofs.OwnEntries.{own-append}
-use Rattle.tap_views.proofs.TokenLemmas.{token_cmp-total, token_cmp-ties}
-use Rattle.tap_views.proofs.Lists.{each-append, each-weaker}
-use Rattle.fare_texts.specs.LedgerLines.{AreLedgerLinesAfter, IsLedgerLine, head_text, reason_after}
 use Rattle.fare_texts.specs.Ledger.{AreLinesOfEach, IsLedgerOver, ledger_tokens}
-use Rattle.ledger_check.specs.Ledger.{AreNext, IsLedgerOf, IsNextLine, IsNext, IsPostable}
-use Rattle.ledger_check.specs.Ledger.{token_number}
-use Rattle.ledger_check.specs.Lines.{lines_of}
-use Rattle.ledger_check.proofs.LineLemmas.{lacks-tested, lines-line}
-use Rattle.ledger_check.proofs.TokenOrder.{less_number}
-use Rattle.laws.specs.Written.{AreShort, CanBePrinted, HasLetterNames, reported_entries}
+use Rattle.fare_texts.specs.LedgerLines.{AreLedgerLinesAfter, IsLedgerLine, head_text, reason_after}
+use Rattle.histories.proofs.{IncreasingLemmas.increasing-is, OwnEntries.own-append}
+use Rattle.histories.specs.{Entry.own, History.IsLegal, SumsByKey.token_of, SumsByKey.tokens}
+use Rattle.histories.specs.declared.entry.Entry.{Entry}
 use Rattle.laws.proofs.Lacking.{line_ends_once}
 use Rattle.laws.proofs.Owned.{AllOf, all_parts, own_all, own_below, own_each, replied_same}
+use Rattle.laws.specs.Written.{AreShort, CanBePrinted, HasLetterNames, reported_entries}
+use Rattle.ledger_check.proofs.LineLemmas.{lacks-tested, lines-line}
+use Rattle.ledger_check.proofs.TokenOrder.{less_number}
+use Rattle.ledger_check.specs.Ledger.{AreNext, IsLedgerOf, IsNextLine, IsNext, IsPostable}
+use Rattle.ledger_check.specs.{Ledger.token_number, Lines.lines_of}
+use Rattle.std.proofs.lemmas.List.Elements.{All-from_recursion}
+use Rattle.std.specs.List.{AllByRecursion, Sorted.IsStrictlySortedBy}
+use Rattle.std.specs.declared.cmp.Ordering.TheVariants.{Less}
+use Rattle.tap_views.proofs.Lists.{each-append, each-weaker}
+use Rattle.tap_views.proofs.TokenLemmas.{token_cmp-total, token_cmp-ties}
+use Rattle.tap_views.specs.{Token.token_cmp, declared.token.Token.Token}
+use Rattle.tariffs.specs.Fares.{Fares}
 
 abbrev Short : List ℕ → Type 0
 Short line = length line ≤ 255

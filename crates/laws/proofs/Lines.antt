@@ -1,36 +1,26 @@
 -- The lines before a moment depend on the taps before it alone.
 use Rattle.std.proofs.Common.{◌≡◌, ℕ, Bool, true, false, cond, List, [], ◌∷◌, ◌++◌, map, filter}
 use Rattle.std.proofs.Common.{refl, sym, ap, subst, ◌∙◌, arith, All, nat_lt}
-use Rattle.std.specs.Prelude.{slice_index_or}
-use Rattle.std.specs.List.Sorted.{IsPermutation}
-use Rattle.std.specs.Ordering.{is_lt}
-use Rattle.std.proofs.lemmas.Bool.{ltb-false, ltb-true}
-use Rattle.std.proofs.lemmas.List.Elements.{All-head, All-tail, All-weaker}
-use Rattle.std.proofs.lemmas.List.Kept.{IsSortedBy-filter}
-use Rattle.std.proofs.lemmas.List.Sorted.{IsPermutation-sym, ranks_by}
-use Rattle.tap_views.specs.Encoding.{fields_of}
-use Rattle.tap_views.specs.Files.{HasUniqueParse}
-use Rattle.tap_views.specs.Layout.{Tap}
-use Rattle.tap_views.specs.declared.encoder.TapFields.{TapFields}
-use Rattle.tap_views.specs.Token.{bytes_of, token_eq}
-use Rattle.tap_views.proofs.ParseLemmas.{one_list}
-use Rattle.tariffs.specs.Fares.{Fares}
-use Rattle.histories.specs.Entry.{taps_of}
-use Rattle.histories.specs.Keys.{same_token}
-use Rattle.histories.specs.Plain.{answered, token_of_bytes}
+use Rattle.histories.specs.{Entry.taps_of, Keys.same_token, Plain.answered, Plain.token_of_bytes}
 use Rattle.histories.specs.declared.entry.Entry.{Entry}
-use Rattle.tap_parts.specs.Canonical.{tap_cmp}
-use Rattle.tap_parts.proofs.Total.{tap_cmp_exact, tap_cmp_total}
-use Rattle.settlement.specs.Settled.{IsSettledHistory}
-use Rattle.settlement.proofs.Histories.{entry_of}
-use Rattle.settlement.proofs.Own.{IsNamedBy}
-use Rattle.settlement.proofs.Placed.{Pairs, Ascends, all_ascending, no_earlier}
-use Rattle.settlement.proofs.Unique.{AreAlike, same_sorted}
+use Rattle.laws.proofs.{Alike.alike-filter, Alike.permuted_alike, OwnTaps.answered_alike}
+use Rattle.laws.proofs.{OwnTaps.push_mine, OwnTaps.push_other, Posts.after, Posts.plain_is_after}
 use Rattle.laws.specs.Bills.{lines_before}
 use Rattle.laws.specs.TapSets.{HaveTapsAlikeBefore, fields_of_uploads, is_tap_before}
-use Rattle.laws.proofs.Alike.{alike-filter, permuted_alike}
-use Rattle.laws.proofs.OwnTaps.{answered_alike, push_mine, push_other}
-use Rattle.laws.proofs.Posts.{after, plain_is_after}
+use Rattle.settlement.proofs.{Histories.entry_of, Own.IsNamedBy}
+use Rattle.settlement.proofs.Placed.{Pairs, Ascends, all_ascending, no_earlier}
+use Rattle.settlement.proofs.Unique.{AreAlike, same_sorted}
+use Rattle.settlement.specs.Settled.{IsSettledHistory}
+use Rattle.std.proofs.lemmas.{Bool.ltb-false, Bool.ltb-true, List.Elements.All-head}
+use Rattle.std.proofs.lemmas.List.{Elements.All-tail, Elements.All-weaker, Kept.IsSortedBy-filter}
+use Rattle.std.proofs.lemmas.List.Sorted.{IsPermutation-sym, ranks_by}
+use Rattle.std.specs.{List.Sorted.IsPermutation, Ordering.is_lt, Prelude.slice_index_or}
+use Rattle.tap_parts.proofs.Total.{tap_cmp_exact, tap_cmp_total}
+use Rattle.tap_parts.specs.Canonical.{tap_cmp}
+use Rattle.tap_views.proofs.ParseLemmas.{one_list}
+use Rattle.tap_views.specs.{Encoding.fields_of, Files.HasUniqueParse, Layout.Tap, Token.bytes_of}
+use Rattle.tap_views.specs.{Token.token_eq, declared.encoder.TapFields.TapFields}
+use Rattle.tariffs.specs.Fares.{Fares}
 
 module _ (fares : Fares) (moment : ℕ) where
   -- if the tap is before the moment, its token has the same taps in both

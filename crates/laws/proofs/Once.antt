@@ -1,24 +1,20 @@
 -- Taps in canonical order, each once: equal neighbours are billed as one, and what is left depends
 -- on the set of taps alone.
-use Rattle.std.proofs.Common.{◌≡◌, List, [], ◌∷◌, ◌++◌, Bool}
-use Rattle.std.proofs.Common.{true, false, cond, refl, sym, ap, subst, ◌∙◌, arith, inl, inr}
-use Rattle.std.specs.Prelude.{◌⊎◌, Contains}
-use Rattle.std.specs.Cmp.{IsTotalOrder, tied_itself, Equal-is}
-use Rattle.std.specs.List.{dedup, dedup_from}
-use Rattle.std.specs.List.Sorted.{IsStrictlySortedBy}
-use Rattle.std.specs.Ordering.{eq_by_cmp, ordering_reverse}
-use Rattle.std.specs.declared.cmp.Ordering.{Ordering}
-use Rattle.std.specs.declared.cmp.Ordering.TheVariants.{Less, Equal, Greater}
-use Rattle.std.proofs.lemmas.List.Elements.{All-from_recursion, All-contains}
-use Rattle.tap_views.specs.declared.encoder.TapFields.{TapFields}
-use Rattle.tariffs.specs.Fares.{Fares}
-use Rattle.histories.specs.declared.entry.Entry.{Entry}
-use Rattle.histories.specs.Plain.{answered}
-use Rattle.tap_parts.specs.Canonical.{tap_cmp}
-use Rattle.tap_parts.proofs.Total.{tap_cmp_exact}
+use Rattle.std.proofs.Common.{◌≡◌, List, [], ◌∷◌, ◌++◌, Bool, true, false, cond, refl, sym, ap}
+use Rattle.std.proofs.Common.{subst, ◌∙◌, arith, inl, inr}
+use Rattle.histories.specs.{Plain.answered, declared.entry.Entry.Entry}
+use Rattle.laws.proofs.Posts.{SameBill, bill-refl, bill-trans, bill-cons, bill-twice}
 use Rattle.settlement.proofs.Contained.{first_there, later_there, there_cases}
 use Rattle.settlement.proofs.Histories.{entry_of}
-use Rattle.laws.proofs.Posts.{SameBill, bill-refl, bill-trans, bill-cons, bill-twice}
+use Rattle.std.proofs.lemmas.List.Elements.{All-from_recursion, All-contains}
+use Rattle.std.specs.{Cmp.IsTotalOrder, Cmp.tied_itself, Cmp.Equal-is, List.dedup, List.dedup_from}
+use Rattle.std.specs.{List.Sorted.IsStrictlySortedBy, Ordering.eq_by_cmp, Ordering.ordering_reverse}
+use Rattle.std.specs.{Prelude.◌⊎◌, Prelude.Contains, declared.cmp.Ordering.Ordering}
+use Rattle.std.specs.declared.cmp.Ordering.TheVariants.{Less, Equal, Greater}
+use Rattle.tap_parts.proofs.Total.{tap_cmp_exact}
+use Rattle.tap_parts.specs.Canonical.{tap_cmp}
+use Rattle.tap_views.specs.declared.encoder.TapFields.{TapFields}
+use Rattle.tariffs.specs.Fares.{Fares}
 
 -- whether taps are equal
 abbrev pub same_tap : TapFields → TapFields → Bool

@@ -2,51 +2,37 @@
 use Rattle.std.proofs.Common.{◌≡◌, ◌≢◌, ℕ, ◌+◌, ◌≤◌, ◌<◌, true, false, List, [], ◌∷◌, ◌++◌, map}
 use Rattle.std.proofs.Common.{filter, Option, Some, None, refl, sym, ap, subst, ◌∙◌, arith, All}
 use Rattle.std.proofs.Common.{count_by, inl, inr, is_some, option_map}
-use Rattle.std.specs.Prelude.{◌⊎◌, Contains}
-use Rattle.std.specs.List.Sorted.{IsPermutation}
-use Rattle.std.specs.Ordering.{is_lt}
-use Rattle.std.proofs.lemmas.Bool.{cases_lt}
-use Rattle.std.proofs.lemmas.List.{map-append}
-use Rattle.std.proofs.lemmas.List.Elements.{All-cons, All-filter, All-head, All-nil, All-tail}
-use Rattle.std.proofs.lemmas.List.Elements.{filter_passes}
-use Rattle.std.proofs.lemmas.List.Kept.{IsSortedBy-filter}
-use Rattle.std.proofs.lemmas.List.Sorted.{Contains-permutation, IsPermutation-sym, ranks_by}
-use Rattle.std.proofs.lemmas.List.Sums.{sum_by-cons}
-use Rattle.tap_views.specs.Encoding.{fields_of}
-use Rattle.tap_views.specs.Files.{HasUniqueParse}
-use Rattle.tap_views.specs.Layout.{Tap}
-use Rattle.tap_views.specs.declared.encoder.TapFields.{TapFields}
-use Rattle.tap_views.specs.Token.{bytes_of}
-use Rattle.tap_views.specs.declared.token.Token.{Token}
-use Rattle.tap_views.proofs.ParseLemmas.{one_list}
-use Rattle.tap_views.proofs.Lists.{All-split}
-use Rattle.tariffs.specs.Fares.{Fares, mode_at}
-use Rattle.account_rule.specs.Laws.{is_ride}
-use Rattle.account_rule.specs.Replies.{replies}
+use Rattle.account_rule.specs.{Laws.is_ride, Replies.replies}
 use Rattle.account_rule.specs.TokenRules.{rules_of, token_class, transfers_of}
 use Rattle.account_rule.specs.declared.tap.TapIn.{TapIn}
+use Rattle.fare_caps.proofs.AnswerLemmas.{same-rides}
+use Rattle.fare_caps.specs.CapMeanings.{capped_rules_of}
 use Rattle.histories.specs.Entry.{mode_of_position, tap_of, taps_of}
 use Rattle.histories.specs.declared.entry.Entry.{Entry}
-use Rattle.shard_book.proofs.WindowsLemmas.{replies-own}
-use Rattle.tap_parts.specs.Canonical.{tap_cmp}
-use Rattle.tap_parts.proofs.Total.{tap_cmp_exact, tap_cmp_total}
-use Rattle.settlement.specs.Settled.{IsSettledHistory}
-use Rattle.settlement.proofs.Contained.{first_there}
-use Rattle.settlement.proofs.Histories.{entry_of}
-use Rattle.settlement.proofs.Own.{IsNamedBy, one_token}
-use Rattle.settlement.proofs.Placed.{NotLess, Pairs, no_earlier, sorted_pairs}
-use Rattle.settlement.proofs.Settlings.{legal_history}
-use Rattle.settlement.proofs.Sorting.{sorted_by_pairs}
-use Rattle.settlement.proofs.Unique.{AreAlike, same_sorted}
-use Rattle.laws.specs.Bills.{GivesOneAtMost, rides_of}
-use Rattle.laws.specs.TapSets.{HaveOneMoreTap, fields_of_uploads, is_known_tap, is_tap_of, own_taps}
-use Rattle.laws.proofs.Alike.{alike-filter, alike-without, moved_all, moved_kept}
-use Rattle.laws.proofs.Alike.{pairs_after, pairs_without, permuted_alike, split_at}
-use Rattle.fare_caps.specs.CapMeanings.{capped_rules_of}
-use Rattle.fare_caps.proofs.AnswerLemmas.{same-rides}
+use Rattle.laws.proofs.Alike.{alike-filter, alike-without, moved_all, moved_kept, pairs_after}
+use Rattle.laws.proofs.Alike.{pairs_without, permuted_alike, split_at}
 use Rattle.laws.proofs.OwnTaps.{own_after, tap_in, taps_after}
 use Rattle.laws.proofs.Posts.{after, plain_is_after}
 use Rattle.laws.proofs.Rides.{GiveOneAtMost, IsAfter, no_fewer_rides}
+use Rattle.laws.specs.Bills.{GivesOneAtMost, rides_of}
+use Rattle.laws.specs.TapSets.{HaveOneMoreTap, fields_of_uploads, is_known_tap, is_tap_of, own_taps}
+use Rattle.settlement.proofs.{Contained.first_there, Histories.entry_of, Own.IsNamedBy}
+use Rattle.settlement.proofs.{Own.one_token, Placed.NotLess, Placed.Pairs, Placed.no_earlier}
+use Rattle.settlement.proofs.{Placed.sorted_pairs, Settlings.legal_history, Sorting.sorted_by_pairs}
+use Rattle.settlement.proofs.Unique.{AreAlike, same_sorted}
+use Rattle.settlement.specs.Settled.{IsSettledHistory}
+use Rattle.shard_book.proofs.WindowsLemmas.{replies-own}
+use Rattle.std.proofs.lemmas.{Bool.cases_lt, List.map-append, List.Elements.All-cons}
+use Rattle.std.proofs.lemmas.List.Elements.{All-filter, All-head, All-nil, All-tail, filter_passes}
+use Rattle.std.proofs.lemmas.List.{Kept.IsSortedBy-filter, Sorted.Contains-permutation}
+use Rattle.std.proofs.lemmas.List.{Sorted.IsPermutation-sym, Sorted.ranks_by, Sums.sum_by-cons}
+use Rattle.std.specs.{List.Sorted.IsPermutation, Ordering.is_lt, Prelude.◌⊎◌, Prelude.Contains}
+use Rattle.tap_parts.proofs.Total.{tap_cmp_exact, tap_cmp_total}
+use Rattle.tap_parts.specs.Canonical.{tap_cmp}
+use Rattle.tap_views.proofs.{Lists.All-split, ParseLemmas.one_list}
+use Rattle.tap_views.specs.{Encoding.fields_of, Files.HasUniqueParse, Layout.Tap, Token.bytes_of}
+use Rattle.tap_views.specs.declared.{encoder.TapFields.TapFields, token.Token.Token}
+use Rattle.tariffs.specs.Fares.{Fares, mode_at}
 
 -- what the class gives is what the rules of the token give
 gives_one : (fares : Fares) (token : Token) → GivesOneAtMost fares token

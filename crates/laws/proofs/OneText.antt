@@ -1,46 +1,38 @@
 -- A history has one ledger, one statement and one explained statement of a token.
-use Rattle.std.proofs.Common.{◌≡◌, ℕ, ◌+◌, List, [], ◌∷◌, ◌++◌, length, map}
-use Rattle.std.proofs.Common.{sym, ap, subst, ◌∙◌, Option, Some, None, codes}
-use Rattle.tariffs.specs.ClockView.{ClockView}
-use Rattle.tariffs.specs.Fares.{Fares, terms_at}
-use Rattle.tariffs.specs.TableMeaning.{TableMeaning}
-use Rattle.tap_views.specs.Token.{bytes_of}
-use Rattle.tap_views.specs.declared.token.Token.{Token}
-use Rattle.fare_caps.specs.CapMeanings.{capped_rules_of}
-use Rattle.fare_caps.specs.CappedReplies.{capped_window}
-use Rattle.fare_caps.specs.Caps.{CappedRules}
-use Rattle.fare_caps.specs.declared.cap_charge.CapCharge.{CapCharge}
+use Rattle.std.proofs.Common.{◌≡◌, ℕ, ◌+◌, List, [], ◌∷◌, ◌++◌, length, map, sym, ap, subst, ◌∙◌}
+use Rattle.std.proofs.Common.{Option, Some, None, codes}
+use Rattle.account_rule.specs.declared.no_transfer.NoTransfer.{NoTransfer, TheVariants.FirstTap}
+use Rattle.account_rule.specs.declared.no_transfer.NoTransfer.TheVariants.{TooLate, AfterTransfer}
+use Rattle.account_rule.specs.declared.no_transfer.NoTransfer.TheVariants.{NoneGiven, NotPermitted}
+use Rattle.account_rule.specs.declared.no_transfer.NoTransfer.TheVariants.{RideTooLate}
+use Rattle.account_rule.specs.declared.{tap.TapIn.TapIn, window.WindowView.WindowView}
+use Rattle.fare_caps.specs.{CapMeanings.capped_rules_of, CappedReplies.capped_window}
+use Rattle.fare_caps.specs.{Caps.CappedRules, declared.cap_charge.CapCharge.CapCharge}
 use Rattle.fare_caps.specs.declared.capped_reason.CappedReason.{CappedReason}
 use Rattle.fare_caps.specs.declared.capped_reason.CappedReason.TheVariants.{PaidTransfer, Ride}
-use Rattle.fare_caps.specs.declared.capped_reason.CappedReason.TheVariants.{Stale, Transfer, Unknown}
-use Rattle.account_rule.specs.declared.tap.TapIn.{TapIn}
-use Rattle.account_rule.specs.declared.window.WindowView.{WindowView}
-use Rattle.histories.specs.Entry.{own, tap_of}
-use Rattle.histories.specs.Sums.{Sums, sums, sums_of}
-use Rattle.histories.specs.declared.entry.Entry.{Entry}
-use Rattle.histories.specs.declared.statement.Statement.{Statement}
+use Rattle.fare_caps.specs.declared.capped_reason.CappedReason.TheVariants.{Stale, Transfer}
+use Rattle.fare_caps.specs.declared.capped_reason.CappedReason.TheVariants.{Unknown}
 use Rattle.fare_texts.specs.Counts.{totals_line}
-use Rattle.fare_texts.specs.Local.{local_words}
-use Rattle.fare_texts.specs.StatementText.{AreEntryLines, IsEntryLine, IsLineOf, IsStatementText}
-use Rattle.fare_texts.specs.StatementText.{IsWindowLine, entry_words, statement_head, window_words}
-use Rattle.fare_texts.specs.LedgerLines.{AreLedgerLinesAfter, head_text, reason_after}
-use Rattle.account_rule.specs.declared.no_transfer.NoTransfer.{NoTransfer}
-use Rattle.account_rule.specs.declared.no_transfer.NoTransfer.TheVariants.{FirstTap, TooLate}
-use Rattle.account_rule.specs.declared.no_transfer.NoTransfer.TheVariants.{AfterTransfer, NoneGiven}
-use Rattle.account_rule.specs.declared.no_transfer.NoTransfer.TheVariants.{NotPermitted}
-use Rattle.account_rule.specs.declared.no_transfer.NoTransfer.TheVariants.{RideTooLate}
-use Rattle.fare_texts.specs.NoTransferWords.{IsAfterTransferText, IsNoTransferEnd, IsNoTransferText}
-use Rattle.fare_texts.specs.NoTransferWords.{IsRideTooLateText, IsTooLateText, gap_words}
-use Rattle.fare_texts.specs.NoTransferWords.{no_transfer_after}
-use Rattle.fare_texts.specs.ReasonWords.{IsReasonWords, IsRideText, IsStaleText, IsTransferText}
-use Rattle.fare_texts.specs.ReasonWords.{IsWindowText, charge_end, charge_start, giver_start}
 use Rattle.fare_texts.specs.Explained.{AreEarlierLines, AreExplainedAfter, AreWindowLines}
 use Rattle.fare_texts.specs.Explained.{IsExplained, IsExplainedLine, IsExplainedWindow}
 use Rattle.fare_texts.specs.Explained.{AreLaterTerms, AreTermsLines, IsLastLine, earlier_windows}
 use Rattle.fare_texts.specs.Explained.{terms_line, terms_words}
 use Rattle.fare_texts.specs.Ledger.{AreLinesOfEach, IsLedgerOver, ledger_tokens}
-use Rattle.report_texts.specs.OverHistory.{IsStatementOver}
+use Rattle.fare_texts.specs.LedgerLines.{AreLedgerLinesAfter, head_text, reason_after}
+use Rattle.fare_texts.specs.{Local.local_words, NoTransferWords.IsAfterTransferText}
+use Rattle.fare_texts.specs.NoTransferWords.{IsNoTransferEnd, IsNoTransferText, IsRideTooLateText}
+use Rattle.fare_texts.specs.NoTransferWords.{IsTooLateText, gap_words, no_transfer_after}
+use Rattle.fare_texts.specs.ReasonWords.{IsReasonWords, IsRideText, IsStaleText, IsTransferText}
+use Rattle.fare_texts.specs.ReasonWords.{IsWindowText, charge_end, charge_start, giver_start}
+use Rattle.fare_texts.specs.StatementText.{AreEntryLines, IsEntryLine, IsLineOf, IsStatementText}
+use Rattle.fare_texts.specs.StatementText.{IsWindowLine, entry_words, statement_head, window_words}
+use Rattle.histories.specs.{Entry.own, Entry.tap_of, Sums.Sums, Sums.sums, Sums.sums_of}
+use Rattle.histories.specs.declared.{entry.Entry.Entry, statement.Statement.Statement}
 use Rattle.ledger_check.proofs.SameLines.{line_same, moment_same}
+use Rattle.report_texts.specs.OverHistory.{IsStatementOver}
+use Rattle.tap_views.specs.{Token.bytes_of, declared.token.Token.Token}
+use Rattle.tariffs.specs.{ClockView.ClockView, Fares.Fares, Fares.terms_at}
+use Rattle.tariffs.specs.TableMeaning.{TableMeaning}
 
 -- two pieces, one behind the other
 both : (a b c d : List ℕ) → a ≡ b → c ≡ d → a ++ c ≡ b ++ d

@@ -1,21 +1,18 @@
 -- A token's own entries are those of its own taps.
 use Rattle.std.proofs.Common.{◌≡◌, Bool, true, false, cond, List, [], ◌∷◌, ◌++◌, map, filter, refl}
 use Rattle.std.proofs.Common.{sym, ap, ◌∙◌}
-use Rattle.tap_views.specs.declared.encoder.TapFields.{TapFields}
-use Rattle.tap_views.specs.Token.{bytes_of, token_eq}
-use Rattle.tap_views.specs.declared.token.Token.{Token}
-use Rattle.tariffs.specs.Fares.{Fares}
-use Rattle.fare_caps.specs.CappedReplies.{capped_reply}
-use Rattle.fare_caps.specs.CapMeanings.{capped_rules_of}
 use Rattle.account_rule.specs.declared.tap.TapIn.{TapIn}
-use Rattle.histories.specs.Entry.{is_of, own, tap_of, taps_of}
-use Rattle.histories.specs.Keys.{same_token}
-use Rattle.histories.specs.declared.entry.Entry.{Entry}
-use Rattle.histories.specs.Plain.{answered, token_of_bytes, with_reply}
+use Rattle.fare_caps.specs.{CapMeanings.capped_rules_of, CappedReplies.capped_reply}
 use Rattle.histories.proofs.Histories.{taps-push}
-use Rattle.settlement.proofs.Histories.{entry_of}
-use Rattle.laws.specs.TapSets.{is_tap_of}
+use Rattle.histories.specs.Entry.{is_of, own, tap_of, taps_of}
+use Rattle.histories.specs.{Keys.same_token, Plain.answered, Plain.token_of_bytes, Plain.with_reply}
+use Rattle.histories.specs.declared.entry.Entry.{Entry}
 use Rattle.laws.proofs.Posts.{after}
+use Rattle.laws.specs.TapSets.{is_tap_of}
+use Rattle.settlement.proofs.Histories.{entry_of}
+use Rattle.tap_views.specs.Token.{bytes_of, token_eq}
+use Rattle.tap_views.specs.declared.{encoder.TapFields.TapFields, token.Token.Token}
+use Rattle.tariffs.specs.Fares.{Fares}
 
 module _ (fares : Fares) (token : Token) where
   pub answered_alike : (one other : List Entry) (entry : Entry) → entry.token ≡ token

@@ -1,20 +1,17 @@
 -- The entries of one token among entries, and what holds of each of them.
 use Rattle.std.proofs.Common.{◌≡◌, true, false, List, [], ◌∷◌, ◌++◌, map, refl, sym, ap, subst, ◌∙◌}
 use Rattle.std.proofs.Common.{⊎_elim}
+use Rattle.fare_caps.specs.{CapMeanings.capped_rules_of, CappedReplies.capped_reply}
+use Rattle.histories.proofs.OwnEntries.{own_same, own_other, own_none}
+use Rattle.histories.specs.Entry.{is_of, own, tap_of, taps_of}
+use Rattle.histories.specs.{History.IsLegal, History.IsReplied, declared.entry.Entry.Entry}
+use Rattle.std.proofs.lemmas.{Bool.cases_Bool, Cmp.tied_itself}
 use Rattle.std.specs.List.{AllByRecursion}
 use Rattle.std.specs.declared.cmp.Ordering.TheVariants.{Less, Equal}
-use Rattle.std.proofs.lemmas.Bool.{cases_Bool}
-use Rattle.std.proofs.lemmas.Cmp.{tied_itself}
-use Rattle.tariffs.specs.Fares.{Fares}
-use Rattle.fare_caps.specs.CappedReplies.{capped_reply}
-use Rattle.fare_caps.specs.CapMeanings.{capped_rules_of}
-use Rattle.histories.specs.Entry.{is_of, own, tap_of, taps_of}
-use Rattle.histories.specs.History.{IsLegal, IsReplied}
-use Rattle.tap_views.specs.Token.{bytes_of, token_cmp, token_eq}
-use Rattle.histories.specs.declared.entry.Entry.{Entry}
-use Rattle.histories.proofs.OwnEntries.{own_same, own_other, own_none}
-use Rattle.tap_views.specs.declared.token.Token.{Token}
 use Rattle.tap_views.proofs.TokenLemmas.{same_token, token_eq-refl, token_cmp-total}
+use Rattle.tap_views.specs.Token.{bytes_of, token_cmp, token_eq}
+use Rattle.tap_views.specs.declared.token.Token.{Token}
+use Rattle.tariffs.specs.Fares.{Fares}
 
 -- each of these is the token's
 abbrev pub AllOf : Token → List Entry → Type 0

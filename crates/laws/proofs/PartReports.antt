@@ -1,38 +1,32 @@
 -- Parts of files are parts of a history, and their numbers fit.
-use Rattle.std.specs.Prelude.{◌≡◌, ℕ, ◌+◌, ◌<◌, ◌^◌, List, [], ◌∷◌, ◌++◌, All, None, Ok}
-use Rattle.std.specs.Prelude.{flat_map, length, map}
-use Rattle.std.specs.List.{AllByRecursion, AllZip}
 use Rattle.std.proofs.Common.{refl, sym, ap, subst, ◌∙◌, arith, length-append}
-use Rattle.std.proofs.lemmas.List.{length-map}
-use Rattle.std.proofs.lemmas.List.Sorted.{length_permutation}
-use Rattle.std.proofs.lemmas.List.Elements.{All-cons, All-head, All-nil, All-tail}
-use Rattle.std.proofs.lemmas.List.Elements.{recursion_from_All}
-use Rattle.tap_views.specs.Token.{Fits as TokenFits}
-use Rattle.tap_views.specs.declared.encoder.TapFields.{TapFields}
-use Rattle.tap_views.specs.declared.upload_end.UploadEnd.TheVariants.{Posted}
-use Rattle.tariffs.specs.Fares.{Fares}
-use Rattle.histories.specs.Sums.{sums}
-use Rattle.histories.specs.SumsByKey.{sums_by_token, sums_by_validator}
+use Rattle.fare_texts.specs.Ledger.{IsLedgerOver}
+use Rattle.histories.specs.{Sums.sums, SumsByKey.sums_by_token, SumsByKey.sums_by_validator}
 use Rattle.histories.specs.declared.entry.Entry.{Entry}
-use Rattle.report_texts.specs.OverHistory.{IsReportOver}
-use Rattle.report_texts.specs.Report.{report}
+use Rattle.laws.proofs.CentsFit.{posted_few, tokens_fit}
+use Rattle.laws.proofs.SumsFit.{CostsFew, EntryFits, summed}
+use Rattle.laws.specs.PartTexts.{IsLedgerText, history_part, part_report}
+use Rattle.laws.specs.Sizes.{CanBeWritten, HaveBoundedTerms, HaveNumbers, HavePositions}
+use Rattle.part_texts.specs.HistoryParts.{AreRight, Fits, HistoryPart, histories_of, numbers_of}
+use Rattle.part_texts.specs.HistoryParts.{report_of, whole_history}
+use Rattle.part_texts.specs.HistoryParts.{AreIncreasing as HistoriesIncrease, added as added_up}
+use Rattle.part_texts.specs.{LedgerParts.DoJoinUp, LedgerParts.IsPartLedger, Merged.merge_of}
+use Rattle.part_texts.specs.Shown.{SpanFits, part_text, sum_up}
+use Rattle.report_texts.specs.{OverHistory.IsReportOver, Report.report}
 use Rattle.settlement.proofs.TokenRuns.{posted_length}
 use Rattle.sorted_bills.specs.Parts.{ArePartsOf, AreIncreasing, IsPartOf, PartView, added}
 use Rattle.sorted_bills.specs.Parts.{numbers_of_parts}
 use Rattle.sorted_taps.specs.Positions.{AreSpanned, AreWhole}
 use Rattle.sorted_taps.specs.declared.positions.FileSpan.{FileSpan}
-use Rattle.tap_views.specs.UploadEnds.{ArePlainEnds}
-use Rattle.part_texts.specs.HistoryParts.{AreRight, Fits, HistoryPart, histories_of, numbers_of}
-use Rattle.part_texts.specs.HistoryParts.{report_of, whole_history}
-use Rattle.part_texts.specs.HistoryParts.{AreIncreasing as HistoriesIncrease, added as added_up}
-use Rattle.fare_texts.specs.Ledger.{IsLedgerOver}
-use Rattle.part_texts.specs.LedgerParts.{DoJoinUp, IsPartLedger}
-use Rattle.part_texts.specs.Merged.{merge_of}
-use Rattle.part_texts.specs.Shown.{SpanFits, part_text, sum_up}
-use Rattle.laws.specs.PartTexts.{IsLedgerText, history_part, part_report}
-use Rattle.laws.specs.Sizes.{CanBeWritten, HaveBoundedTerms, HaveNumbers, HavePositions}
-use Rattle.laws.proofs.CentsFit.{posted_few, tokens_fit}
-use Rattle.laws.proofs.SumsFit.{CostsFew, EntryFits, summed}
+use Rattle.std.proofs.lemmas.List.{length-map, Elements.All-cons}
+use Rattle.std.proofs.lemmas.List.Elements.{All-head, All-nil, All-tail, recursion_from_All}
+use Rattle.std.proofs.lemmas.List.Sorted.{length_permutation}
+use Rattle.std.specs.{List.AllByRecursion, List.AllZip, Prelude.◌≡◌, Prelude.ℕ, Prelude.◌+◌}
+use Rattle.std.specs.Prelude.{◌<◌, ◌^◌, List, [], ◌∷◌, ◌++◌, All, None, Ok, flat_map, length, map}
+use Rattle.tap_views.specs.{Token.Fits as TokenFits, UploadEnds.ArePlainEnds}
+use Rattle.tap_views.specs.declared.encoder.TapFields.{TapFields}
+use Rattle.tap_views.specs.declared.upload_end.UploadEnd.TheVariants.{Posted}
+use Rattle.tariffs.specs.Fares.{Fares}
 
 -- ---- lengths
 number_of_spans : (files : List (List ℕ)) (spans : List FileSpan) (lists : List (List TapFields))

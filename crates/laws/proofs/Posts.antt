@@ -1,24 +1,19 @@
 -- Posting taps after histories that are the same to the account rule.
-use Rattle.std.proofs.Common.{◌≡◌, Bool, true, false, cond, List, [], ◌∷◌, ◌++◌, map, filter}
-use Rattle.std.proofs.Common.{refl, sym, ap, ◌∙◌, subst, append-nil, append_assoc}
-use Rattle.tariffs.specs.Fares.{Fares}
-use Rattle.tap_views.specs.Token.{bytes_of}
-use Rattle.tap_views.specs.declared.token.Token.{Token}
-use Rattle.tap_views.specs.Encoding.{fields_of}
-use Rattle.tap_views.specs.Layout.{Tap}
-use Rattle.tap_views.specs.declared.encoder.TapFields.{TapFields}
-use Rattle.fare_caps.specs.CappedReplies.{capped_reply}
-use Rattle.fare_caps.specs.CapMeanings.{capped_rules_of}
+use Rattle.std.proofs.Common.{◌≡◌, Bool, true, false, cond, List, [], ◌∷◌, ◌++◌, map, filter, refl}
+use Rattle.std.proofs.Common.{sym, ap, ◌∙◌, subst, append-nil, append_assoc}
 use Rattle.account_rule.specs.declared.tap.TapIn.{TapIn}
-use Rattle.histories.specs.Entry.{is_of, tap_of, taps_of}
-use Rattle.histories.specs.declared.entry.Entry.{Entry}
-use Rattle.histories.specs.Plain.{answered, plain_after, unanswered, with_reply}
+use Rattle.fare_caps.specs.{CapMeanings.capped_rules_of, CappedReplies.capped_reply}
 use Rattle.histories.proofs.Histories.{taps-push}
-use Rattle.settlement.proofs.Histories.{entry_of}
-use Rattle.settlement.proofs.Own.{own_entry}
-use Rattle.laws.specs.Bills.{is_live, live_entries}
+use Rattle.histories.specs.Entry.{is_of, tap_of, taps_of}
+use Rattle.histories.specs.Plain.{answered, plain_after, unanswered, with_reply}
+use Rattle.histories.specs.declared.entry.Entry.{Entry}
 use Rattle.laws.proofs.States.{SameState, state-refl, state-sym, state-trans, state-push}
 use Rattle.laws.proofs.States.{state-twice, same_reply, not_live_again}
+use Rattle.laws.specs.Bills.{is_live, live_entries}
+use Rattle.settlement.proofs.{Histories.entry_of, Own.own_entry}
+use Rattle.tap_views.specs.{Encoding.fields_of, Layout.Tap, Token.bytes_of}
+use Rattle.tap_views.specs.declared.{encoder.TapFields.TapFields, token.Token.Token}
+use Rattle.tariffs.specs.Fares.{Fares}
 
 -- the entries of taps that follow earlier ones, by the fields of the taps
 unfoldable pub after : Fares → List Entry → List TapFields → List Entry

@@ -1,41 +1,30 @@
 -- What a token is charged before a moment depends on its taps before the moment alone.
 use Rattle.std.proofs.Common.{◌≡◌, ℕ, Bool, true, false, ◌&&◌, cond, List, [], ◌∷◌, ◌++◌, map}
 use Rattle.std.proofs.Common.{filter, refl, sym, ap, subst, ◌∙◌, arith, All, nat_lt}
-use Rattle.std.specs.Prelude.{Contains, slice_index_or}
-use Rattle.std.specs.List.Sorted.{IsPermutation}
-use Rattle.std.specs.Ordering.{is_lt}
+use Rattle.fare_service.proofs.OwnVisits.{filter_none}
+use Rattle.histories.specs.{Entry.is_of, Entry.own, Entry.taps_of, Keys.same_token, Plain.answered}
+use Rattle.histories.specs.{Plain.token_of_bytes, declared.entry.Entry.Entry}
+use Rattle.laws.proofs.{BillLemmas.live_filter, Once.Among}
+use Rattle.laws.proofs.OwnTaps.{answered_alike, push_mine, push_other}
+use Rattle.laws.proofs.{Posts.after, Posts.plain_is_after, Sets.same_bill}
+use Rattle.laws.specs.Bills.{bill_before, live_entries}
+use Rattle.laws.specs.TapSets.{HaveSameTapsBefore, fields_of_uploads, is_before}
+use Rattle.settlement.proofs.Contained.{kept_there, was_there}
+use Rattle.settlement.proofs.{Histories.entry_of, Own.IsNamedBy, Own.one_token}
+use Rattle.settlement.proofs.Placed.{NotLess, Pairs, no_earlier, sorted_pairs}
+use Rattle.settlement.specs.Settled.{IsSettledHistory}
 use Rattle.std.proofs.lemmas.Bool.{le-ltb, ltb-false}
 use Rattle.std.proofs.lemmas.List.Elements.{All-head, All-tail, All-contains, filter_passes}
 use Rattle.std.proofs.lemmas.List.Kept.{IsSortedBy-filter}
-use Rattle.std.proofs.lemmas.List.Sorted.{Contains-permutation, IsPermutation-sym}
-use Rattle.std.proofs.lemmas.List.Sorted.{ranks_by}
-use Rattle.tap_views.specs.Encoding.{fields_of}
-use Rattle.tap_views.specs.Layout.{Tap}
-use Rattle.tap_views.specs.declared.encoder.TapFields.{TapFields}
-use Rattle.tariffs.specs.Fares.{Fares}
-use Rattle.tap_views.specs.Token.{token_eq}
-use Rattle.tap_views.specs.declared.token.Token.{Token}
-use Rattle.histories.specs.Entry.{is_of, own, taps_of}
-use Rattle.histories.specs.Keys.{same_token}
-use Rattle.histories.specs.declared.entry.Entry.{Entry}
-use Rattle.histories.specs.Plain.{answered, token_of_bytes}
-use Rattle.tap_views.specs.Files.{HasUniqueParse}
-use Rattle.fare_service.proofs.OwnVisits.{filter_none}
-use Rattle.tap_parts.specs.Canonical.{tap_cmp}
+use Rattle.std.proofs.lemmas.List.Sorted.{Contains-permutation, IsPermutation-sym, ranks_by}
+use Rattle.std.specs.{List.Sorted.IsPermutation, Ordering.is_lt}
+use Rattle.std.specs.Prelude.{Contains, slice_index_or}
 use Rattle.tap_parts.proofs.Total.{tap_cmp_total}
-use Rattle.settlement.specs.Settled.{IsSettledHistory}
-use Rattle.settlement.proofs.Histories.{entry_of}
-use Rattle.settlement.proofs.Contained.{kept_there, was_there}
-use Rattle.settlement.proofs.Own.{IsNamedBy, one_token}
-use Rattle.settlement.proofs.Placed.{NotLess, Pairs, no_earlier, sorted_pairs}
+use Rattle.tap_parts.specs.Canonical.{tap_cmp}
 use Rattle.tap_views.proofs.ParseLemmas.{one_list}
-use Rattle.laws.specs.Bills.{bill_before, live_entries}
-use Rattle.laws.specs.TapSets.{HaveSameTapsBefore, fields_of_uploads, is_before}
-use Rattle.laws.proofs.Once.{Among}
-use Rattle.laws.proofs.BillLemmas.{live_filter}
-use Rattle.laws.proofs.OwnTaps.{answered_alike, push_mine, push_other}
-use Rattle.laws.proofs.Posts.{after, plain_is_after}
-use Rattle.laws.proofs.Sets.{same_bill}
+use Rattle.tap_views.specs.{Encoding.fields_of, Files.HasUniqueParse, Layout.Tap, Token.token_eq}
+use Rattle.tap_views.specs.declared.{encoder.TapFields.TapFields, token.Token.Token}
+use Rattle.tariffs.specs.Fares.{Fares}
 
 module _ (fares : Fares) (token : Token) (moment : ℕ) where
   -- whether the entry is the token's, and before the moment

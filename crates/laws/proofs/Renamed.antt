@@ -1,38 +1,15 @@
 -- A token that has another's taps has its lines.
-use Rattle.std.proofs.Common.{◌≡◌, ℕ, true, cond, List, [], ◌∷◌, ◌++◌, map, filter, refl}
-use Rattle.std.proofs.Common.{sym, ap, subst, ◌∙◌, All, is_some, Option, Some, None}
-use Rattle.std.specs.Prelude.{if◌then◌else◌, slice_index_or}
-use Rattle.std.specs.Cmp.{tied_itself}
-use Rattle.std.specs.Cmp.Lexicographic.{slice_cmp}
-use Rattle.std.specs.List.Sorted.{IsPermutation, IsSorted}
-use Rattle.std.specs.Ordering.{is_lt, nat_cmp, ordering_then}
-use Rattle.std.specs.declared.cmp.Ordering.{Ordering}
-use Rattle.std.proofs.lemmas.Cmp.{nat_list_cmp_total}
-use Rattle.std.proofs.lemmas.List.Elements.{All-cons, All-filter, All-head, All-nil, All-tail}
-use Rattle.std.proofs.lemmas.List.Elements.{filter_passes}
-use Rattle.std.proofs.lemmas.List.Kept.{IsSortedBy-filter}
-use Rattle.std.proofs.lemmas.List.Sorted.{IsPermutation-sym, ranks_by}
-use Rattle.tap_views.specs.Encoding.{fields_of}
-use Rattle.tap_views.specs.Files.{HasUniqueParse}
-use Rattle.tap_views.specs.Layout.{Tap}
-use Rattle.tap_views.specs.declared.encoder.TapFields.{TapFields}
-use Rattle.tap_views.specs.Token.{bytes_of, token_eq}
-use Rattle.tap_views.specs.declared.token.Token.{Token}
-use Rattle.tap_views.proofs.ParseLemmas.{one_list}
-use Rattle.tariffs.specs.Fares.{Fares, class_of, has_prices, meaning_at, terms_on}
-use Rattle.tariffs.specs.declared.class.Class.{Class}
+use Rattle.std.proofs.Common.{◌≡◌, ℕ, true, cond, List, [], ◌∷◌, ◌++◌, map, filter, refl, sym, ap}
+use Rattle.std.proofs.Common.{subst, ◌∙◌, All, is_some, Option, Some, None}
 use Rattle.account_rule.specs.Blocks.{last_block}
 use Rattle.account_rule.specs.Reasons.{given_by, latest, live_reason, reason, ride_of}
-use Rattle.account_rule.specs.Taps.{LiveTap, is_later, live_at}
-use Rattle.account_rule.specs.TokenRules.{TokenRules, permits_of, rules_of, token_class}
-use Rattle.account_rule.specs.TokenRules.{transfers_of}
+use Rattle.account_rule.specs.{Taps.LiveTap, Taps.is_later, Taps.live_at, TokenRules.TokenRules}
+use Rattle.account_rule.specs.TokenRules.{permits_of, rules_of, token_class, transfers_of}
 use Rattle.account_rule.specs.Trips.{ends_in_transfer, last_trip, rides, trips}
-use Rattle.account_rule.specs.Windows.{windows}
-use Rattle.account_rule.specs.declared.reason.Reason.{Reason}
+use Rattle.account_rule.specs.{Windows.windows, declared.reason.Reason.Reason}
 use Rattle.account_rule.specs.declared.reason.Reason.TheVariants.{Ride, Stale, Transfer, Unknown}
-use Rattle.account_rule.specs.declared.tap.TapIn.{TapIn}
-use Rattle.account_rule.specs.declared.reply.Reply.{Reply}
-use Rattle.tariffs.specs.declared.mode.Mode.{Mode}
+use Rattle.account_rule.specs.declared.{reply.Reply.Reply, tap.TapIn.TapIn}
+use Rattle.fare_caps.proofs.PriceLemmas.{ArePriced, extra-same, same-dues}
 use Rattle.fare_caps.specs.CapMeanings.{cap_positions, cap_rules, capped_rules_of, pays_of}
 use Rattle.fare_caps.specs.CapStates.{CapStates, after_due, after_dues, after_ride, at_ride}
 use Rattle.fare_caps.specs.CapStates.{charge_at, extra_charge, no_rides, ride_charge, states}
@@ -41,25 +18,33 @@ use Rattle.fare_caps.specs.CappedReplies.{capped_reason, capped_reply, replied_b
 use Rattle.fare_caps.specs.CappedReplies.{under_caps}
 use Rattle.fare_caps.specs.Caps.{CapRules, CappedRules, window_cap}
 use Rattle.fare_caps.specs.Prices.{Due, dues, extra, of_ride, of_transfer}
-use Rattle.fare_caps.proofs.PriceLemmas.{ArePriced, extra-same, same-dues}
-use Rattle.histories.specs.Entry.{is_of, own, tap_of, taps_of}
-use Rattle.histories.specs.Keys.{same_token}
-use Rattle.histories.specs.Plain.{answered, token_of_bytes}
-use Rattle.histories.specs.declared.entry.Entry.{Entry}
 use Rattle.histories.proofs.Histories.{taps-push}
-use Rattle.tap_parts.specs.Canonical.{tap_cmp}
-use Rattle.tap_parts.proofs.Total.{tap_cmp_exact, tap_cmp_total}
-use Rattle.settlement.specs.Settled.{IsSettledHistory}
-use Rattle.settlement.proofs.Histories.{entry_of}
-use Rattle.settlement.proofs.Own.{IsNamedBy}
-use Rattle.settlement.proofs.Placed.{NotLess, Pairs, sorted_pairs}
-use Rattle.settlement.proofs.Sorting.{sorted_by_pairs}
-use Rattle.settlement.proofs.Unique.{AreAlike, same_sorted}
+use Rattle.histories.specs.{Entry.is_of, Entry.own, Entry.tap_of, Entry.taps_of, Keys.same_token}
+use Rattle.histories.specs.{Plain.answered, Plain.token_of_bytes, declared.entry.Entry.Entry}
+use Rattle.laws.proofs.Alike.{alike-filter, alike-map, permuted_alike}
+use Rattle.laws.proofs.{OwnTaps.own_after, Posts.after, Posts.plain_is_after}
 use Rattle.laws.specs.Bills.{ChargedAlike, HaveSameTerms, entry_for}
 use Rattle.laws.specs.TapSets.{HaveTapsAlike, fields_of_uploads, is_tap_of, own_taps, with_token}
-use Rattle.laws.proofs.Alike.{alike-filter, alike-map, permuted_alike}
-use Rattle.laws.proofs.OwnTaps.{own_after}
-use Rattle.laws.proofs.Posts.{after, plain_is_after}
+use Rattle.settlement.proofs.{Histories.entry_of, Own.IsNamedBy}
+use Rattle.settlement.proofs.Placed.{NotLess, Pairs, sorted_pairs}
+use Rattle.settlement.proofs.{Sorting.sorted_by_pairs, Unique.AreAlike, Unique.same_sorted}
+use Rattle.settlement.specs.Settled.{IsSettledHistory}
+use Rattle.std.proofs.lemmas.Cmp.{nat_list_cmp_total}
+use Rattle.std.proofs.lemmas.List.Elements.{All-cons, All-filter, All-head, All-nil, All-tail}
+use Rattle.std.proofs.lemmas.List.{Elements.filter_passes, Kept.IsSortedBy-filter}
+use Rattle.std.proofs.lemmas.List.Sorted.{IsPermutation-sym, ranks_by}
+use Rattle.std.specs.Cmp.{tied_itself, Lexicographic.slice_cmp}
+use Rattle.std.specs.List.Sorted.{IsPermutation, IsSorted}
+use Rattle.std.specs.Ordering.{is_lt, nat_cmp, ordering_then}
+use Rattle.std.specs.{Prelude.if◌then◌else◌, Prelude.slice_index_or, declared.cmp.Ordering.Ordering}
+use Rattle.tap_parts.proofs.Total.{tap_cmp_exact, tap_cmp_total}
+use Rattle.tap_parts.specs.Canonical.{tap_cmp}
+use Rattle.tap_views.proofs.ParseLemmas.{one_list}
+use Rattle.tap_views.specs.{Encoding.fields_of, Files.HasUniqueParse, Layout.Tap}
+use Rattle.tap_views.specs.Token.{bytes_of, token_eq}
+use Rattle.tap_views.specs.declared.{encoder.TapFields.TapFields, token.Token.Token}
+use Rattle.tariffs.specs.Fares.{Fares, class_of, has_prices, meaning_at, terms_on}
+use Rattle.tariffs.specs.declared.{class.Class.Class, mode.Mode.Mode}
 
 -- ---- taps of one token stay in order under another token
 -- the taps' token has these bytes

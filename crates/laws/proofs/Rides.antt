@@ -1,26 +1,23 @@
 -- One more tap of a token and its number of rides.
 use Rattle.std.proofs.Common.{◌≡◌, ℕ, zero, suc, ◌+◌, ◌-◌, ◌≤◌, ◌<◌, Bool, true, false, not, ◌&&◌}
-use Rattle.std.proofs.Common.{◌||◌, cond}
-use Rattle.std.proofs.Common.{List, [], ◌∷◌, ◌++◌, Option, Some, None, refl, sym, ap, subst, ◌∙◌}
-use Rattle.std.proofs.Common.{arith, is_some, nat_le, nat_lt, option_map, All, inl, inr, count_by}
-use Rattle.std.specs.Prelude.{◌⊎◌}
-use Rattle.std.proofs.lemmas.Bool.{le-ltb, lt-ltb}
-use Rattle.std.proofs.lemmas.List.Elements.{All-head, All-tail}
-use Rattle.std.proofs.lemmas.List.Sums.{sum_by-cons}
-use Rattle.tariffs.specs.declared.mode.Mode.{Mode}
-use Rattle.account_rule.specs.declared.reply.Reply.{Reply}
-use Rattle.account_rule.specs.declared.tap.TapIn.{TapIn}
-use Rattle.account_rule.specs.Trips.{TripEnd, ends_in_transfer, last_trip}
-use Rattle.account_rule.specs.Laws.{is_ride}
-use Rattle.account_rule.specs.Replies.{live_reply, replies, replies_after, reply, reply_with}
-use Rattle.account_rule.specs.Taps.{LiveTap, is_later, live_at, live_tap}
-use Rattle.account_rule.specs.TokenRules.{TokenRules, TransferRules}
-use Rattle.account_rule.specs.inside.Kept.{gives}
+use Rattle.std.proofs.Common.{◌||◌, cond, List, [], ◌∷◌, ◌++◌, Option, Some, None, refl, sym, ap}
+use Rattle.std.proofs.Common.{subst, ◌∙◌, arith, is_some, nat_le, nat_lt, option_map, All, inl, inr}
+use Rattle.std.proofs.Common.{count_by}
+use Rattle.account_rule.proofs.ShareLemmas.{is_ride-reply}
 use Rattle.account_rule.proofs.StepLemmas.{is_live, not_known, not_later, reply_live, reply_ride}
 use Rattle.account_rule.proofs.StepLemmas.{reply_stale, reply_transfer, reply_unknown}
 use Rattle.account_rule.proofs.TapLemmas.{after_tap, ends_in_transfer-push, is_later-push}
 use Rattle.account_rule.proofs.TapLemmas.{trip-push, trip-same}
-use Rattle.account_rule.proofs.ShareLemmas.{is_ride-reply}
+use Rattle.account_rule.specs.Laws.{is_ride}
+use Rattle.account_rule.specs.Replies.{live_reply, replies, replies_after, reply, reply_with}
+use Rattle.account_rule.specs.Taps.{LiveTap, is_later, live_at, live_tap}
+use Rattle.account_rule.specs.{TokenRules.TokenRules, TokenRules.TransferRules, Trips.TripEnd}
+use Rattle.account_rule.specs.{Trips.ends_in_transfer, Trips.last_trip, declared.reply.Reply.Reply}
+use Rattle.account_rule.specs.{declared.tap.TapIn.TapIn, inside.Kept.gives}
+use Rattle.std.proofs.lemmas.Bool.{le-ltb, lt-ltb}
+use Rattle.std.proofs.lemmas.List.{Elements.All-head, Elements.All-tail, Sums.sum_by-cons}
+use Rattle.std.specs.Prelude.{◌⊎◌}
+use Rattle.tariffs.specs.declared.mode.Mode.{Mode}
 
 -- ---- how far the second of two walks over taps is ahead of the first, by the trip that can give a
 -- transfer in each, and how many rides each has had: it never falls behind again

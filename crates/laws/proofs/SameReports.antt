@@ -1,12 +1,11 @@
 -- Reports over one history differ in the lines of their uploads alone.
 use Rattle.std.proofs.Common.{◌≡◌, ℕ, List, ◌++◌, ap, ◌∙◌}
-use Rattle.histories.specs.Sums.{sums}
-use Rattle.histories.specs.SumsByKey.{sums_by_validator, sums_by_token}
-use Rattle.histories.specs.declared.entry.Entry.{Entry}
 use Rattle.fare_texts.specs.Counts.{totals_line}
+use Rattle.histories.specs.{Sums.sums, SumsByKey.sums_by_validator, SumsByKey.sums_by_token}
+use Rattle.histories.specs.declared.entry.Entry.{Entry}
+use Rattle.laws.specs.Agree.{DifferInUploads}
 use Rattle.report_texts.specs.OverHistory.{IsReportOver}
 use Rattle.report_texts.specs.Report.{report, validators_section, tokens_section}
-use Rattle.laws.specs.Agree.{DifferInUploads}
 
 rest_of : List Entry → List ℕ
 rest_of es = totals_line (sums es)

@@ -1,16 +1,14 @@
 -- Canonical lists that have the same set of taps are billed alike.
 use Rattle.std.proofs.Common.{◌≡◌, List, [], sym, subst, refl}
-use Rattle.std.specs.Cmp.{eq_by_cmp_equiv, Equal-is}
-use Rattle.std.specs.List.{dedup}
-use Rattle.std.specs.List.Sorted.{IsSorted}
-use Rattle.std.proofs.lemmas.List.Kept.{Contains-dedup, Contains-from_dedup}
-use Rattle.std.proofs.lemmas.List.Kept.{IsStrictlySortedBy-dedup}
-use Rattle.tap_views.specs.declared.encoder.TapFields.{TapFields}
-use Rattle.tariffs.specs.Fares.{Fares}
-use Rattle.tap_parts.specs.Canonical.{tap_cmp}
-use Rattle.tap_parts.proofs.Total.{tap_cmp_total, tap_cmp_exact}
 use Rattle.laws.proofs.Once.{Among, once, same_set, same_tap}
 use Rattle.laws.proofs.Posts.{SameBill, bill-sym, bill-trans}
+use Rattle.std.proofs.lemmas.List.Kept.{Contains-dedup, Contains-from_dedup}
+use Rattle.std.proofs.lemmas.List.Kept.{IsStrictlySortedBy-dedup}
+use Rattle.std.specs.{Cmp.eq_by_cmp_equiv, Cmp.Equal-is, List.dedup, List.Sorted.IsSorted}
+use Rattle.tap_parts.proofs.Total.{tap_cmp_total, tap_cmp_exact}
+use Rattle.tap_parts.specs.Canonical.{tap_cmp}
+use Rattle.tap_views.specs.declared.encoder.TapFields.{TapFields}
+use Rattle.tariffs.specs.Fares.{Fares}
 
 -- what is among the others stays so when each run of equal taps is taken once
 among_once : (xs ys : List TapFields) → Among xs ys

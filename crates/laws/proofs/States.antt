@@ -1,30 +1,27 @@
 -- Lists of taps that are the same to the account rule.
-use Rattle.std.proofs.Common.{◌≡◌, ℕ, Bool, true, false, not, ◌&&◌, ◌||◌, cond, List, [], ◌∷◌}
-use Rattle.std.proofs.Common.{◌++◌, length, Option, Some, None, refl, sym, ap, ◌∙◌, append-nil}
-use Rattle.std.proofs.Common.{nat_lt, is_some, arith, take}
-use Rattle.std.specs.List.{flat_map, last_or}
-use Rattle.std.specs.Prelude.{option_map}
-use Rattle.std.specs.Option.{option_and_then, option_to_list}
-use Rattle.std.proofs.lemmas.Bool.{le-ltb, and_right, true≢false}
-use Rattle.tariffs.specs.declared.mode.Mode.{Mode}
-use Rattle.account_rule.specs.declared.reply.Answer.TheVariants.{Transfer, Stale, Unknown}
-use Rattle.account_rule.specs.declared.reply.Reply.{Reply}
-use Rattle.account_rule.specs.declared.tap.TapIn.{TapIn}
-use Rattle.account_rule.specs.Blocks.{blocks_by, last_block}
-use Rattle.account_rule.specs.Trips.{continues, ends_in_transfer, rides, trips}
-use Rattle.account_rule.specs.Replies.{live_reply, reply, reply_with, ride_reply}
-use Rattle.account_rule.specs.TokenRules.{TokenRules}
-use Rattle.account_rule.specs.Taps.{LiveTap, is_later, live, live_at, live_tap}
-use Rattle.account_rule.specs.Windows.{charges, is_within, paid_by, windows}
+use Rattle.std.proofs.Common.{◌≡◌, ℕ, Bool, true, false, not, ◌&&◌, ◌||◌, cond, List, [], ◌∷◌, ◌++◌}
+use Rattle.std.proofs.Common.{length, Option, Some, None, refl, sym, ap, ◌∙◌, append-nil, nat_lt}
+use Rattle.std.proofs.Common.{is_some, arith, take}
 use Rattle.account_rule.proofs.StepLemmas.{not_known, not_later, reply_stale, reply_unknown}
 use Rattle.account_rule.proofs.TapLemmas.{is_later-push, live-push}
-use Rattle.fare_caps.specs.Caps.{CappedRules}
-use Rattle.fare_caps.specs.CapStates.{CapStates, states}
-use Rattle.fare_caps.specs.CappedReplies.{capped_reply}
+use Rattle.account_rule.specs.Blocks.{blocks_by, last_block}
+use Rattle.account_rule.specs.Replies.{live_reply, reply, reply_with, ride_reply}
+use Rattle.account_rule.specs.Taps.{LiveTap, is_later, live, live_at, live_tap}
+use Rattle.account_rule.specs.TokenRules.{TokenRules}
+use Rattle.account_rule.specs.Trips.{continues, ends_in_transfer, rides, trips}
+use Rattle.account_rule.specs.Windows.{charges, is_within, paid_by, windows}
+use Rattle.account_rule.specs.declared.reply.Answer.TheVariants.{Transfer, Stale, Unknown}
+use Rattle.account_rule.specs.declared.{reply.Reply.Reply, tap.TapIn.TapIn}
 use Rattle.fare_caps.proofs.AnswerLemmas.{answered, is_charged, is_raised, is_same, reply-under}
 use Rattle.fare_caps.proofs.AnswerLemmas.{states-same, trip-same, under_reply}
 use Rattle.fare_caps.proofs.RideLemmas.{trip_before}
+use Rattle.fare_caps.specs.CapStates.{CapStates, states}
+use Rattle.fare_caps.specs.{CappedReplies.capped_reply, Caps.CappedRules}
 use Rattle.laws.specs.Bills.{is_live_answer}
+use Rattle.std.proofs.lemmas.Bool.{le-ltb, and_right, true≢false}
+use Rattle.std.specs.List.{flat_map, last_or}
+use Rattle.std.specs.{Option.option_and_then, Option.option_to_list, Prelude.option_map}
+use Rattle.tariffs.specs.declared.mode.Mode.{Mode}
 
 -- they have the same live taps, and the same moments are later
 pub record SameState (one other : List TapIn) : Type 0 where

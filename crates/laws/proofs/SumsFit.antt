@@ -1,28 +1,23 @@
 -- The sums of a history have 64 bits, if the fares have bounded terms.
-use Rattle.std.specs.Prelude.{◌≡◌, ℕ, ◌+◌, ◌*◌, ◌<◌, ◌≤◌, ◌^◌, Bool, true, false, cond, List, []}
-use Rattle.std.specs.Prelude.{◌∷◌, length, map, filter, All, sum_by}
-use Rattle.std.specs.List.{AllByRecursion}
-use Rattle.std.specs.Ordering.{nat_cmp}
 use Rattle.std.proofs.Common.{refl, arith}
-use Rattle.std.proofs.lemmas.List.{length-map}
-use Rattle.std.proofs.lemmas.List.Sums.{sum_by-cons}
-use Rattle.std.proofs.lemmas.List.Elements.{All-filter, All-map}
-use Rattle.std.proofs.lemmas.List.Elements.{All-weaker, recursion_from_All}
-use Rattle.account_rule.specs.declared.reply.Answer.{Answer}
-use Rattle.account_rule.specs.declared.reply.Answer.TheVariants.{Paid, Transfer, Capped, Stale}
-use Rattle.account_rule.specs.declared.reply.Answer.TheVariants.{Unknown}
+use Rattle.account_rule.specs.declared.reply.Answer.{Answer, TheVariants.Paid}
+use Rattle.account_rule.specs.declared.reply.Answer.TheVariants.{Transfer, Capped, Stale, Unknown}
 use Rattle.account_rule.specs.declared.reply.Reply.{Reply}
-use Rattle.tap_views.specs.Token.{Fits, token_cmp}
-use Rattle.tap_views.specs.declared.token.Token.{Token}
-use Rattle.histories.specs.declared.entry.Entry.{Entry}
 use Rattle.histories.specs.Entry.{is_at, is_of, own, reply_of}
+use Rattle.histories.specs.{Increasing.increasing, Sums.is_capped, Sums.is_paid}
+use Rattle.histories.specs.Sums.{is_stale, is_transfer, is_unknown, sums, Sums, sums_of_replies}
 use Rattle.histories.specs.SumsByKey.{entries_of_validator, sums_by_token, sums_by_validator}
 use Rattle.histories.specs.SumsByKey.{token_of, tokens, validator_of, validators}
-use Rattle.histories.specs.Increasing.{increasing}
-use Rattle.histories.specs.Sums.{is_capped, is_paid, is_stale, is_transfer, is_unknown, sums}
-use Rattle.histories.specs.Sums.{Sums, sums_of_replies}
+use Rattle.histories.specs.declared.entry.Entry.{Entry}
 use Rattle.part_texts.proofs.HistoryParts.{all_ascending, increasing_few}
 use Rattle.report_texts.specs.Numbers.{AreCounts, IsTokenSum, IsValidatorSum}
+use Rattle.std.proofs.lemmas.List.{length-map}
+use Rattle.std.proofs.lemmas.List.Elements.{All-filter, All-map, All-weaker, recursion_from_All}
+use Rattle.std.proofs.lemmas.List.Sums.{sum_by-cons}
+use Rattle.std.specs.{List.AllByRecursion, Ordering.nat_cmp}
+use Rattle.std.specs.Prelude.{◌≡◌, ℕ, ◌+◌, ◌*◌, ◌<◌, ◌≤◌, ◌^◌, Bool, true, false, cond, List, []}
+use Rattle.std.specs.Prelude.{◌∷◌, length, map, filter, All, sum_by}
+use Rattle.tap_views.specs.{Token.Fits, Token.token_cmp, declared.token.Token.Token}
 
 -- the sums of the history can be those of taps, in 64 bits
 pub record CanBeSummed (history : List Entry) : Type 0 where

@@ -1,13 +1,12 @@
 -- The columns behind a line.
 use Rattle.std.proofs.Common.{◌≡◌, ◌∙◌, ℕ, Bool, List, [], ◌∷◌, ◌++◌, refl, ap, append_assoc}
 use Rattle.std.proofs.Common.{if◌then◌else◌}
-use Rattle.std.proofs.lemmas.Bool.{ne_eqb}
-use Rattle.std.specs.Fmt.{decimal}
-use Rattle.ledger_check.specs.Columns.{traced_text}
-use Rattle.ledger_check.specs.Lines.{Lacks}
+use Rattle.laws.specs.Traced.{line_of}
+use Rattle.ledger_check.specs.{Columns.traced_text, Lines.Lacks}
 use Rattle.settled_texts.specs.Columns.{columns_of, with_columns}
 use Rattle.settled_texts.specs.declared.trace.TracedTap.{TracedTap}
-use Rattle.laws.specs.Traced.{line_of}
+use Rattle.std.proofs.lemmas.Bool.{ne_eqb}
+use Rattle.std.specs.Fmt.{decimal}
 
 put_after : (fields column text : List ℕ) (columns : List (List ℕ)) → Lacks 10 fields
     → with_columns (fields ++ 10 ∷ text) (column ∷ columns)

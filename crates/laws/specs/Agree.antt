@@ -1,9 +1,8 @@
 -- What two settled runs print of the same taps.
+use Rattle.report_texts.specs.Report.{uploads_section}
 use Rattle.std.specs.Prelude.{◌≡◌, ◌++◌, ℕ, Bool, true, false, List, Option, Some, None}
 use Rattle.tap_views.specs.UploadEnds.{ArePlainEnds}
-use Rattle.tap_views.specs.declared.token.Token.{Token}
-use Rattle.tap_views.specs.declared.upload_end.UploadEnd.{UploadEnd}
-use Rattle.report_texts.specs.Report.{uploads_section}
+use Rattle.tap_views.specs.declared.{token.Token.Token, upload_end.UploadEnd.UploadEnd}
 
 -- both texts are the same after the lines of their uploads
 pub record DifferInUploads (uploads others : List (List ℕ)) (text other : List ℕ) : Type 0 where

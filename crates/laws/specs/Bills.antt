@@ -1,19 +1,13 @@
 -- What histories charge: their rides and transfers, and the sums of these.
-use Rattle.std.specs.Prelude.{◌≡◌, ℕ, ◌≤◌, Bool, not, ◌||◌, List, count_by, filter, map, nat_lt}
-use Rattle.tariffs.specs.Fares.{Fares, class_at, class_of, meaning_at, transfer_terms}
-use Rattle.tap_views.specs.Token.{bytes_of}
-use Rattle.tap_views.specs.declared.token.Token.{Token}
-use Rattle.account_rule.specs.Laws.{is_ride}
-use Rattle.account_rule.specs.TokenRules.{rules_of}
-use Rattle.account_rule.specs.Windows.{windows}
-use Rattle.account_rule.specs.declared.reply.Answer.{Answer}
-use Rattle.account_rule.specs.declared.tap.TapIn.{TapIn}
-use Rattle.fare_caps.specs.CapMeanings.{capped_rules_of}
-use Rattle.fare_caps.specs.CappedReplies.{capped_reason}
+use Rattle.account_rule.specs.{Laws.is_ride, TokenRules.rules_of, Windows.windows}
+use Rattle.account_rule.specs.declared.{reply.Answer.Answer, tap.TapIn.TapIn}
+use Rattle.fare_caps.specs.{CapMeanings.capped_rules_of, CappedReplies.capped_reason}
 use Rattle.histories.specs.Entry.{own, reply_of, taps_of}
 use Rattle.histories.specs.Sums.{Sums, is_stale, is_unknown, sums}
-use Rattle.histories.specs.SumsByKey.{entries_of_validator}
-use Rattle.histories.specs.declared.entry.Entry.{Entry}
+use Rattle.histories.specs.{SumsByKey.entries_of_validator, declared.entry.Entry.Entry}
+use Rattle.std.specs.Prelude.{◌≡◌, ℕ, ◌≤◌, Bool, not, ◌||◌, List, count_by, filter, map, nat_lt}
+use Rattle.tap_views.specs.{Token.bytes_of, declared.token.Token.Token}
+use Rattle.tariffs.specs.Fares.{Fares, class_at, class_of, meaning_at, transfer_terms}
 
 -- whether the answer is to a live tap: a ride or a transfer
 abbrev pub is_live_answer : Answer → Bool

@@ -1,14 +1,11 @@
 -- The texts of parts.
+use Rattle.histories.specs.{Sums.sums, SumsByKey.sums_by_token, SumsByKey.sums_by_validator}
+use Rattle.part_texts.specs.{Heads.part_head, HistoryParts.HistoryPart, LedgerParts.IsPartLedger}
+use Rattle.report_texts.specs.Report.{report}
+use Rattle.sorted_bills.specs.Parts.{PartView}
 use Rattle.std.specs.Prelude.{ℕ, List, ◌++◌, length, map}
 use Rattle.tap_views.specs.declared.upload_end.UploadEnd.TheVariants.{Posted}
-use Rattle.histories.specs.Sums.{sums}
-use Rattle.histories.specs.SumsByKey.{sums_by_token, sums_by_validator}
-use Rattle.report_texts.specs.Report.{report}
 use Rattle.tariffs.specs.Fares.{Fares}
-use Rattle.part_texts.specs.Heads.{part_head}
-use Rattle.part_texts.specs.HistoryParts.{HistoryPart}
-use Rattle.part_texts.specs.LedgerParts.{IsPartLedger}
-use Rattle.sorted_bills.specs.Parts.{PartView}
 
 -- the text of a part: where it lies in each file, and the report of its taps
 abbrev pub part_report : PartView → List ℕ

@@ -1,12 +1,11 @@
 -- What numbers of 64 bits can hold.
-use Rattle.std.specs.Prelude.{ℕ, ◌<◌, ◌^◌, List, All, IfSome, flat_map, length}
-use Rattle.std.specs.List.{AllByRecursion}
-use Rattle.tariffs.specs.Fares.{Fares, class_of, meaning_at, price_of, ride_terms}
-use Rattle.tariffs.specs.Prices.{IsBoundedPays}
-use Rattle.tariffs.specs.Terms.{AreBoundedTerms}
 use Rattle.histories.specs.declared.entry.Entry.{Entry}
-use Rattle.sorted_bills.specs.Parts.{PartView}
 use Rattle.part_texts.specs.Shown.{SpanFits}
+use Rattle.sorted_bills.specs.Parts.{PartView}
+use Rattle.std.specs.List.{AllByRecursion}
+use Rattle.std.specs.Prelude.{ℕ, ◌<◌, ◌^◌, List, All, IfSome, flat_map, length}
+use Rattle.tariffs.specs.Fares.{Fares, class_of, meaning_at, price_of, ride_terms}
+use Rattle.tariffs.specs.{Prices.IsBoundedPays, Terms.AreBoundedTerms}
 
 -- the terms of each token are within their bounds on each mode at each moment, and so are the prices
 -- of transfers, so that no tap costs more than 100,000 cents

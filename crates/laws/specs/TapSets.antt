@@ -1,16 +1,12 @@
 -- Uploads whose taps are alike: the same set, or some of them, or all but one.
-use Rattle.std.specs.Prelude.{◌≡◌, ◌≢◌, ℕ, Bool, true, ◌&&◌, List, ◌∷◌, All, Contains, filter}
-use Rattle.std.specs.Prelude.{is_some, map, nat_lt}
-use Rattle.std.specs.List.Sorted.{IsPermutation}
-use Rattle.tariffs.specs.Fares.{Fares, mode_at}
-use Rattle.tap_views.specs.Encoding.{fields_of}
-use Rattle.tap_views.specs.Files.{AreValidTapsOfEach}
-use Rattle.tap_views.specs.Layout.{Tap}
-use Rattle.tap_views.specs.declared.encoder.TapFields.{TapFields}
-use Rattle.tap_views.specs.Token.{bytes_of, token_eq}
-use Rattle.tap_views.specs.declared.token.Token.{Token}
 use Rattle.histories.specs.Plain.{token_of_bytes}
+use Rattle.std.specs.{List.Sorted.IsPermutation, Prelude.◌≡◌, Prelude.◌≢◌, Prelude.ℕ, Prelude.Bool}
+use Rattle.std.specs.Prelude.{true, ◌&&◌, List, ◌∷◌, All, Contains, filter, is_some, map, nat_lt}
 use Rattle.tap_parts.specs.Parts.{taps_of_uploads}
+use Rattle.tap_views.specs.{Encoding.fields_of, Files.AreValidTapsOfEach, Layout.Tap}
+use Rattle.tap_views.specs.Token.{bytes_of, token_eq}
+use Rattle.tap_views.specs.declared.{encoder.TapFields.TapFields, token.Token.Token}
+use Rattle.tariffs.specs.Fares.{Fares, mode_at}
 
 -- the token, the validator and the moment of each tap, upload after upload
 abbrev pub fields_of_uploads : List (List Tap) → List TapFields

@@ -1,16 +1,12 @@
 -- Which entries have a line in a written ledger, in its order, and what they have to be.
-use Rattle.std.specs.Prelude.{◌≡◌, ℕ, ◌^◌, ◌≤◌, true, List, length, flat_map, Option}
-use Rattle.std.specs.Char.{is_ascii_lowercase}
-use Rattle.std.specs.List.{AllByRecursion, list_all}
-use Rattle.tariffs.specs.Fares.{Fares}
-use Rattle.shard_book.specs.Book.{AreOfShard, Book, EachBook}
-use Rattle.histories.specs.Entry.{own}
-use Rattle.histories.specs.History.{IsLegal}
-use Rattle.histories.specs.declared.entry.Entry.{Entry}
-use Rattle.tap_views.specs.declared.token.Token.{Token}
-use Rattle.ledger_check.specs.Ledger.{IsPostable}
-use Rattle.ledger_check.specs.Lines.{lines_of}
 use Rattle.fare_texts.specs.Ledger.{ledger_tokens}
+use Rattle.histories.specs.{Entry.own, History.IsLegal, declared.entry.Entry.Entry}
+use Rattle.ledger_check.specs.{Ledger.IsPostable, Lines.lines_of}
+use Rattle.shard_book.specs.Book.{AreOfShard, Book, EachBook}
+use Rattle.std.specs.{Char.is_ascii_lowercase, List.AllByRecursion, List.list_all}
+use Rattle.std.specs.Prelude.{◌≡◌, ℕ, ◌^◌, ◌≤◌, true, List, length, flat_map, Option}
+use Rattle.tap_views.specs.declared.token.Token.{Token}
+use Rattle.tariffs.specs.Fares.{Fares}
 
 -- the entries that have a line in a ledger: token by token, those of each in history order
 abbrev pub reported_entries : Option Token → List Entry → List Entry

@@ -1,22 +1,17 @@
 //! The ledger that is written and the ledger that is read: what a run prints is legal.
 
-ghost use Rattle.std.specs.Prelude.{◌^◌, ◌≤◌, ℕ, List, Option, length, IsTrue};
-ghost use Rattle.std.specs.List.{AllByRecursion};
-ghost use Rattle.tariffs.specs.Fares.{Fares};
-ghost use Rattle.histories.specs.declared.entry.Entry.{Entry};
-ghost use Rattle.tap_views.specs.declared.token.Token.{Token};
-ghost use Rattle.shard_book.specs.Book.{Book};
-ghost use Rattle.histories.specs.Entry.{own};
-ghost use Rattle.shard_book.specs.Book.{all_entries};
-ghost use Rattle.histories.specs.History.{IsLegal};
-ghost use Rattle.ledger_check.specs.Ledger.{IsLedgerOf, IsPostable};
-ghost use Rattle.ledger_check.specs.Verdicts.{IsVerdict, is_legal};
-ghost use Rattle.ledger_check.specs.declared.checker.Verdict.{Verdict};
 ghost use Rattle.fare_service.specs.Ledger.{IsLedgerOfBooks as IsWrittenOf};
 ghost use Rattle.fare_texts.specs.Ledger.{IsLedgerOver};
-ghost use Rattle.laws.specs.Traced.{TracedLinesAreReadBack};
-ghost use Rattle.laws.specs.Written.{AreBooksOf, AreShort, CanBePrinted, HasLetterNames};
-ghost use Rattle.laws.specs.Written.{reported_entries};
+ghost use Rattle.histories.specs.{Entry.own, History.IsLegal, declared.entry.Entry.Entry};
+ghost use Rattle.laws.specs.{Traced.TracedLinesAreReadBack, Written.AreBooksOf};
+ghost use Rattle.laws.specs.Written.{AreShort, CanBePrinted, HasLetterNames, reported_entries};
+ghost use Rattle.ledger_check.specs.{Ledger.IsLedgerOf, Ledger.IsPostable, Verdicts.IsVerdict};
+ghost use Rattle.ledger_check.specs.{Verdicts.is_legal, declared.checker.Verdict.Verdict};
+ghost use Rattle.shard_book.specs.Book.{Book, all_entries};
+ghost use Rattle.std.specs.List.{AllByRecursion};
+ghost use Rattle.std.specs.Prelude.{◌^◌, ◌≤◌, ℕ, List, Option, length, IsTrue};
+ghost use Rattle.tap_views.specs.declared.token.Token.{Token};
+ghost use Rattle.tariffs.specs.Fares.{Fares};
 
 use ledger_check::laws::{columns_are_read_back, verdicts_decide};
 

@@ -1,15 +1,13 @@
 //! Theorems about the texts of settled histories and of runs.
 
-ghost use Rattle.std.specs.Prelude.{◌≡◌, ℕ, Bool, List, Option, map};
-ghost use Rattle.tariffs.specs.Fares.{Fares};
+ghost use Rattle.fare_program.specs.{Options.Request, Options.form_of, Settling.ShowsSettled};
 ghost use Rattle.histories.specs.declared.entry.Entry.{Entry};
-ghost use Rattle.tap_views.specs.declared.token.Token.{Token};
-ghost use Rattle.fare_program.specs.Options.{Request, form_of};
-ghost use Rattle.fare_program.specs.Settling.{ShowsSettled};
-ghost use Rattle.report_texts.specs.OverHistory.{IsReportOver};
-ghost use Rattle.settlement.specs.Alike.{HaveSameTaps};
-ghost use Rattle.settlement.specs.Settled.{IsSettledHistory};
 ghost use Rattle.laws.specs.Agree.{DifferInUploads, TextsAgree};
+ghost use Rattle.report_texts.specs.OverHistory.{IsReportOver};
+ghost use Rattle.settlement.specs.{Alike.HaveSameTaps, Settled.IsSettledHistory};
+ghost use Rattle.std.specs.Prelude.{◌≡◌, ℕ, Bool, List, Option, map};
+ghost use Rattle.tap_views.specs.declared.token.Token.{Token};
+ghost use Rattle.tariffs.specs.Fares.{Fares};
 
 use settlement::laws::same_history;
 

@@ -1,23 +1,18 @@
 -- Two bills side by side: the pairs are those of both lists, in order, as long as both have one.
-use Rattle.std.proofs.Common.{◌≡◌, List, [], ◌∷◌, ◌++◌, Option, Some, None, true, false, refl}
-use Rattle.std.proofs.Common.{sym, ap, subst, ◌∙◌, All, flat_map, map}
-use Rattle.std.specs.List.{AllByRecursion}
-use Rattle.std.specs.Prelude.{option_to_list}
-use Rattle.std.specs.Ordering.{is_lt, ordering_reverse}
-use Rattle.std.specs.declared.cmp.Ordering.{Ordering}
-use Rattle.std.specs.declared.cmp.Ordering.TheVariants.{Less, Equal, Greater}
-use Rattle.std.proofs.lemmas.Cmp.{tied_itself}
-use Rattle.std.proofs.lemmas.List.Sorted.{ranks_by}
-use Rattle.tap_views.proofs.Lists.{each-weaker}
-use Rattle.ledger_changes.specs.Changes.{AreCorrections, AreSideBySide, IsSameOrListed, IsSomeLine}
-use Rattle.ledger_changes.specs.Changes.{Pair, UsesUp}
-use Rattle.ledger_changes.specs.Changes.{afters, befores, beside, both_rows, changes_between}
-use Rattle.ledger_changes.specs.Changes.{only_new, only_old, pairs_by, pairs_with, row_of}
-use Rattle.ledger_fields.specs.Rows.{Charge, Key, Row}
-use Rattle.ledger_changes.specs.Rows.{key_cmp}
+use Rattle.std.proofs.Common.{◌≡◌, List, [], ◌∷◌, ◌++◌, Option, Some, None, true, false, refl, sym}
+use Rattle.std.proofs.Common.{ap, subst, ◌∙◌, All, flat_map, map}
 use Rattle.ledger_changes.proofs.Keys.{key_cmp_exact, key_cmp_total}
-use Rattle.ledger_changes.proofs.Listed.{kept}
-use Rattle.ledger_changes.proofs.Sorted.{AreNondecreasing}
+use Rattle.ledger_changes.proofs.{Listed.kept, Sorted.AreNondecreasing}
+use Rattle.ledger_changes.specs.Changes.{AreCorrections, AreSideBySide, IsSameOrListed, IsSomeLine}
+use Rattle.ledger_changes.specs.Changes.{Pair, UsesUp, afters, befores, beside, both_rows}
+use Rattle.ledger_changes.specs.Changes.{changes_between, only_new, only_old, pairs_by, pairs_with}
+use Rattle.ledger_changes.specs.{Changes.row_of, Rows.key_cmp}
+use Rattle.ledger_fields.specs.Rows.{Charge, Key, Row}
+use Rattle.std.proofs.lemmas.{Cmp.tied_itself, List.Sorted.ranks_by}
+use Rattle.std.specs.{List.AllByRecursion, Ordering.is_lt, Ordering.ordering_reverse}
+use Rattle.std.specs.{Prelude.option_to_list, declared.cmp.Ordering.Ordering}
+use Rattle.std.specs.declared.cmp.Ordering.TheVariants.{Less, Equal, Greater}
+use Rattle.tap_views.proofs.Lists.{each-weaker}
 
 -- ---- keys
 abbrev pub Le : Key → Key → Type 0

@@ -1,31 +1,25 @@
 -- The sums of each token: corrections in order are cut where the token changes.
-use Rattle.std.proofs.Common.{◌≡◌, ◌+◌, ℕ, suc, List, [], ◌∷◌, ◌++◌, Some, Bool, true}
-use Rattle.std.proofs.Common.{false, cond, refl, sym, ap, subst, ◌∙◌, arith, length, length-append}
-use Rattle.std.proofs.Common.{append_assoc, append-nil, filter}
-use Rattle.std.specs.Prelude.{⊤, Contains}
-use Rattle.std.specs.Cmp.{IsTotalOrder}
-use Rattle.std.specs.Cmp.Lexicographic.{on_texts}
-use Rattle.std.specs.List.{AllByRecursion}
-use Rattle.std.specs.List.Sorted.{IsStrictlySortedBy}
-use Rattle.std.specs.Ordering.{is_eq, is_lt, ordering_reverse}
-use Rattle.std.specs.declared.cmp.Ordering.{Ordering}
-use Rattle.std.specs.declared.cmp.Ordering.TheVariants.{Less, Equal, Greater}
+use Rattle.std.proofs.Common.{◌≡◌, ◌+◌, ℕ, suc, List, [], ◌∷◌, ◌++◌, Some, Bool, true, false, cond}
+use Rattle.std.proofs.Common.{refl, sym, ap, subst, ◌∙◌, arith, length, length-append, append_assoc}
+use Rattle.std.proofs.Common.{append-nil, filter}
+use Rattle.ledger_changes.proofs.Keys.{tied}
+use Rattle.ledger_changes.specs.Changes.{AreCorrections, Pair, is_changed}
+use Rattle.ledger_changes.specs.Rows.{AreInOrder, is_same_text, text_cmp}
+use Rattle.ledger_changes.specs.{Texts.cents_of, Texts.is_removed, Tokens.Sums, Tokens.is_added}
+use Rattle.ledger_changes.specs.Tokens.{is_kept, is_of_token, of_token, sums_of, token_line}
+use Rattle.ledger_changes.specs.Tokens.{tokens_lines, TokenSum, add_changes, add_sums, all_lines}
+use Rattle.ledger_changes.specs.Tokens.{last_sums, HasTokens, lines_of_changes, no_sums, sums_line}
+use Rattle.ledger_fields.specs.Rows.{Row}
 use Rattle.std.proofs.lemmas.Cmp.{tied_itself}
 use Rattle.std.proofs.lemmas.List.Elements.{All-filter, All-from_recursion, filter-append}
-use Rattle.std.proofs.lemmas.List.Elements.{recursion_from_All}
-use Rattle.std.proofs.lemmas.List.Sorted.{ranks_by}
-use Rattle.std.proofs.lemmas.List.Sums.{sum_by-append}
+use Rattle.std.proofs.lemmas.List.{Elements.recursion_from_All, Sorted.ranks_by, Sums.sum_by-append}
+use Rattle.std.specs.Cmp.{IsTotalOrder, Lexicographic.on_texts}
+use Rattle.std.specs.List.{AllByRecursion, Sorted.IsStrictlySortedBy}
+use Rattle.std.specs.Ordering.{is_eq, is_lt, ordering_reverse}
+use Rattle.std.specs.{Prelude.⊤, Prelude.Contains, declared.cmp.Ordering.Ordering}
+use Rattle.std.specs.declared.cmp.Ordering.TheVariants.{Less, Equal, Greater}
 use Rattle.tap_views.proofs.Lists.{each-append, each-weaker}
 use Rattle.tap_views.proofs.Orderings.{first_not_less, less_of}
-use Rattle.ledger_changes.specs.Changes.{AreCorrections, Pair, is_changed}
-use Rattle.ledger_fields.specs.Rows.{Row}
-use Rattle.ledger_changes.specs.Rows.{AreInOrder, is_same_text, text_cmp}
-use Rattle.ledger_changes.specs.Texts.{cents_of, is_removed}
-use Rattle.ledger_changes.specs.Tokens.{Sums, is_added, is_kept, is_of_token, of_token, sums_of}
-use Rattle.ledger_changes.specs.Tokens.{token_line, tokens_lines, TokenSum, add_changes, add_sums}
-use Rattle.ledger_changes.specs.Tokens.{all_lines, last_sums, HasTokens, lines_of_changes, no_sums}
-use Rattle.ledger_changes.specs.Tokens.{sums_line}
-use Rattle.ledger_changes.proofs.Keys.{tied}
 
 -- ---- tokens
 text_total : IsTotalOrder text_cmp

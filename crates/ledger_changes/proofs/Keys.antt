@@ -1,13 +1,11 @@
 -- The order of keys is total, and keys that tie are the same.
 use Rattle.std.proofs.Common.{◌≡◌, ℕ, List, true, ◌&&◌, ◌==◌, eqb-true}
-use Rattle.std.specs.Cmp.{Equal-is, IsTotalOrder}
-use Rattle.std.specs.Cmp.Lexicographic.{on_texts}
+use Rattle.ledger_changes.specs.Rows.{is_same_charge, is_same_text, key_cmp, text_cmp}
+use Rattle.ledger_fields.specs.Rows.{Charge, Key}
+use Rattle.std.proofs.lemmas.{Bool.and_parts, Cmp.nat_cmp_total, Cmp.on_total, Cmp.then_total}
+use Rattle.std.specs.Cmp.{Equal-is, IsTotalOrder, Lexicographic.on_texts}
 use Rattle.std.specs.FinMap.{IsAntisymmetric, nat_cmp-IsAntisymmetric, slice_cmp-IsAntisymmetric}
 use Rattle.std.specs.Ordering.{nat_cmp, ordering_then}
-use Rattle.std.proofs.lemmas.Cmp.{nat_cmp_total, on_total, then_total}
-use Rattle.std.proofs.lemmas.Bool.{and_parts}
-use Rattle.ledger_fields.specs.Rows.{Charge, Key}
-use Rattle.ledger_changes.specs.Rows.{is_same_charge, is_same_text, key_cmp, text_cmp}
 use Rattle.tap_views.proofs.Orderings.{first_equal, then_equal}
 
 pub key_cmp_total : IsTotalOrder key_cmp

@@ -1,26 +1,21 @@
 -- What the next line of a ledger makes of its rows.
 use Rattle.std.proofs.Common.{◌≡◌, ◌+◌, ℕ, Bool, true, false, cond, List, [], ◌∷◌, length, Option}
 use Rattle.std.proofs.Common.{Some, None, Result, Ok, Err, refl, sym, ap, subst, ◌∙◌}
-use Rattle.std.specs.Prelude.{is_some, nat_lt, not}
-use Rattle.std.specs.Str.{bytes_eq}
-use Rattle.std.proofs.lemmas.Bool.{false≢true}
-use Rattle.std.proofs.lemmas.Slice.Eq.{bytes_eq-Decides}
 use Rattle.fare_texts.specs.LedgerLines.{head_text}
-use Rattle.line_folds.specs.Folds.{carry, lines_of}
-use Rattle.ledger_fields.specs.Lines.{row_in}
-use Rattle.ledger_fields.specs.Rows.{Row}
-use Rattle.ledger_changes.specs.Ledgers.{cons_row, does_decrease, placed}
-use Rattle.ledger_changes.specs.Ledgers.{rows_after_head, rows_from, rows_of}
+use Rattle.ledger_changes.proofs.Sorted.{AreNondecreasing, ascend_more}
+use Rattle.ledger_changes.specs.Ledgers.{cons_row, does_decrease, placed, rows_after_head}
+use Rattle.ledger_changes.specs.Ledgers.{rows_from, rows_of}
+use Rattle.ledger_changes.specs.declared.fault.{Bill.Bill, CorrectionsFault.CorrectionsFault}
+use Rattle.ledger_changes.specs.declared.fault.CorrectionsFault.TheVariants.{Line, Unread, NoMemory}
 use Rattle.ledger_changes.specs.declared.fault.WrongLine.{WrongLine}
 use Rattle.ledger_changes.specs.declared.fault.WrongLine.TheVariants.{Form, Order}
-use Rattle.ledger_changes.specs.declared.fault.Bill.{Bill}
-use Rattle.ledger_changes.specs.declared.fault.CorrectionsFault.{CorrectionsFault}
-use Rattle.ledger_changes.specs.declared.fault.CorrectionsFault.TheVariants.{Line, Unread, NoMemory}
-use Rattle.ledger_changes.specs.declared.row.LedgerRow.{LedgerRow}
-use Rattle.ledger_changes.specs.inside.Readings.{IsWrongAs, rows_with}
-use Rattle.ledger_changes.specs.inside.Views.{row_in as row_at, row_of}
+use Rattle.ledger_changes.specs.{declared.row.LedgerRow.LedgerRow, inside.Readings.IsWrongAs}
+use Rattle.ledger_changes.specs.inside.{Readings.rows_with, Views.row_in as row_at, Views.row_of}
+use Rattle.ledger_fields.specs.{Lines.row_in, Rows.Row}
+use Rattle.line_folds.specs.Folds.{carry, lines_of}
+use Rattle.std.proofs.lemmas.{Bool.false≢true, Slice.Eq.bytes_eq-Decides}
+use Rattle.std.specs.{Prelude.is_some, Prelude.nat_lt, Prelude.not, Str.bytes_eq}
 use Rattle.world.specs.Run.{Calls}
-use Rattle.ledger_changes.proofs.Sorted.{AreNondecreasing, ascend_more}
 
 -- ---- one line
 abbrev goes_on : ℕ → List (List ℕ) → Result Row WrongLine → Result (List Row) (ℕ × WrongLine)

@@ -1,21 +1,16 @@
 -- The sums of the tokens add up to those of all corrections.
 use Rattle.std.proofs.Common.{◌≡◌, ◌+◌, ℕ, List, [], ◌∷◌, Bool, true, false, cond, refl, sym, ap}
 use Rattle.std.proofs.Common.{subst, ◌∙◌, arith, Option, None, Some}
-use Rattle.std.specs.Prelude.{Contains}
-use Rattle.std.specs.List.{AllByRecursion, sum_by}
-use Rattle.std.specs.List.Sorted.{IsStrictlySortedBy}
-use Rattle.std.specs.declared.cmp.Ordering.TheVariants.{Less}
-use Rattle.std.proofs.lemmas.List.Sums.{sum_by-cons}
-use Rattle.std.proofs.lemmas.Map.Keys.{sorted_head, sorted_tail}
-use Rattle.std.proofs.lemmas.Map.Made.{Contains-tail}
-use Rattle.ledger_changes.specs.Changes.{AreCorrections, Pair, weight_of}
-use Rattle.ledger_fields.specs.Rows.{Charge, Key, Row}
-use Rattle.ledger_changes.specs.Rows.{is_same_text, text_cmp}
-use Rattle.ledger_changes.specs.Texts.{cents_of}
-use Rattle.ledger_changes.specs.Tokens.{AreTokensOf, TokensAddUp, of_token}
 use Rattle.ledger_changes.proofs.ByToken.{Listed, more_same, same_is}
-use Rattle.ledger_changes.proofs.Keys.{tied}
-use Rattle.ledger_changes.proofs.Sums.{adds_up}
+use Rattle.ledger_changes.proofs.{Keys.tied, Sums.adds_up}
+use Rattle.ledger_changes.specs.Changes.{AreCorrections, Pair, weight_of}
+use Rattle.ledger_changes.specs.{Rows.is_same_text, Rows.text_cmp, Texts.cents_of}
+use Rattle.ledger_changes.specs.Tokens.{AreTokensOf, TokensAddUp, of_token}
+use Rattle.ledger_fields.specs.Rows.{Charge, Key, Row}
+use Rattle.std.proofs.lemmas.List.Sums.{sum_by-cons}
+use Rattle.std.proofs.lemmas.Map.{Keys.sorted_head, Keys.sorted_tail, Made.Contains-tail}
+use Rattle.std.specs.List.{AllByRecursion, sum_by, Sorted.IsStrictlySortedBy}
+use Rattle.std.specs.{Prelude.Contains, declared.cmp.Ordering.TheVariants.Less}
 
 -- what a token has of a number that is the other token's
 abbrev share : List ℕ → ℕ → List ℕ → ℕ

@@ -1,38 +1,33 @@
 -- Two ledgers that are read side by side: what was given, and what is left.
 use Rattle.std.proofs.Common.{◌≡◌, ◌+◌, ℕ, Bool, true, false, List, [], ◌∷◌, ◌++◌, length, Option}
-use Rattle.std.proofs.Common.{Some, None, Ok, Err}
-use Rattle.std.proofs.Common.{refl, subst, sym, ap, ◌∙◌, arith, append-nil, append_assoc, filter}
-use Rattle.std.proofs.Common.{drop, if◌then◌else◌, length-append, option_map, inl, inr, ◌⊎◌}
-use Rattle.std.specs.Prelude.{option_to_list}
-use Rattle.std.specs.declared.cmp.Ordering.{Ordering}
-use Rattle.std.specs.declared.cmp.Ordering.TheVariants.{Less, Equal, Greater}
-use Rattle.std.proofs.lemmas.List.Elements.{filter-append}
-use Rattle.ledger_fields.specs.Rows.{Row}
+use Rattle.std.proofs.Common.{Some, None, Ok, Err, refl, subst, sym, ap, ◌∙◌, arith, append-nil}
+use Rattle.std.proofs.Common.{append_assoc, filter, drop, if◌then◌else◌, length-append, option_map}
+use Rattle.std.proofs.Common.{inl, inr, ◌⊎◌}
 use Rattle.ledger_changes.specs.Changes.{Pair, beside, changes_between, is_changed}
-use Rattle.ledger_changes.specs.Given.{HasStarted, HasGiven, IsFaultOf, IsGivenAfter, after_text, calls_by}
-use Rattle.ledger_changes.specs.Given.{Said, Walked, new_calls, old_calls, text_left}
-use Rattle.ledger_changes.specs.inside.Walks.{WalksOn}
-use Rattle.ledger_changes.specs.inside.Pairs.{next_sides, pairs_of, sides_by}
-use Rattle.line_folds.specs.Folds.{lines_of}
-use Rattle.recorded_lines.specs.Texts.{CanBe, IsFresh, calls_of, left}
-use Rattle.recorded_lines.specs.declared.text.Lines.{Lines}
-use Rattle.world.specs.Run.{Calls}
-use Rattle.world.specs.Streams.{IsWhole}
-use Rattle.ledger_changes.specs.Ledgers.{cons_row, rows_from, rows_of}
-use Rattle.ledger_changes.specs.Rows.{key_cmp}
+use Rattle.ledger_changes.specs.Given.{HasStarted, HasGiven, IsFaultOf, IsGivenAfter, after_text}
+use Rattle.ledger_changes.specs.Given.{calls_by, Said, Walked, new_calls, old_calls, text_left}
+use Rattle.ledger_changes.specs.{Ledgers.cons_row, Ledgers.rows_from, Ledgers.rows_of, Rows.key_cmp}
 use Rattle.ledger_changes.specs.Texts.{corrections_lines, is_removed, removed_in}
 use Rattle.ledger_changes.specs.Tokens.{TokenSum, all_lines, changes_of_both, head_of, last_sums}
 use Rattle.ledger_changes.specs.Tokens.{lines_of_changes, sums_line, sums_with, text_of}
-use Rattle.ledger_changes.specs.declared.changes.Corrections.{Corrections}
-use Rattle.ledger_changes.specs.declared.fault.Bill.{Bill}
+use Rattle.ledger_changes.specs.declared.{changes.Corrections.Corrections, fault.Bill.Bill}
 use Rattle.ledger_changes.specs.declared.fault.Bill.TheVariants.{New, Old}
 use Rattle.ledger_changes.specs.declared.fault.CorrectionsFault.{CorrectionsFault}
 use Rattle.ledger_changes.specs.declared.fault.CorrectionsFault.TheVariants.{Line, Unread, NoMemory}
 use Rattle.ledger_changes.specs.declared.fault.WrongLine.{WrongLine}
-use Rattle.ledger_changes.specs.declared.row.LedgerRow.{LedgerRow}
 use Rattle.ledger_changes.specs.declared.ledger_rows.LedgerRows.{LedgerRows}
+use Rattle.ledger_changes.specs.declared.row.LedgerRow.{LedgerRow}
+use Rattle.ledger_changes.specs.inside.Pairs.{next_sides, pairs_of, sides_by}
 use Rattle.ledger_changes.specs.inside.Readings.{HasEnded, IsWrongAs, rows_at, rows_with, with_row}
-use Rattle.ledger_changes.specs.inside.Views.{row_in, row_of, sum_in}
+use Rattle.ledger_changes.specs.inside.{Views.row_in, Views.row_of, Views.sum_in, Walks.WalksOn}
+use Rattle.ledger_fields.specs.Rows.{Row}
+use Rattle.line_folds.specs.Folds.{lines_of}
+use Rattle.recorded_lines.specs.Texts.{CanBe, IsFresh, calls_of, left}
+use Rattle.recorded_lines.specs.declared.text.Lines.{Lines}
+use Rattle.std.proofs.lemmas.List.Elements.{filter-append}
+use Rattle.std.specs.{Prelude.option_to_list, declared.cmp.Ordering.Ordering}
+use Rattle.std.specs.declared.cmp.Ordering.TheVariants.{Less, Equal, Greater}
+use Rattle.world.specs.{Run.Calls, Streams.IsWhole}
 
 -- ---- the text of corrections, in two parts
 lines_more : (by_token : Bool) (last : Option TokenSum) (done more : List Pair)

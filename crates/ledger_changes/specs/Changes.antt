@@ -1,12 +1,11 @@
 -- What changed from one bill to the next.
-use Rattle.std.specs.Prelude.{◌≡◌, ◌+◌, ℕ, Bool, true, false, not, List, [], ◌∷◌, filter}
-use Rattle.std.specs.Prelude.{flat_map, map}
-use Rattle.std.specs.Prelude.{Option, None, Some, ⊤, sum_by, Contains, ◌⊎◌}
+use Rattle.ledger_changes.specs.Rows.{AreInOrder, is_same_charge, key_cmp}
+use Rattle.ledger_fields.specs.Rows.{Charge, Key, Row}
+use Rattle.std.specs.List.{AllByRecursion}
+use Rattle.std.specs.Prelude.{◌≡◌, ◌+◌, ℕ, Bool, true, false, not, List, [], ◌∷◌, filter, flat_map}
+use Rattle.std.specs.Prelude.{map, Option, None, Some, ⊤, sum_by, Contains, ◌⊎◌}
 use Rattle.std.specs.declared.cmp.Ordering.{Ordering}
 use Rattle.std.specs.declared.cmp.Ordering.TheVariants.{Less, Equal, Greater}
-use Rattle.ledger_fields.specs.Rows.{Charge, Key, Row}
-use Rattle.ledger_changes.specs.Rows.{AreInOrder, is_same_charge, key_cmp}
-use Rattle.std.specs.List.{AllByRecursion}
 
 -- a line of one bill beside the line of the other that has the same key; a line that has none
 -- beside it is alone

@@ -1,26 +1,20 @@
 -- Corrections that are given in pieces: what they have given of two ledgers that are read side by
 -- side, and what is left.
-use Rattle.std.specs.Prelude.{◌≡◌, ◌⊎◌, ◌+◌, ⊤, ℕ, Bool, List, ◌++◌, Option, None, Some, Result, Err}
-use Rattle.std.specs.Prelude.{option_map}
-use Rattle.recorded_lines.specs.Texts.{CanBe, IsFresh, calls_of}
-use Rattle.recorded_lines.specs.Unread.{IsUnread}
-use Rattle.world.specs.Run.{Calls}
-use Rattle.world.specs.Streams.{IsWhole}
-use Rattle.ledger_fields.specs.Rows.{Row}
-use Rattle.ledger_changes.specs.Changes.{Pair}
-use Rattle.ledger_changes.specs.Ledgers.{rows_of}
-use Rattle.ledger_changes.specs.Texts.{removed_in}
+use Rattle.ledger_changes.specs.{Changes.Pair, Ledgers.rows_of, Texts.removed_in}
 use Rattle.ledger_changes.specs.Tokens.{TokenSum, changes_of_both, corrections_of, last_sums}
 use Rattle.ledger_changes.specs.Tokens.{lines_of_changes, sums_line, text_of}
-use Rattle.ledger_changes.specs.declared.changes.Corrections.{Corrections}
-use Rattle.ledger_changes.specs.declared.fault.Bill.{Bill}
+use Rattle.ledger_changes.specs.declared.{changes.Corrections.Corrections, fault.Bill.Bill}
 use Rattle.ledger_changes.specs.declared.fault.Bill.TheVariants.{New, Old}
 use Rattle.ledger_changes.specs.declared.fault.CorrectionsFault.{CorrectionsFault}
 use Rattle.ledger_changes.specs.declared.fault.CorrectionsFault.TheVariants.{Line, Unread, NoMemory}
 use Rattle.ledger_changes.specs.declared.fault.WrongLine.{WrongLine}
 use Rattle.ledger_changes.specs.declared.ledger_rows.LedgerRows.{LedgerRows}
-use Rattle.ledger_changes.specs.inside.Readings.{HasEnded, rows_at}
-use Rattle.ledger_changes.specs.inside.Views.{sum_in}
+use Rattle.ledger_changes.specs.inside.{Readings.HasEnded, Readings.rows_at, Views.sum_in}
+use Rattle.ledger_fields.specs.Rows.{Row}
+use Rattle.recorded_lines.specs.{Texts.CanBe, Texts.IsFresh, Texts.calls_of, Unread.IsUnread}
+use Rattle.std.specs.Prelude.{◌≡◌, ◌⊎◌, ◌+◌, ⊤, ℕ, Bool, List, ◌++◌, Option, None, Some, Result}
+use Rattle.std.specs.Prelude.{Err, option_map}
+use Rattle.world.specs.{Run.Calls, Streams.IsWhole}
 
 -- what a ledger says
 abbrev pub Said : Type 0

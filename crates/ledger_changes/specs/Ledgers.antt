@@ -1,15 +1,12 @@
 -- What is read: settled ledgers, as far as corrections look at them.
-use Rattle.std.specs.Prelude.{◌+◌, ℕ, Bool, false, List, [], ◌∷◌, cond, length, nat_lt}
-use Rattle.std.specs.Prelude.{Option, None, Some, Result, Ok, Err}
-use Rattle.std.specs.Ordering.{is_lt}
-use Rattle.std.specs.Str.{bytes_eq}
 use Rattle.fare_texts.specs.LedgerLines.{head_text}
-use Rattle.line_folds.specs.Folds.{carry, lines_of}
-use Rattle.ledger_fields.specs.Lines.{row_in}
-use Rattle.ledger_fields.specs.Rows.{Row}
-use Rattle.ledger_changes.specs.Rows.{key_cmp}
-use Rattle.ledger_changes.specs.declared.fault.WrongLine.{WrongLine}
+use Rattle.ledger_changes.specs.{Rows.key_cmp, declared.fault.WrongLine.WrongLine}
 use Rattle.ledger_changes.specs.declared.fault.WrongLine.TheVariants.{Form, Order}
+use Rattle.ledger_fields.specs.{Lines.row_in, Rows.Row}
+use Rattle.line_folds.specs.Folds.{carry, lines_of}
+use Rattle.std.specs.{Ordering.is_lt, Prelude.◌+◌, Prelude.ℕ, Prelude.Bool, Prelude.false}
+use Rattle.std.specs.Prelude.{List, [], ◌∷◌, cond, length, nat_lt, Option, None, Some, Result, Ok}
+use Rattle.std.specs.{Prelude.Err, Str.bytes_eq}
 
 -- the row belongs before the one before it
 abbrev pub does_decrease : Option Row → Row → Bool

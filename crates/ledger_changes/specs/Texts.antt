@@ -1,10 +1,9 @@
 -- The text of corrections: CSV, a line for each.
-use Rattle.std.specs.Prelude.{ℕ, ◌-◌, Bool, true, false, List, ◌++◌, codes, filter}
-use Rattle.std.specs.Prelude.{flat_map, length}
-use Rattle.std.specs.Prelude.{if◌then◌else◌, nat_le, Option, None, Some}
-use Rattle.std.specs.Fmt.{decimal}
 use Rattle.ledger_changes.specs.Changes.{Pair}
 use Rattle.ledger_fields.specs.Rows.{Charge}
+use Rattle.std.specs.Fmt.{decimal}
+use Rattle.std.specs.Prelude.{ℕ, ◌-◌, Bool, true, false, List, ◌++◌, codes, filter, flat_map}
+use Rattle.std.specs.Prelude.{length, if◌then◌else◌, nat_le, Option, None, Some}
 
 -- the header line
 abbrev pub corrections_head : List ℕ

@@ -1,17 +1,14 @@
 -- The corrections of each token, summed, and their text: CSV, a line for each token.
-use Rattle.std.specs.Prelude.{◌≡◌, ◌+◌, ℕ, Bool, true, false, List, [], ◌∷◌, ◌++◌, Contains, codes}
-use Rattle.std.specs.List.{AllByRecursion}
-use Rattle.std.specs.Prelude.{Result, Ok, Err, if◌then◌else◌, option_map}
-use Rattle.std.specs.Prelude.{Option, None, Some, filter, flat_map, length, sum_by}
-use Rattle.std.specs.Fmt.{decimal}
-use Rattle.std.specs.List.Sorted.{IsStrictlySortedBy}
 use Rattle.ledger_changes.specs.Changes.{Pair, changes_between}
-use Rattle.ledger_changes.specs.Ledgers.{rows_of}
-use Rattle.ledger_fields.specs.Rows.{Charge, Row}
-use Rattle.ledger_changes.specs.Rows.{is_same_text, text_cmp}
+use Rattle.ledger_changes.specs.{Ledgers.rows_of, Rows.is_same_text, Rows.text_cmp}
 use Rattle.ledger_changes.specs.Texts.{cents_of, correction_line, corrections_head, difference}
 use Rattle.ledger_changes.specs.Texts.{is_only_before, is_removed, removed_in}
 use Rattle.ledger_changes.specs.declared.fault.WrongLine.{WrongLine}
+use Rattle.ledger_fields.specs.Rows.{Charge, Row}
+use Rattle.std.specs.{Fmt.decimal, List.AllByRecursion, List.Sorted.IsStrictlySortedBy}
+use Rattle.std.specs.Prelude.{◌≡◌, ◌+◌, ℕ, Bool, true, false, List, [], ◌∷◌, ◌++◌, Contains, codes}
+use Rattle.std.specs.Prelude.{Result, Ok, Err, if◌then◌else◌, option_map, Option, None, Some}
+use Rattle.std.specs.Prelude.{filter, flat_map, length, sum_by}
 
 -- the correction is one of the token
 abbrev pub is_of_token : List ℕ → Pair → Bool

@@ -1,18 +1,16 @@
 //! The corrections from one settled ledger to another, given in pieces.
 
-ghost use Rattle.std.specs.Prelude.{◌≡◌, ◌+◌, ◌++◌, ◌∷◌, [], ℕ, Bool, List, Some, IfErr, IfOk};
-ghost use Rattle.std.specs.Prelude.{IfSome, None, OnOk, filter};
-ghost use Rattle.recorded_lines.specs.Texts.{Follows, IsFresh, calls_of};
 ghost use Rattle.ledger_changes.specs.Changes.{is_changed};
 ghost use Rattle.ledger_changes.specs.Given.{HasStarted, HasGiven, IsFaultOf, IsGivenAfter};
 ghost use Rattle.ledger_changes.specs.Given.{IsUnbegun, IsWalked, new_calls, old_calls};
-ghost use Rattle.ledger_changes.specs.Texts.{removed_in};
-ghost use Rattle.ledger_changes.specs.Tokens.{change_lines, head_of, last_sums, lines_of_changes};
-ghost use Rattle.ledger_changes.specs.Tokens.{sums_with};
+ghost use Rattle.ledger_changes.specs.{Texts.removed_in, Tokens.change_lines};
+ghost use Rattle.ledger_changes.specs.Tokens.{head_of, last_sums, lines_of_changes, sums_with};
 ghost use Rattle.ledger_changes.specs.declared.fault.Bill.TheVariants.{New, Old};
-ghost use Rattle.ledger_changes.specs.inside.Readings.{HasEnded};
-ghost use Rattle.ledger_changes.specs.inside.Views.{pair_of, sum_in};
+ghost use Rattle.ledger_changes.specs.inside.{Readings.HasEnded, Views.pair_of, Views.sum_in};
 ghost use Rattle.ledger_changes.specs.inside.Walks.{WalksOn};
+ghost use Rattle.recorded_lines.specs.Texts.{Follows, IsFresh, calls_of};
+ghost use Rattle.std.specs.Prelude.{◌≡◌, ◌+◌, ◌++◌, ◌∷◌, [], ℕ, Bool, List, Some, IfErr, IfOk};
+ghost use Rattle.std.specs.Prelude.{IfSome, None, OnOk, filter};
 
 use crate::correction_text::correction_line;
 use crate::fault::{Bill, CorrectionsFault};

@@ -1,13 +1,11 @@
 //! Laws of corrections.
 
-ghost use Rattle.std.specs.Prelude.{◌≡◌, ℕ, List, All, Ok, false, true};
-ghost use Rattle.ledger_changes.specs.Changes.{AddUp, AreCorrections, IsSameOrListed, Pair};
-ghost use Rattle.ledger_changes.specs.Changes.{beside, changes_between};
-ghost use Rattle.ledger_changes.specs.Ledgers.{rows_of};
-ghost use Rattle.ledger_changes.specs.Rows.{AreInOrder};
+ghost use Rattle.ledger_changes.specs.Changes.{AddUp, AreCorrections, IsSameOrListed, Pair, beside};
+ghost use Rattle.ledger_changes.specs.{Changes.changes_between, Ledgers.rows_of, Rows.AreInOrder};
 ghost use Rattle.ledger_changes.specs.Texts.{corrections_lines};
 ghost use Rattle.ledger_changes.specs.Tokens.{AreTokensOf, HasTokens, TokensAddUp, all_lines};
 ghost use Rattle.ledger_fields.specs.Rows.{Row};
+ghost use Rattle.std.specs.Prelude.{◌≡◌, ℕ, List, All, Ok, false, true};
 
 /// The rows of a settled ledger are in the order of their keys.
 #[tactic(auto, using(crate::proofs::Readings::rows_ascend))]

@@ -1,9 +1,8 @@
 //! The lines of two ledgers, side by side.
 
+ghost use Rattle.ledger_changes.specs.{Changes.agree, inside.Pairs.next_sides};
+ghost use Rattle.ledger_changes.specs.inside.{Pairs.pairs_of, Views.pair_of, Views.row_in};
 ghost use Rattle.std.specs.Prelude.{◌≡◌, option_map, option_to_list};
-ghost use Rattle.ledger_changes.specs.Changes.{agree};
-ghost use Rattle.ledger_changes.specs.inside.Pairs.{next_sides, pairs_of};
-ghost use Rattle.ledger_changes.specs.inside.Views.{pair_of, row_in};
 
 use crate::row::{LedgerRow, LineCharge, LineKey};
 use std::cmp::Ordering;

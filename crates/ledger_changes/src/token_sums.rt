@@ -1,11 +1,10 @@
 //! The corrections of one token, summed, and their line.
 
-ghost use Rattle.std.specs.Prelude.{◌≡◌, ◌++◌, ◌∷◌, [], IfOk, IfSome, OnOk, option_map};
-ghost use Rattle.ledger_changes.specs.Rows.{is_same_text};
-ghost use Rattle.ledger_changes.specs.Texts.{is_only_before};
+ghost use Rattle.ledger_changes.specs.{Rows.is_same_text, Texts.is_only_before};
 ghost use Rattle.ledger_changes.specs.Tokens.{add_changes, ended_line, is_in_both, no_sums};
 ghost use Rattle.ledger_changes.specs.Tokens.{sums_for, sums_line, token_line};
 ghost use Rattle.ledger_changes.specs.inside.Views.{charge_of, pair_of, sum_in, token_sum_of};
+ghost use Rattle.std.specs.Prelude.{◌≡◌, ◌++◌, ◌∷◌, [], IfOk, IfSome, OnOk, option_map};
 
 use crate::correction_text::{cents_of, write_difference, write_number};
 use crate::pairs::LinePair;

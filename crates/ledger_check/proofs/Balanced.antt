@@ -1,16 +1,12 @@
 -- What a balance is after one tap more, and what it finds.
 use Rattle.std.proofs.Common.{◌≡◌, ℕ, ◌+◌, ◌<◌, Bool, true, false, List, [], ◌∷◌, ◌++◌, cond}
 use Rattle.std.proofs.Common.{Option, Some, None, is_some, refl, sym, ap, ◌∙◌, arith}
-use Rattle.std.specs.Prelude.{IfSome, MatchOption}
-use Rattle.std.specs.BTreeMap.{BTreeMap}
-use Rattle.std.specs.Option.{unwrap_or}
-use Rattle.std.specs.List.Sorted.{IsPermutation}
-use Rattle.std.specs.Ordering.{is_eq}
-use Rattle.tap_views.specs.declared.encoder.TapFields.{TapFields}
-use Rattle.tap_views.specs.TapOrder.{tap_cmp}
-use Rattle.ledger_check.specs.Balances.{IsMore, copies_among, left_at}
 use Rattle.ledger_check.proofs.SameTaps.{same_exact}
 use Rattle.ledger_check.proofs.Times.{one_self, permutation_of_times, times_push}
+use Rattle.ledger_check.specs.Balances.{IsMore, copies_among, left_at}
+use Rattle.std.specs.{BTreeMap.BTreeMap, List.Sorted.IsPermutation, Option.unwrap_or}
+use Rattle.std.specs.{Ordering.is_eq, Prelude.IfSome, Prelude.MatchOption}
+use Rattle.tap_views.specs.{TapOrder.tap_cmp, declared.encoder.TapFields.TapFields}
 
 -- IsBalance, of a balance's two fields
 abbrev pub Balances : BTreeMap TapFields ℕ → Option TapFields → List TapFields → List TapFields

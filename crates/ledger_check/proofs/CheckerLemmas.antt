@@ -1,40 +1,35 @@
 -- The first wrong line of a text, and what a check up to it knows.
 use Rattle.std.proofs.Common.{◌≡◌, ℕ, ◌+◌, ◌^◌, ◌<◌, ◌≤◌, Bool, true, false, List, [], ◌∷◌, ◌++◌}
-use Rattle.std.proofs.Common.{length, map, Option, Some, None, refl, sym, ap, subst, ◌∙◌, arith, inl, inr}
-use Rattle.std.proofs.Common.{append_assoc, append-nil, length-append, if◌then◌else◌, string_bytes}
-use Rattle.std.proofs.Common.{is_some}
-use Rattle.std.proofs.lemmas.Bool.{true≢false}
-use Rattle.std.proofs.lemmas.Slice.Eq.{bytes_eq-Decides}
-use Rattle.std.specs.Str.{bytes_eq}
-use Rattle.tariffs.specs.Fares.{Fares}
-use Rattle.histories.specs.declared.entry.Entry.{Entry}
+use Rattle.std.proofs.Common.{length, map, Option, Some, None, refl, sym, ap, subst, ◌∙◌, arith}
+use Rattle.std.proofs.Common.{inl, inr, append_assoc, append-nil, length-append, if◌then◌else◌}
+use Rattle.std.proofs.Common.{string_bytes, is_some}
 use Rattle.fare_texts.specs.LedgerLines.{head_text}
+use Rattle.histories.specs.declared.entry.Entry.{Entry}
+use Rattle.ledger_check.proofs.EndLemmas.{cut_lines, cut_taken, whole_lines}
+use Rattle.ledger_check.proofs.{EntryLists.next-parts, FullCheckLaw.Legal as LegalLines}
+use Rattle.ledger_check.proofs.FullCheckLaw.{Right, all_right, legal_step, legal_taps, next_wanted}
+use Rattle.ledger_check.proofs.{FullCheckLaw.right, FullCheckLemmas.kept_long}
+use Rattle.ledger_check.proofs.{FullCheckLemmas.long_taken, LineLemmas.lines-open, RunLemmas.State}
 use Rattle.ledger_check.specs.Balances.{IsBalance}
-use Rattle.ledger_check.specs.Ledger.{IsLedgerOf, IsNext}
-use Rattle.ledger_check.specs.Lines.{lines_of}
-use Rattle.ledger_check.specs.Orders.{early_line, tap_of_entry}
-use Rattle.ledger_check.specs.Verdicts.{IsFirstWrong, IsTrueOf, IsVerdict, IsWrongAfter, is_legal}
+use Rattle.ledger_check.specs.FullCheckStates.{HasFed, IsFed, IsRightSoFar}
 use Rattle.ledger_check.specs.FullChecks.{AreTaken, IsJudged, TakenLine, decreases_after}
 use Rattle.ledger_check.specs.FullChecks.{lines_from, one_wrong, remark_for, run_of, taps_from}
 use Rattle.ledger_check.specs.FullChecks.{taps_with, with_first, wrong_count}
-use Rattle.ledger_check.specs.FullCheckStates.{HasFed, IsFed, IsRightSoFar}
-use Rattle.ledger_check.specs.inside.FullChecks.{IsCalled, next_taken}
+use Rattle.ledger_check.specs.{Ledger.IsLedgerOf, Ledger.IsNext, Lines.lines_of}
+use Rattle.ledger_check.specs.Orders.{early_line, tap_of_entry}
+use Rattle.ledger_check.specs.Verdicts.{IsFirstWrong, IsTrueOf, IsVerdict, IsWrongAfter, is_legal}
 use Rattle.ledger_check.specs.declared.balance.Balance.{Balance}
-use Rattle.ledger_check.specs.declared.checker.Checker.{Checker}
-use Rattle.ledger_check.specs.declared.checker.Verdict.{Verdict}
-use Rattle.ledger_check.specs.declared.checker.Verdict.TheVariants.{Legal, Wants as Asks, NoLine as Refuses}
-use Rattle.ledger_check.specs.declared.walk.CountedTap.{CountedTap}
-use Rattle.ledger_check.specs.declared.walk.LineFinding.{LineFinding}
+use Rattle.ledger_check.specs.declared.checker.{Checker.Checker, Verdict.Verdict}
+use Rattle.ledger_check.specs.declared.checker.Verdict.TheVariants.{Legal, Wants as Asks}
+use Rattle.ledger_check.specs.declared.checker.Verdict.TheVariants.{NoLine as Refuses}
+use Rattle.ledger_check.specs.declared.walk.{CountedTap.CountedTap, LineFinding.LineFinding}
 use Rattle.ledger_check.specs.declared.walk.Remark.{Remark}
 use Rattle.ledger_check.specs.declared.walk.Remark.TheVariants.{Nothing, NoLine, Wants}
+use Rattle.ledger_check.specs.inside.FullChecks.{IsCalled, next_taken}
+use Rattle.std.proofs.lemmas.{Bool.true≢false, Slice.Eq.bytes_eq-Decides}
+use Rattle.std.specs.Str.{bytes_eq}
 use Rattle.tap_views.specs.declared.encoder.TapFields.{TapFields}
-use Rattle.ledger_check.proofs.EndLemmas.{cut_lines, cut_taken, whole_lines}
-use Rattle.ledger_check.proofs.EntryLists.{next-parts}
-use Rattle.ledger_check.proofs.FullCheckLaw.{Legal as LegalLines, Right, all_right, legal_step, legal_taps}
-use Rattle.ledger_check.proofs.FullCheckLaw.{next_wanted, right}
-use Rattle.ledger_check.proofs.FullCheckLemmas.{kept_long, long_taken}
-use Rattle.ledger_check.proofs.LineLemmas.{lines-open}
-use Rattle.ledger_check.proofs.RunLemmas.{State}
+use Rattle.tariffs.specs.Fares.{Fares}
 
 -- ---- the first wrong line
 unfallen_if : (is_decrease same : Bool) → remark_for is_decrease same ≡ Wants → is_decrease ≡ false

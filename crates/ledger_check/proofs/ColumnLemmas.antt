@@ -1,22 +1,17 @@
 -- The columns of a line, cut off one after another, and read back as they were written.
-use Rattle.std.proofs.Common.{◌≡◌, ◌≢◌, ◌∙◌, ℕ, ◌+◌, ◌<◌, ◌≤◌, ◌^◌, ◌&&◌, Bool, true}
-use Rattle.std.proofs.Common.{List, [], ◌∷◌, ◌++◌, length, get_or, drop, None, Some}
-use Rattle.std.proofs.Common.{refl, sym, ap, subst, arith, zero, suc, nat_le, nat_lt, if◌then◌else◌}
-use Rattle.std.proofs.Common.{length-append, append_assoc}
-use Rattle.std.proofs.lemmas.Bool.{and_from, and_parts, false≢true, le-ltb, lt-ltb, ne_eqb}
-use Rattle.std.proofs.lemmas.Fmt.{length-decimal-le}
-use Rattle.std.specs.Fmt.{decimal}
-use Rattle.std.specs.List.{list_all}
-use Rattle.std.proofs.lemmas.Bool.Decides.{nat_tests}
-use Rattle.line_forms.specs.FormLaws.{line_complete, number_complete, number_law, wide_64}
-use Rattle.ledger_check.specs.Columns.{ColumnsAreReadBack, IsTraced, TracedLine, class_in}
-use Rattle.ledger_check.specs.Columns.{columns_in, cut_line, is_class_name, is_name_byte}
-use Rattle.ledger_check.specs.Columns.{last_field}
-use Rattle.ledger_check.specs.Columns.{traced_text, untraced_line, untraced_lines}
-use Rattle.ledger_check.specs.Columns.{upload_in, with_byte}
-use Rattle.ledger_check.specs.Lines.{Lacks}
+use Rattle.std.proofs.Common.{◌≡◌, ◌≢◌, ◌∙◌, ℕ, ◌+◌, ◌<◌, ◌≤◌, ◌^◌, ◌&&◌, Bool, true, List, [], ◌∷◌}
+use Rattle.std.proofs.Common.{◌++◌, length, get_or, drop, None, Some, refl, sym, ap, subst, arith}
+use Rattle.std.proofs.Common.{zero, suc, nat_le, nat_lt, if◌then◌else◌, length-append, append_assoc}
 use Rattle.ledger_check.proofs.FieldLemmas.{decimal_lacks}
 use Rattle.ledger_check.proofs.LineLemmas.{lacks-append, lacks-reads, lacks-tested}
+use Rattle.ledger_check.specs.Columns.{ColumnsAreReadBack, IsTraced, TracedLine, class_in}
+use Rattle.ledger_check.specs.Columns.{columns_in, cut_line, is_class_name, is_name_byte}
+use Rattle.ledger_check.specs.Columns.{last_field, traced_text, untraced_line, untraced_lines}
+use Rattle.ledger_check.specs.{Columns.upload_in, Columns.with_byte, Lines.Lacks}
+use Rattle.line_forms.specs.FormLaws.{line_complete, number_complete, number_law, wide_64}
+use Rattle.std.proofs.lemmas.Bool.{and_from, and_parts, false≢true, le-ltb, lt-ltb, ne_eqb}
+use Rattle.std.proofs.lemmas.{Bool.Decides.nat_tests, Fmt.length-decimal-le}
+use Rattle.std.specs.{Fmt.decimal, List.list_all}
 
 -- a text without a comma has no last one
 pub last_none : (text : List ℕ) → Lacks 44 text → last_field text ≡ None

@@ -1,30 +1,25 @@
 -- The end of a text that a recount has read.
-use Rattle.std.proofs.Common.{◌≡◌, ℕ, ◌+◌, ◌<◌, Bool, true, false, List, [], ◌∷◌}
-use Rattle.std.proofs.Common.{◌++◌, length, Option, None, refl, sym, ap, subst, ◌∙◌, arith}
-use Rattle.std.proofs.Common.{append-nil, length-append}
-use Rattle.std.proofs.lemmas.Slice.Eq.{bytes_eq-Decides}
-use Rattle.std.specs.Str.{bytes_eq}
-use Rattle.tariffs.specs.Fares.{Fares}
-use Rattle.ledger_check.specs.FullBalances.{IsFullBalance}
-use Rattle.ledger_check.specs.declared.full_balance.FullBalance.{FullBalance}
-use Rattle.tap_views.specs.declared.encoder.TapFields.{TapFields}
+use Rattle.std.proofs.Common.{◌≡◌, ℕ, ◌+◌, ◌<◌, Bool, true, false, List, [], ◌∷◌, ◌++◌, length}
+use Rattle.std.proofs.Common.{Option, None, refl, sym, ap, subst, ◌∙◌, arith, append-nil}
+use Rattle.std.proofs.Common.{length-append}
 use Rattle.fare_texts.specs.LedgerLines.{head_text}
-use Rattle.ledger_check.specs.Lines.{Lacks, lines_of}
-use Rattle.ledger_check.specs.FullChecks.{IsTaken, TakenLine, lines_from, no_line_text, taps_from}
-use Rattle.ledger_check.specs.FullChecks.{one_wrong, wrong_count}
-use Rattle.ledger_check.specs.FullChecks.{taps_with, remark_lines, remark_text, with_first}
+use Rattle.ledger_check.proofs.FullCheckLemmas.{cut_line, kept_none, names_none, none_kept}
+use Rattle.ledger_check.proofs.{LineEnds.head_ends, LineLemmas.lines-part}
+use Rattle.ledger_check.specs.FullBalances.{IsFullBalance}
 use Rattle.ledger_check.specs.FullCheckStates.{AreSums, HasFed, HasFullyChecked}
-use Rattle.ledger_check.specs.inside.FullChecks.{HasEnded}
+use Rattle.ledger_check.specs.FullChecks.{IsTaken, TakenLine, lines_from, no_line_text, taps_from}
+use Rattle.ledger_check.specs.FullChecks.{one_wrong, wrong_count, taps_with, remark_lines}
+use Rattle.ledger_check.specs.{FullChecks.remark_text, FullChecks.with_first, Lines.Lacks}
+use Rattle.ledger_check.specs.{Lines.lines_of, declared.full_balance.FullBalance.FullBalance}
 use Rattle.ledger_check.specs.declared.full_check.FullCheck.{FullCheck}
 use Rattle.ledger_check.specs.declared.full_check_sums.FullCheckSums.{FullCheckSums}
-use Rattle.ledger_check.specs.declared.lines_fed.LinesFed.{LinesFed}
-use Rattle.ledger_check.specs.declared.walk.LineFinding.{LineFinding}
-use Rattle.ledger_check.specs.declared.walk.CountedTap.{CountedTap}
-use Rattle.ledger_check.specs.declared.walk.Remark.{Remark}
-use Rattle.ledger_check.specs.declared.walk.Remark.TheVariants.{NoLine}
-use Rattle.ledger_check.proofs.LineEnds.{head_ends}
-use Rattle.ledger_check.proofs.LineLemmas.{lines-part}
-use Rattle.ledger_check.proofs.FullCheckLemmas.{cut_line, kept_none, names_none, none_kept}
+use Rattle.ledger_check.specs.declared.{lines_fed.LinesFed.LinesFed, walk.CountedTap.CountedTap}
+use Rattle.ledger_check.specs.declared.walk.{LineFinding.LineFinding, Remark.Remark}
+use Rattle.ledger_check.specs.{declared.walk.Remark.TheVariants.NoLine, inside.FullChecks.HasEnded}
+use Rattle.std.proofs.lemmas.Slice.Eq.{bytes_eq-Decides}
+use Rattle.std.specs.Str.{bytes_eq}
+use Rattle.tap_views.specs.declared.encoder.TapFields.{TapFields}
+use Rattle.tariffs.specs.Fares.{Fares}
 
 no_lines : lines_of [] ≡ []
 unfolding lines_of

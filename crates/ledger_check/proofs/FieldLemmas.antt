@@ -1,24 +1,20 @@
 -- The fields with which a line begins: what they lack, and what they say.
 use Rattle.std.proofs.Common.{◌≡◌, ℕ, ◌+◌, ◌/◌, ◌%◌, ◌^◌, ◌<◌, ◌==◌, ◌||◌, Bool, not, true, false}
 use Rattle.std.proofs.Common.{List, [], ◌∷◌, ◌++◌, append_assoc, ap, ◌∙◌, arith, ◌≢◌, refl}
-use Rattle.std.proofs.lemmas.Bool.{and_from, ne_eqb}
-use Rattle.std.proofs.lemmas.Bool.Decides.{nat_tests}
-use Rattle.std.proofs.lemmas.Fmt.{decimal_is_IsNumeral}
-use Rattle.std.specs.Fmt.{decimal}
-use Rattle.std.specs.Str.Parse.{AllDigits}
-use Rattle.hex.specs.Hex.{encode_lower, encode_with, lower_digits}
-use Rattle.fare_texts.specs.Moments.{IsMomentText}
-use Rattle.line_forms.specs.Columns.{ends_column, is_column}
-use Rattle.tap_views.specs.Token.{bytes_of}
-use Rattle.tap_views.specs.declared.token.Token.{Token}
-use Rattle.tariffs.specs.Fares.{Fares}
 use Rattle.fare_caps.specs.declared.capped_reason.CappedReason.{CappedReason}
-use Rattle.fare_texts.specs.StatementText.{answer_text}
-use Rattle.histories.specs.declared.entry.Entry.{Entry}
 use Rattle.fare_texts.specs.LedgerLines.{IsLedgerLine, entry_fields, line_head, mode_field}
-use Rattle.ledger_check.specs.Lines.{Lacks}
+use Rattle.fare_texts.specs.{Moments.IsMomentText, StatementText.answer_text}
+use Rattle.hex.specs.Hex.{encode_lower, encode_with, lower_digits}
+use Rattle.histories.specs.declared.entry.Entry.{Entry}
 use Rattle.ledger_check.proofs.LineLemmas.{lacks-at, lacks-tested}
 use Rattle.ledger_check.proofs.MomentLemmas.{moment_parts}
+use Rattle.ledger_check.specs.Lines.{Lacks}
+use Rattle.line_forms.specs.Columns.{ends_column, is_column}
+use Rattle.std.proofs.lemmas.Bool.{and_from, ne_eqb, Decides.nat_tests}
+use Rattle.std.proofs.lemmas.Fmt.{decimal_is_IsNumeral}
+use Rattle.std.specs.{Fmt.decimal, Str.Parse.AllDigits}
+use Rattle.tap_views.specs.{Token.bytes_of, declared.token.Token.Token}
+use Rattle.tariffs.specs.Fares.{Fares}
 
 -- a text without a comma and without a line feed is one column
 plain : (text : List ℕ) → Lacks 44 text → Lacks 10 text → is_column text ≡ true

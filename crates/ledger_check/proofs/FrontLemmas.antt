@@ -1,25 +1,22 @@
 -- A line names one tap.
 use Rattle.std.proofs.Common.{◌≡◌, ℕ, ◌^◌, ◌<◌, ◌≤◌, length, append_assoc, List, ◌∷◌, ◌++◌, Ok}
 use Rattle.std.proofs.Common.{refl, sym, ap, subst, ◌∙◌, arith, decimal, Some, true, []}
-use Rattle.std.proofs.lemmas.Fmt.{decimal_injective}
-use Rattle.std.proofs.lemmas.Option.{same_Some}
-use Rattle.hex.specs.Hex.{decode_sized, encode_lower}
-use Rattle.hex.proofs.HexLemmas.{decode_sized-encode_lower}
 use Rattle.fare_caps.specs.declared.capped_reason.CappedReason.{CappedReason}
-use Rattle.tariffs.specs.Fares.{Fares}
-use Rattle.histories.specs.declared.entry.Entry.{Entry}
 use Rattle.fare_texts.specs.LedgerLines.{IsLedgerLine, entry_fields, line_head}
 use Rattle.fare_texts.specs.Moments.{IsMomentText}
-use Rattle.tap_views.specs.Token.{Fits, bytes_of}
-use Rattle.tap_views.specs.declared.token.Token.{Token}
-use Rattle.tap_views.proofs.TokenLemmas.{bytes_of-injective}
-use Rattle.tap_views.proofs.TokenBytes.{token_bytes, token_length}
-use Rattle.line_forms.specs.FormLaws.{column_law}
-use Rattle.line_forms.specs.Columns.{BeginsAfterColumn, is_column}
-use Rattle.line_forms.specs.Forms.{go_on, then_read, with_second}
-use Rattle.ledger_check.specs.FullChecks.{IsLineOfTap, any_column, front_columns, next_column}
+use Rattle.hex.proofs.HexLemmas.{decode_sized-encode_lower}
+use Rattle.hex.specs.Hex.{decode_sized, encode_lower}
+use Rattle.histories.specs.declared.entry.Entry.{Entry}
 use Rattle.ledger_check.proofs.FieldLemmas.{decimal_plain, first_fields, moment_plain, token_plain}
 use Rattle.ledger_check.proofs.MomentLemmas.{moment_exact}
+use Rattle.ledger_check.specs.FullChecks.{IsLineOfTap, any_column, front_columns, next_column}
+use Rattle.line_forms.specs.{Columns.BeginsAfterColumn, Columns.is_column, FormLaws.column_law}
+use Rattle.line_forms.specs.Forms.{go_on, then_read, with_second}
+use Rattle.std.proofs.lemmas.{Fmt.decimal_injective, Option.same_Some}
+use Rattle.tap_views.proofs.TokenBytes.{token_bytes, token_length}
+use Rattle.tap_views.proofs.TokenLemmas.{bytes_of-injective}
+use Rattle.tap_views.specs.{Token.Fits, Token.bytes_of, declared.token.Token.Token}
+use Rattle.tariffs.specs.Fares.{Fares}
 
 -- ---- columns are read
 column_read : (column rest : List ℕ) → is_column column ≡ true → BeginsAfterColumn rest

@@ -2,32 +2,25 @@
 use Rattle.std.proofs.Common.{◌≡◌, ◌≢◌, ℕ, ◌+◌, ◌^◌, ◌<◌, ◌≤◌, inl, Bool, true, false, List, []}
 use Rattle.std.proofs.Common.{◌∷◌, ◌++◌, length, map, All, Option, None, Some, refl, sym, ap, subst}
 use Rattle.std.proofs.Common.{◌∙◌, arith, length-append, if◌then◌else◌}
-use Rattle.std.proofs.lemmas.List.{map-append}
-use Rattle.std.proofs.lemmas.Slice.Eq.{bytes_eq-Decides}
-use Rattle.std.specs.Str.{bytes_eq}
-use Rattle.tariffs.specs.Fares.{Fares}
-use Rattle.histories.specs.Entry.{own}
-use Rattle.histories.specs.declared.entry.Entry.{Entry}
-use Rattle.tap_views.specs.declared.encoder.TapFields.{TapFields}
-use Rattle.tap_views.specs.declared.token.Token.{Token}
-use Rattle.fare_texts.specs.LedgerLines.{head_text, IsLedgerLineAfter}
 use Rattle.fare_texts.specs.Explainers.{next_entry}
-use Rattle.ledger_check.specs.Ledger.{AreNext, IsLedgerOf, IsNext, IsNextLine, token_number}
-use Rattle.ledger_check.specs.Lines.{lines_of}
-use Rattle.ledger_check.specs.Orders.{tap_of_entry}
-use Rattle.ledger_check.specs.FullChecks.{AreTaken, IsCounted, IsFullCheck, IsJudged, IsLineOfTap}
-use Rattle.ledger_check.specs.FullChecks.{FullChecksDecide, entries_from, entries_with}
-use Rattle.ledger_check.specs.FullChecks.{TakenLine, decreases_after, lines_from, one_wrong, run_of}
-use Rattle.ledger_check.specs.FullChecks.{run_with, taps_from, taps_with, remark_for, with_first}
-use Rattle.ledger_check.specs.FullChecks.{wrong_count}
-use Rattle.ledger_check.specs.declared.walk.CountedTap.{CountedTap}
-use Rattle.ledger_check.specs.declared.walk.Remark.{Remark}
-use Rattle.ledger_check.specs.declared.walk.Remark.TheVariants.{Nothing, NoLine}
+use Rattle.fare_texts.specs.LedgerLines.{head_text, IsLedgerLineAfter}
+use Rattle.histories.specs.{Entry.own, declared.entry.Entry.Entry}
 use Rattle.ledger_check.proofs.EntryLists.{next-parts, next-push, none_left}
 use Rattle.ledger_check.proofs.FrontLemmas.{line_tap, tap_same_of_line}
 use Rattle.ledger_check.proofs.RunLemmas.{State, nondecreasing, ruled_replied, state_push, unfallen}
-use Rattle.ledger_check.proofs.SameLines.{next_same}
-use Rattle.ledger_check.proofs.TokenOrder.{own-few}
+use Rattle.ledger_check.proofs.{SameLines.next_same, TokenOrder.own-few}
+use Rattle.ledger_check.specs.FullChecks.{AreTaken, IsCounted, IsFullCheck, IsJudged, IsLineOfTap}
+use Rattle.ledger_check.specs.FullChecks.{FullChecksDecide, entries_from, entries_with, TakenLine}
+use Rattle.ledger_check.specs.FullChecks.{decreases_after, lines_from, one_wrong, run_of, run_with}
+use Rattle.ledger_check.specs.FullChecks.{taps_from, taps_with, remark_for, with_first, wrong_count}
+use Rattle.ledger_check.specs.Ledger.{AreNext, IsLedgerOf, IsNext, IsNextLine, token_number}
+use Rattle.ledger_check.specs.{Lines.lines_of, Orders.tap_of_entry}
+use Rattle.ledger_check.specs.declared.walk.{CountedTap.CountedTap, Remark.Remark}
+use Rattle.ledger_check.specs.declared.walk.Remark.TheVariants.{Nothing, NoLine}
+use Rattle.std.proofs.lemmas.{List.map-append, Slice.Eq.bytes_eq-Decides}
+use Rattle.std.specs.Str.{bytes_eq}
+use Rattle.tap_views.specs.declared.{encoder.TapFields.TapFields, token.Token.Token}
+use Rattle.tariffs.specs.Fares.{Fares}
 
 one_zero : ◌≡◌ {A = ℕ} 1 0 → ⊥
 one_zero is = absurd (omega (arith, is))

@@ -2,27 +2,23 @@
 use Rattle.std.proofs.Common.{◌≡◌, ℕ, ◌+◌, ◌<◌, ◌≤◌, inl, inr, Bool, true, false, List, [], ◌∷◌}
 use Rattle.std.proofs.Common.{◌++◌, length, Option, None, Some, refl, sym, ap, subst, ◌∙◌, arith}
 use Rattle.std.proofs.Common.{append_assoc, length-append, string_bytes, if◌then◌else◌}
-use Rattle.std.proofs.lemmas.Slice.Eq.{bytes_eq-Decides}
-use Rattle.std.specs.Str.{bytes_eq}
-use Rattle.tariffs.specs.Fares.{Fares}
-use Rattle.histories.specs.Entry.{own}
-use Rattle.histories.specs.declared.entry.Entry.{Entry}
-use Rattle.tap_views.specs.declared.token.Token.{Token}
 use Rattle.fare_texts.specs.LedgerLines.{head_text}
-use Rattle.ledger_check.specs.Lines.{IsLine, Lacks, lines_of}
-use Rattle.ledger_check.specs.FullChecks.{IsJudged, IsLineOfTap, IsTaken, TakenLine, lines_from}
-use Rattle.ledger_check.specs.FullChecks.{run_of, run_with}
-use Rattle.ledger_check.specs.FullCheckStates.{AreSums, HasEntries, HasFed, HasRunExplainer}
-use Rattle.ledger_check.specs.FullCheckStates.{HasTakenLines, IsKept}
-use Rattle.ledger_check.specs.inside.FullChecks.{HasFound, HasJudged, IsFirstFinding, next_taken}
-use Rattle.ledger_check.specs.declared.lines_fed.LinesFed.{LinesFed}
-use Rattle.ledger_check.specs.declared.lines_fed.LinesTaken.{LinesTaken}
-use Rattle.ledger_check.specs.declared.walk.CountedTap.{CountedTap}
-use Rattle.ledger_check.specs.declared.walk.LineFinding.{LineFinding}
-use Rattle.ledger_check.specs.declared.walk.Remark.TheVariants.{Nothing, NoLine}
-use Rattle.ledger_check.specs.declared.walk.Walk.{Walk}
+use Rattle.histories.specs.{Entry.own, declared.entry.Entry.Entry}
 use Rattle.ledger_check.proofs.LineLemmas.{lacks-append, lacks-last, lines-line}
 use Rattle.ledger_check.proofs.TokenOrder.{own-few}
+use Rattle.ledger_check.specs.FullCheckStates.{AreSums, HasEntries, HasFed, HasRunExplainer}
+use Rattle.ledger_check.specs.FullCheckStates.{HasTakenLines, IsKept}
+use Rattle.ledger_check.specs.FullChecks.{IsJudged, IsLineOfTap, IsTaken, TakenLine, lines_from}
+use Rattle.ledger_check.specs.{FullChecks.run_of, FullChecks.run_with, Lines.IsLine, Lines.Lacks}
+use Rattle.ledger_check.specs.{Lines.lines_of, declared.lines_fed.LinesFed.LinesFed}
+use Rattle.ledger_check.specs.declared.{lines_fed.LinesTaken.LinesTaken, walk.CountedTap.CountedTap}
+use Rattle.ledger_check.specs.declared.walk.{LineFinding.LineFinding, Remark.TheVariants.Nothing}
+use Rattle.ledger_check.specs.declared.walk.{Remark.TheVariants.NoLine, Walk.Walk}
+use Rattle.ledger_check.specs.inside.FullChecks.{HasFound, HasJudged, IsFirstFinding, next_taken}
+use Rattle.std.proofs.lemmas.Slice.Eq.{bytes_eq-Decides}
+use Rattle.std.specs.Str.{bytes_eq}
+use Rattle.tap_views.specs.declared.token.Token.{Token}
+use Rattle.tariffs.specs.Fares.{Fares}
 
 head_short : length head_text ≤ 255
 head_short = omega arith

@@ -1,16 +1,13 @@
 -- What a full balance is after one tap more, and what it lacks.
-use Rattle.std.proofs.Common.{◌≡◌, ℕ, ◌⊎◌, inl, inr, ⊎_elim, Bool, true, false, cond}
-use Rattle.std.proofs.Common.{List, [], ◌∷◌, ◌++◌, Option, Some, None, refl, sym, ap, ◌∙◌, arith}
-use Rattle.std.specs.BTreeMap.{BTreeMap}
-use Rattle.std.specs.Ordering.{is_eq}
-use Rattle.tap_views.specs.declared.encoder.TapFields.{TapFields}
-use Rattle.tap_views.specs.TapOrder.{tap_cmp}
+use Rattle.std.proofs.Common.{◌≡◌, ℕ, ◌⊎◌, inl, inr, ⊎_elim, Bool, true, false, cond, List, [], ◌∷◌}
+use Rattle.std.proofs.Common.{◌++◌, Option, Some, None, refl, sym, ap, ◌∙◌, arith}
+use Rattle.ledger_check.proofs.Balanced.{Balances, HasOneMore}
+use Rattle.ledger_check.proofs.{SameTaps.same_exact, Times.times_push}
 use Rattle.ledger_check.specs.Balances.{copies_among, left_at}
 use Rattle.ledger_check.specs.FullBalances.{AreLacking, IsFullBalance}
 use Rattle.ledger_check.specs.declared.full_balance.FullBalance.{FullBalance}
-use Rattle.ledger_check.proofs.Balanced.{Balances, HasOneMore}
-use Rattle.ledger_check.proofs.SameTaps.{same_exact}
-use Rattle.ledger_check.proofs.Times.{times_push}
+use Rattle.std.specs.{BTreeMap.BTreeMap, Ordering.is_eq}
+use Rattle.tap_views.specs.{TapOrder.tap_cmp, declared.encoder.TapFields.TapFields}
 
 -- nothing was struck out yet
 pub started : (left : BTreeMap TapFields ℕ) (surplus : Option TapFields) (full : FullBalance)

@@ -1,23 +1,17 @@
 -- The sums of the entries of lines that were taken.
-use Rattle.std.proofs.Common.{◌≡◌, ◌+◌, ◌<◌, ◌≤◌, ◌^◌, ◌∷◌, [], ℕ, List}
-use Rattle.std.proofs.Common.{Option, None, Some, length, sym, ap, subst, ◌∙◌, arith}
-use Rattle.std.proofs.Common.{length-append}
-use Rattle.std.specs.Prelude.{IfSome}
-use Rattle.std.specs.Str.{bytes_eq}
-use Rattle.tariffs.specs.Fares.{Fares}
+use Rattle.std.proofs.Common.{◌≡◌, ◌+◌, ◌<◌, ◌≤◌, ◌^◌, ◌∷◌, [], ℕ, List, Option, None, Some, length}
+use Rattle.std.proofs.Common.{sym, ap, subst, ◌∙◌, arith, length-append}
 use Rattle.histories.specs.declared.entry.Entry.{Entry}
+use Rattle.ledger_check.proofs.{FullCheckLaw.remark_right, FullCheckLaw.right, RunLemmas.unfallen}
+use Rattle.ledger_check.specs.{FullCheckStates.HasEntries, FullChecks.AreTaken}
+use Rattle.ledger_check.specs.FullChecks.{IsCounted, IsJudged, IsTaken, TakenLine, decreases_after}
+use Rattle.ledger_check.specs.FullChecks.{entries_from, entries_with, one_wrong, run_of}
+use Rattle.ledger_check.specs.{FullChecks.wrong_count, declared.open_sums.OpenSums.OpenSums}
+use Rattle.ledger_check.specs.declared.walk.{CountedTap.CountedTap, Remark.Remark}
+use Rattle.ledger_check.specs.inside.{FullChecks.IfRight, OpenSums.AreUpTo, OpenSums.HasRoomFor}
+use Rattle.std.specs.{Prelude.IfSome, Str.bytes_eq}
 use Rattle.tap_views.specs.Token.{Fits}
-use Rattle.ledger_check.specs.FullChecks.{AreTaken, IsCounted, IsJudged, IsTaken, TakenLine}
-use Rattle.ledger_check.specs.FullChecks.{decreases_after, entries_from, entries_with, one_wrong}
-use Rattle.ledger_check.specs.FullChecks.{run_of, wrong_count}
-use Rattle.ledger_check.specs.FullCheckStates.{HasEntries}
-use Rattle.ledger_check.specs.inside.FullChecks.{IfRight}
-use Rattle.ledger_check.specs.inside.OpenSums.{AreUpTo, HasRoomFor}
-use Rattle.ledger_check.specs.declared.open_sums.OpenSums.{OpenSums}
-use Rattle.ledger_check.specs.declared.walk.CountedTap.{CountedTap}
-use Rattle.ledger_check.specs.declared.walk.Remark.{Remark}
-use Rattle.ledger_check.proofs.FullCheckLaw.{remark_right, right}
-use Rattle.ledger_check.proofs.RunLemmas.{unfallen}
+use Rattle.tariffs.specs.Fares.{Fares}
 
 -- the token of a right line's tap is not below those of the entries of right lines
 up_to : (fares : Fares) (last : TakenLine) (earlier : List TakenLine) (line : List ℕ)

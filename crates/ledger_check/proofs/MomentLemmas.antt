@@ -1,12 +1,11 @@
 -- The numbers in a moment's text are those of its date and of its time of day.
-use Rattle.std.proofs.Common.{◌≡◌, ◌∙◌, ◌+◌, ◌-◌, ◌*◌, ◌/◌, ◌%◌, ◌<◌, ℕ, ℤ, pos, List, []}
-use Rattle.std.proofs.Common.{◌∷◌, ◌++◌, length, sym, ap, arith}
-use Rattle.jiff_core.specs.declared.civil.date.Date.{Date}
-use Rattle.jiff_core.specs.Date.{epoch_day}
-use Rattle.jiff_core.proofs.DateLemmas.{epoch_day_same}
-use Rattle.jiff_fmt.specs.Text.{pad2, year_text}
-use Rattle.fare_texts.specs.Moments.{IsMomentText, clock_text}
+use Rattle.std.proofs.Common.{◌≡◌, ◌∙◌, ◌+◌, ◌-◌, ◌*◌, ◌/◌, ◌%◌, ◌<◌, ℕ, ℤ, pos, List, [], ◌∷◌}
+use Rattle.std.proofs.Common.{◌++◌, length, sym, ap, arith}
 use Rattle.fare_texts.proofs.Years.{year_of}
+use Rattle.fare_texts.specs.Moments.{IsMomentText, clock_text}
+use Rattle.jiff_core.proofs.DateLemmas.{epoch_day_same}
+use Rattle.jiff_core.specs.{Date.epoch_day, declared.civil.date.Date.Date}
+use Rattle.jiff_fmt.specs.Text.{pad2, year_text}
 use Rattle.ledger_check.specs.inside.Moments.{clock_at, two_at, year_at}
 
 -- ---- digits

@@ -1,28 +1,22 @@
 -- Sums to which entries are added one by one.
-use Rattle.std.proofs.Common.{◌≡◌, ◌==◌, ◌<◌, ◌≤◌, List, [], ◌∷◌, ◌++◌, length, map, All, sym}
-use Rattle.std.proofs.Common.{ap, subst, ◌∙◌, arith, append-nil, append_assoc, length-append, suc}
-use Rattle.std.specs.declared.cmp.Ordering.TheVariants.{Less, Greater}
-use Rattle.std.specs.Prelude.{Option, Some}
+use Rattle.std.proofs.Common.{◌≡◌, ◌==◌, ◌<◌, ◌≤◌, List, [], ◌∷◌, ◌++◌, length, map, All, sym, ap}
+use Rattle.std.proofs.Common.{subst, ◌∙◌, arith, append-nil, append_assoc, length-append, suc}
+use Rattle.histories.proofs.SumsByToken.{by_token_joined, no_sums, one_token_list, below_same}
+use Rattle.histories.proofs.SumsLemmas.{sums-append, sums-taps}
+use Rattle.histories.specs.{Entry.reply_of, Sums.Sums, Sums.add_sums, Sums.sums_of_replies}
+use Rattle.histories.specs.SumsByKey.{sums_by_token, token_of, validator_of}
+use Rattle.histories.specs.{TalliesByKey.AreByKey, Tally.sums_of_tally, declared.entry.Entry.Entry}
+use Rattle.ledger_check.proofs.TokenOrder.{greater_number}
+use Rattle.ledger_check.specs.{Ledger.token_number, OpenSums.AreOpenSums, OpenSums.IsRunOf}
+use Rattle.ledger_check.specs.{OpenSums.IsSplitAt, declared.open_sums.OpenSums.OpenSums}
+use Rattle.ledger_check.specs.{declared.open_sums.OpenToken.OpenToken, inside.OpenSums.AreUpTo}
 use Rattle.std.proofs.lemmas.List.Elements.{All-append, All-cons, All-head, All-map, All-nil}
 use Rattle.std.proofs.lemmas.List.Elements.{All-weaker}
-use Rattle.ledger_check.specs.Ledger.{token_number}
-use Rattle.ledger_check.proofs.TokenOrder.{greater_number}
-use Rattle.tap_views.specs.TokenOrder.{AreBelow}
-use Rattle.histories.specs.Entry.{reply_of}
-use Rattle.histories.specs.Sums.{Sums, add_sums, sums_of_replies}
-use Rattle.histories.specs.SumsByKey.{sums_by_token, token_of, validator_of}
-use Rattle.histories.specs.TalliesByKey.{AreByKey}
-use Rattle.histories.specs.Tally.{sums_of_tally}
-use Rattle.histories.specs.declared.entry.Entry.{Entry}
-use Rattle.histories.proofs.SumsLemmas.{sums-append, sums-taps}
-use Rattle.histories.proofs.SumsByToken.{by_token_joined, no_sums, one_token_list, below_same}
-use Rattle.tap_views.specs.Token.{Fits, token_cmp}
-use Rattle.tap_views.specs.declared.token.Token.{Token}
+use Rattle.std.specs.Prelude.{Option, Some}
+use Rattle.std.specs.declared.cmp.Ordering.TheVariants.{Less, Greater}
 use Rattle.tap_views.proofs.TokenLemmas.{token_cmp-total}
-use Rattle.ledger_check.specs.declared.open_sums.OpenSums.{OpenSums}
-use Rattle.ledger_check.specs.declared.open_sums.OpenToken.{OpenToken}
-use Rattle.ledger_check.specs.OpenSums.{AreOpenSums, IsRunOf, IsSplitAt}
-use Rattle.ledger_check.specs.inside.OpenSums.{AreUpTo}
+use Rattle.tap_views.specs.Token.{Fits, token_cmp}
+use Rattle.tap_views.specs.{TokenOrder.AreBelow, declared.token.Token.Token}
 
 -- no entries, and none of the token
 pub run_of_none : (entries : List Entry) (tokens : List (Token × Sums)) (held : OpenToken)

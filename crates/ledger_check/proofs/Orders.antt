@@ -1,12 +1,10 @@
 -- The order of taps with one more, and what it decides.
-use Rattle.std.proofs.Common.{◌≡◌, ◌∙◌, ℕ, ◌+◌, ◌<◌, Bool, true, false, List, [], ◌∷◌, ◌++◌}
-use Rattle.std.proofs.Common.{length, ap, Option, None, Some, refl, sym, arith, if◌then◌else◌}
-use Rattle.std.proofs.Common.{add-one, add-zero, get_or, subst, zero, suc}
-use Rattle.std.specs.Option.{option_or}
-use Rattle.std.specs.Ordering.{is_lt}
-use Rattle.tap_views.specs.TapOrder.{tap_cmp}
-use Rattle.tap_views.specs.declared.encoder.TapFields.{TapFields}
+use Rattle.std.proofs.Common.{◌≡◌, ◌∙◌, ℕ, ◌+◌, ◌<◌, Bool, true, false, List, [], ◌∷◌, ◌++◌, length}
+use Rattle.std.proofs.Common.{ap, Option, None, Some, refl, sym, arith, if◌then◌else◌, add-one}
+use Rattle.std.proofs.Common.{add-zero, get_or, subst, zero, suc}
 use Rattle.ledger_check.specs.Orders.{OrdersDecide, comes_before, first_early, last_of}
+use Rattle.std.specs.{Option.option_or, Ordering.is_lt}
+use Rattle.tap_views.specs.{TapOrder.tap_cmp, declared.encoder.TapFields.TapFields}
 
 pub last-push : (last : Option TapFields) (taps : List TapFields) (tap : TapFields)
     → last_of last (taps ++ tap ∷ []) ≡ Some tap

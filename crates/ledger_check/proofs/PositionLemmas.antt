@@ -1,22 +1,16 @@
 -- Places of taps, and what is written there.
-use Rattle.std.proofs.Common.{◌≡◌, ◌≢◌, ◌∙◌, ℕ, ◌+◌, ◌-◌, ◌<◌, ◌||◌, ◌&&◌, Bool, true, false}
-use Rattle.std.proofs.Common.{List, []}
-use Rattle.std.proofs.Common.{◌∷◌, ◌++◌, ap, arith, eqb-true, get_or, length, map, nat_eq, None}
-use Rattle.std.proofs.Common.{Option, refl}
-use Rattle.std.proofs.Common.{set, slice_get, Some, suc, sym, zero, if◌then◌else◌}
+use Rattle.std.proofs.Common.{◌≡◌, ◌≢◌, ◌∙◌, ℕ, ◌+◌, ◌-◌, ◌<◌, ◌||◌, ◌&&◌, Bool, true, false, List}
+use Rattle.std.proofs.Common.{[], ◌∷◌, ◌++◌, ap, arith, eqb-true, get_or, length, map, nat_eq, None}
+use Rattle.std.proofs.Common.{Option, refl, set, slice_get, Some, suc, sym, zero, if◌then◌else◌}
+use Rattle.ledger_check.specs.Positions.{HasUploads, at_position, named_of, taps_of}
+use Rattle.ledger_check.specs.declared.positions.{PlacedTap.PlacedTap, Positions.Positions}
+use Rattle.ledger_check.specs.inside.Positions.{unnamed}
 use Rattle.std.proofs.Math.Bool.{and-true, or-false, or-true}
-use Rattle.std.proofs.lemmas.Bool.{eqb-false}
-use Rattle.std.proofs.lemmas.Bool.Decides.{nat_tests}
-use Rattle.std.proofs.lemmas.List.{map-append}
+use Rattle.std.proofs.lemmas.{Bool.eqb-false, Bool.Decides.nat_tests, List.map-append}
 use Rattle.std.proofs.lemmas.Option.{slice_get-map, slice_get_read}
-use Rattle.std.specs.Option.{option_and_then}
-use Rattle.std.specs.Prelude.{option_map, Vec}
+use Rattle.std.specs.{Option.option_and_then, Prelude.option_map, Prelude.Vec}
 use Rattle.std.specs.declared.alloc.Global.{Global}
 use Rattle.tap_views.specs.declared.encoder.TapFields.{TapFields}
-use Rattle.ledger_check.specs.Positions.{HasUploads, at_position, named_of, taps_of}
-use Rattle.ledger_check.specs.inside.Positions.{unnamed}
-use Rattle.ledger_check.specs.declared.positions.PlacedTap.{PlacedTap}
-use Rattle.ledger_check.specs.declared.positions.Positions.{Positions}
 
 pub slice_get-set_same : {A : Type 0} (xs : List A) (i : ℕ) (a : A) → i < length xs
     → slice_get (set xs i a) i ≡ Some a

@@ -2,22 +2,18 @@
 use Rattle.std.proofs.Common.{◌≡◌, ℕ, ◌<◌, ◌≤◌, ◌⊎◌, inl, inr, ⊎_elim, Bool, true, false, cond}
 use Rattle.std.proofs.Common.{List, [], ◌∷◌, ◌++◌, length, get_or, filter, All, refl, sym, ap}
 use Rattle.std.proofs.Common.{subst, ◌∙◌, arith, zero, suc, length-append, le_of_eq}
-use Rattle.std.specs.Prelude.{nat_lt}
-use Rattle.std.proofs.lemmas.Bool.{cases_lt}
-use Rattle.std.proofs.lemmas.Bool.Decides.{nat_tests}
-use Rattle.std.proofs.lemmas.List.Elements.{All-filter, All-push}
-use Rattle.tariffs.specs.Fares.{Fares}
-use Rattle.histories.specs.Entry.{is_of, own, reply_of, tap_of, taps_of}
-use Rattle.histories.specs.History.{IsReplied}
-use Rattle.histories.specs.declared.entry.Entry.{Entry}
-use Rattle.histories.proofs.OwnEntries.{own_all}
-use Rattle.tap_views.proofs.TokenLemmas.{same_token}
-use Rattle.tap_views.specs.Token.{Fits}
-use Rattle.tap_views.specs.declared.token.Token.{Token}
 use Rattle.fare_texts.specs.Explainers.{next_entry}
-use Rattle.ledger_check.specs.Ledger.{token_number}
-use Rattle.ledger_check.specs.FullChecks.{decreases_after}
+use Rattle.histories.proofs.OwnEntries.{own_all}
+use Rattle.histories.specs.Entry.{is_of, own, reply_of, tap_of, taps_of}
+use Rattle.histories.specs.{History.IsReplied, declared.entry.Entry.Entry}
 use Rattle.ledger_check.proofs.TokenOrder.{own-above, own-more}
+use Rattle.ledger_check.specs.{FullChecks.decreases_after, Ledger.token_number}
+use Rattle.std.proofs.lemmas.Bool.{cases_lt, Decides.nat_tests}
+use Rattle.std.proofs.lemmas.List.Elements.{All-filter, All-push}
+use Rattle.std.specs.Prelude.{nat_lt}
+use Rattle.tap_views.proofs.TokenLemmas.{same_token}
+use Rattle.tap_views.specs.{Token.Fits, declared.token.Token.Token}
+use Rattle.tariffs.specs.Fares.{Fares}
 
 -- a token's entries are the token's
 pub own-of : (token : Token) (entries : List Entry)

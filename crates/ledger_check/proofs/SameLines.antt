@@ -1,28 +1,24 @@
 -- An entry has one line.
-use Rattle.std.proofs.Common.{◌≡◌, ℕ, ◌<◌, ◌≤◌, ◌%◌, ℤ, List, ◌∷◌, [], ◌++◌, sym, ap, subst}
-use Rattle.std.proofs.Common.{◌∙◌, ⊎_elim}
-use Rattle.std.proofs.lemmas.Bool.{cases_lt}
-use Rattle.jiff_core.specs.declared.civil.date.Date.{Date}
-use Rattle.jiff_core.proofs.DateLemmas.{epoch_day_injective}
-use Rattle.jiff_fmt.specs.Text.{date_text, pad2, year_text}
-use Rattle.tariffs.specs.Fares.{Fares}
-use Rattle.fare_caps.specs.CapMeanings.{capped_rules_of}
-use Rattle.fare_caps.specs.CappedReplies.{capped_reply}
+use Rattle.std.proofs.Common.{◌≡◌, ℕ, ◌<◌, ◌≤◌, ◌%◌, ℤ, List, ◌∷◌, [], ◌++◌, sym, ap, subst, ◌∙◌}
+use Rattle.std.proofs.Common.{⊎_elim}
+use Rattle.account_rule.specs.declared.{reply.Answer.Answer, reply.Reply.Reply, tap.TapIn.TapIn}
+use Rattle.fare_caps.specs.{CapMeanings.capped_rules_of, CappedReplies.capped_reply}
 use Rattle.fare_caps.specs.declared.capped_reason.CappedReason.{CappedReason}
 use Rattle.fare_caps.specs.declared.capped_reason.CappedReason.TheVariants.{PaidTransfer, Ride}
-use Rattle.fare_caps.specs.declared.capped_reason.CappedReason.TheVariants.{Stale, Transfer, Unknown}
-use Rattle.account_rule.specs.declared.reply.Answer.{Answer}
-use Rattle.account_rule.specs.declared.reply.Reply.{Reply}
-use Rattle.account_rule.specs.declared.tap.TapIn.{TapIn}
-use Rattle.histories.specs.Entry.{own, reply_of, tap_of, taps_of}
-use Rattle.histories.specs.History.{IsReplied}
-use Rattle.tap_views.specs.Token.{bytes_of}
-use Rattle.histories.specs.declared.entry.Entry.{Entry}
-use Rattle.tap_views.specs.declared.token.Token.{Token}
-use Rattle.fare_texts.specs.Moments.{IsCivilText, IsMomentText, clock_text}
+use Rattle.fare_caps.specs.declared.capped_reason.CappedReason.TheVariants.{Stale, Transfer}
+use Rattle.fare_caps.specs.declared.capped_reason.CappedReason.TheVariants.{Unknown}
 use Rattle.fare_texts.specs.LedgerLines.{IsReasonFields, IsLedgerLine, IsPointing, IsWindowFields}
 use Rattle.fare_texts.specs.LedgerLines.{entry_fields, line_head, ride_rest}
+use Rattle.fare_texts.specs.Moments.{IsCivilText, IsMomentText, clock_text}
+use Rattle.histories.specs.Entry.{own, reply_of, tap_of, taps_of}
+use Rattle.histories.specs.{History.IsReplied, declared.entry.Entry.Entry}
+use Rattle.jiff_core.proofs.DateLemmas.{epoch_day_injective}
+use Rattle.jiff_core.specs.declared.civil.date.Date.{Date}
+use Rattle.jiff_fmt.specs.Text.{date_text, pad2, year_text}
 use Rattle.ledger_check.specs.Ledger.{IsNextLine, IsNext}
+use Rattle.std.proofs.lemmas.Bool.{cases_lt}
+use Rattle.tap_views.specs.{Token.bytes_of, declared.token.Token.Token}
+use Rattle.tariffs.specs.Fares.{Fares}
 
 abbrev date_by : ℤ → ℕ → ℕ → List ℕ
 date_by year month day = year_text year ++ 45 ∷ [] ++ pad2 month ++ 45 ∷ [] ++ pad2 day

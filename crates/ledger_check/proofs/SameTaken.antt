@@ -2,28 +2,20 @@
 -- each recount of the text reports of them.
 use Rattle.std.proofs.Common.{◌≡◌, ℕ, suc, ◌+◌, Bool, true, false, List, [], ◌∷◌, ◌++◌, length}
 use Rattle.std.proofs.Common.{Option, None, Some, refl, sym, ap, subst, ◌∙◌, ◌⊎◌, inl, inr, arith}
-use Rattle.std.proofs.Common.{⊎_elim}
-use Rattle.std.proofs.Common.{append_assoc, append-nil, length-append, if◌then◌else◌}
-use Rattle.std.specs.Str.{bytes_eq}
-use Rattle.tariffs.specs.Fares.{Fares}
-use Rattle.histories.specs.Entry.{own}
-use Rattle.histories.specs.declared.entry.Entry.{Entry}
-use Rattle.tap_views.specs.declared.token.Token.{Token}
+use Rattle.std.proofs.Common.{⊎_elim, append_assoc, append-nil, length-append, if◌then◌else◌}
 use Rattle.fare_texts.specs.Explainers.{next_entry}
 use Rattle.fare_texts.specs.LedgerLines.{IsLedgerLineAfter, head_text, reason_after}
+use Rattle.histories.specs.{Entry.own, declared.entry.Entry.Entry}
+use Rattle.ledger_check.proofs.{FrontLemmas.tap_same_of_line, SameLines.line_same}
 use Rattle.ledger_check.specs.FirstLines.{FullChecksGoOn}
-use Rattle.ledger_check.specs.Lines.{lines_of}
 use Rattle.ledger_check.specs.FullChecks.{AreTaken, IsCounted, IsJudged, IsTaken, TakenLine}
-use Rattle.ledger_check.specs.FullChecks.{end_text, decreases_after, lines_from}
-use Rattle.ledger_check.specs.FullChecks.{remark_for}
-use Rattle.ledger_check.specs.FullChecks.{remark_lines}
-use Rattle.ledger_check.specs.FullChecks.{remark_text, run_of, run_with}
-use Rattle.ledger_check.specs.FullChecks.{with_first}
-use Rattle.ledger_check.specs.declared.walk.CountedTap.{CountedTap}
-use Rattle.ledger_check.specs.declared.walk.Remark.{Remark}
-use Rattle.ledger_check.specs.declared.walk.Remark.TheVariants.{Nothing, NoLine}
-use Rattle.ledger_check.proofs.FrontLemmas.{tap_same_of_line}
-use Rattle.ledger_check.proofs.SameLines.{line_same}
+use Rattle.ledger_check.specs.FullChecks.{end_text, decreases_after, lines_from, remark_for}
+use Rattle.ledger_check.specs.FullChecks.{remark_lines, remark_text, run_of, run_with, with_first}
+use Rattle.ledger_check.specs.{Lines.lines_of, declared.walk.CountedTap.CountedTap}
+use Rattle.ledger_check.specs.declared.walk.Remark.{Remark, TheVariants.Nothing, TheVariants.NoLine}
+use Rattle.std.specs.Str.{bytes_eq}
+use Rattle.tap_views.specs.declared.token.Token.{Token}
+use Rattle.tariffs.specs.Fares.{Fares}
 
 -- ---- one line
 -- a line that names a tap has one entry, one remark and one wanted line; its cents are left out

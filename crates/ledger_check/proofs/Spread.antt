@@ -1,25 +1,17 @@
 -- Taps spread from a map's entries, each as often as its entry counts.
 use Rattle.std.proofs.Common.{◌≡◌, ◌+◌, ◌*◌, ℕ, Bool, true, false, cond, List, [], ◌∷◌, Option}
 use Rattle.std.proofs.Common.{refl, sym, ap, subst, ◌∙◌, arith}
-use Rattle.std.proofs.Math.ListN.{replicate}
-use Rattle.std.specs.BTreeMap.{is_at}
-use Rattle.std.specs.List.{flat_map}
-use Rattle.std.specs.List.Sorted.{IsStrictlySortedBy}
-use Rattle.std.specs.Map.{keys_of, lookup}
-use Rattle.std.specs.Option.{unwrap_or}
-use Rattle.std.proofs.lemmas.Cmp.{eq_by_cmp_equiv}
-use Rattle.std.proofs.lemmas.List.Concat.{flat_map-cons}
-use Rattle.std.proofs.lemmas.List.Folds.{sum_by-replicate}
-use Rattle.std.proofs.lemmas.List.Sums.{sum_by-append}
+use Rattle.ledger_check.proofs.{SameTaps.same_exact, Times.one, Times.one_self}
+use Rattle.ledger_check.specs.Balances.{copies_among, is_same}
+use Rattle.std.proofs.{Math.ListN.replicate, lemmas.Cmp.eq_by_cmp_equiv}
+use Rattle.std.proofs.lemmas.List.{Concat.flat_map-cons, Folds.sum_by-replicate, Sums.sum_by-append}
 use Rattle.std.proofs.lemmas.Map.{lookup-none}
 use Rattle.std.proofs.lemmas.Map.Entries.{lookup_head, lookup_tail, none_past_head}
 use Rattle.std.proofs.lemmas.Map.Keys.{IsDistinct-from_sorted, sorted_tail}
-use Rattle.tap_views.specs.declared.encoder.TapFields.{TapFields}
-use Rattle.tap_views.specs.TapOrder.{tap_cmp}
+use Rattle.std.specs.{BTreeMap.is_at, List.flat_map, List.Sorted.IsStrictlySortedBy, Map.keys_of}
+use Rattle.std.specs.{Map.lookup, Option.unwrap_or}
 use Rattle.tap_views.proofs.TapOrders.{tap_cmp_total}
-use Rattle.ledger_check.specs.Balances.{copies_among, is_same}
-use Rattle.ledger_check.proofs.SameTaps.{same_exact}
-use Rattle.ledger_check.proofs.Times.{one, one_self}
+use Rattle.tap_views.specs.{TapOrder.tap_cmp, declared.encoder.TapFields.TapFields}
 
 -- the tap of an entry, as often as the entry counts
 abbrev pub times : TapFields × ℕ → List TapFields

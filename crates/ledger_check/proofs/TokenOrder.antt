@@ -1,15 +1,12 @@
 -- Tokens in their order, and the entries of one of them.
 use Rattle.std.proofs.Common.{◌≡◌, ℕ, ◌<◌, ◌≤◌, Bool, true, false, cond, List, [], ◌∷◌, ◌++◌}
 use Rattle.std.proofs.Common.{length, filter, All, Less, Greater, refl, ap, ◌∙◌, arith, ⊎_elim}
-use Rattle.std.proofs.lemmas.Bool.{cases_Bool}
-use Rattle.std.proofs.lemmas.Bool.Decides.{nat_tests}
-use Rattle.std.proofs.lemmas.List.Elements.{filter-append, All-tail}
-use Rattle.histories.specs.Entry.{is_of, own}
-use Rattle.tap_views.specs.Token.{Fits, token_cmp, token_eq}
-use Rattle.histories.specs.declared.entry.Entry.{Entry}
-use Rattle.tap_views.specs.declared.token.Token.{Token}
-use Rattle.tap_views.proofs.TokenLemmas.{same_token, token_eq-refl}
+use Rattle.histories.specs.{Entry.is_of, Entry.own, declared.entry.Entry.Entry}
 use Rattle.ledger_check.specs.Ledger.{token_number}
+use Rattle.std.proofs.lemmas.Bool.{cases_Bool, Decides.nat_tests}
+use Rattle.std.proofs.lemmas.List.Elements.{filter-append, All-tail}
+use Rattle.tap_views.proofs.TokenLemmas.{same_token, token_eq-refl}
+use Rattle.tap_views.specs.{Token.Fits, Token.token_cmp, Token.token_eq, declared.token.Token.Token}
 
 -- of two tokens the lesser has the lesser number
 pub less_number : (a b : Token) → Fits a → Fits b → token_cmp a b ≡ Less

@@ -1,13 +1,11 @@
 -- What follows from a true verdict.
-use Rattle.std.proofs.Common.{◌≡◌, ℕ, true, false, List, [], ◌∷◌, ◌++◌, refl}
-use Rattle.std.proofs.Common.{sym, subst, ◌∙◌, ⊎_elim}
-use Rattle.tariffs.specs.Fares.{Fares}
-use Rattle.ledger_check.specs.Ledger.{AreNext, IsLedger}
-use Rattle.ledger_check.specs.Lines.{lines_of}
-use Rattle.ledger_check.specs.Verdicts.{IsFirstWrong, IsHeadless}
-use Rattle.ledger_check.specs.Verdicts.{VerdictsDecide}
-use Rattle.ledger_check.specs.declared.checker.Verdict.TheVariants.{Legal, Wants, NoLine}
+use Rattle.std.proofs.Common.{◌≡◌, ℕ, true, false, List, [], ◌∷◌, ◌++◌, refl, sym, subst, ◌∙◌}
+use Rattle.std.proofs.Common.{⊎_elim}
 use Rattle.ledger_check.proofs.EntryLists.{next-front}
+use Rattle.ledger_check.specs.{Ledger.AreNext, Ledger.IsLedger, Lines.lines_of}
+use Rattle.ledger_check.specs.Verdicts.{IsFirstWrong, IsHeadless, VerdictsDecide}
+use Rattle.ledger_check.specs.declared.checker.Verdict.TheVariants.{Legal, Wants, NoLine}
+use Rattle.tariffs.specs.Fares.{Fares}
 
 pub tail_same : (a b : List ℕ) (xs ys : List (List ℕ)) → a ∷ xs ≡ b ∷ ys → xs ≡ ys
 tail_same a b xs ys is = cc

@@ -1,35 +1,25 @@
 -- A walk's explainer, and the entries of the last token.
 use Rattle.std.proofs.Common.{◌≡◌, ℕ, ◌+◌, ◌^◌, ◌<◌, ◌≤◌, Bool, true, false, cond, List, [], ◌∷◌}
-use Rattle.std.proofs.Common.{◌++◌, filter, inl, length}
-use Rattle.std.proofs.Common.{All, Some, refl, sym, ap, subst, ◌∙◌, arith, length-append}
-use Rattle.std.specs.Prelude.{nat_lt}
-use Rattle.std.specs.Str.{bytes_eq}
-use Rattle.std.proofs.lemmas.Slice.Eq.{bytes_eq-Decides}
-use Rattle.std.proofs.lemmas.Bool.{lt-ltb}
-use Rattle.std.proofs.lemmas.Bool.Decides.{nat_tests}
-use Rattle.std.proofs.lemmas.List.Elements.{All-push, All-tail}
-use Rattle.tariffs.specs.Fares.{Fares}
-use Rattle.histories.specs.Entry.{is_of, own}
-use Rattle.histories.specs.declared.entry.Entry.{Entry}
-use Rattle.histories.proofs.OwnEntries.{own_all}
-use Rattle.tap_views.proofs.TokenLemmas.{same_token}
-use Rattle.tap_views.specs.Token.{Fits, token_eq}
-use Rattle.tap_views.specs.declared.token.Token.{Token}
+use Rattle.std.proofs.Common.{◌++◌, filter, inl, length, All, Some, refl, sym, ap, subst, ◌∙◌}
+use Rattle.std.proofs.Common.{arith, length-append}
 use Rattle.fare_texts.specs.Explainers.{HasExplained, next_entry}
-use Rattle.fare_texts.specs.LedgerLines.{IsLedgerLineAfter}
-use Rattle.fare_texts.specs.declared.explainer.Explainer.{Explainer}
-use Rattle.ledger_check.specs.Ledger.{token_number}
-use Rattle.ledger_check.specs.FullChecks.{AreCents, IsCounted, IsLineOfTap, decreases_after}
-use Rattle.ledger_check.specs.FullChecks.{remark_for}
-use Rattle.ledger_check.specs.inside.FullChecks.{IsNextTap}
-use Rattle.ledger_check.specs.declared.tap.Tap.{Tap}
-use Rattle.ledger_check.specs.declared.walk.NextTap.{NextTap}
-use Rattle.ledger_check.specs.declared.walk.Remark.{Remark}
-use Rattle.ledger_check.specs.declared.walk.Remark.TheVariants.{Nothing}
-use Rattle.ledger_check.proofs.FrontLemmas.{line_tap}
+use Rattle.fare_texts.specs.{LedgerLines.IsLedgerLineAfter, declared.explainer.Explainer.Explainer}
+use Rattle.histories.proofs.OwnEntries.{own_all}
+use Rattle.histories.specs.{Entry.is_of, Entry.own, declared.entry.Entry.Entry}
+use Rattle.ledger_check.proofs.{FrontLemmas.line_tap, RunLemmas.decreases_is, RunLemmas.own-of}
 use Rattle.ledger_check.proofs.TokenOrder.{own-few}
 use Rattle.ledger_check.specs.FullCheckStates.{HasRunExplainer, RepresentsRun}
-use Rattle.ledger_check.proofs.RunLemmas.{decreases_is, own-of}
+use Rattle.ledger_check.specs.FullChecks.{AreCents, IsCounted, IsLineOfTap, decreases_after}
+use Rattle.ledger_check.specs.{FullChecks.remark_for, Ledger.token_number}
+use Rattle.ledger_check.specs.declared.{tap.Tap.Tap, walk.NextTap.NextTap}
+use Rattle.ledger_check.specs.declared.walk.Remark.{Remark, TheVariants.Nothing}
+use Rattle.ledger_check.specs.inside.FullChecks.{IsNextTap}
+use Rattle.std.proofs.lemmas.{Bool.lt-ltb, Bool.Decides.nat_tests, List.Elements.All-push}
+use Rattle.std.proofs.lemmas.{List.Elements.All-tail, Slice.Eq.bytes_eq-Decides}
+use Rattle.std.specs.{Prelude.nat_lt, Str.bytes_eq}
+use Rattle.tap_views.proofs.TokenLemmas.{same_token}
+use Rattle.tap_views.specs.{Token.Fits, Token.token_eq, declared.token.Token.Token}
+use Rattle.tariffs.specs.Fares.{Fares}
 
 pub run_none : (token : Token) (run : List Entry) → run ≡ [] → own token run ≡ []
 unfolding own

@@ -1,20 +1,12 @@
 -- What uploads have against what somebody else has of their taps.
-use Rattle.std.specs.Prelude.{◌≡◌, ℕ, ◌+◌, ◌<◌, Bool, List, map}
-use Rattle.std.specs.Prelude.{Option, None, Some, MatchOption}
-use Rattle.std.specs.BTreeMap as tree
-use Rattle.std.specs.BTreeMap.{BTreeMap}
-use Rattle.std.specs.List.{count_by}
-use Rattle.std.specs.List.Sorted.{IsPermutation}
-use Rattle.std.specs.Option.{unwrap_or}
-use Rattle.std.specs.Ordering.{is_eq}
-use Rattle.tap_views.specs.Encoding.{fields_of}
-use Rattle.tap_views.specs.Files.{AreValidTaps}
-use Rattle.tap_views.specs.Layout.{Tap}
-use Rattle.tap_views.specs.TapOrder.{tap_cmp}
-use Rattle.tap_views.specs.declared.encoder.TapFields.{TapFields}
-use Rattle.ledger_check.specs.declared.balance.Balance.{Balance}
-use Rattle.ledger_check.specs.declared.balance.Difference.{Difference}
+use Rattle.ledger_check.specs.declared.balance.{Balance.Balance, Difference.Difference}
 use Rattle.ledger_check.specs.declared.balance.Difference.TheVariants.{Missing, Surplus}
+use Rattle.std.specs.{BTreeMap.BTreeMap, List.count_by, List.Sorted.IsPermutation, Option.unwrap_or}
+use Rattle.std.specs.Ordering.{is_eq}
+use Rattle.std.specs.Prelude.{◌≡◌, ℕ, ◌+◌, ◌<◌, Bool, List, map, Option, None, Some, MatchOption}
+use Rattle.tap_views.specs.{Encoding.fields_of, Files.AreValidTaps, Layout.Tap, TapOrder.tap_cmp}
+use Rattle.tap_views.specs.declared.encoder.TapFields.{TapFields}
+use Rattle.std.specs.BTreeMap as tree
 
 -- the fields of the valid taps of an upload, in their order
 abbrev pub AreValidFields : List ℕ → List TapFields → Type 0

@@ -1,15 +1,12 @@
 -- The three columns of a traced ledger's line: the class of the token's rider, the number of an
 -- upload, and the tap's place there.
-use Rattle.std.specs.Prelude.{◌≡◌, ℕ, ◌^◌, ◌&&◌, ◌||◌, ◌==◌, ◌<◌, Bool, true, List, [], ◌∷◌, ◌++◌}
-use Rattle.std.specs.Prelude.{codes, if◌then◌else◌, length, nat_le, nat_lt, Option, None, Some, take}
-use Rattle.std.specs.Fmt.{decimal}
-use Rattle.std.specs.List.{list_all}
-use Rattle.std.specs.Str.{bytes_eq}
 use Rattle.fare_texts.specs.LedgerLines.{head_text}
-use Rattle.line_forms.specs.Forms.{said_by, value_if}
-use Rattle.line_forms.specs.Numbers.{number_at, number_in}
-use Rattle.ledger_check.specs.Lines.{lines_of}
-use Rattle.ledger_check.specs.declared.columns.CutLine.{CutLine}
+use Rattle.ledger_check.specs.{Lines.lines_of, declared.columns.CutLine.CutLine}
+use Rattle.line_forms.specs.{Forms.said_by, Forms.value_if, Numbers.number_at, Numbers.number_in}
+use Rattle.std.specs.{Fmt.decimal, List.list_all, Prelude.◌≡◌}
+use Rattle.std.specs.Prelude.{ℕ, ◌^◌, ◌&&◌, ◌||◌, ◌==◌, ◌<◌, Bool, true, List, [], ◌∷◌, ◌++◌, codes}
+use Rattle.std.specs.Prelude.{if◌then◌else◌, length, nat_le, nat_lt, Option, None, Some, take}
+use Rattle.std.specs.Str.{bytes_eq}
 
 -- the header line of a traced ledger
 unfoldable pub traced_head : List ℕ

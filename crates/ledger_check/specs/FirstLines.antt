@@ -1,9 +1,8 @@
 -- What is reported of the first lines of a text.
+use Rattle.ledger_check.specs.FullChecks.{AreTaken, IsFullCheck, TakenLine, lines_from}
+use Rattle.ledger_check.specs.{FullChecks.full_check_text, FullChecks.remark_lines, Lines.lines_of}
 use Rattle.std.specs.Prelude.{◌≡◌, ℕ, List, ◌++◌}
 use Rattle.tariffs.specs.Fares.{Fares}
-use Rattle.ledger_check.specs.Lines.{lines_of}
-use Rattle.ledger_check.specs.FullChecks.{AreTaken, IsFullCheck, TakenLine, lines_from, full_check_text}
-use Rattle.ledger_check.specs.FullChecks.{remark_lines}
 
 -- these are the first lines of the text, taken one after another
 pub record AreFirstTaken (fares : Fares) (text : List ℕ) (taken : List TakenLine) : Type 0 where

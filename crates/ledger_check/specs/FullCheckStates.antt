@@ -1,31 +1,23 @@
 -- What a check knows of the lines that it has read.
-use Rattle.std.specs.Prelude.{◌≡◌, ◌⊎◌, ℕ, ◌^◌, ◌<◌, ◌≤◌, Bool, true, List, [], ◌++◌}
-use Rattle.std.specs.Prelude.{All, IfSome, Option, None, Some, false, length}
-use Rattle.tariffs.specs.Fares.{Fares}
+use Rattle.fare_texts.specs.{Explainers.HasExplained, declared.explainer.Explainer.Explainer}
 use Rattle.histories.specs.declared.entry.Entry.{Entry}
-use Rattle.ledger_check.specs.FullBalances.{IsFullBalance}
-use Rattle.ledger_check.specs.declared.full_balance.FullBalance.{FullBalance}
-use Rattle.tap_views.specs.Token.{Fits}
-use Rattle.tap_views.specs.declared.encoder.TapFields.{TapFields}
-use Rattle.fare_texts.specs.Explainers.{HasExplained}
-use Rattle.fare_texts.specs.declared.explainer.Explainer.{Explainer}
-use Rattle.ledger_check.specs.Lines.{Lacks, lines_of}
-use Rattle.ledger_check.specs.Orders.{IsOrderOf}
+use Rattle.ledger_check.specs.{Balances.IsBalance, FullBalances.IsFullBalance}
 use Rattle.ledger_check.specs.FullChecks.{AreTaken, TakenLine, cents_from, entries_from}
-use Rattle.ledger_check.specs.FullChecks.{last_wrong_token}
-use Rattle.ledger_check.specs.FullChecks.{lines_from, run_of, taps_from, token_count, remark_lines}
-use Rattle.ledger_check.specs.FullChecks.{wanted_cents_from, wrong_count}
-use Rattle.ledger_check.specs.Balances.{IsBalance}
-use Rattle.ledger_check.specs.OpenSums.{AreOpenSums}
+use Rattle.ledger_check.specs.FullChecks.{last_wrong_token, lines_from, run_of, taps_from}
+use Rattle.ledger_check.specs.FullChecks.{token_count, remark_lines, wanted_cents_from, wrong_count}
+use Rattle.ledger_check.specs.{Lines.Lacks, Lines.lines_of, OpenSums.AreOpenSums, Orders.IsOrderOf}
 use Rattle.ledger_check.specs.Verdicts.{IsVerdict, is_legal}
 use Rattle.ledger_check.specs.declared.balance.Balance.{Balance}
-use Rattle.ledger_check.specs.declared.checker.Checker.{Checker}
-use Rattle.ledger_check.specs.declared.checker.Verdict.{Verdict}
+use Rattle.ledger_check.specs.declared.checker.{Checker.Checker, Verdict.Verdict}
+use Rattle.ledger_check.specs.declared.full_balance.FullBalance.{FullBalance}
 use Rattle.ledger_check.specs.declared.full_check.FullCheck.{FullCheck}
-use Rattle.ledger_check.specs.declared.lines_fed.LinesFed.{LinesFed}
-use Rattle.ledger_check.specs.declared.lines_fed.LinesTaken.{LinesTaken}
-use Rattle.ledger_check.specs.declared.open_sums.OpenSums.{OpenSums}
 use Rattle.ledger_check.specs.declared.full_check_sums.FullCheckSums.{FullCheckSums}
+use Rattle.ledger_check.specs.declared.lines_fed.{LinesFed.LinesFed, LinesTaken.LinesTaken}
+use Rattle.ledger_check.specs.declared.open_sums.OpenSums.{OpenSums}
+use Rattle.std.specs.Prelude.{◌≡◌, ◌⊎◌, ℕ, ◌^◌, ◌<◌, ◌≤◌, Bool, true, List, [], ◌++◌, All, IfSome}
+use Rattle.std.specs.Prelude.{Option, None, Some, false, length}
+use Rattle.tap_views.specs.{Token.Fits, declared.encoder.TapFields.TapFields}
+use Rattle.tariffs.specs.Fares.{Fares}
 
 -- the explainer represents the entries, which are its token's, and has taken some
 pub record RepresentsRun (fares : Fares) (explainer : Explainer) (run : List Entry) : Type 0 where

@@ -1,33 +1,24 @@
 -- A ledger's lines in a full check: each is compared with the line that the rules give its tap
 -- after the taps of the lines before it, whatever those lines say of their replies. Taken lines are
 -- listed last first.
-use Rattle.std.specs.Prelude.{◌≡◌, ◌⊎◌, ℕ, ◌+◌, ◌-◌, ◌^◌, ◌<◌, ◌≤◌, Bool, true, false, List}
-use Rattle.std.specs.Prelude.{[], ◌∷◌, ◌++◌, length, Option, None, Some, codes, if◌then◌else◌}
-use Rattle.std.specs.Prelude.{nat_eq}
-use Rattle.std.specs.Prelude.{map, nat_lt}
-use Rattle.std.specs.Fmt.{decimal}
-use Rattle.std.specs.Option.{option_and_then, unwrap_or}
-use Rattle.std.specs.Str.{bytes_eq}
-use Rattle.line_forms.specs.Columns.{column_where}
-use Rattle.line_forms.specs.Forms.{Reader, after_read, then_read}
-use Rattle.line_forms.specs.Numbers.{number_in}
+use Rattle.fare_texts.specs.{Explainers.next_entry, LedgerLines.IsLedgerLineAfter}
+use Rattle.fare_texts.specs.{LedgerLines.head_text, Moments.IsMomentText}
 use Rattle.hex.specs.Hex.{encode_lower}
-use Rattle.tariffs.specs.Fares.{Fares}
-use Rattle.fare_texts.specs.Moments.{IsMomentText}
-use Rattle.histories.specs.Entry.{own}
-use Rattle.histories.specs.declared.entry.Entry.{Entry}
-use Rattle.tap_views.specs.Token.{Fits, bytes_of, token_eq}
-use Rattle.tap_views.specs.declared.token.Token.{Token}
-use Rattle.tap_views.specs.declared.encoder.TapFields.{TapFields}
-use Rattle.fare_texts.specs.LedgerLines.{IsLedgerLineAfter, head_text}
-use Rattle.fare_texts.specs.Explainers.{next_entry}
+use Rattle.histories.specs.{Entry.own, declared.entry.Entry.Entry}
 use Rattle.ledger_check.specs.Ledger.{IsLedger, IsLedgerOf, token_number}
-use Rattle.ledger_check.specs.Lines.{lines_of}
-use Rattle.ledger_check.specs.Orders.{early_line, tap_of_entry}
-use Rattle.ledger_check.specs.declared.walk.CountedTap.{CountedTap}
-use Rattle.ledger_check.specs.declared.walk.LineFinding.{LineFinding}
+use Rattle.ledger_check.specs.{Lines.lines_of, Orders.early_line, Orders.tap_of_entry}
+use Rattle.ledger_check.specs.declared.walk.{CountedTap.CountedTap, LineFinding.LineFinding}
 use Rattle.ledger_check.specs.declared.walk.Remark.{Remark}
 use Rattle.ledger_check.specs.declared.walk.Remark.TheVariants.{Nothing, Wants, NoLine}
+use Rattle.line_forms.specs.{Columns.column_where, Forms.Reader, Forms.after_read, Forms.then_read}
+use Rattle.line_forms.specs.Numbers.{number_in}
+use Rattle.std.specs.{Fmt.decimal, Option.option_and_then, Option.unwrap_or, Prelude.◌≡◌}
+use Rattle.std.specs.Prelude.{◌⊎◌, ℕ, ◌+◌, ◌-◌, ◌^◌, ◌<◌, ◌≤◌, Bool, true, false, List, [], ◌∷◌}
+use Rattle.std.specs.Prelude.{◌++◌, length, Option, None, Some, codes, if◌then◌else◌, nat_eq, map}
+use Rattle.std.specs.{Prelude.nat_lt, Str.bytes_eq}
+use Rattle.tap_views.specs.Token.{Fits, bytes_of, token_eq}
+use Rattle.tap_views.specs.declared.{encoder.TapFields.TapFields, token.Token.Token}
+use Rattle.tariffs.specs.Fares.{Fares}
 
 -- a column of a line, and the next one
 abbrev pub any_column : Reader (List ℕ)

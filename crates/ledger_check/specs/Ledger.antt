@@ -1,13 +1,10 @@
 -- What a whole ledger is.
-use Rattle.std.specs.Prelude.{◌≡◌, ℕ, ◌+◌, ◌*◌, ◌^◌, ◌<◌, ◌≤◌, List, [], ◌∷◌, ◌++◌, length, All}
-use Rattle.tariffs.specs.Fares.{Fares}
-use Rattle.histories.specs.Entry.{own}
-use Rattle.histories.specs.History.{IsReplied}
-use Rattle.tap_views.specs.Token.{Fits}
-use Rattle.histories.specs.declared.entry.Entry.{Entry}
-use Rattle.tap_views.specs.declared.token.Token.{Token}
 use Rattle.fare_texts.specs.LedgerLines.{IsLedgerLineAfter, head_text}
+use Rattle.histories.specs.{Entry.own, History.IsReplied, declared.entry.Entry.Entry}
 use Rattle.ledger_check.specs.Lines.{lines_of}
+use Rattle.std.specs.Prelude.{◌≡◌, ℕ, ◌+◌, ◌*◌, ◌^◌, ◌<◌, ◌≤◌, List, [], ◌∷◌, ◌++◌, length, All}
+use Rattle.tap_views.specs.{Token.Fits, declared.token.Token.Token}
+use Rattle.tariffs.specs.Fares.{Fares}
 
 -- a token as one number of 128 bits: tokens rise as these numbers do
 abbrev pub token_number : Token → ℕ

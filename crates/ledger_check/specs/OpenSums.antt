@@ -1,16 +1,10 @@
 -- What is known of sums to which entries are added one by one.
-use Rattle.std.specs.Prelude.{◌≡◌, ◌==◌, ◌<◌, All, List, [], ◌++◌, Option}
-use Rattle.std.specs.Prelude.{None, Some, length}
+use Rattle.histories.specs.{Sums.Sums, Sums.sums, SumsByKey.sums_by_token, SumsByKey.validator_of}
+use Rattle.histories.specs.{TalliesByKey.AreByKey, Tally.sums_of_tally, declared.entry.Entry.Entry}
+use Rattle.ledger_check.specs.declared.open_sums.{OpenSums.OpenSums, OpenToken.OpenToken}
+use Rattle.std.specs.Prelude.{◌≡◌, ◌==◌, ◌<◌, All, List, [], ◌++◌, Option, None, Some, length}
 use Rattle.std.specs.declared.cmp.Ordering.TheVariants.{Less}
-use Rattle.histories.specs.Sums.{Sums, sums}
-use Rattle.histories.specs.SumsByKey.{sums_by_token, validator_of}
-use Rattle.histories.specs.TalliesByKey.{AreByKey}
-use Rattle.histories.specs.Tally.{sums_of_tally}
-use Rattle.histories.specs.declared.entry.Entry.{Entry}
-use Rattle.tap_views.specs.Token.{Fits, token_cmp}
-use Rattle.tap_views.specs.declared.token.Token.{Token}
-use Rattle.ledger_check.specs.declared.open_sums.OpenSums.{OpenSums}
-use Rattle.ledger_check.specs.declared.open_sums.OpenToken.{OpenToken}
+use Rattle.tap_views.specs.{Token.Fits, Token.token_cmp, declared.token.Token.Token}
 
 -- The entries are those of lower tokens, with these sums, and then those of the held token, if it
 -- has any yet.

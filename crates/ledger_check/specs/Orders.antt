@@ -1,13 +1,10 @@
 -- The order of a ledger's taps. Settled ones are in canonical order: by token, moment and validator.
-use Rattle.std.specs.Prelude.{◌≡◌, ◌↔◌, ℕ, ◌+◌, Bool, false, List, [], ◌∷◌, length}
-use Rattle.std.specs.Prelude.{if◌then◌else◌, is_some, not, Option, None, Some}
-use Rattle.std.specs.List.Sorted.{IsSorted}
-use Rattle.std.specs.Ordering.{is_lt}
 use Rattle.histories.specs.declared.entry.Entry.{Entry}
-use Rattle.tap_views.specs.Token.{bytes_of}
-use Rattle.tap_views.specs.TapOrder.{tap_cmp}
-use Rattle.tap_views.specs.declared.encoder.TapFields.{TapFields}
 use Rattle.ledger_check.specs.declared.order.TapOrder.{TapOrder}
+use Rattle.std.specs.{List.Sorted.IsSorted, Ordering.is_lt}
+use Rattle.std.specs.Prelude.{◌≡◌, ◌↔◌, ℕ, ◌+◌, Bool, false, List, [], ◌∷◌, length, if◌then◌else◌}
+use Rattle.std.specs.Prelude.{is_some, not, Option, None, Some}
+use Rattle.tap_views.specs.{TapOrder.tap_cmp, Token.bytes_of, declared.encoder.TapFields.TapFields}
 
 -- the tap of an entry, as an upload has it
 abbrev pub tap_of_entry : Entry → TapFields

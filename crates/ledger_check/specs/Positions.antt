@@ -1,14 +1,12 @@
 -- Where the taps of uploads are: uploads count from 0, and the places of their taps from 1.
-use Rattle.std.specs.Prelude.{◌≡◌, ◌⊎◌, ℕ, ◌<◌, ◌-◌, ◌==◌, ◌&&◌, Bool, true, false, List, map}
-use Rattle.std.specs.Prelude.{if◌then◌else◌, is_some, Option, None, Some}
-use Rattle.std.specs.List.{slice_get}
-use Rattle.std.specs.Option.{option_and_then}
-use Rattle.tap_views.specs.declared.encoder.TapFields.{TapFields}
-use Rattle.ledger_check.specs.Balances.{is_same}
+use Rattle.ledger_check.specs.{Balances.is_same, declared.positions.PlacedTap.PlacedTap}
 use Rattle.ledger_check.specs.declared.positions.PositionFinding.{PositionFinding}
 use Rattle.ledger_check.specs.declared.positions.PositionFinding.TheVariants.{Right, Another, Again}
-use Rattle.ledger_check.specs.declared.positions.PlacedTap.{PlacedTap}
 use Rattle.ledger_check.specs.declared.positions.Positions.{Positions}
+use Rattle.std.specs.{List.slice_get, Option.option_and_then}
+use Rattle.std.specs.Prelude.{◌≡◌, ◌⊎◌, ℕ, ◌<◌, ◌-◌, ◌==◌, ◌&&◌, Bool, true, false, List, map}
+use Rattle.std.specs.Prelude.{if◌then◌else◌, is_some, Option, None, Some}
+use Rattle.tap_views.specs.declared.encoder.TapFields.{TapFields}
 
 -- what is at a place of a list, if anything is
 abbrev pub at_position : {A : Type 0} → List A → ℕ → Option A

@@ -1,9 +1,8 @@
 -- The tap that a line names.
+use Rattle.ledger_check.specs.FullChecks.{IsLineOfTap}
 use Rattle.std.specs.Prelude.{◌≡◌, ℕ, List, Option, None, Some}
 use Rattle.tap_views.specs.Token.{bytes_of}
-use Rattle.tap_views.specs.declared.encoder.TapFields.{TapFields}
-use Rattle.tap_views.specs.declared.token.Token.{Token}
-use Rattle.ledger_check.specs.FullChecks.{IsLineOfTap}
+use Rattle.tap_views.specs.declared.{encoder.TapFields.TapFields, token.Token.Token}
 
 -- the line names this tap, or none
 abbrev pub IsTapOfLine : List ℕ → Option TapFields → Type 0

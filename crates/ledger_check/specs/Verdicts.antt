@@ -1,14 +1,13 @@
 -- What a check finds of a ledger's text.
+use Rattle.fare_texts.specs.LedgerLines.{head_text}
+use Rattle.histories.specs.declared.entry.Entry.{Entry}
+use Rattle.ledger_check.specs.Ledger.{AreNext, IsLedger, IsNext}
+use Rattle.ledger_check.specs.{Lines.lines_of, Orders.early_line, Orders.tap_of_entry}
+use Rattle.ledger_check.specs.declared.checker.Verdict.{Verdict}
+use Rattle.ledger_check.specs.declared.checker.Verdict.TheVariants.{Legal, Wants, NoLine}
 use Rattle.std.specs.Prelude.{◌≡◌, ◌↔◌, ℕ, ◌+◌, Bool, true, false, List, [], ◌∷◌, ◌++◌, length}
 use Rattle.std.specs.Prelude.{Option, None, IsTrue, map, string_bytes, ◌⊎◌}
 use Rattle.tariffs.specs.Fares.{Fares}
-use Rattle.histories.specs.declared.entry.Entry.{Entry}
-use Rattle.fare_texts.specs.LedgerLines.{head_text}
-use Rattle.ledger_check.specs.Ledger.{AreNext, IsLedger, IsNext}
-use Rattle.ledger_check.specs.Lines.{lines_of}
-use Rattle.ledger_check.specs.Orders.{early_line, tap_of_entry}
-use Rattle.ledger_check.specs.declared.checker.Verdict.{Verdict}
-use Rattle.ledger_check.specs.declared.checker.Verdict.TheVariants.{Legal, Wants, NoLine}
 
 -- no ledger has this line after these
 abbrev pub IsWrongAfter : Fares → List (List ℕ) → List ℕ → Type 0

@@ -1,13 +1,11 @@
 //! The taps of uploads, from which those of the other side are subtracted.
 
-ghost use Rattle.std.specs.Prelude.{◌≡◌, ◌+◌, ◌<◌, ◌++◌, ◌∷◌, [], ℕ};
-ghost use Rattle.std.specs.Prelude.{List, IfNone, IfSome, OnOk};
-ghost use Rattle.std.specs.Prelude.{if◌then◌else◌, false, map, true};
-ghost use Rattle.std.specs.Ordering.{is_eq};
-ghost use Rattle.tap_views.specs.Encoding.{fields_of};
-ghost use Rattle.tap_views.specs.declared.encoder.TapFields.{TapFields};
-ghost use Rattle.tap_views.specs.TapOrder.{tap_cmp};
 ghost use Rattle.ledger_check.specs.Balances.{AreValidFields, IsBalance, IsDifference, left_at};
+ghost use Rattle.std.specs.Ordering.{is_eq};
+ghost use Rattle.std.specs.Prelude.{◌≡◌, ◌+◌, ◌<◌, ◌++◌, ◌∷◌, [], ℕ, List, IfNone, IfSome, OnOk};
+ghost use Rattle.std.specs.Prelude.{if◌then◌else◌, false, map, true};
+ghost use Rattle.tap_views.specs.{Encoding.fields_of, TapOrder.tap_cmp};
+ghost use Rattle.tap_views.specs.declared.encoder.TapFields.{TapFields};
 
 use std::alloc::{AllocError, Global};
 use std::collections::BTreeMap;

@@ -1,20 +1,16 @@
 //! The check of a text that comes in pieces, up to the first wrong line, and the taps of its lines.
 
-ghost use Rattle.std.specs.Prelude.{◌≡◌, ◌++◌, [], ℕ, List, IfOk, IfSome, IsTrue, map};
-ghost use Rattle.std.specs.Prelude.{string_bytes};
-ghost use Rattle.tariffs.specs.Fares.{Fares};
 ghost use Rattle.histories.specs.declared.entry.Entry.{Entry};
 ghost use Rattle.ledger_check.specs.Balances.{IsBalance};
-ghost use Rattle.ledger_check.specs.declared.balance.Balance.{Balance};
-ghost use Rattle.tap_views.specs.declared.encoder.TapFields.{TapFields};
-ghost use Rattle.ledger_check.specs.FullChecks.{taps_with};
 ghost use Rattle.ledger_check.specs.FullCheckStates.{IsFed, IsRightSoFar};
-ghost use Rattle.ledger_check.specs.Ledger.{IsLedgerOf};
-ghost use Rattle.ledger_check.specs.Lines.{IsLine, Lacks};
-ghost use Rattle.ledger_check.specs.Orders.{tap_of_entry};
-ghost use Rattle.ledger_check.specs.Sums.{AreSumsOf};
+ghost use Rattle.ledger_check.specs.{FullChecks.taps_with, Ledger.IsLedgerOf, Lines.IsLine};
+ghost use Rattle.ledger_check.specs.{Lines.Lacks, Orders.tap_of_entry, Sums.AreSumsOf};
 ghost use Rattle.ledger_check.specs.Verdicts.{IsVerdict, is_legal};
-ghost use Rattle.ledger_check.specs.inside.FullChecks.{IsCalled};
+ghost use Rattle.ledger_check.specs.{declared.balance.Balance.Balance, inside.FullChecks.IsCalled};
+ghost use Rattle.std.specs.Prelude.{◌≡◌, ◌++◌, [], ℕ, List, IfOk, IfSome, IsTrue, map};
+ghost use Rattle.std.specs.Prelude.{string_bytes};
+ghost use Rattle.tap_views.specs.declared.encoder.TapFields.{TapFields};
+ghost use Rattle.tariffs.specs.Fares.{Fares};
 
 use crate::Balance;
 use crate::bytes::split_line;

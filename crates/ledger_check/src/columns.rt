@@ -1,12 +1,11 @@
 //! The columns of a traced ledger's line.
 
-ghost use Rattle.std.specs.Prelude.{◌≡◌, ◌&&◌, ◌||◌, ◌==◌, ◌<◌, List, IfSome};
-ghost use Rattle.std.specs.Prelude.{length, nat_le, nat_lt, option_map, true};
-ghost use Rattle.std.specs.List.{list_all};
 ghost use Rattle.ledger_check.specs.Columns.{class_in, columns_in, cut_line, cut_of};
 ghost use Rattle.ledger_check.specs.Columns.{has_ledger_head, has_plain_head, has_traced_head};
 ghost use Rattle.ledger_check.specs.Columns.{is_class_name, is_name_byte, last_field, number_line};
 ghost use Rattle.ledger_check.specs.Columns.{traced_head, upload_in};
+ghost use Rattle.std.specs.{List.list_all, Prelude.◌≡◌, Prelude.◌&&◌, Prelude.◌||◌, Prelude.◌==◌};
+ghost use Rattle.std.specs.Prelude.{◌<◌, List, IfSome, length, nat_le, nat_lt, option_map, true};
 
 use crate::lines_fed::MAX_LINE_BYTES;
 use fare_texts::head_line;

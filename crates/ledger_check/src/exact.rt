@@ -1,14 +1,12 @@
 //! The tap that a line names, whatever it says of the tap's reply.
 
-ghost use Rattle.std.specs.Prelude.{◌≡◌, ◌≤◌, ◌∷◌, ◌++◌, [], ℕ, List, IfOk};
-ghost use Rattle.std.specs.Prelude.{IsTrue, ◌↔◌, MatchOption, None, length};
-ghost use Rattle.hex.specs.Hex.{encode_lower};
 ghost use Rattle.fare_texts.specs.Moments.{IsMomentText};
-ghost use Rattle.tap_views.specs.Token.{Fits, bytes_of};
-ghost use Rattle.tap_views.specs.declared.token.Token.{Token as AToken};
+ghost use Rattle.hex.specs.Hex.{encode_lower};
 ghost use Rattle.ledger_check.specs.FullChecks.{IsLineOfTap, cents_in, front_columns};
-ghost use Rattle.ledger_check.specs.Taps.{IsTapOfLine};
-ghost use Rattle.ledger_check.specs.inside.Fronts.{IsFrontOf};
+ghost use Rattle.ledger_check.specs.{Taps.IsTapOfLine, inside.Fronts.IsFrontOf};
+ghost use Rattle.std.specs.Prelude.{◌≡◌, ◌≤◌, ◌∷◌, ◌++◌, [], ℕ, List, IfOk, IsTrue, ◌↔◌};
+ghost use Rattle.std.specs.Prelude.{MatchOption, None, length};
+ghost use Rattle.tap_views.specs.{Token.Fits, Token.bytes_of, declared.token.Token.Token as AToken};
 
 use crate::bytes::same_bytes;
 use crate::moment::read_moment;

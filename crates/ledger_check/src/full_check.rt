@@ -1,18 +1,15 @@
 //! A full check of a text that comes in pieces, past wrong lines.
 
-ghost use Rattle.std.specs.Prelude.{◌≡◌, ◌++◌, [], ℕ, List, IfOk, IfSome, OnOk, Bool, nat_eq};
-ghost use Rattle.std.specs.Prelude.{string_bytes, true};
-ghost use Rattle.tariffs.specs.Fares.{Fares};
-ghost use Rattle.ledger_check.specs.FullBalances.{IsFullBalance};
-ghost use Rattle.ledger_check.specs.declared.full_balance.FullBalance.{FullBalance as AFullBalance};
-ghost use Rattle.tap_views.specs.declared.encoder.TapFields.{TapFields};
-ghost use Rattle.ledger_check.specs.Orders.{are_settled};
+ghost use Rattle.ledger_check.specs.{FullBalances.IsFullBalance, FullCheckStates.HasFullyChecked};
 ghost use Rattle.ledger_check.specs.FullChecks.{IsFullCheck, TakenLine, entries_from};
 ghost use Rattle.ledger_check.specs.FullChecks.{full_check_text, taps_from, taps_with, wrong_count};
-ghost use Rattle.ledger_check.specs.FullCheckStates.{HasFullyChecked};
-ghost use Rattle.ledger_check.specs.Lines.{IsLine};
-ghost use Rattle.ledger_check.specs.Sums.{AreSumsOf};
+ghost use Rattle.ledger_check.specs.{Lines.IsLine, Orders.are_settled, Sums.AreSumsOf};
+ghost use Rattle.ledger_check.specs.declared.full_balance.FullBalance.{FullBalance as AFullBalance};
 ghost use Rattle.ledger_check.specs.inside.FullChecks.{HasEnded};
+ghost use Rattle.std.specs.Prelude.{◌≡◌, ◌++◌, [], ℕ, List, IfOk, IfSome, OnOk, Bool, nat_eq};
+ghost use Rattle.std.specs.Prelude.{string_bytes, true};
+ghost use Rattle.tap_views.specs.declared.encoder.TapFields.{TapFields};
+ghost use Rattle.tariffs.specs.Fares.{Fares};
 
 use crate::FullBalance;
 use crate::bytes::split_line;

@@ -1,12 +1,11 @@
 //! The sums of a full check.
 
+ghost use Rattle.ledger_check.specs.{FullCheckStates.AreSums, FullChecks.TakenLine};
+ghost use Rattle.ledger_check.specs.FullChecks.{charged_cents, end_text, taps_with, one_other};
+ghost use Rattle.ledger_check.specs.FullChecks.{one_wrong, ruled_cents, wrong_text, wrong_token_of};
+ghost use Rattle.ledger_check.specs.Orders.{IsOrderOf};
 ghost use Rattle.std.specs.Prelude.{◌≡◌, ◌+◌, ◌-◌, ◌++◌, ◌∷◌, [], ℕ, List, IfOk, OnOk};
 ghost use Rattle.std.specs.Prelude.{if◌then◌else◌, nat_eq, string_bytes};
-ghost use Rattle.ledger_check.specs.Orders.{IsOrderOf};
-ghost use Rattle.ledger_check.specs.FullChecks.{TakenLine, charged_cents, end_text, taps_with};
-ghost use Rattle.ledger_check.specs.FullChecks.{one_other, one_wrong, ruled_cents, wrong_text};
-ghost use Rattle.ledger_check.specs.FullChecks.{wrong_token_of};
-ghost use Rattle.ledger_check.specs.FullCheckStates.{AreSums};
 ghost use Rattle.tap_views.specs.declared.encoder.TapFields.{TapFields};
 
 use crate::legal::write_legal;

@@ -1,9 +1,7 @@
 //! What follows from a verdict, from a full check, and from the columns of a line.
 
-ghost use Rattle.ledger_check.specs.Columns.{ColumnsAreReadBack};
-ghost use Rattle.ledger_check.specs.FirstLines.{FullChecksGoOn};
-ghost use Rattle.ledger_check.specs.Orders.{OrdersDecide};
-ghost use Rattle.ledger_check.specs.FullChecks.{FullChecksDecide};
+ghost use Rattle.ledger_check.specs.{Columns.ColumnsAreReadBack, FirstLines.FullChecksGoOn};
+ghost use Rattle.ledger_check.specs.{FullChecks.FullChecksDecide, Orders.OrdersDecide};
 ghost use Rattle.ledger_check.specs.Verdicts.{VerdictsDecide};
 
 /// A true verdict is `legal` exactly if the text is, whole, a ledger of legal histories.

@@ -1,10 +1,9 @@
 //! The moment that a text names.
 
-ghost use Rattle.std.specs.Prelude.{◌≡◌, ◌+◌, ◌*◌, ◌<◌, ◌≤◌, ℕ, length, pos, IfSome, Some};
-ghost use Rattle.jiff_core.specs.declared.civil.date.Date.{Date};
-ghost use Rattle.jiff_core.specs.Date.{epoch_day};
 ghost use Rattle.fare_texts.specs.Moments.{IsMomentText};
+ghost use Rattle.jiff_core.specs.{Date.epoch_day, declared.civil.date.Date.Date};
 ghost use Rattle.ledger_check.specs.inside.Moments.{clock_at, two_at, year_at};
+ghost use Rattle.std.specs.Prelude.{◌≡◌, ◌+◌, ◌*◌, ◌<◌, ◌≤◌, ℕ, length, pos, IfSome, Some};
 
 use jiff_core::civil::Date;
 use tap_views::MOMENT_LIMIT_MS;

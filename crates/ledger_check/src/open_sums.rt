@@ -1,13 +1,12 @@
 //! Sums to which entries are added one by one.
 
+ghost use Rattle.histories.specs.{SumsByKey.sums_by_token, declared.entry.Entry.Entry as AnEntry};
+ghost use Rattle.ledger_check.specs.OpenSums.{AreOpenSums, IsRunOf, IsSplitAt};
+ghost use Rattle.ledger_check.specs.Sums.{AreSumsOf};
+ghost use Rattle.ledger_check.specs.inside.OpenSums.{AreFew, AreUpTo, HasRoomFor};
 ghost use Rattle.std.specs.Prelude.{◌≡◌, ◌+◌, ◌<◌, ◌≤◌, ◌^◌, ◌++◌, ◌∷◌, ℕ, [], List, IfOk, OnOk};
 ghost use Rattle.std.specs.Prelude.{length};
-ghost use Rattle.histories.specs.SumsByKey.{sums_by_token};
-ghost use Rattle.histories.specs.declared.entry.Entry.{Entry as AnEntry};
 ghost use Rattle.tap_views.specs.Token.{Fits};
-ghost use Rattle.ledger_check.specs.Sums.{AreSumsOf};
-ghost use Rattle.ledger_check.specs.OpenSums.{AreOpenSums, IsRunOf, IsSplitAt};
-ghost use Rattle.ledger_check.specs.inside.OpenSums.{AreFew, AreUpTo, HasRoomFor};
 
 use histories::{Entry, HashSeed, Tally, TokenSums, Totals, ValidatorSum, ValidatorTallies};
 use std::alloc::Global;

@@ -1,10 +1,9 @@
 //! The order in which a ledger's taps come.
 
-ghost use Rattle.std.specs.Prelude.{◌≡◌, ◌++◌, ◌∷◌, [], List, IfOk, None, Some, if◌then◌else◌};
-ghost use Rattle.std.specs.Ordering.{is_lt};
-ghost use Rattle.tap_views.specs.TapOrder.{tap_cmp};
-ghost use Rattle.tap_views.specs.declared.encoder.TapFields.{TapFields as ATap};
 ghost use Rattle.ledger_check.specs.Orders.{IsOrderOf, comes_before};
+ghost use Rattle.std.specs.Ordering.{is_lt};
+ghost use Rattle.std.specs.Prelude.{◌≡◌, ◌++◌, ◌∷◌, [], List, IfOk, None, Some, if◌then◌else◌};
+ghost use Rattle.tap_views.specs.{TapOrder.tap_cmp, declared.encoder.TapFields.TapFields as ATap};
 
 use std::alloc::AllocError;
 use tap_views::TapFields;

@@ -1,15 +1,14 @@
 //! The positions of the taps of uploads, and whether each is named once.
 
-ghost use Rattle.std.specs.Prelude.{◌≡◌, ◌+◌, ◌<◌, ◌≤◌, ◌⊎◌, ◌++◌, ◌∷◌, ◌||◌, [], ℕ, List};
-ghost use Rattle.std.specs.Prelude.{MatchOption};
-ghost use Rattle.std.specs.Prelude.{IfNone, IfOk, IfSome, OnOk, false, length, map, nat_eq, true};
-ghost use Rattle.tap_views.specs.Encoding.{fields_of};
-ghost use Rattle.tap_views.specs.declared.encoder.TapFields.{TapFields as ATap};
 ghost use Rattle.ledger_check.specs.Balances.{AreValidFields, is_same};
 ghost use Rattle.ledger_check.specs.Positions.{HasUploads, IsFirstUnnamed, IsUnnamed, at_position};
-ghost use Rattle.ledger_check.specs.Positions.{is_named, is_position, named_of, position_finding, tap_at};
-ghost use Rattle.ledger_check.specs.Positions.{taps_of, uploads_of};
+ghost use Rattle.ledger_check.specs.Positions.{is_named, is_position, named_of, position_finding};
+ghost use Rattle.ledger_check.specs.Positions.{tap_at, taps_of, uploads_of};
 ghost use Rattle.ledger_check.specs.inside.Positions.{unnamed};
+ghost use Rattle.std.specs.Prelude.{◌≡◌, ◌+◌, ◌<◌, ◌≤◌, ◌⊎◌, ◌++◌, ◌∷◌, ◌||◌, [], ℕ, List};
+ghost use Rattle.std.specs.Prelude.{MatchOption, IfNone, IfOk, IfSome, OnOk, false, length, map};
+ghost use Rattle.std.specs.Prelude.{nat_eq, true};
+ghost use Rattle.tap_views.specs.{Encoding.fields_of, declared.encoder.TapFields.TapFields as ATap};
 
 use std::alloc::{AllocError, Global};
 use tap_views::{Batch, TapFields, valid_batches};

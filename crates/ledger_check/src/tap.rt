@@ -1,10 +1,9 @@
 //! The tap that a ledger's line names.
 
-ghost use Rattle.std.specs.Prelude.{◌≡◌, ◌<◌, ◌^◌, IfSome, Some};
 ghost use Rattle.hex.specs.Hex.{encode_lower};
-ghost use Rattle.tap_views.specs.Token.{Fits, bytes_of};
-ghost use Rattle.tap_views.specs.declared.token.Token.{Token};
 ghost use Rattle.ledger_check.specs.inside.Taps.{tap_fields};
+ghost use Rattle.std.specs.Prelude.{◌≡◌, ◌<◌, ◌^◌, IfSome, Some};
+ghost use Rattle.tap_views.specs.{Token.Fits, Token.bytes_of, declared.token.Token.Token};
 
 use crate::bytes::field;
 use crate::moment::read_moment;

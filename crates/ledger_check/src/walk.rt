@@ -1,18 +1,15 @@
 //! A walk over a ledger's lines that goes on after a wrong one.
 
+ghost use Rattle.fare_texts.specs.Explainers.{HasExplained};
+ghost use Rattle.histories.specs.{Entry.own, declared.entry.Entry.Entry as AnEntry};
+ghost use Rattle.ledger_check.specs.{FullCheckStates.HasRunExplainer, FullChecks.decreases_after};
+ghost use Rattle.ledger_check.specs.FullChecks.{remark_for, remark_text, no_line_text, wants_text};
+ghost use Rattle.ledger_check.specs.{Lines.IsLine, Orders.tap_of_entry};
+ghost use Rattle.ledger_check.specs.inside.FullChecks.{HasJudged, IsNextTap, right_finding};
 ghost use Rattle.std.specs.Prelude.{◌≡◌, ◌<◌, ◌≤◌, ◌^◌, ◌++◌, [], ℕ, List, IfOk, OnOk, length};
 ghost use Rattle.std.specs.Prelude.{MatchOption, string_bytes};
-ghost use Rattle.tariffs.specs.Fares.{Fares};
-ghost use Rattle.histories.specs.Entry.{own};
-ghost use Rattle.histories.specs.declared.entry.Entry.{Entry as AnEntry};
 ghost use Rattle.tap_views.specs.Token.{Fits};
-ghost use Rattle.fare_texts.specs.Explainers.{HasExplained};
-ghost use Rattle.ledger_check.specs.Orders.{tap_of_entry};
-ghost use Rattle.ledger_check.specs.FullChecks.{decreases_after, remark_for, remark_text, no_line_text};
-ghost use Rattle.ledger_check.specs.FullChecks.{wants_text};
-ghost use Rattle.ledger_check.specs.FullCheckStates.{HasRunExplainer};
-ghost use Rattle.ledger_check.specs.Lines.{IsLine};
-ghost use Rattle.ledger_check.specs.inside.FullChecks.{HasJudged, IsNextTap, right_finding};
+ghost use Rattle.tariffs.specs.Fares.{Fares};
 
 use crate::bytes::same_bytes;
 use crate::exact::{cents_in, exact_tap};

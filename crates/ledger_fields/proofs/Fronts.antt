@@ -1,19 +1,18 @@
 -- What fits a field has neither comma nor line feed, so it is found without a search for these.
-use Rattle.std.proofs.Common.{◌≡◌, ◌∙◌, ◌<◌, ◌==◌, ◌||◌, ℕ, Bool, false, true, List, [], ◌∷◌, Some, ap}
-use Rattle.std.proofs.Common.{arith, drop, get_or, length, nat_lt, not, refl, subst, sym, take}
-use Rattle.std.specs.List.{list_all}
-use Rattle.std.proofs.lemmas.Bool.{and_parts}
-use Rattle.std.proofs.lemmas.Bool.Decides.{nat_tests}
-use Rattle.std.proofs.lemmas.List.{drop_more, take-append-drop}
-use Rattle.std.proofs.lemmas.List.Sums.{AllPass-from_list_all, list_all-from_AllPass}
-use Rattle.line_forms.specs.Columns.{BeginsAfterColumn, column_where, ends_column, is_column}
-use Rattle.line_forms.specs.FormLaws.{column_law}
+use Rattle.std.proofs.Common.{◌≡◌, ◌∙◌, ◌<◌, ◌==◌, ◌||◌, ℕ, Bool, false, true, List, [], ◌∷◌, Some}
+use Rattle.std.proofs.Common.{ap, arith, drop, get_or, length, nat_lt, not, refl, subst, sym, take}
 use Rattle.ledger_fields.specs.Fields.{fits, is_token_byte, is_word_byte}
-use Rattle.ledger_fields.specs.inside.Fronts.{IsFront}
 use Rattle.ledger_fields.specs.Moments.{has_form, is_moment, is_of_form, moment_form}
 use Rattle.ledger_fields.specs.declared.field.Field.{Field}
-use Rattle.ledger_fields.specs.declared.field.Field.TheVariants.{LaterMoment, Moment, PastMoment, Reason, Ride, Token}
-use Rattle.ledger_fields.specs.declared.field.Field.TheVariants.{Word}
+use Rattle.ledger_fields.specs.declared.field.Field.TheVariants.{LaterMoment, Moment, PastMoment}
+use Rattle.ledger_fields.specs.declared.field.Field.TheVariants.{Reason, Ride, Token, Word}
+use Rattle.ledger_fields.specs.inside.Fronts.{IsFront}
+use Rattle.line_forms.specs.Columns.{BeginsAfterColumn, column_where, ends_column, is_column}
+use Rattle.line_forms.specs.FormLaws.{column_law}
+use Rattle.std.proofs.lemmas.Bool.{and_parts, Decides.nat_tests}
+use Rattle.std.proofs.lemmas.List.{drop_more, take-append-drop}
+use Rattle.std.proofs.lemmas.List.Sums.{AllPass-from_list_all, list_all-from_AllPass}
+use Rattle.std.specs.List.{list_all}
 
 plain : (p : ℕ → Bool) → ((byte : ℕ) → p byte ≡ true → not (ends_column byte) ≡ true)
     → (text : List ℕ) → list_all p text ≡ true → is_column text ≡ true

@@ -1,12 +1,10 @@
 -- The token of a ledger's line.
-use Rattle.std.proofs.Common.{◌≡◌, ◌∙◌, [], ◌∷◌, ◌++◌, List, None, Option, Some, ap, option_map, refl, ℕ}
-use Rattle.line_forms.specs.Columns.{column_where}
-use Rattle.line_forms.specs.FormLaws.{column_law, ended_some, go_on_some, some_one}
-use Rattle.line_forms.specs.Forms.{said_by}
-use Rattle.ledger_fields.specs.Fields.{fits}
-use Rattle.ledger_fields.specs.Lines.{LineFields, line_fields, row_in, row_of_line}
-use Rattle.ledger_fields.specs.Rows.{Row}
-use Rattle.ledger_fields.specs.declared.field.Field.TheVariants.{Token}
+use Rattle.std.proofs.Common.{◌≡◌, ◌∙◌, [], ◌∷◌, ◌++◌, List, None, Option, Some, ap, option_map}
+use Rattle.std.proofs.Common.{refl, ℕ}
+use Rattle.ledger_fields.specs.{Fields.fits, Lines.LineFields, Lines.line_fields, Lines.row_in}
+use Rattle.ledger_fields.specs.{Lines.row_of_line, Rows.Row, declared.field.Field.TheVariants.Token}
+use Rattle.line_forms.specs.{Columns.column_where, FormLaws.column_law, FormLaws.ended_some}
+use Rattle.line_forms.specs.{FormLaws.go_on_some, FormLaws.some_one, Forms.said_by}
 
 pub token_in_front : (line : List ℕ) (row : Row) → row_in line ≡ Some row
     → (rest : List ℕ) × (line ≡ row.key.token ++ rest)

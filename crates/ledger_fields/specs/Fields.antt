@@ -1,11 +1,10 @@
 -- The fields of a ledger's line that are not plain numbers.
-use Rattle.std.specs.Prelude.{◌==◌, ◌&&◌, ◌||◌, ◌^◌, ℕ, Bool, List, is_some, length, nat_le}
-use Rattle.std.specs.List.{list_all}
+use Rattle.ledger_fields.specs.{Moments.is_moment, declared.field.Field.Field}
+use Rattle.ledger_fields.specs.declared.field.Field.TheVariants.{LaterMoment, Moment, PastMoment}
+use Rattle.ledger_fields.specs.declared.field.Field.TheVariants.{Reason, Ride, Token, Word}
 use Rattle.line_forms.specs.Numbers.{number_in}
-use Rattle.ledger_fields.specs.Moments.{is_moment}
-use Rattle.ledger_fields.specs.declared.field.Field.{Field}
-use Rattle.ledger_fields.specs.declared.field.Field.TheVariants.{LaterMoment, Moment, PastMoment, Reason, Ride, Token}
-use Rattle.ledger_fields.specs.declared.field.Field.TheVariants.{Word}
+use Rattle.std.specs.List.{list_all}
+use Rattle.std.specs.Prelude.{◌==◌, ◌&&◌, ◌||◌, ◌^◌, ℕ, Bool, List, is_some, length, nat_le}
 
 -- a digit of a token: `0` to `9`, or `a` to `f`
 abbrev pub is_token_byte : ℕ → Bool

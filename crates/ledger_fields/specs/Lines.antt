@@ -1,14 +1,11 @@
 -- The line of a ledger: twelve fields with a comma between each two, and a line feed.
-use Rattle.std.specs.Prelude.{◌^◌, ℕ, List, Option, codes, option_map}
-use Rattle.line_forms.specs.Columns.{column_where}
-use Rattle.line_forms.specs.Forms.{Reader, after_read, said_by, then_read}
-use Rattle.line_forms.specs.Numbers.{number_at}
-use Rattle.ledger_fields.specs.Fields.{fits}
-use Rattle.ledger_fields.specs.Rows.{Row}
-use Rattle.ledger_fields.specs.declared.field.Field.{Field}
-use Rattle.ledger_fields.specs.declared.field.Field.TheVariants.{LaterMoment, Moment, PastMoment, Reason, Ride, Token}
-use Rattle.ledger_fields.specs.declared.field.Field.TheVariants.{Word}
+use Rattle.ledger_fields.specs.{Fields.fits, Rows.Row, declared.field.Field.Field}
+use Rattle.ledger_fields.specs.declared.field.Field.TheVariants.{LaterMoment, Moment, PastMoment}
+use Rattle.ledger_fields.specs.declared.field.Field.TheVariants.{Reason, Ride, Token, Word}
 use Rattle.ledger_fields.specs.declared.form.RowFields.{RowFields}
+use Rattle.line_forms.specs.{Columns.column_where, Forms.Reader, Forms.after_read, Forms.said_by}
+use Rattle.line_forms.specs.{Forms.then_read, Numbers.number_at}
+use Rattle.std.specs.Prelude.{◌^◌, ℕ, List, Option, codes, option_map}
 
 -- a comma, and a field
 abbrev pub next_field : Field → Reader (List ℕ)

@@ -1,10 +1,8 @@
 //! The fields of a ledger's line that are not plain numbers.
 
-ghost use Rattle.std.specs.Prelude.{◌≡◌, ◌<◌, IfSome};
-ghost use Rattle.std.specs.List.{list_all};
 ghost use Rattle.ledger_fields.specs.Fields.{fits, is_token_byte, is_word, is_word_byte};
-ghost use Rattle.ledger_fields.specs.inside.Fronts.{IsFront};
-ghost use Rattle.ledger_fields.specs.declared.field.Field.TheVariants.{Ride};
+ghost use Rattle.ledger_fields.specs.{declared.field.Field.TheVariants.Ride, inside.Fronts.IsFront};
+ghost use Rattle.std.specs.{List.list_all, Prelude.◌≡◌, Prelude.◌<◌, Prelude.IfSome};
 
 use crate::moment::{MOMENT_BYTES, is_moment};
 use line_forms::column::{column_before, ends_column};

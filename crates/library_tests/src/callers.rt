@@ -1,13 +1,11 @@
 //! How a caller of `run` uses the laws.
 
+ghost use Rattle.fare_service.specs.Plain.{AreApart, WasNotCut};
+ghost use Rattle.fare_service.specs.{Printed.report_of, Shares.IsShareOf};
+ghost use Rattle.histories.specs.{Plain.IsPlain, declared.entry.Entry.Entry};
+ghost use Rattle.report_texts.specs.OverHistory.{IsReportOver};
 ghost use Rattle.std.specs.Prelude.{◌≡◌, All, IfOk, List, map};
 ghost use Rattle.world.specs.Origins.{memory};
-ghost use Rattle.histories.specs.declared.entry.Entry.{Entry};
-ghost use Rattle.fare_service.specs.Plain.{AreApart, WasNotCut};
-ghost use Rattle.histories.specs.Plain.{IsPlain};
-ghost use Rattle.report_texts.specs.OverHistory.{IsReportOver};
-ghost use Rattle.fare_service.specs.Printed.{report_of};
-ghost use Rattle.fare_service.specs.Shares.{IsShareOf};
 
 use crate::runs::{opened, report_text, two_taps};
 use fare_service::{Gatekeeper, OpenGatekeeper, Outcome, RunFault, Service, Share, laws};

@@ -1,26 +1,24 @@
 -- The laws of forms.
-use Rattle.std.proofs.Common.{◌≡◌, ◌==◌, ℕ, ◌+◌, ◌<◌, ◌≤◌, ◌^◌, Bool, true, false, cond, not, ◌&&◌, nat_lt, List, Option, Some, None, MatchOption}
-use Rattle.std.proofs.Common.{[], ◌∷◌, ◌++◌, length, take, drop, refl, sym, ap, subst, ◌∙◌, arith, append_assoc, Decides, option_map, Bor}
-use Rattle.std.specs.Char.{is_ascii_digit}
-use Rattle.std.specs.Fmt.{decimal}
-use Rattle.std.specs.Str.{all_ascii_digits, bytes_eq}
-use Rattle.std.specs.Str.Parse.{digits_value}
-use Rattle.std.proofs.lemmas.Bool.{false≢true, and_from, and_parts}
-use Rattle.std.proofs.lemmas.Bool.Decides.{Decides-eqb, nat_tests}
-use Rattle.std.proofs.lemmas.Fmt.{decimal_is_IsNumeral_wide}
-use Rattle.std.proofs.Math.Bool.{not-not}
-use Rattle.std.proofs.Math.Seq.{drop-append_seam, take-append_seam}
-use Rattle.std.specs.List.{before_first, position_or_len}
-use Rattle.std.proofs.lemmas.List.{get_or-take, take-append-drop}
-use Rattle.std.proofs.lemmas.List.Folds.{length-prefix_len}
-use Rattle.std.proofs.lemmas.List.Recursion.{same_from_clauses}
-use Rattle.std.proofs.lemmas.List.Sums.{list_all-from_AllPass, prefix_len_passes}
-use Rattle.std.proofs.lemmas.Slice.Eq.{bytes_eq-Decides}
-use Rattle.std.proofs.lemmas.Str.Parse.{IsNumeralModel, numerals_by_value, tells_all_ascii_digits}
-use Rattle.line_forms.specs.Columns.{BeginsAfterColumn, IsColumn, column_where, ends_column, is_column}
-use Rattle.line_forms.specs.Forms.{BeginsWith, IsAfter, IsFirst, IsForm, IsThen, Reader, after, after_if, after_read, ended, go_on, is_end, none_stops, read_before, read_if, said_by, then_read, value_if, with_rest, with_second}
+use Rattle.std.proofs.Common.{◌≡◌, ◌==◌, ℕ, ◌+◌, ◌<◌, ◌≤◌, ◌^◌, Bool, true, false, cond, not, ◌&&◌}
+use Rattle.std.proofs.Common.{nat_lt, List, Option, Some, None, MatchOption, [], ◌∷◌, ◌++◌, length}
+use Rattle.std.proofs.Common.{take, drop, refl, sym, ap, subst, ◌∙◌, arith, append_assoc, Decides}
+use Rattle.std.proofs.Common.{option_map, Bor}
+use Rattle.line_forms.specs.Columns.{BeginsAfterColumn, IsColumn, column_where, ends_column}
+use Rattle.line_forms.specs.{Columns.is_column, Forms.BeginsWith}
+use Rattle.line_forms.specs.Forms.{IsAfter, IsFirst, IsForm, IsThen, Reader, after, after_if}
+use Rattle.line_forms.specs.Forms.{after_read, ended, go_on, is_end, none_stops, read_before}
+use Rattle.line_forms.specs.Forms.{read_if, said_by, then_read, value_if, with_rest, with_second}
 use Rattle.line_forms.specs.Numbers.{BeginsWithNoDigit, IsNumber, ends_digits, number_at, number_in}
 use Rattle.line_forms.specs.inside.Narrow.{below}
+use Rattle.std.proofs.Math.{Bool.not-not, Seq.drop-append_seam, Seq.take-append_seam}
+use Rattle.std.proofs.lemmas.Bool.{false≢true, and_from, and_parts, Decides.Decides-eqb}
+use Rattle.std.proofs.lemmas.{Bool.Decides.nat_tests, Fmt.decimal_is_IsNumeral_wide}
+use Rattle.std.proofs.lemmas.List.{get_or-take, take-append-drop, Folds.length-prefix_len}
+use Rattle.std.proofs.lemmas.List.{Recursion.same_from_clauses, Sums.list_all-from_AllPass}
+use Rattle.std.proofs.lemmas.{List.Sums.prefix_len_passes, Slice.Eq.bytes_eq-Decides}
+use Rattle.std.proofs.lemmas.Str.Parse.{IsNumeralModel, numerals_by_value, tells_all_ascii_digits}
+use Rattle.std.specs.{Char.is_ascii_digit, Fmt.decimal, List.before_first, List.position_or_len}
+use Rattle.std.specs.Str.{all_ascii_digits, bytes_eq, Parse.digits_value}
 
 -- ---- options
 pub is_none : {A : Type 0} (r : Option A) → ((a : A) → ¬ (r ≡ Some a)) → r ≡ None

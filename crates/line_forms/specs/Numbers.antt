@@ -1,11 +1,8 @@
 -- Numbers, written as they are.
-use Rattle.std.specs.Prelude.{◌≡◌, ◌&&◌, ◌<◌, ℕ, Bool, List, Option, not, nat_lt}
-use Rattle.std.specs.Char.{is_ascii_digit}
-use Rattle.std.specs.Fmt.{decimal}
-use Rattle.std.specs.List.{position_or_len}
-use Rattle.std.specs.Str.{bytes_eq}
-use Rattle.std.specs.Str.Parse.{digits_value}
 use Rattle.line_forms.specs.Forms.{BeginsWith, Reader, read_before, value_if}
+use Rattle.std.specs.{Char.is_ascii_digit, Fmt.decimal, List.position_or_len}
+use Rattle.std.specs.Prelude.{◌≡◌, ◌&&◌, ◌<◌, ℕ, Bool, List, Option, not, nat_lt}
+use Rattle.std.specs.Str.{bytes_eq, Parse.digits_value}
 
 abbrev pub ends_digits : ℕ → Bool
 ends_digits byte = not (is_ascii_digit byte)

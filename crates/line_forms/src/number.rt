@@ -1,12 +1,10 @@
 //! Numbers, written as they are: without a sign, and without zeros in front.
 
-ghost use Rattle.std.specs.Prelude.{◌≡◌, ◌<◌, ◌≤◌, ◌^◌, ℕ, length, true, MatchOption};
-ghost use Rattle.std.specs.Str.{all_ascii_digits};
-ghost use Rattle.std.specs.Str.Parse.{digits_value};
 ghost use Rattle.line_forms.specs.FormLaws.{number_law, wide_32, wide_64};
 ghost use Rattle.line_forms.specs.Numbers.{BeginsWithNoDigit, IsNumber, digits_in, number_at};
-ghost use Rattle.line_forms.specs.Numbers.{number_in};
-ghost use Rattle.line_forms.specs.inside.Narrow.{below};
+ghost use Rattle.line_forms.specs.{Numbers.number_in, inside.Narrow.below};
+ghost use Rattle.std.specs.Prelude.{◌≡◌, ◌<◌, ◌≤◌, ◌^◌, ℕ, length, true, MatchOption};
+ghost use Rattle.std.specs.Str.{all_ascii_digits, Parse.digits_value};
 
 use crate::form::FormOf;
 

@@ -1,25 +1,22 @@
 -- What is found of a ledger and of a report, by its parts.
-use Rattle.std.proofs.Common.{◌≡◌, ◌∙◌, ℕ, Bool, true, false, List, Option, Some, None, refl}
-use Rattle.std.proofs.Common.{sym, ap, subst}
-use Rattle.std.specs.Prelude.{◌↔◌, ◌&&◌, ◌||◌, is_some, not}
-use Rattle.std.proofs.lemmas.Bool.{and_parts, false≢true}
-use Rattle.tariffs.specs.Fares.{Fares}
+use Rattle.std.proofs.Common.{◌≡◌, ◌∙◌, ℕ, Bool, true, false, List, Option, Some, None, refl, sym}
+use Rattle.std.proofs.Common.{ap, subst}
 use Rattle.histories.specs.declared.entry.Entry.{Entry}
-use Rattle.tap_views.specs.declared.encoder.TapFields.{TapFields}
 use Rattle.ledger_check.specs.Ledger.{IsLedger, IsLedgerOf}
-use Rattle.omny_audit.specs.inside.Checks.{IsRightLedger}
 use Rattle.omny_audit.specs.Reports.{Given, HasOwnReport, IsRightAudit, IsVerdictOn, are_whole}
-use Rattle.omny_audit.specs.Reports.{ledger_in}
-use Rattle.omny_audit.specs.inside.Reports.{fits}
-use Rattle.tap_views.specs.declared.upload_end.UploadEnd.{UploadEnd}
-use Rattle.omny_audit.specs.Traced.{AreColumnsReported, HasRightColumns, IsFaultAfter}
-use Rattle.omny_audit.specs.Traced.{IsPositionFault, ReadLine, Wanted, have_position, wrong_class}
-use Rattle.omny_audit.specs.Traced.{wrong_position}
+use Rattle.omny_audit.specs.{Reports.ledger_in, Traced.AreColumnsReported}
+use Rattle.omny_audit.specs.Traced.{HasRightColumns, IsFaultAfter, IsPositionFault, ReadLine}
+use Rattle.omny_audit.specs.Traced.{Wanted, have_position, wrong_class, wrong_position}
 use Rattle.omny_audit.specs.declared.traced.PositionFault.{PositionFault}
 use Rattle.omny_audit.specs.declared.traced.PositionFault.TheVariants.{NoLine, OtherTap, Repeated}
 use Rattle.omny_audit.specs.declared.traced.WrongClass.{WrongClass}
+use Rattle.omny_audit.specs.inside.{Checks.IsRightLedger, Reports.fits}
 use Rattle.report_check.specs.Reports.{ReportVerdictsDecide}
 use Rattle.report_check.specs.declared.verdict.ReportVerdict.{ReportVerdict}
+use Rattle.std.proofs.lemmas.Bool.{and_parts, false≢true}
+use Rattle.std.specs.Prelude.{◌↔◌, ◌&&◌, ◌||◌, is_some, not}
+use Rattle.tap_views.specs.declared.{encoder.TapFields.TapFields, upload_end.UploadEnd.UploadEnd}
+use Rattle.tariffs.specs.Fares.{Fares}
 
 -- a report fits a right ledger exactly if it is that of the ledger's entries
 fits_own : ReportVerdictsDecide → (ends : Option (List UploadEnd)) (fares : Fares) (ledger : List ℕ)

@@ -2,35 +2,27 @@
 use Rattle.std.proofs.Common.{◌≡◌, ◌∙◌, ◌++◌, ℕ, Bool, true, false, List, [], ◌∷◌, Option, None}
 use Rattle.std.proofs.Common.{Global, Some, Vec, ap, append-nil, append_assoc, inl, inr, refl}
 use Rattle.std.proofs.Common.{subst, sym, ⊎_elim}
+use Rattle.frame.specs.Failing.{HasStarted}
+use Rattle.ledger_check.specs.{Columns.read_as, Lines.lines_of, Verdicts.IsVerdict}
+use Rattle.omny_audit.proofs.TraceLemmas.{reads_more}
+use Rattle.omny_audit.specs.{Program.HoldsOfRead, Reports.Given, Reports.IsAuditText, Traced.Wanted}
+use Rattle.omny_audit.specs.declared.{audit.Audit.Audit, check.Check.Check}
+use Rattle.omny_audit.specs.declared.check.Check.TheVariants.{First, All}
+use Rattle.omny_audit.specs.declared.check.Found.{Found}
+use Rattle.omny_audit.specs.declared.fault.Fault.{Fault, TheVariants.Unwritten}
+use Rattle.omny_audit.specs.declared.traced.TracedPieces.{TracedPieces}
+use Rattle.omny_audit.specs.inside.Audits.{EndsAs, HasAudited, HoldsNow, Steps, given_in}
+use Rattle.omny_audit.specs.inside.Checks.{Finds, HasChecked, is_all, is_decided}
+use Rattle.omny_audit.specs.inside.Fault.{IsStreamFault}
+use Rattle.omny_audit.specs.inside.Traced.{HasReadAll, HasReadAs, wanted_by}
 use Rattle.std.proofs.lemmas.Bool.{true≢false}
 use Rattle.std.specs.Prelude.{◌⊎◌, ◌||◌, Err, Ok, is_some}
-use Rattle.world.specs.Run.{Calls, Load, Run, with_cut, with_flushed, with_written}
-use Rattle.world.specs.Streams.{HasRead, IsWhole}
-use Rattle.world.specs.Writes.{IsCut}
-use Rattle.world.specs.declared.stream.Stream.{Stream}
-use Rattle.world.proofs.Streams.{whole_at_end}
-use Rattle.world.specs.declared.faults.WriteFault.{WriteFault}
-use Rattle.frame.specs.Failing.{HasStarted}
-use Rattle.tariffs.specs.Fares.{Fares}
-use Rattle.ledger_check.specs.Columns.{read_as}
-use Rattle.ledger_check.specs.Lines.{lines_of}
-use Rattle.ledger_check.specs.Verdicts.{IsVerdict}
 use Rattle.tap_views.specs.declared.encoder.TapFields.{TapFields}
-use Rattle.omny_audit.specs.Program.{HoldsOfRead}
-use Rattle.omny_audit.specs.Reports.{Given, IsAuditText}
-use Rattle.omny_audit.specs.declared.audit.Audit.{Audit}
-use Rattle.omny_audit.specs.declared.check.Check.{Check}
-use Rattle.omny_audit.specs.declared.check.Check.TheVariants.{First, All}
-use Rattle.omny_audit.specs.declared.fault.Fault.{Fault}
-use Rattle.omny_audit.specs.declared.fault.Fault.TheVariants.{Unwritten}
-use Rattle.omny_audit.specs.inside.Audits.{EndsAs, HasAudited, HoldsNow, Steps, given_in}
-use Rattle.omny_audit.specs.inside.Fault.{IsStreamFault}
-use Rattle.omny_audit.specs.declared.check.Found.{Found}
-use Rattle.omny_audit.specs.inside.Checks.{Finds, HasChecked, is_all, is_decided}
-use Rattle.omny_audit.specs.Traced.{Wanted}
-use Rattle.omny_audit.specs.declared.traced.TracedPieces.{TracedPieces}
-use Rattle.omny_audit.specs.inside.Traced.{HasReadAll, HasReadAs, wanted_by}
-use Rattle.omny_audit.proofs.TraceLemmas.{reads_more}
+use Rattle.tariffs.specs.Fares.{Fares}
+use Rattle.world.proofs.Streams.{whole_at_end}
+use Rattle.world.specs.Run.{Calls, Load, Run, with_cut, with_flushed, with_written}
+use Rattle.world.specs.{Streams.HasRead, Writes.IsCut}
+use Rattle.world.specs.declared.{faults.WriteFault.WriteFault, stream.Stream.Stream}
 
 -- what the ledger is audited by stays the same
 pub given_kept : (audit : Audit) (check : Check) (trace : Option TracedPieces)

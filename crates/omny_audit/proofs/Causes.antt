@@ -1,27 +1,24 @@
 -- The causes of faults.
-use Rattle.std.proofs.Common.{◌≡◌, ◌++◌, ◌∷◌, [], ℕ, Bool, List, Option, Some, Result, Ok}
-use Rattle.std.proofs.Common.{Err, ap, append-nil, inl, inr, refl, subst, sym}
-use Rattle.std.specs.Prelude.{Contains}
-use Rattle.std.proofs.lemmas.List.Elements.{Contains-append_left, Contains-append_right}
-use Rattle.std.proofs.lemmas.List.Elements.{Contains-push}
+use Rattle.std.proofs.Common.{◌≡◌, ◌++◌, ◌∷◌, [], ℕ, Bool, List, Option, Some, Result, Ok, Err}
+use Rattle.std.proofs.Common.{append-nil, inl, inr, refl, subst, sym}
 use Rattle.frame.specs.Failing.{HasStarted}
-use Rattle.program_manners.specs.Refusals.{IsOneOf, IsShown}
-use Rattle.program_manners.specs.TableLoads.{LoadsTables}
-use Rattle.program_manners.specs.TableWords.{table_files}
-use Rattle.program_manners.specs.declared.recorded_loads.RecordedLoads.{RecordedLoads}
-use Rattle.tariffs.specs.Fares.{Fares}
-use Rattle.world.specs.Run.{Calls, Load, Run}
-use Rattle.omny_audit.specs.inside.Ends.{EndsAudit}
+use Rattle.omny_audit.proofs.Audits.{started_weaker}
 use Rattle.omny_audit.specs.Ends.{Did, IsRightFault, did_by}
 use Rattle.omny_audit.specs.Options.{AuditRequest, files_of, ledger_name, named_file}
 use Rattle.omny_audit.specs.Program.{HasLoaded, HoldsOfRead, IsTextOf, given_of}
-use Rattle.omny_audit.specs.Reports.{IsAuditText}
-use Rattle.omny_audit.specs.declared.fault.Fault.{Fault}
+use Rattle.omny_audit.specs.{Reports.IsAuditText, declared.fault.Fault.Fault}
 use Rattle.omny_audit.specs.declared.fault.Fault.TheVariants.{Class, File, GivenLedger, Ledger}
 use Rattle.omny_audit.specs.declared.fault.Fault.TheVariants.{NoMemory, Unwritten}
-use Rattle.omny_audit.specs.inside.Audits.{EndsAs}
+use Rattle.omny_audit.specs.inside.{Audits.EndsAs, Ends.EndsAudit}
 use Rattle.omny_audit.specs.inside.Fault.{IsClassFault, IsLoadFault, IsStreamFault, IsUnopened}
-use Rattle.omny_audit.proofs.Audits.{started_weaker}
+use Rattle.program_manners.specs.Refusals.{IsOneOf, IsShown}
+use Rattle.program_manners.specs.{TableLoads.LoadsTables, TableWords.table_files}
+use Rattle.program_manners.specs.declared.recorded_loads.RecordedLoads.{RecordedLoads}
+use Rattle.std.proofs.lemmas.List.Elements.{Contains-append_left, Contains-append_right}
+use Rattle.std.proofs.lemmas.List.Elements.{Contains-push}
+use Rattle.std.specs.Prelude.{Contains}
+use Rattle.tariffs.specs.Fares.{Fares}
+use Rattle.world.specs.Run.{Calls, Load, Run}
 
 -- one of some names
 pub one_of : (name : List ℕ) (names : List (List ℕ)) → IsOneOf name names → Contains names name

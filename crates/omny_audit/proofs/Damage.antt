@@ -1,10 +1,9 @@
 -- The lines of uploads that have a layout fault.
 use Rattle.std.proofs.Common.{◌≡◌, ◌∙◌, ℕ, ◌+◌, ◌<◌, List, [], ◌∷◌, ◌++◌, add-zero, ap, append-nil}
 use Rattle.std.proofs.Common.{append_assoc, arith, get_or, length, length-take, sym, take}
-use Rattle.std.proofs.lemmas.List.{take_more}
-use Rattle.tap_views.specs.declared.upload_end.UploadEnd.{UploadEnd}
-use Rattle.tap_views.specs.declared.upload_end.UploadEnd.TheVariants.{Posted}
 use Rattle.omny_audit.specs.Reports.{damage_line, damage_lines}
+use Rattle.std.proofs.lemmas.List.{take_more}
+use Rattle.tap_views.specs.declared.upload_end.UploadEnd.{UploadEnd, TheVariants.Posted}
 
 damage_lines-push : (upload : ℕ) (ends : List UploadEnd) (end : UploadEnd)
     → damage_lines upload (ends ++ end ∷ [])

@@ -1,24 +1,23 @@
 -- What is found is well exactly if the text is right.
 use Rattle.std.proofs.Common.{[], ◌≡◌, ◌∙◌, ℕ, Bool, true, false, List, map, Option, Some, None, ap}
 use Rattle.std.proofs.Common.{if◌then◌else◌, refl, subst, sym}
-use Rattle.std.specs.Prelude.{◌↔◌, ◌&&◌, ◌||◌, is_some, not}
-use Rattle.std.proofs.lemmas.Bool.{and_parts, false≢true}
-use Rattle.std.specs.List.Sorted.{IsPermutation}
-use Rattle.tariffs.specs.Fares.{Fares}
-use Rattle.histories.specs.declared.entry.Entry.{Entry}
 use Rattle.fare_texts.specs.LedgerLines.{head_text}
+use Rattle.histories.specs.declared.entry.Entry.{Entry}
+use Rattle.ledger_check.proofs.VerdictLemmas.{tail_same}
+use Rattle.ledger_check.specs.Balances.{IsBalance, IsDifference}
 use Rattle.ledger_check.specs.Ledger.{AreNext, IsLedger, IsLedgerOf}
 use Rattle.ledger_check.specs.Orders.{are_settled, early_line, tap_of_entry}
 use Rattle.ledger_check.specs.Verdicts.{IsVerdict, early_in, is_legal}
+use Rattle.ledger_check.specs.declared.balance.{Balance.Balance, Difference.Difference}
 use Rattle.ledger_check.specs.declared.checker.Verdict.{Verdict}
 use Rattle.ledger_check.specs.declared.checker.Verdict.TheVariants.{Legal, NoLine, Wants}
-use Rattle.ledger_check.specs.Balances.{IsBalance, IsDifference}
-use Rattle.ledger_check.specs.declared.balance.Balance.{Balance}
-use Rattle.ledger_check.specs.declared.balance.Difference.{Difference}
-use Rattle.tap_views.specs.declared.encoder.TapFields.{TapFields}
-use Rattle.ledger_check.proofs.VerdictLemmas.{tail_same}
 use Rattle.omny_audit.specs.Findings.{HasValidTaps, IsDifferenceLine}
 use Rattle.omny_audit.specs.inside.Checks.{IsCompared, IsRightLedger}
+use Rattle.std.proofs.lemmas.Bool.{and_parts, false≢true}
+use Rattle.std.specs.List.Sorted.{IsPermutation}
+use Rattle.std.specs.Prelude.{◌↔◌, ◌&&◌, ◌||◌, is_some, not}
+use Rattle.tap_views.specs.declared.encoder.TapFields.{TapFields}
+use Rattle.tariffs.specs.Fares.{Fares}
 
 -- taps without a difference are the same in some order
 pub even_is : ((valid others : List TapFields) (difference : Difference)

@@ -1,15 +1,12 @@
 -- What is found of all lines.
 use Rattle.std.proofs.Common.{◌≡◌, ◌∙◌, ℕ, length, true, List, [], ap, eq-eqb, eqb-true, subst}
-use Rattle.std.specs.Prelude.{◌↔◌, nat_eq}
-use Rattle.std.specs.List.Sorted.{IsPermutation}
-use Rattle.std.proofs.lemmas.Bool.{and_parts}
-use Rattle.std.proofs.lemmas.List.{nil_from_length}
-use Rattle.tariffs.specs.Fares.{Fares}
-use Rattle.ledger_check.specs.FullBalances.{AreLacking}
-use Rattle.tap_views.specs.declared.encoder.TapFields.{TapFields}
-use Rattle.ledger_check.specs.Ledger.{IsLedger}
-use Rattle.ledger_check.specs.FullChecks.{FullCheckDecides, TakenLine, wrong_count}
+use Rattle.ledger_check.specs.{FullBalances.AreLacking, FullChecks.FullCheckDecides}
+use Rattle.ledger_check.specs.{FullChecks.TakenLine, FullChecks.wrong_count, Ledger.IsLedger}
 use Rattle.omny_audit.specs.Text.{are_none}
+use Rattle.std.proofs.lemmas.{Bool.and_parts, List.nil_from_length}
+use Rattle.std.specs.{List.Sorted.IsPermutation, Prelude.◌↔◌, Prelude.nat_eq}
+use Rattle.tap_views.specs.declared.encoder.TapFields.{TapFields}
+use Rattle.tariffs.specs.Fares.{Fares}
 
 -- taps that lack nothing on either side are the same in some order, and back
 pub none_is : (valid taps missing surplus : List TapFields)

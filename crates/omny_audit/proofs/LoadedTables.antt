@@ -1,10 +1,8 @@
 -- The names of the files of tables.
 use Rattle.std.proofs.Common.{ℕ, ◌+◌, ◌<◌, List, ◌∷◌, Bor, drop, get_or, inr, length, map, subst}
 use Rattle.std.proofs.Common.{sym, take}
-use Rattle.program_manners.specs.Refusals.{IsOneOf}
-use Rattle.program_manners.specs.TableWords.{file_named}
-use Rattle.program_manners.proofs.NextTables.{words_at}
-use Rattle.program_manners.proofs.TablesRefused.{among}
+use Rattle.program_manners.proofs.{NextTables.words_at, TablesRefused.among}
+use Rattle.program_manners.specs.{Refusals.IsOneOf, TableWords.file_named}
 
 -- the file of a later word is one of those of all tables
 pub file_at : (first : List ℕ) (words : List (Bor (List ℕ))) (position : ℕ) (other : Bor (List ℕ))

@@ -2,26 +2,19 @@
 use Rattle.std.proofs.Common.{◌≡◌, ◌∙◌, ℕ, Bool, true, false, not, List, [], ◌∷◌, ◌++◌, length, map}
 use Rattle.std.proofs.Common.{refl, sym, ap, subst, append-nil, append_assoc, nat_eq, Option, Some}
 use Rattle.std.proofs.Common.{None, if◌then◌else◌, Bor, ◌≤◌, ◌⊎◌, inl, inr, suc, arith, option_map}
-use Rattle.std.specs.Str.{bytes_eq}
-use Rattle.std.specs.Prelude.{unwrap_or}
-use Rattle.ledger_check.specs.Columns.{has_traced_head, traced_head}
-use Rattle.std.proofs.lemmas.Bool.Decides.{nat_tests}
-use Rattle.std.proofs.lemmas.List.{flat_map_more, map-append, take-append-le}
-use Rattle.tap_views.proofs.Lists.{AllZip-append}
 use Rattle.clap.specs.Words.{Text}
 use Rattle.ledger_check.specs.Balances.{AreValidFields}
-use Rattle.tap_views.specs.declared.upload_end.UploadEnd.{UploadEnd}
-use Rattle.tap_views.specs.declared.encoder.TapFields.{TapFields}
+use Rattle.ledger_check.specs.Columns.{has_traced_head, traced_head}
+use Rattle.ledger_check.specs.{Positions.HasUploads, declared.positions.Positions.Positions}
 use Rattle.omny_audit.specs.Program.{AreValidFieldsOfAll, HoldsOfRead, LoadsNamedFiles, compared}
-use Rattle.ledger_check.specs.Positions.{HasUploads}
-use Rattle.ledger_check.specs.declared.positions.Positions.{Positions}
-use Rattle.omny_audit.specs.Reports.{Given}
-use Rattle.omny_audit.specs.inside.Traced.{HaveNamed}
-use Rattle.omny_audit.specs.inside.Audits.{GoesOn}
-use Rattle.world.specs.Run.{Load}
-use Rattle.world.specs.Streams.{HasRead, IsWhole}
-use Rattle.world.specs.declared.stream.Stream.{Stream}
+use Rattle.omny_audit.specs.{Reports.Given, inside.Audits.GoesOn, inside.Traced.HaveNamed}
+use Rattle.std.proofs.lemmas.Bool.Decides.{nat_tests}
+use Rattle.std.proofs.lemmas.List.{flat_map_more, map-append, take-append-le}
+use Rattle.std.specs.{Prelude.unwrap_or, Str.bytes_eq}
+use Rattle.tap_views.proofs.Lists.{AllZip-append}
+use Rattle.tap_views.specs.declared.{encoder.TapFields.TapFields, upload_end.UploadEnd.UploadEnd}
 use Rattle.world.proofs.Streams.{whole_at_end}
+use Rattle.world.specs.{Run.Load, Streams.HasRead, Streams.IsWhole, declared.stream.Stream.Stream}
 
 -- one more file that was loaded
 pub loads_push : (names : List Text) (name : Text) (loaded loaded' loaded'' : List Load)

@@ -1,25 +1,19 @@
 -- A traced ledger, read piece by piece.
 use Rattle.std.proofs.Common.{◌≡◌, ◌∙◌, inl, inr, ℕ, ◌+◌, ◌<◌, ◌≤◌, Bool, false, true, List, []}
-use Rattle.std.proofs.Common.{◌∷◌, ◌++◌, append_assoc, append-nil, length, Option, None, Some, refl}
-use Rattle.std.proofs.Common.{◌==◌, sym, ap, subst, arith, if◌then◌else◌}
-use Rattle.std.proofs.lemmas.Bool.{eqb-true}
-use Rattle.std.proofs.lemmas.List.{nil_from_length}
-use Rattle.std.specs.Prelude.{is_some}
-use Rattle.std.specs.Str.{bytes_eq}
-use Rattle.std.proofs.lemmas.Slice.Eq.{bytes_eq-Decides}
-use Rattle.tap_views.specs.declared.encoder.TapFields.{TapFields}
-use Rattle.fare_texts.specs.LedgerLines.{head_text}
-use Rattle.ledger_check.specs.Columns.{cut_line, read_as, traced_head, untraced_by}
-use Rattle.ledger_check.specs.Columns.{untraced_line, untraced_lines}
-use Rattle.ledger_check.specs.Lines.{IsLine, Lacks, lines_of}
+use Rattle.std.proofs.Common.{◌∷◌, ◌++◌, append-nil, length, Option, None, Some, refl}
+use Rattle.std.proofs.Common.{◌==◌, sym, ap, subst, arith}
 use Rattle.ledger_check.proofs.ColumnLemmas.{cut_long, untraced-append}
-use Rattle.ledger_check.proofs.LineLemmas.{lacks-append, lines-part}
 use Rattle.ledger_check.proofs.FullCheckLemmas.{split_line_at, split_part}
+use Rattle.ledger_check.proofs.LineLemmas.{lacks-append, lines-part}
+use Rattle.ledger_check.specs.Columns.{cut_line, read_as, traced_head, untraced_by, untraced_line}
+use Rattle.ledger_check.specs.{Columns.untraced_lines, Lines.IsLine, Lines.Lacks, Lines.lines_of}
 use Rattle.omny_audit.specs.Traced.{ReadLine, lines_read}
+use Rattle.omny_audit.specs.declared.traced.{LinesRead.LinesRead, TracedPieces.TracedPieces}
 use Rattle.omny_audit.specs.inside.Traced.{HasLines, HasReadAs, HasTraced, IsKeptOf, wanted_by}
 use Rattle.omny_audit.specs.inside.Traced.{wrong_position_in}
-use Rattle.omny_audit.specs.declared.traced.LinesRead.{LinesRead}
-use Rattle.omny_audit.specs.declared.traced.TracedPieces.{TracedPieces}
+use Rattle.std.proofs.lemmas.{Bool.eqb-true, List.nil_from_length, Slice.Eq.bytes_eq-Decides}
+use Rattle.std.specs.{Prelude.is_some, Str.bytes_eq}
+use Rattle.tap_views.specs.declared.encoder.TapFields.{TapFields}
 
 -- ---- a line of which only some was kept
 head_short : length traced_head ≤ 352

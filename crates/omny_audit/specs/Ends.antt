@@ -1,28 +1,25 @@
 -- How a run of the program ends.
-use Rattle.std.specs.Prelude.{◌≡◌, ◌⊎◌, ⊤, ℕ, Bool, true, false, List, [], ◌∷◌, ◌++◌, Option, None, Some}
-use Rattle.std.specs.Prelude.{Contains, suc, zero}
 use Rattle.clap.specs.Words.{IsAmong, Text, fault_of}
 use Rattle.clap.specs.declared.error.kind.ErrorKind.TheVariants.{DisplayHelp, DisplayVersion}
-use Rattle.tariffs.specs.Fares.{Fares}
-use Rattle.class_names.specs.ClassFaults.{IsWrongAt}
-use Rattle.class_names.specs.declared.names.ClassFault.TheVariants as class
-use Rattle.class_names.specs.declared.names.WrongNames.{WrongNames}
-use Rattle.ledger_check.specs.Columns.{has_ledger_head}
+use Rattle.class_names.specs.{ClassFaults.IsWrongAt, declared.names.WrongNames.WrongNames}
 use Rattle.frame.specs.Failing.{HasStarted}
-use Rattle.world.specs.declared.faults.LoadFault.{LoadFault}
-use Rattle.program_manners.specs.Refusals.{HasRefused, IsShown, refusal_of}
-use Rattle.program_manners.specs.TableLoads.{LoadsTables}
-use Rattle.program_manners.specs.TablesFaults.{IsTablesFault}
-use Rattle.program_manners.specs.TableWords.{TableNames, table_files, wrong_word}
-use Rattle.program_manners.specs.declared.recorded_loads.RecordedLoads.{RecordedLoads}
-use Rattle.omny_audit.specs.Fault.{IsReported}
-use Rattle.omny_audit.specs.Options.{AuditRequest, audit_program, audit_request_by, files_of}
-use Rattle.omny_audit.specs.Options.{ledger_name}
-use Rattle.omny_audit.specs.Program.{HasFound, IsTextOf}
-use Rattle.omny_audit.specs.declared.fault.Fault.{Fault}
+use Rattle.ledger_check.specs.Columns.{has_ledger_head}
+use Rattle.omny_audit.specs.{Fault.IsReported, Options.AuditRequest}
+use Rattle.omny_audit.specs.Options.{audit_program, audit_request_by, files_of, ledger_name}
+use Rattle.omny_audit.specs.{Program.HasFound, Program.IsTextOf, declared.fault.Fault.Fault}
 use Rattle.omny_audit.specs.declared.fault.Fault.TheVariants.{Class, File, GivenLedger, Ledger}
 use Rattle.omny_audit.specs.declared.fault.Fault.TheVariants.{NoMemory, Tables, Unwritten}
+use Rattle.program_manners.specs.Refusals.{HasRefused, IsShown, refusal_of}
+use Rattle.program_manners.specs.TableLoads.{LoadsTables}
+use Rattle.program_manners.specs.TableWords.{TableNames, table_files, wrong_word}
+use Rattle.program_manners.specs.TablesFaults.{IsTablesFault}
+use Rattle.program_manners.specs.declared.recorded_loads.RecordedLoads.{RecordedLoads}
+use Rattle.std.specs.Prelude.{◌≡◌, ◌⊎◌, ⊤, ℕ, Bool, true, false, List, [], ◌∷◌, ◌++◌, Option, None}
+use Rattle.std.specs.Prelude.{Some, Contains, suc, zero}
+use Rattle.tariffs.specs.Fares.{Fares}
 use Rattle.world.specs.Run.{Calls, Load, Run, no_calls, with_flushed, with_written}
+use Rattle.world.specs.declared.faults.LoadFault.{LoadFault}
+use Rattle.class_names.specs.declared.names.ClassFault.TheVariants as class
 
 -- one of the texts names a class that no ledger can have
 abbrev pub NamesUnplainClass : List (List ℕ) → Type 0

@@ -1,10 +1,8 @@
 -- How a fault is reported.
-use Rattle.std.specs.Prelude.{◌≡◌, Bool, MatchBool, false}
 use Rattle.frame.specs.Outsides.{is_closed}
-use Rattle.world.specs.Run.{Run}
-use Rattle.world.specs.Writes.{IsSaid}
-use Rattle.omny_audit.specs.declared.fault.Fault.{Fault}
-use Rattle.omny_audit.specs.declared.fault.Fault.TheVariants.{Unwritten}
+use Rattle.omny_audit.specs.declared.fault.Fault.{Fault, TheVariants.Unwritten}
+use Rattle.std.specs.Prelude.{◌≡◌, Bool, MatchBool, false}
+use Rattle.world.specs.{Run.Run, Writes.IsSaid}
 
 -- whether the reader of the text is gone
 abbrev pub is_quiet : Fault → Bool

@@ -1,19 +1,15 @@
 -- What is found of a ledger's text.
-use Rattle.std.specs.Prelude.{◌≡◌, ℕ, Bool, true, false, List, [], ◌++◌, map, Option, None, Some}
-use Rattle.std.specs.Prelude.{◌||◌}
-use Rattle.std.specs.List.Sorted.{IsPermutation}
-use Rattle.tariffs.specs.Fares.{Fares}
 use Rattle.histories.specs.declared.entry.Entry.{Entry}
-use Rattle.ledger_check.specs.Ledger.{IsLedgerOf}
+use Rattle.ledger_check.specs.{Balances.IsDifference, FullBalances.AreLacking}
 use Rattle.ledger_check.specs.FullChecks.{IsFullCheck, TakenLine, full_check_text, taps_from}
-use Rattle.ledger_check.specs.Orders.{are_settled, tap_of_entry}
+use Rattle.ledger_check.specs.{Ledger.IsLedgerOf, Orders.are_settled, Orders.tap_of_entry}
 use Rattle.ledger_check.specs.Verdicts.{IsVerdict, is_legal}
-use Rattle.ledger_check.specs.declared.checker.Verdict.{Verdict}
-use Rattle.ledger_check.specs.Balances.{IsDifference}
-use Rattle.ledger_check.specs.FullBalances.{AreLacking}
-use Rattle.ledger_check.specs.declared.balance.Difference.{Difference}
-use Rattle.tap_views.specs.declared.encoder.TapFields.{TapFields}
+use Rattle.ledger_check.specs.declared.{balance.Difference.Difference, checker.Verdict.Verdict}
 use Rattle.omny_audit.specs.Text.{IsDifferenceText, IsDifferencesText, verdict_text}
+use Rattle.std.specs.{List.Sorted.IsPermutation, Prelude.◌≡◌}
+use Rattle.std.specs.Prelude.{ℕ, Bool, true, false, List, [], ◌++◌, map, Option, None, Some, ◌||◌}
+use Rattle.tap_views.specs.declared.encoder.TapFields.{TapFields}
+use Rattle.tariffs.specs.Fares.{Fares}
 
 -- the difference is that of the valid taps and the ledger's, whatever entries the ledger has
 abbrev pub IsDifferenceOf : Fares → List ℕ → List TapFields → Option Difference → Type 0

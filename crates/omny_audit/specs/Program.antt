@@ -1,22 +1,17 @@
 -- What a run of the program finds.
-use Rattle.std.specs.Prelude.{◌≡◌, ℕ, Bool, true, false, List, [], ◌∷◌, ◌++◌, map}
-use Rattle.std.specs.Prelude.{Option, None, Some}
-use Rattle.std.specs.List.{AllZip, flat_map}
 use Rattle.clap.specs.Words.{Text}
-use Rattle.tariffs.specs.Fares.{Fares}
-use Rattle.ledger_check.specs.Balances.{AreValidFields}
-use Rattle.ledger_check.specs.Columns.{has_traced_head}
 use Rattle.class_names.specs.Classes.{AreTrees, class_of_token, tree_at}
-use Rattle.toml.specs.Data.{Members}
-use Rattle.tap_views.specs.UploadEnds.{ArePlainEnds}
-use Rattle.tap_views.specs.declared.encoder.TapFields.{TapFields}
-use Rattle.tap_views.specs.declared.upload_end.UploadEnd.{UploadEnd}
-use Rattle.omny_audit.specs.Reports.{Given, IsAudit, IsAuditText}
-use Rattle.omny_audit.specs.Options.{AuditRequest}
-use Rattle.omny_audit.specs.Traced.{Wanted}
+use Rattle.ledger_check.specs.{Balances.AreValidFields, Columns.has_traced_head}
+use Rattle.omny_audit.specs.{Options.AuditRequest, Reports.Given, Reports.IsAudit}
+use Rattle.omny_audit.specs.{Reports.IsAuditText, Traced.Wanted}
 use Rattle.program_manners.specs.TableLoads.{LoadsTables}
-use Rattle.world.specs.Run.{Calls, Load}
-use Rattle.world.specs.Streams.{IsWhole}
+use Rattle.std.specs.{List.AllZip, List.flat_map, Prelude.◌≡◌}
+use Rattle.std.specs.Prelude.{ℕ, Bool, true, false, List, [], ◌∷◌, ◌++◌, map, Option, None, Some}
+use Rattle.tap_views.specs.UploadEnds.{ArePlainEnds}
+use Rattle.tap_views.specs.declared.{encoder.TapFields.TapFields, upload_end.UploadEnd.UploadEnd}
+use Rattle.tariffs.specs.Fares.{Fares}
+use Rattle.toml.specs.Data.{Members}
+use Rattle.world.specs.{Run.Calls, Run.Load, Streams.IsWhole}
 
 -- A file of each of these names was loaded, in their order.
 pub record LoadsNamedFiles (names : List Text) (loaded loaded' : List Load)

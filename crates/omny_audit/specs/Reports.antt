@@ -1,24 +1,20 @@
 -- What is found of a ledger and of the report that is held beside it.
-use Rattle.std.specs.Prelude.{◌≡◌, ◌↔◌, ◌⊎◌, ◌&&◌, ◌||◌, ℕ, Bool, true, false, List, [], ◌++◌, codes}
-use Rattle.std.specs.Prelude.{◌+◌, ◌∷◌, if◌then◌else◌, is_some, map, Option, None, Some}
-use Rattle.std.specs.Fmt.{decimal}
-use Rattle.tariffs.specs.Fares.{Fares}
-use Rattle.ledger_check.specs.Columns.{read_as}
-use Rattle.ledger_check.specs.FirstLines.{AreFirstTaken}
+use Rattle.histories.specs.declared.entry.Entry.{Entry}
+use Rattle.ledger_check.specs.{Columns.read_as, FirstLines.AreFirstTaken}
 use Rattle.ledger_check.specs.FullChecks.{TakenLine, remark_lines}
-use Rattle.ledger_check.specs.Ledger.{IsLedger, IsLedgerOf}
-use Rattle.ledger_check.specs.Orders.{tap_of_entry}
+use Rattle.ledger_check.specs.{Ledger.IsLedger, Ledger.IsLedgerOf, Orders.tap_of_entry}
 use Rattle.omny_audit.specs.Findings.{HasOrder, HasValidTaps, IsFindingOf}
 use Rattle.omny_audit.specs.Traced.{AreColumnsReported, HasRightColumns, ReadLine, Wanted}
 use Rattle.report_check.specs.Reports.{IsReportBeside, IsReportVerdictBeside}
+use Rattle.report_check.specs.declared.verdict.ReportVerdict.{ReportVerdict, TheVariants.OfLedger}
+use Rattle.report_check.specs.declared.verdict.ReportVerdict.TheVariants.{Wants, NoLine, Taps}
 use Rattle.report_texts.specs.Report.{upload_line}
+use Rattle.std.specs.Fmt.{decimal}
+use Rattle.std.specs.Prelude.{◌≡◌, ◌↔◌, ◌⊎◌, ◌&&◌, ◌||◌, ℕ, Bool, true, false, List, [], ◌++◌}
+use Rattle.std.specs.Prelude.{codes, ◌+◌, ◌∷◌, if◌then◌else◌, is_some, map, Option, None, Some}
 use Rattle.tap_views.specs.UploadEnds.{are_posted, is_posted}
-use Rattle.tap_views.specs.declared.upload_end.UploadEnd.{UploadEnd}
-use Rattle.report_check.specs.declared.verdict.ReportVerdict.{ReportVerdict}
-use Rattle.report_check.specs.declared.verdict.ReportVerdict.TheVariants.{OfLedger, Wants, NoLine}
-use Rattle.report_check.specs.declared.verdict.ReportVerdict.TheVariants.{Taps}
-use Rattle.histories.specs.declared.entry.Entry.{Entry}
-use Rattle.tap_views.specs.declared.encoder.TapFields.{TapFields}
+use Rattle.tap_views.specs.declared.{encoder.TapFields.TapFields, upload_end.UploadEnd.UploadEnd}
+use Rattle.tariffs.specs.Fares.{Fares}
 
 -- What a ledger is audited by: whether all its wrong lines are asked for, and whether one that is
 -- not settled is well; the fares; what the columns are compared with, if it is a traced one; the

@@ -1,16 +1,14 @@
 -- The lines that report a verdict, and how the ledger's taps differ from those of the uploads.
-use Rattle.std.specs.Prelude.{◌≡◌, ℕ, List, ◌++◌, codes, string_bytes, Option, None, Some}
-use Rattle.std.specs.Prelude.{◌&&◌, Bool, MatchBool, length, nat_eq}
-use Rattle.std.specs.Fmt.{decimal}
-use Rattle.std.specs.List.{AllZip, flat_map}
-use Rattle.hex.specs.Hex.{encode_lower}
 use Rattle.fare_texts.specs.Moments.{IsMomentText}
-use Rattle.ledger_check.specs.declared.balance.Difference.{Difference}
+use Rattle.hex.specs.Hex.{encode_lower}
+use Rattle.ledger_check.specs.{FullChecks.legal_text, declared.balance.Difference.Difference}
 use Rattle.ledger_check.specs.declared.balance.Difference.TheVariants.{Missing, Surplus}
-use Rattle.tap_views.specs.declared.encoder.TapFields.{TapFields}
-use Rattle.ledger_check.specs.FullChecks.{legal_text}
 use Rattle.ledger_check.specs.declared.checker.Verdict.{Verdict}
 use Rattle.ledger_check.specs.declared.checker.Verdict.TheVariants.{Legal, Wants, NoLine}
+use Rattle.std.specs.{Fmt.decimal, List.AllZip, List.flat_map}
+use Rattle.std.specs.Prelude.{◌≡◌, ℕ, List, ◌++◌, codes, string_bytes, Option, None, Some, ◌&&◌}
+use Rattle.std.specs.Prelude.{Bool, MatchBool, length, nat_eq}
+use Rattle.tap_views.specs.declared.encoder.TapFields.{TapFields}
 
 -- `legal 6 lines, ..`, `line 4 wants LINE` or `line 4 is no ledger line`; the wanted line has its
 -- newline

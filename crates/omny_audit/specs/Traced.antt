@@ -1,20 +1,17 @@
 -- A traced ledger, as it is read line by line, and what is found of its columns.
-use Rattle.std.specs.Prelude.{◌≡◌, ℕ, ◌+◌, ◌&&◌, ◌||◌, Bool, true, false, List, [], ◌∷◌, ◌++◌}
-use Rattle.std.specs.Prelude.{codes, if◌then◌else◌, is_some, length, not, Option, None, Some}
-use Rattle.std.specs.Prelude.{option_map}
-use Rattle.std.specs.Fmt.{decimal}
-use Rattle.std.specs.Option.{option_or}
-use Rattle.std.specs.Str.{bytes_eq}
-use Rattle.tap_views.specs.declared.encoder.TapFields.{TapFields}
 use Rattle.ledger_check.specs.Columns.{TracedLine, cut_line}
-use Rattle.ledger_check.specs.Lines.{lines_of}
-use Rattle.ledger_check.specs.Positions.{IsFirstUnnamed, IsUnnamed, is_position, position_finding, tap_at}
-use Rattle.ledger_check.specs.Taps.{IsTapOfLine}
-use Rattle.ledger_check.specs.declared.positions.PositionFinding.{PositionFinding}
+use Rattle.ledger_check.specs.{Lines.lines_of, Positions.IsFirstUnnamed}
+use Rattle.ledger_check.specs.Positions.{IsUnnamed, is_position, position_finding, tap_at}
+use Rattle.ledger_check.specs.{Taps.IsTapOfLine, declared.positions.PositionFinding.PositionFinding}
 use Rattle.ledger_check.specs.declared.positions.PositionFinding.TheVariants.{Right, Another, Again}
 use Rattle.omny_audit.specs.declared.traced.PositionFault.{PositionFault}
 use Rattle.omny_audit.specs.declared.traced.PositionFault.TheVariants.{NoLine, OtherTap, Repeated}
 use Rattle.omny_audit.specs.declared.traced.WrongClass.{WrongClass}
+use Rattle.std.specs.{Fmt.decimal, Option.option_or, Prelude.◌≡◌}
+use Rattle.std.specs.Prelude.{ℕ, ◌+◌, ◌&&◌, ◌||◌, Bool, true, false, List, [], ◌∷◌, ◌++◌, codes}
+use Rattle.std.specs.Prelude.{if◌then◌else◌, is_some, length, not, Option, None, Some, option_map}
+use Rattle.std.specs.Str.{bytes_eq}
+use Rattle.tap_views.specs.declared.encoder.TapFields.{TapFields}
 
 -- a tap, and its line, which has the columns
 abbrev pub TapWithColumns : Type 0

@@ -1,20 +1,17 @@
 //! The lines of a ledger, checked up to the first wrong one, or all of them.
 
+ghost use Rattle.histories.specs.declared.entry.Entry.{Entry};
+ghost use Rattle.ledger_check.specs.{Balances.IsBalance, FullBalances.IsFullBalance};
+ghost use Rattle.ledger_check.specs.{FullCheckStates.HasFullyChecked, Ledger.IsLedgerOf};
+ghost use Rattle.ledger_check.specs.{Orders.tap_of_entry, Sums.AreSumsOf};
+ghost use Rattle.ledger_check.specs.Verdicts.{IsVerdict, early_in, is_legal};
+ghost use Rattle.omny_audit.specs.Findings.{HasValidTaps, IsDifferencesEnd};
+ghost use Rattle.omny_audit.specs.inside.Checks.{Finds, HasChecked, IsCompared, is_all, is_decided};
 ghost use Rattle.std.specs.Prelude.{◌≡◌, ◌++◌, ◌↔◌, ◌&&◌, ◌||◌, ℕ, List, [], IfOk, IfSome, IsTrue};
 ghost use Rattle.std.specs.Prelude.{None, OnOk, Bool, Some, if◌then◌else◌, is_some, map, not};
 ghost use Rattle.std.specs.Prelude.{string_bytes, true, false};
-ghost use Rattle.tariffs.specs.Fares.{Fares};
-ghost use Rattle.histories.specs.declared.entry.Entry.{Entry};
-ghost use Rattle.ledger_check.specs.Balances.{IsBalance};
-ghost use Rattle.ledger_check.specs.FullBalances.{IsFullBalance};
-ghost use Rattle.ledger_check.specs.Ledger.{IsLedgerOf};
-ghost use Rattle.ledger_check.specs.Orders.{tap_of_entry};
-ghost use Rattle.ledger_check.specs.FullCheckStates.{HasFullyChecked};
-ghost use Rattle.ledger_check.specs.Sums.{AreSumsOf};
-ghost use Rattle.ledger_check.specs.Verdicts.{IsVerdict, early_in, is_legal};
 ghost use Rattle.tap_views.specs.declared.encoder.TapFields.{TapFields as ATap};
-ghost use Rattle.omny_audit.specs.Findings.{HasValidTaps, IsDifferencesEnd};
-ghost use Rattle.omny_audit.specs.inside.Checks.{Finds, HasChecked, IsCompared, is_all, is_decided};
+ghost use Rattle.tariffs.specs.Fares.{Fares};
 
 use crate::text::{are_none, write_difference, write_differences, write_verdict};
 use fare_table::{Clock, FareTable};

@@ -1,10 +1,9 @@
 //! The ledger, read from its start.
 
-ghost use Rattle.std.specs.Prelude.{◌≡◌, ◌⊎◌, ◌≤◌, [], IfErr, IfOk, None, Option, length};
 ghost use Rattle.ledger_check.specs.Columns.{traced_head};
-ghost use Rattle.world.specs.Streams.{HasRead};
-ghost use Rattle.world.specs.declared.faults.WriteFault.{WriteFault};
 ghost use Rattle.omny_audit.specs.inside.Fault.{IsStreamFault};
+ghost use Rattle.std.specs.Prelude.{◌≡◌, ◌⊎◌, ◌≤◌, [], IfErr, IfOk, None, Option, length};
+ghost use Rattle.world.specs.{Streams.HasRead, declared.faults.WriteFault.WriteFault};
 
 use crate::fault::Fault;
 use ledger_check::traced_head_line;

@@ -1,13 +1,12 @@
 //! The command line.
-ghost use Rattle.std.specs.Prelude.{◌≡◌, IfOk, Some, false, map, option_and_then, option_map};
-ghost use Rattle.std.specs.Prelude.{string_bytes};
-ghost use Rattle.clap.specs.Words.{FailsBy, app_of, fault_of, found_of, matches_of};
-ghost use Rattle.clap.specs.Words.{rows_of, rule_of};
+ghost use Rattle.clap.specs.Words.{FailsBy, app_of, fault_of, found_of, matches_of, rows_of};
+ghost use Rattle.clap.specs.Words.{rule_of};
 ghost use Rattle.frame.specs.Names.{file_named};
 ghost use Rattle.omny_audit.specs.Options.{audit_program, audit_request_by, required_table_option};
 ghost use Rattle.omny_audit.specs.inside.Options.{audit_request_of};
-ghost use Rattle.program_manners.specs.TableViews.{names_of};
-ghost use Rattle.program_manners.specs.TableWords.{tables_in};
+ghost use Rattle.program_manners.specs.{TableViews.names_of, TableWords.tables_in};
+ghost use Rattle.std.specs.Prelude.{◌≡◌, IfOk, Some, false, map, option_and_then, option_map};
+ghost use Rattle.std.specs.Prelude.{string_bytes};
 
 use clap::{Arg, ArgAction, ArgMatches, Command, Error};
 use frame::file_of;

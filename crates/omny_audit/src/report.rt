@@ -1,17 +1,16 @@
 //! The report that is compared with the ledger.
 
-ghost use Rattle.std.specs.Prelude.{◌≡◌, ◌++◌, ℕ, List, IfOk, IfSome, OnOk, codes, string_bytes};
-ghost use Rattle.std.specs.Prelude.{option_map, true};
-ghost use Rattle.std.specs.Fmt.{decimal};
-ghost use Rattle.tariffs.specs.Fares.{Fares};
 ghost use Rattle.histories.specs.declared.entry.Entry.{Entry};
-ghost use Rattle.ledger_check.specs.Ledger.{IsLedgerOf};
-ghost use Rattle.ledger_check.specs.Sums.{AreSumsOf};
+ghost use Rattle.ledger_check.specs.{Ledger.IsLedgerOf, Sums.AreSumsOf};
 ghost use Rattle.omny_audit.specs.Reports.{IsVerdictOn, are_whole, damage_line, damage_lines};
-ghost use Rattle.omny_audit.specs.Reports.{damage_text, report_text, uncompared_text, verdict_lines};
-ghost use Rattle.tap_views.specs.UploadEnds.{are_posted};
+ghost use Rattle.omny_audit.specs.Reports.{damage_text, report_text, uncompared_text};
+ghost use Rattle.omny_audit.specs.Reports.{verdict_lines};
 ghost use Rattle.omny_audit.specs.inside.Reports.{fits, text_of};
 ghost use Rattle.report_check.specs.Reports.{is_of_ledger};
+ghost use Rattle.std.specs.{Fmt.decimal, Prelude.◌≡◌, Prelude.◌++◌, Prelude.ℕ, Prelude.List};
+ghost use Rattle.std.specs.Prelude.{IfOk, IfSome, OnOk, codes, string_bytes, option_map, true};
+ghost use Rattle.tap_views.specs.UploadEnds.{are_posted};
+ghost use Rattle.tariffs.specs.Fares.{Fares};
 
 use histories::HashSeed;
 use ledger_check::EntrySums;

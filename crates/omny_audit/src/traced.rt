@@ -1,23 +1,21 @@
 //! A traced ledger, read as a ledger, and what is wrong with its columns.
 
-ghost use Rattle.std.specs.Prelude.{◌≡◌, ◌+◌, ◌==◌, ◌<◌, ◌++◌, ◌∷◌, [], ℕ, List, IfOk};
-ghost use Rattle.std.specs.Prelude.{None, OnOk, Option, Some, false, is_some, length, not};
-ghost use Rattle.std.specs.Prelude.{option_map, string_bytes, true};
-ghost use Rattle.std.specs.Str.{bytes_eq};
-ghost use Rattle.tap_views.specs.declared.encoder.TapFields.{TapFields as ATap};
 ghost use Rattle.class_names.specs.Names.{class_by};
 ghost use Rattle.ledger_check.specs.Columns.{cut_line, cut_of, untraced_by, untraced_line};
-ghost use Rattle.ledger_check.specs.Lines.{IsLine, lines_of};
-ghost use Rattle.ledger_check.specs.Positions.{HasUploads, is_named, uploads_of};
-ghost use Rattle.ledger_check.specs.Taps.{IsTapOfLine};
+ghost use Rattle.ledger_check.specs.{Lines.IsLine, Lines.lines_of, Positions.HasUploads};
+ghost use Rattle.ledger_check.specs.{Positions.is_named, Positions.uploads_of, Taps.IsTapOfLine};
 ghost use Rattle.omny_audit.specs.Traced.{AreColumnsReported, IsFaultAfter, IsPositionFault};
 ghost use Rattle.omny_audit.specs.Traced.{NamesTapWithColumns, ReadLine, class_fault, class_text};
 ghost use Rattle.omny_audit.specs.Traced.{fault_by, fault_text, lines_read, positions_text};
 ghost use Rattle.omny_audit.specs.Traced.{position_text, upload_position_text};
 ghost use Rattle.omny_audit.specs.declared.traced.PositionFault.{PositionFault as AFault};
 ghost use Rattle.omny_audit.specs.inside.Traced.{HasLines, HasLooked, HasPositions, HasReadAll};
-ghost use Rattle.omny_audit.specs.inside.Traced.{HasReadAs, HasTraced, HaveNamed, IsKeptOf, placed_of};
-ghost use Rattle.omny_audit.specs.inside.Traced.{uploads_in, wanted_by, wanted_of};
+ghost use Rattle.omny_audit.specs.inside.Traced.{HasReadAs, HasTraced, HaveNamed, IsKeptOf};
+ghost use Rattle.omny_audit.specs.inside.Traced.{placed_of, uploads_in, wanted_by, wanted_of};
+ghost use Rattle.std.specs.Prelude.{◌≡◌, ◌+◌, ◌==◌, ◌<◌, ◌++◌, ◌∷◌, [], ℕ, List, IfOk, None, OnOk};
+ghost use Rattle.std.specs.Prelude.{Option, Some, false, is_some, length, not, option_map};
+ghost use Rattle.std.specs.{Prelude.string_bytes, Prelude.true, Str.bytes_eq};
+ghost use Rattle.tap_views.specs.declared.encoder.TapFields.{TapFields as ATap};
 
 use crate::check::are_both;
 use class_names::ClassNames;

@@ -1,9 +1,8 @@
 //! A run over the files, the standard input and the outputs of the system.
-ghost use Rattle.std.specs.Prelude.{◌≡◌, [], None, Some, map, string_bytes};
-ghost use Rattle.world.specs.Origins.{file};
-ghost use Rattle.world.specs.Run.{no_calls};
-ghost use Rattle.program_manners.specs.Refusals.{IsShown, refusal_of};
 ghost use Rattle.fare_program.specs.Ends.{Ends};
+ghost use Rattle.program_manners.specs.Refusals.{IsShown, refusal_of};
+ghost use Rattle.std.specs.Prelude.{◌≡◌, [], None, Some, map, string_bytes};
+ghost use Rattle.world.specs.{Origins.file, Run.no_calls};
 
 use crate::beside::run_beside_line;
 use fare_program::{Complaints, Host, Output};

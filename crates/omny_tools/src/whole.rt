@@ -1,7 +1,6 @@
 //! A file or standard input that is read whole.
 ghost use Rattle.std.specs.Prelude.{◌≡◌, ◌≢◌, IfErr, IfOk, option_map};
-ghost use Rattle.world.specs.Loads.{IsRefused};
-ghost use Rattle.world.specs.Run.{no_calls, nothing_yet, with_load};
+ghost use Rattle.world.specs.{Loads.IsRefused, Run.no_calls, Run.nothing_yet, Run.with_load};
 
 use crate::progress::Progress;
 use world::{LoadFault, Stream};

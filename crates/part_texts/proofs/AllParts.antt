@@ -1,37 +1,32 @@
 -- Parts that are read one after the other, and merged.
-use Rattle.std.proofs.Common.{◌≡◌, ◌∙◌, ◌+◌, ◌<◌, ◌≤◌, ℕ, suc, zero, Bool, true, false, List, [], ◌∷◌}
-use Rattle.std.proofs.Common.{◌++◌, Some, Result, Ok, Err, All, ap, append-nil, append_assoc, arith, drop}
-use Rattle.std.proofs.Common.{get_or, length, length-take, map, refl, set, subst, sym, take}
-use Rattle.std.specs.Prelude.{nat_le, slice_get}
-use Rattle.std.specs.List.{AllZip}
-use Rattle.std.proofs.lemmas.Bool.Decides.{nat_tests}
-use Rattle.std.proofs.lemmas.List.{drop-set-lt, drop_all, drop_more, length-drop, length-set}
-use Rattle.std.proofs.lemmas.List.{take_all, take_more_set}
-use Rattle.std.proofs.lemmas.List.Elements.{All-map, All-push, All-weaker}
-use Rattle.recorded_lines.specs.Texts.{CanBe, Follows, IsEndAt, IsFresh, calls_of}
-use Rattle.recorded_lines.specs.declared.text.Lines.{Lines}
+use Rattle.std.proofs.Common.{◌≡◌, ◌∙◌, ◌+◌, ◌<◌, ◌≤◌, ℕ, suc, zero, Bool, true, false, List, []}
+use Rattle.std.proofs.Common.{◌∷◌, ◌++◌, Some, Result, Ok, Err, All, ap, append-nil, append_assoc}
+use Rattle.std.proofs.Common.{arith, drop, get_or, length, length-take, map, refl, set, subst, sym}
+use Rattle.std.proofs.Common.{take}
 use Rattle.histories.specs.Sums.{sums_of}
-use Rattle.report_texts.specs.declared.wrong.Wrong.TheVariants.{Form}
-use Rattle.world.specs.Run.{Calls, Run, with_written}
-use Rattle.world.specs.Streams.{IsWhole}
-use Rattle.world.specs.Writes.{IsCut}
-use Rattle.world.specs.declared.faults.WriteFault.{WriteFault}
-use Rattle.part_texts.specs.Fronts.{FrontsView, no_fronts}
-use Rattle.part_texts.specs.FrontSteps.{at_part}
-use Rattle.part_texts.specs.inside.Fronts.{fronts_view}
-use Rattle.part_texts.specs.Merged.{PartView, WrongLine, and_then, initial, is_none_left, left_of}
-use Rattle.part_texts.specs.Merged.{lines_left, merge_of, merged, read_all, read_of, whole_front}
-use Rattle.part_texts.specs.Reads.{HasStarted, IsFaultOf, Leaves, MergesAs, read_by}
-use Rattle.part_texts.specs.inside.Opened.{AreRead, IsInitial, IsPartFault, IsRead, all_copied, copied}
-use Rattle.part_texts.specs.inside.Opened.{lines_at, view_of, views_of}
-use Rattle.part_texts.specs.declared.fault.MergeFault.{MergeFault}
-use Rattle.part_texts.specs.declared.fault.MergeFault.TheVariants.{Line, Unread, Write, NoMemory}
-use Rattle.part_texts.specs.declared.fronts.Fronts.{Fronts}
-use Rattle.part_texts.specs.declared.fronts.Open.{Open}
 use Rattle.part_texts.proofs.Parts.{all_initial, can_be_read, can_before, can_here, follow_length}
 use Rattle.part_texts.proofs.Parts.{follow_on, follow_self, follow_set, view_at, views_length}
 use Rattle.part_texts.proofs.Parts.{views_set}
 use Rattle.part_texts.proofs.Written.{cut_on, written_more, written_none, written_on}
+use Rattle.part_texts.specs.{FrontSteps.at_part, Fronts.FrontsView, Fronts.no_fronts}
+use Rattle.part_texts.specs.Merged.{PartView, WrongLine, and_then, initial, is_none_left, left_of}
+use Rattle.part_texts.specs.Merged.{lines_left, merge_of, merged, read_all, read_of, whole_front}
+use Rattle.part_texts.specs.Reads.{HasStarted, IsFaultOf, Leaves, MergesAs, read_by}
+use Rattle.part_texts.specs.declared.fault.MergeFault.{MergeFault}
+use Rattle.part_texts.specs.declared.fault.MergeFault.TheVariants.{Line, Unread, Write, NoMemory}
+use Rattle.part_texts.specs.declared.fronts.{Fronts.Fronts, Open.Open}
+use Rattle.part_texts.specs.inside.Fronts.{fronts_view}
+use Rattle.part_texts.specs.inside.Opened.{AreRead, IsInitial, IsPartFault, IsRead, all_copied}
+use Rattle.part_texts.specs.inside.Opened.{copied, lines_at, view_of, views_of}
+use Rattle.recorded_lines.specs.Texts.{CanBe, Follows, IsEndAt, IsFresh, calls_of}
+use Rattle.recorded_lines.specs.declared.text.Lines.{Lines}
+use Rattle.report_texts.specs.declared.wrong.Wrong.TheVariants.{Form}
+use Rattle.std.proofs.lemmas.{Bool.Decides.nat_tests, List.drop-set-lt, List.drop_all}
+use Rattle.std.proofs.lemmas.List.{drop_more, length-drop, length-set, take_all, take_more_set}
+use Rattle.std.proofs.lemmas.List.Elements.{All-map, All-push, All-weaker}
+use Rattle.std.specs.{List.AllZip, Prelude.nat_le, Prelude.slice_get}
+use Rattle.world.specs.Run.{Calls, Run, with_written}
+use Rattle.world.specs.{Streams.IsWhole, Writes.IsCut, declared.faults.WriteFault.WriteFault}
 
 -- ---- faults
 at_set : (from : List Lines) (i : ℕ) (one : Lines) → i < length from

@@ -1,18 +1,15 @@
 -- The lines of a part's head are read back, and each is one line.
-use Rattle.std.proofs.Common.{◌≡◌, ◌∙◌, ◌<◌, ◌^◌, ℕ, List, [], ◌++◌, codes}
-use Rattle.std.proofs.Common.{Option, Some, None, refl, sym, ap, arith, append_assoc, length}
-use Rattle.std.specs.Fmt.{decimal}
-use Rattle.std.proofs.lemmas.Fmt.{decimal_nonempty}
+use Rattle.std.proofs.Common.{◌≡◌, ◌∙◌, ◌<◌, ◌^◌, ℕ, List, [], ◌++◌, codes, Option, Some, None}
+use Rattle.std.proofs.Common.{refl, sym, ap, arith, append_assoc, length}
 use Rattle.line_forms.specs.FormLaws.{is_none, number_sound}
 use Rattle.line_forms.specs.Numbers.{BeginsWithNoDigit, number_in}
-use Rattle.report_texts.specs.Forms.{count_at}
-use Rattle.report_texts.specs.FormLaws.{count_form}
-use Rattle.report_texts.proofs.OneLine.{IsOneLine, counted, over, weaker, word}
 use Rattle.part_texts.specs.HeadForms.{span_in, to_in}
-use Rattle.part_texts.specs.Heads.{span_line, to_line}
-use Rattle.part_texts.specs.Shown.{EndFits, SpanFits}
-use Rattle.sorted_taps.specs.declared.positions.Position.{Position}
-use Rattle.sorted_taps.specs.declared.positions.FileSpan.{FileSpan}
+use Rattle.part_texts.specs.{Heads.span_line, Heads.to_line, Shown.EndFits, Shown.SpanFits}
+use Rattle.report_texts.proofs.OneLine.{IsOneLine, counted, over, weaker, word}
+use Rattle.report_texts.specs.{FormLaws.count_form, Forms.count_at}
+use Rattle.sorted_taps.specs.declared.positions.{FileSpan.FileSpan, Position.Position}
+use Rattle.std.proofs.lemmas.Fmt.{decimal_nonempty}
+use Rattle.std.specs.Fmt.{decimal}
 
 count_read : (word : List ℕ) (n : ℕ) (rest : List ℕ) → n < 2 ^ 64 → BeginsWithNoDigit rest
     → count_at word (word ++ (decimal n ++ rest)) ≡ Some (n, rest)

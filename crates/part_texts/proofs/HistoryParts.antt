@@ -2,49 +2,37 @@
 use Rattle.std.proofs.Common.{◌≡◌, ◌∙◌, ◌+◌, ◌<◌, ◌≤◌, ◌^◌, ◌||◌, ℕ, Bool, true, false, List, []}
 use Rattle.std.proofs.Common.{◌∷◌, ◌++◌, length, map, Option, Some, None, Ok, refl, sym, ap, subst}
 use Rattle.std.proofs.Common.{arith, append_assoc, append-nil, length-append, All}
-use Rattle.std.specs.Prelude.{nat_eq, nat_lt}
-use Rattle.std.specs.BTreeSet.{insert_key}
-use Rattle.std.specs.List.{AllByRecursion}
-use Rattle.std.specs.List.Sorted.{IsStrictlySortedBy}
-use Rattle.std.specs.Ordering.{is_lt, nat_cmp}
-use Rattle.std.specs.declared.cmp.Ordering.{Ordering}
-use Rattle.std.specs.declared.cmp.Ordering.TheVariants.{Less, Equal, Greater}
-use Rattle.std.proofs.lemmas.Bool.Decides.{nat_tests}
-use Rattle.std.proofs.lemmas.Cmp.{nat_cmp_total}
-use Rattle.std.proofs.lemmas.List.{length-map, map-append}
-use Rattle.std.proofs.lemmas.List.Elements.{All-append, All-head, All-nil, All-tail, All-weaker}
-use Rattle.std.proofs.lemmas.List.Elements.{All-from_recursion, recursion_from_All}
-use Rattle.std.proofs.lemmas.Map.Views.{All-insert_key}
-use Rattle.tap_views.specs.Token.{token_cmp}
-use Rattle.tap_views.specs.TokenOrder.{AreBelow}
-use Rattle.tap_views.specs.declared.token.Token.{Token}
-use Rattle.tap_views.specs.declared.upload_end.UploadEnd.TheVariants.{Posted}
-use Rattle.tap_views.proofs.Lists.{All-back, All-front, each-back, each-front}
-use Rattle.tap_views.proofs.TokenLemmas.{token_cmp-total, token_cmp-ties}
-use Rattle.histories.specs.Increasing.{increasing}
-use Rattle.histories.specs.Sums.{Sums, add_sums, sums, sums_of_replies}
-use Rattle.histories.specs.SumsByKey.{sums_by_token, sums_by_validator}
-use Rattle.histories.specs.SumsByKey.{token_of, tokens, validator_of, validators}
-use Rattle.histories.specs.declared.entry.Entry.{Entry}
-use Rattle.histories.proofs.IncreasingLemmas.{increasing-is}
-use Rattle.histories.proofs.SumsByToken.{by_token_joined}
+use Rattle.histories.proofs.{IncreasingLemmas.increasing-is, SumsByToken.by_token_joined}
 use Rattle.histories.proofs.SumsLemmas.{add_assoc, add_none, none_add, sums-append, sums-taps}
-use Rattle.report_texts.specs.Report.{report}
+use Rattle.histories.specs.{Increasing.increasing, Sums.Sums, Sums.add_sums, Sums.sums}
+use Rattle.histories.specs.{Sums.sums_of_replies, SumsByKey.sums_by_token}
+use Rattle.histories.specs.SumsByKey.{sums_by_validator, token_of, tokens, validator_of, validators}
+use Rattle.histories.specs.declared.entry.Entry.{Entry}
+use Rattle.part_texts.proofs.KeySums.{all_added, tokens_add, validators_add}
+use Rattle.part_texts.proofs.{ShownParts.none_left, ShownReports.reports_merge}
+use Rattle.part_texts.proofs.Tables.{validators_added, within}
 use Rattle.part_texts.specs.Fronts.{is_above, may_end, may_follow, no_sums}
 use Rattle.part_texts.specs.HistoryParts.{AreRight, AreIncreasing, Fits, HistoryPart, added}
 use Rattle.part_texts.specs.HistoryParts.{histories_of, numbers_of, report_of, whole_history}
-use Rattle.part_texts.specs.Merged.{is_none_left, merge_of}
+use Rattle.part_texts.specs.{Merged.is_none_left, Merged.merge_of, Shown.part_text, Shown.sum_up}
+use Rattle.part_texts.specs.inside.Shown.{are_joined, IsNextPart, IsRight, SoFar, adds_to, are_next}
+use Rattle.part_texts.specs.inside.Shown.{are_posted_to, are_increasing, are_tokens_increasing}
+use Rattle.part_texts.specs.inside.Shown.{last_of, nothing_so_far, tokens_of}
+use Rattle.report_texts.specs.Report.{report}
 use Rattle.sorted_taps.specs.Positions.{AreWhole, DoJoin, first_position}
-use Rattle.part_texts.specs.Shown.{part_text, sum_up}
-use Rattle.part_texts.specs.inside.Shown.{are_joined, IsNextPart, IsRight, SoFar}
-use Rattle.part_texts.specs.inside.Shown.{adds_to, are_next, are_posted_to, are_increasing}
-use Rattle.part_texts.specs.inside.Shown.{are_tokens_increasing, last_of, nothing_so_far, tokens_of}
-use Rattle.sorted_taps.specs.declared.positions.Position.{Position}
-use Rattle.sorted_taps.specs.declared.positions.FileSpan.{FileSpan}
-use Rattle.part_texts.proofs.KeySums.{all_added, tokens_add, validators_add}
-use Rattle.part_texts.proofs.ShownParts.{none_left}
-use Rattle.part_texts.proofs.ShownReports.{reports_merge}
-use Rattle.part_texts.proofs.Tables.{validators_added, within}
+use Rattle.sorted_taps.specs.declared.positions.{FileSpan.FileSpan, Position.Position}
+use Rattle.std.proofs.lemmas.{Bool.Decides.nat_tests, Cmp.nat_cmp_total}
+use Rattle.std.proofs.lemmas.List.{length-map, map-append, Elements.All-append, Elements.All-head}
+use Rattle.std.proofs.lemmas.List.Elements.{All-nil, All-tail, All-weaker, All-from_recursion}
+use Rattle.std.proofs.lemmas.{List.Elements.recursion_from_All, Map.Views.All-insert_key}
+use Rattle.std.specs.{BTreeSet.insert_key, List.AllByRecursion, List.Sorted.IsStrictlySortedBy}
+use Rattle.std.specs.Ordering.{is_lt, nat_cmp}
+use Rattle.std.specs.{Prelude.nat_eq, Prelude.nat_lt, declared.cmp.Ordering.Ordering}
+use Rattle.std.specs.declared.cmp.Ordering.TheVariants.{Less, Equal, Greater}
+use Rattle.tap_views.proofs.Lists.{All-back, All-front, each-back, each-front}
+use Rattle.tap_views.proofs.TokenLemmas.{token_cmp-total, token_cmp-ties}
+use Rattle.tap_views.specs.{Token.token_cmp, TokenOrder.AreBelow}
+use Rattle.tap_views.specs.declared.{token.Token.Token, upload_end.UploadEnd.TheVariants.Posted}
 
 -- ---- sums that are added up
 nothing_is : sums [] ≡ no_sums

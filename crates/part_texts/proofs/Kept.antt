@@ -1,17 +1,13 @@
 -- The sums of validators, as the program keeps them.
-use Rattle.std.proofs.Common.{◌≡◌, ◌∙◌, ℕ, Bool, List, [], ◌∷◌, Option, Some}
-use Rattle.std.proofs.Common.{option_map, refl, sym, ap}
-use Rattle.std.specs.Prelude.{unwrap_or}
-use Rattle.std.specs.BTreeMap.{insert_entry, is_at}
-use Rattle.std.specs.Map.{lookup}
-use Rattle.std.specs.Ordering.{match_ordering, nat_cmp}
-use Rattle.std.specs.declared.cmp.Ordering.{Ordering}
-use Rattle.std.specs.declared.cmp.Ordering.TheVariants.{Less, Equal, Greater}
-use Rattle.histories.specs.Sums.{Sums, sums_of}
-use Rattle.histories.specs.declared.sums.totals.Totals.{Totals}
-use Rattle.std.proofs.lemmas.Map.Made.{lookup-map_values}
+use Rattle.std.proofs.Common.{◌≡◌, ◌∙◌, ℕ, Bool, List, [], ◌∷◌, Option, Some, option_map, refl, sym}
+use Rattle.std.proofs.Common.{ap}
+use Rattle.histories.specs.{Sums.Sums, Sums.sums_of, declared.sums.totals.Totals.Totals}
 use Rattle.part_texts.specs.Fronts.{no_sums, sums_within, with_validator}
 use Rattle.part_texts.specs.inside.Fronts.{shown_sums}
+use Rattle.std.proofs.lemmas.Map.Made.{lookup-map_values}
+use Rattle.std.specs.{BTreeMap.insert_entry, BTreeMap.is_at, Map.lookup, Ordering.match_ordering}
+use Rattle.std.specs.{Ordering.nat_cmp, Prelude.unwrap_or, declared.cmp.Ordering.Ordering}
+use Rattle.std.specs.declared.cmp.Ordering.TheVariants.{Less, Equal, Greater}
 
 pub kept_is : (test : ℕ → Bool) (entries : List (ℕ × Totals)) (found : Option Totals) (kept : Sums)
     → found ≡ lookup test entries → kept ≡ unwrap_or (option_map sums_of found) no_sums

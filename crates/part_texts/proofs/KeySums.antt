@@ -1,29 +1,23 @@
 -- Tables of sums by rising keys. The sums by validator add up to the sums of the history, and so do
 -- those by token.
-use Rattle.std.specs.Prelude.{ℕ, ◌+◌, ◌≡◌, ◌||◌, Bool, true, false, List, [], ◌∷◌, filter, map}
-use Rattle.std.specs.BTreeSet.{insert_key}
-use Rattle.std.specs.Cmp.{Equal-is, IsTotalOrder}
-use Rattle.std.specs.List.{AllByRecursion}
-use Rattle.std.specs.List.Sorted.{IsStrictlySortedBy}
-use Rattle.std.specs.Ordering.{eq_by_cmp, is_eq, match_ordering, nat_cmp}
-use Rattle.std.specs.Set.{is_member}
-use Rattle.std.specs.declared.cmp.Ordering.{Ordering}
-use Rattle.std.specs.declared.cmp.Ordering.TheVariants.{Less, Equal, Greater}
 use Rattle.std.proofs.Common.{refl, sym, ◌∙◌, ap, arith, subst}
-use Rattle.std.proofs.lemmas.Bool.{false≢true, true≢false}
-use Rattle.std.proofs.lemmas.Bool.Decides.{nat_tests}
-use Rattle.std.proofs.lemmas.Cmp.{nat_cmp_total, tied_itself}
-use Rattle.tap_views.specs.Token.{token_cmp, token_eq}
-use Rattle.tap_views.specs.declared.token.Token.{Token}
-use Rattle.tap_views.proofs.TokenLemmas.{token_eq-refl, same_token, token_cmp-ties, token_cmp-total}
-use Rattle.histories.specs.declared.entry.Entry.{Entry}
-use Rattle.histories.specs.Entry.{is_at, is_of, own}
-use Rattle.histories.specs.Increasing.{increasing}
+use Rattle.histories.proofs.IncreasingLemmas.{below_all, increasing-is}
+use Rattle.histories.proofs.SumsLemmas.{add_assoc, add_none, sums-append}
+use Rattle.histories.specs.{Entry.is_at, Entry.is_of, Entry.own, Increasing.increasing}
 use Rattle.histories.specs.Sums.{Sums, add_all, add_sums, sums}
 use Rattle.histories.specs.SumsByKey.{entries_of_validator, sums_by_token, sums_by_validator}
 use Rattle.histories.specs.SumsByKey.{token_of, tokens, validator_of, validators}
-use Rattle.histories.proofs.IncreasingLemmas.{below_all, increasing-is}
-use Rattle.histories.proofs.SumsLemmas.{add_assoc, add_none, sums-append}
+use Rattle.histories.specs.declared.entry.Entry.{Entry}
+use Rattle.std.proofs.lemmas.Bool.{false≢true, true≢false, Decides.nat_tests}
+use Rattle.std.proofs.lemmas.Cmp.{nat_cmp_total, tied_itself}
+use Rattle.std.specs.{BTreeSet.insert_key, Cmp.Equal-is, Cmp.IsTotalOrder}
+use Rattle.std.specs.List.{AllByRecursion, Sorted.IsStrictlySortedBy}
+use Rattle.std.specs.Ordering.{eq_by_cmp, is_eq, match_ordering, nat_cmp}
+use Rattle.std.specs.Prelude.{ℕ, ◌+◌, ◌≡◌, ◌||◌, Bool, true, false, List, [], ◌∷◌, filter, map}
+use Rattle.std.specs.{Set.is_member, declared.cmp.Ordering.Ordering}
+use Rattle.std.specs.declared.cmp.Ordering.TheVariants.{Less, Equal, Greater}
+use Rattle.tap_views.proofs.TokenLemmas.{token_eq-refl, same_token, token_cmp-ties, token_cmp-total}
+use Rattle.tap_views.specs.{Token.token_cmp, Token.token_eq, declared.token.Token.Token}
 
 -- ---- sums
 plus_swap : (a b c : ℕ) → a + (b + c) ≡ b + (a + c)

@@ -2,13 +2,10 @@
 use Rattle.std.proofs.Common.{◌≡◌, ◌∙◌, List, ap, option_map, ℕ, Some}
 use Rattle.hex.specs.Hex.{encode_lower}
 use Rattle.ledger_fields.proofs.Tokens.{token_in_front}
-use Rattle.ledger_fields.specs.Lines.{row_in}
-use Rattle.ledger_fields.specs.Rows.{Row}
-use Rattle.report_texts.specs.FormLaws.{token_law}
-use Rattle.report_texts.specs.Forms.{token_read}
-use Rattle.tap_views.specs.Token.{Fits, bytes_of}
-use Rattle.tap_views.specs.declared.token.Token.{Token}
+use Rattle.ledger_fields.specs.{Lines.row_in, Rows.Row}
 use Rattle.part_texts.specs.EntryLines.{entry_token_in, first_of, token_with}
+use Rattle.report_texts.specs.{FormLaws.token_law, Forms.token_read}
+use Rattle.tap_views.specs.{Token.Fits, Token.bytes_of, declared.token.Token.Token}
 
 -- they need not be decoded
 pub known_token : (line : List ℕ) (row : Row) (token : Token) → row_in line ≡ Some row → Fits token

@@ -1,35 +1,29 @@
 -- What is merged of ledgers of parts of a history is the ledger of the whole history.
-use Rattle.std.proofs.Common.{◌≡◌, ◌∙◌, ◌<◌, ◌^◌, ◌||◌, ℕ, true, false, List, [], ◌∷◌, ◌++◌, length, map}
-use Rattle.std.proofs.Common.{Option, None, Ok, refl, sym, ap, subst, arith, append_assoc}
+use Rattle.std.proofs.Common.{◌≡◌, ◌∙◌, ◌<◌, ◌^◌, ◌||◌, ℕ, true, false, List, [], ◌∷◌, ◌++◌, length}
+use Rattle.std.proofs.Common.{map, Option, None, Ok, refl, sym, ap, subst, arith, append_assoc}
 use Rattle.std.proofs.Common.{append-nil, All, Bool}
-use Rattle.std.specs.List.{AllByRecursion, AllZip}
-use Rattle.std.specs.declared.cmp.Ordering.TheVariants.{Less}
-use Rattle.std.proofs.lemmas.List.{map-append}
-use Rattle.std.proofs.lemmas.List.Elements.{All-head, All-tail, All-weaker}
-use Rattle.tap_views.specs.Token.{token_cmp, token_eq}
-use Rattle.tap_views.specs.TokenOrder.{AreBelow}
-use Rattle.tap_views.specs.declared.token.Token.{Token}
-use Rattle.tap_views.proofs.TokenLemmas.{less_apart, token_eq-sym}
-use Rattle.tariffs.specs.Fares.{Fares}
-use Rattle.histories.specs.Entry.{own}
-use Rattle.histories.specs.Increasing.{increasing}
-use Rattle.histories.specs.Sums.{Sums, sums}
-use Rattle.histories.specs.SumsByKey.{sums_by_token, token_of, tokens}
-use Rattle.histories.specs.declared.entry.Entry.{Entry}
+use Rattle.fare_texts.specs.{Ledger.AreLinesOfEach, Ledger.IsLedgerOver, LedgerLines.AreLedgerLines}
 use Rattle.histories.proofs.OwnEntries.{own-append}
 use Rattle.histories.proofs.SumsByToken.{by_token_joined, none_of}
-use Rattle.fare_texts.specs.Ledger.{AreLinesOfEach, IsLedgerOver}
-use Rattle.fare_texts.specs.LedgerLines.{AreLedgerLines}
-use Rattle.sorted_taps.specs.declared.positions.Position.{Position}
-use Rattle.part_texts.specs.HistoryParts.{AreIncreasing, HistoryPart, histories_of, whole_history}
-use Rattle.part_texts.specs.LedgerParts.{DoJoinUp, IsPartLedger}
-use Rattle.part_texts.specs.Merged.{is_none_left, merge_of}
-use Rattle.part_texts.specs.Shown.{SpanFits}
-use Rattle.part_texts.specs.inside.Shown.{are_joined, are_next}
-use Rattle.part_texts.specs.inside.ShownLedgers.{IsNextLedger, PartLedger, all_lines, ledger_text}
+use Rattle.histories.specs.{Entry.own, Increasing.increasing, Sums.Sums, Sums.sums}
+use Rattle.histories.specs.SumsByKey.{sums_by_token, token_of, tokens}
+use Rattle.histories.specs.declared.entry.Entry.{Entry}
 use Rattle.part_texts.proofs.HistoryParts.{Join, OfEach, all_ascending, ends_length, part_joins}
 use Rattle.part_texts.proofs.HistoryParts.{spans_of, to_ends}
 use Rattle.part_texts.proofs.ShownLedgers.{ledgers_merge}
+use Rattle.part_texts.specs.HistoryParts.{AreIncreasing, HistoryPart, histories_of, whole_history}
+use Rattle.part_texts.specs.LedgerParts.{DoJoinUp, IsPartLedger}
+use Rattle.part_texts.specs.{Merged.is_none_left, Merged.merge_of, Shown.SpanFits}
+use Rattle.part_texts.specs.inside.Shown.{are_joined, are_next}
+use Rattle.part_texts.specs.inside.ShownLedgers.{IsNextLedger, PartLedger, all_lines, ledger_text}
+use Rattle.sorted_taps.specs.declared.positions.Position.{Position}
+use Rattle.std.proofs.lemmas.List.{map-append}
+use Rattle.std.proofs.lemmas.List.Elements.{All-head, All-tail, All-weaker}
+use Rattle.std.specs.{List.AllByRecursion, List.AllZip, declared.cmp.Ordering.TheVariants.Less}
+use Rattle.tap_views.proofs.TokenLemmas.{less_apart, token_eq-sym}
+use Rattle.tap_views.specs.Token.{token_cmp, token_eq}
+use Rattle.tap_views.specs.{TokenOrder.AreBelow, declared.token.Token.Token}
+use Rattle.tariffs.specs.Fares.{Fares}
 
 -- ---- ledgers of histories, one behind the other
 keys_back : (f : Token → Sums) (keys : List Token)

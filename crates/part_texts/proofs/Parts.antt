@@ -1,19 +1,17 @@
 -- Parts that are read on, each at its place.
 use Rattle.std.proofs.Common.{subst, ◌≡◌, ◌∙◌, ◌<◌, ℕ, suc, zero, All, List, [], ◌∷◌, ap, arith}
 use Rattle.std.proofs.Common.{append-nil, get_or, get_or-set_same, length, map, refl, set, sym}
-use Rattle.std.specs.List.{AllZip}
-use Rattle.std.proofs.lemmas.List.{length-set}
-use Rattle.std.proofs.lemmas.List.Elements.{All-head, All-tail}
-use Rattle.std.proofs.lemmas.Slice.Zip.{AllZip-long}
 use Rattle.line_folds.specs.Folds.{lines_of}
+use Rattle.part_texts.specs.Merged.{PartView, initial}
+use Rattle.part_texts.specs.{Reads.read_by, declared.fronts.Open.Open}
+use Rattle.part_texts.specs.inside.Opened.{IsInitial, lines_at, view_of, views_of}
+use Rattle.recorded_lines.proofs.Reading.{follows_on, follows_self}
 use Rattle.recorded_lines.specs.Texts.{CanBe, Follows, IsFresh, calls_of, left}
 use Rattle.recorded_lines.specs.declared.text.Lines.{Lines}
-use Rattle.recorded_lines.proofs.Reading.{follows_on, follows_self}
+use Rattle.std.proofs.lemmas.List.{length-set, Elements.All-head, Elements.All-tail}
+use Rattle.std.proofs.lemmas.Slice.Zip.{AllZip-long}
+use Rattle.std.specs.List.{AllZip}
 use Rattle.world.specs.Run.{Calls}
-use Rattle.part_texts.specs.Merged.{PartView, initial}
-use Rattle.part_texts.specs.Reads.{read_by}
-use Rattle.part_texts.specs.inside.Opened.{IsInitial, lines_at, view_of, views_of}
-use Rattle.part_texts.specs.declared.fronts.Open.{Open}
 
 -- ---- what the texts can be
 pub follow_self : (from : List Lines) → AllZip Follows from from

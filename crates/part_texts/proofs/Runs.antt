@@ -1,25 +1,21 @@
 -- One part, read line by line.
-use Rattle.std.proofs.Common.{◌≡◌, ◌∙◌, ◌+◌, ℕ, Bool, true, false, List, [], ◌∷◌, ◌++◌}
-use Rattle.std.proofs.Common.{Some, None, Result, Ok, Err, ap, append-nil, append_assoc, length}
-use Rattle.std.proofs.Common.{refl, subst, sym}
-use Rattle.std.specs.Prelude.{nat_lt}
+use Rattle.std.proofs.Common.{◌≡◌, ◌∙◌, ◌+◌, ℕ, Bool, true, false, List, [], ◌∷◌, ◌++◌, Some, None}
+use Rattle.std.proofs.Common.{Result, Ok, Err, ap, append-nil, append_assoc, length, refl, subst}
+use Rattle.std.proofs.Common.{sym}
 use Rattle.line_folds.specs.Folds.{bounded, carry, run}
+use Rattle.part_texts.proofs.Written.{cut_on, written_none, written_on}
+use Rattle.part_texts.specs.FrontSteps.{front_step, is_over, part_end}
+use Rattle.part_texts.specs.{Fronts.FrontsView, Merged.ended, Reads.Leaves}
+use Rattle.part_texts.specs.declared.fault.MergeFault.{MergeFault}
+use Rattle.part_texts.specs.inside.Opened.{IsPartFault, IsRead, copied, lines_at, piece}
+use Rattle.recorded_lines.proofs.Reading.{follows_on, follows_self}
 use Rattle.recorded_lines.specs.Texts.{CanBe, Follows, IsEndAt, calls_of}
 use Rattle.recorded_lines.specs.declared.text.Lines.{Lines}
-use Rattle.recorded_lines.proofs.Reading.{follows_on, follows_self}
-use Rattle.report_texts.specs.declared.wrong.Wrong.{Wrong}
-use Rattle.report_texts.specs.declared.wrong.Wrong.TheVariants.{Form}
+use Rattle.report_texts.specs.declared.wrong.Wrong.{Wrong, TheVariants.Form}
+use Rattle.std.specs.Prelude.{nat_lt}
 use Rattle.world.specs.Run.{Run, with_written}
-use Rattle.world.specs.Writes.{IsCut}
-use Rattle.world.specs.declared.faults.WriteFault.{WriteFault}
-use Rattle.part_texts.specs.Fronts.{FrontsView}
-use Rattle.part_texts.specs.FrontSteps.{front_step, is_over, part_end}
-use Rattle.part_texts.specs.Merged.{ended}
-use Rattle.part_texts.specs.Reads.{Leaves}
-use Rattle.part_texts.specs.inside.Opened.{IsPartFault, IsRead, copied, lines_at, piece}
-use Rattle.part_texts.specs.declared.fault.MergeFault.{MergeFault}
+use Rattle.world.specs.{Writes.IsCut, declared.faults.WriteFault.WriteFault}
 use Rattle.part_texts.specs.declared.fault.MergeFault.TheVariants as fault
-use Rattle.part_texts.proofs.Written.{cut_on, written_none, written_on}
 
 abbrev pub part_run : Bool → ℕ → FrontsView → List (List ℕ)
     → Result (ℕ × FrontsView × List (List ℕ)) (ℕ × Wrong)

@@ -1,30 +1,28 @@
 -- The front of a part's report, as it is printed, is taken.
-use Rattle.std.proofs.Common.{◌≡◌, ◌+◌, ◌-◌, ◌<◌, ◌^◌, ◌||◌, ℕ, suc, true, false, List, [], ◌∷◌, ◌++◌, length, map}
-use Rattle.std.proofs.Common.{Option, Some, None, not, refl, arith, codes}
-use Rattle.std.specs.Prelude.{flat_map, nat_eq, nat_lt}
-use Rattle.std.proofs.lemmas.Bool.{and_from}
-use Rattle.std.proofs.lemmas.Bool.Decides.{nat_tests}
-use Rattle.std.specs.List.{AllByRecursion}
-use Rattle.histories.specs.Sums.{Sums}
-use Rattle.tap_views.specs.declared.upload_end.UploadEnd.TheVariants.{Posted}
+use Rattle.std.proofs.Common.{◌≡◌, ◌+◌, ◌-◌, ◌<◌, ◌^◌, ◌||◌, ℕ, suc, true, false, List, [], ◌∷◌}
+use Rattle.std.proofs.Common.{◌++◌, length, map, Option, Some, None, not, refl, arith, codes}
 use Rattle.fare_texts.specs.Counts.{totals_line}
 use Rattle.fare_texts.specs.ReportLines.{number_line, validator_line}
-use Rattle.report_texts.specs.Numbers.{AreCounts, IsValidatorSum}
-use Rattle.report_texts.specs.Report.{upload_line, upload_lines}
-use Rattle.report_texts.specs.declared.wrong.Wrong.TheVariants.{Form}
-use Rattle.report_texts.proofs.Lines.{head_complete, totals_complete, upload_complete, validator_complete}
-use Rattle.report_texts.proofs.OneLine.{head_is_one, totals_line_is_one, upload_is_one, validator_line_is_one}
-use Rattle.part_texts.specs.Fronts.{FrontsView, is_above, may_end, no_sums, position_eq, plus, starts, sums_eq, sums_within, taps_before, with_validator}
-use Rattle.part_texts.specs.FrontSteps.{front_step, is_over}
-use Rattle.part_texts.specs.Heads.{span_line, span_lines}
-use Rattle.part_texts.specs.Shown.{SpanFits}
-use Rattle.part_texts.specs.inside.Shown.{are_joined}
-use Rattle.part_texts.specs.inside.Shown.{adds_to, are_added, are_posted_to, are_increasing}
-use Rattle.sorted_taps.specs.declared.positions.Position.{Position}
-use Rattle.sorted_taps.specs.declared.positions.FileSpan.{FileSpan}
-use Rattle.part_texts.specs.declared.fronts.Stage.TheVariants.{Head, Files, Uploads, AfterTotals, Validators, Tokens}
+use Rattle.histories.specs.Sums.{Sums}
 use Rattle.part_texts.proofs.HeadLines.{span_complete, span_is_one}
 use Rattle.part_texts.proofs.Leads.{Leads, by_both, by_line, by_nothing}
+use Rattle.part_texts.specs.FrontSteps.{front_step, is_over}
+use Rattle.part_texts.specs.Fronts.{FrontsView, is_above, may_end, no_sums, position_eq, plus}
+use Rattle.part_texts.specs.Fronts.{starts, sums_eq, sums_within, taps_before, with_validator}
+use Rattle.part_texts.specs.{Heads.span_line, Heads.span_lines, Shown.SpanFits}
+use Rattle.part_texts.specs.declared.fronts.Stage.TheVariants.{Head, Files, Uploads, AfterTotals}
+use Rattle.part_texts.specs.declared.fronts.Stage.TheVariants.{Validators, Tokens}
+use Rattle.part_texts.specs.inside.Shown.{are_joined, adds_to, are_added, are_posted_to}
+use Rattle.part_texts.specs.inside.Shown.{are_increasing}
+use Rattle.report_texts.proofs.Lines.{head_complete, totals_complete, upload_complete}
+use Rattle.report_texts.proofs.{Lines.validator_complete, OneLine.head_is_one}
+use Rattle.report_texts.proofs.OneLine.{totals_line_is_one, upload_is_one, validator_line_is_one}
+use Rattle.report_texts.specs.{Numbers.AreCounts, Numbers.IsValidatorSum, Report.upload_line}
+use Rattle.report_texts.specs.{Report.upload_lines, declared.wrong.Wrong.TheVariants.Form}
+use Rattle.sorted_taps.specs.declared.positions.{FileSpan.FileSpan, Position.Position}
+use Rattle.std.proofs.lemmas.Bool.{and_from, Decides.nat_tests}
+use Rattle.std.specs.{List.AllByRecursion, Prelude.flat_map, Prelude.nat_eq, Prelude.nat_lt}
+use Rattle.tap_views.specs.declared.upload_end.UploadEnd.TheVariants.{Posted}
 
 abbrev pub FrontLeads : FrontsView → List ℕ → FrontsView → Type 0
 FrontLeads = Leads (is_over false) Form front_step

@@ -2,23 +2,19 @@
 use Rattle.std.proofs.Common.{◌≡◌, ◌∙◌, ℕ, Bool, true, false, List, [], ◌∷◌, ◌++◌, length, map}
 use Rattle.std.proofs.Common.{Option, None, Result, Ok, Err, refl, sym, ap, arith, append_assoc}
 use Rattle.std.proofs.Common.{codes, cond}
-use Rattle.fare_texts.specs.LedgerLines.{head_text}
-use Rattle.fare_texts.specs.ReportLines.{number_line}
+use Rattle.fare_texts.specs.{LedgerLines.head_text, ReportLines.number_line}
 use Rattle.line_folds.specs.Folds.{lines_of}
-use Rattle.report_texts.proofs.OneLine.{IsOneLine, tested}
-use Rattle.part_texts.specs.Fronts.{FrontsView, no_fronts, no_sums}
-use Rattle.part_texts.specs.Merged.{PartView, and_then, ended, lines_left, merge_of, merged}
-use Rattle.part_texts.specs.Merged.{read_all, read_of, report_front}
-use Rattle.part_texts.specs.Heads.{span_lines}
-use Rattle.part_texts.specs.inside.Shown.{are_next}
-use Rattle.part_texts.specs.inside.ShownLedgers.{PartLedger, all_lines, IsNextLedger, ledger_text}
-use Rattle.sorted_taps.specs.declared.positions.Position.{Position}
-use Rattle.part_texts.specs.declared.fronts.Stage.{Stage}
-use Rattle.part_texts.specs.declared.fronts.Stage.TheVariants.{Head, Entries}
-use Rattle.part_texts.proofs.Leads.{by_both, by_line}
-use Rattle.part_texts.proofs.Runs.{stopped}
+use Rattle.part_texts.proofs.{Leads.by_both, Leads.by_line, Runs.stopped}
 use Rattle.part_texts.proofs.ShownFronts.{FrontLeads, head_taken, spans_taken}
 use Rattle.part_texts.proofs.ShownParts.{IsFrontRead, are_opened, fronts_shown, left_shown}
+use Rattle.part_texts.specs.{Fronts.FrontsView, Fronts.no_fronts, Fronts.no_sums, Heads.span_lines}
+use Rattle.part_texts.specs.Merged.{PartView, and_then, ended, lines_left, merge_of, merged}
+use Rattle.part_texts.specs.Merged.{read_all, read_of, report_front}
+use Rattle.part_texts.specs.declared.fronts.Stage.{Stage, TheVariants.Head, TheVariants.Entries}
+use Rattle.part_texts.specs.inside.Shown.{are_next}
+use Rattle.part_texts.specs.inside.ShownLedgers.{PartLedger, all_lines, IsNextLedger, ledger_text}
+use Rattle.report_texts.proofs.OneLine.{IsOneLine, tested}
+use Rattle.sorted_taps.specs.declared.positions.Position.{Position}
 
 -- ---- one front
 -- where the fold stands behind ledgers (if so) that end so

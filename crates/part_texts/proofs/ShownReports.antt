@@ -2,32 +2,28 @@
 use Rattle.std.proofs.Common.{◌≡◌, ◌∙◌, ◌+◌, ℕ, Bool, true, false, List, [], ◌∷◌, ◌++◌, length, map}
 use Rattle.std.proofs.Common.{None, Ok, refl, sym, ap, arith, append_assoc, append-nil}
 use Rattle.std.proofs.Common.{length-append, codes}
-use Rattle.std.specs.Prelude.{flat_map}
-use Rattle.std.proofs.lemmas.List.Concat.{flat_map-append}
-use Rattle.histories.specs.Sums.{Sums}
-use Rattle.tap_views.specs.declared.upload_end.UploadEnd.TheVariants.{Posted}
 use Rattle.fare_texts.specs.Counts.{totals_line}
 use Rattle.fare_texts.specs.ReportLines.{number_line, token_line, validator_line}
+use Rattle.histories.specs.Sums.{Sums}
 use Rattle.line_folds.specs.Folds.{lines_of}
-use Rattle.report_texts.specs.Report.{upload_lines, uploads_section, validators_section}
-use Rattle.part_texts.specs.Fronts.{FrontsView, no_fronts, no_sums}
-use Rattle.std.proofs.Math.Bool.{or-true}
-use Rattle.part_texts.proofs.Runs.{stopped}
-use Rattle.part_texts.proofs.ShownParts.{IsFrontRead, are_opened, fronts_shown, left_shown}
-use Rattle.part_texts.specs.FrontSteps.{at_part}
-use Rattle.part_texts.specs.Merged.{PartView, ended, is_none_left, left_of, merge_of, read_all, read_of}
-use Rattle.part_texts.specs.Heads.{span_lines}
-use Rattle.part_texts.specs.Shown.{PartReport, part_text}
-use Rattle.part_texts.specs.inside.Shown.{IsNextPart, SoFar, are_next, last_of}
-use Rattle.part_texts.specs.inside.Shown.{nothing_so_far, tokens_of, whole_text}
-use Rattle.part_texts.specs.declared.fronts.Stage.{Stage}
-use Rattle.part_texts.specs.declared.fronts.Stage.TheVariants.{Head, Tokens}
-use Rattle.part_texts.proofs.Leads.{by_both}
+use Rattle.part_texts.proofs.{Leads.by_both, Runs.stopped}
 use Rattle.part_texts.proofs.ShownFronts.{FrontLeads, head_taken, last_key, posted_taken}
 use Rattle.part_texts.proofs.ShownFronts.{spans_taken, tokens_head_taken, totals_taken}
 use Rattle.part_texts.proofs.ShownFronts.{uploads_taken, validators_head_taken, validators_taken}
+use Rattle.part_texts.proofs.ShownParts.{IsFrontRead, are_opened, fronts_shown, left_shown}
 use Rattle.part_texts.proofs.ShownSections.{tokens_at, tokens_end, tokens_taken}
-use Rattle.std.proofs.lemmas.List.{length-map}
+use Rattle.part_texts.specs.{FrontSteps.at_part, Fronts.FrontsView, Fronts.no_fronts}
+use Rattle.part_texts.specs.{Fronts.no_sums, Heads.span_lines, Merged.PartView}
+use Rattle.part_texts.specs.Merged.{ended, is_none_left, left_of, merge_of, read_all, read_of}
+use Rattle.part_texts.specs.Shown.{PartReport, part_text}
+use Rattle.part_texts.specs.declared.fronts.Stage.{Stage, TheVariants.Head, TheVariants.Tokens}
+use Rattle.part_texts.specs.inside.Shown.{IsNextPart, SoFar, are_next, last_of, nothing_so_far}
+use Rattle.part_texts.specs.inside.Shown.{tokens_of, whole_text}
+use Rattle.report_texts.specs.Report.{upload_lines, uploads_section, validators_section}
+use Rattle.std.proofs.Math.Bool.{or-true}
+use Rattle.std.proofs.lemmas.List.{length-map, Concat.flat_map-append}
+use Rattle.std.specs.Prelude.{flat_map}
+use Rattle.tap_views.specs.declared.upload_end.UploadEnd.TheVariants.{Posted}
 
 -- where the fold stands behind the parts so far, at this stage
 abbrev pub trailing : Bool → Bool → Stage → Sums → Sums → SoFar → FrontsView

@@ -1,21 +1,17 @@
 -- The lines of a part's tokens, as they are printed, are taken.
-use Rattle.std.proofs.Common.{◌≡◌, ◌-◌, ℕ, suc, true, List, [], ◌∷◌, length, Option, Some, None, arith}
-use Rattle.std.proofs.Common.{refl}
-use Rattle.std.specs.Prelude.{flat_map}
-use Rattle.std.specs.List.{AllByRecursion}
-use Rattle.histories.specs.Sums.{Sums}
-use Rattle.tap_views.specs.declared.token.Token.{Token}
+use Rattle.std.proofs.Common.{◌≡◌, ◌-◌, ℕ, suc, true, List, [], ◌∷◌, length, Option, Some, None}
+use Rattle.std.proofs.Common.{arith, refl}
 use Rattle.fare_texts.specs.ReportLines.{token_line}
-use Rattle.report_texts.specs.Numbers.{IsTokenSum}
-use Rattle.report_texts.proofs.Lines.{token_complete}
-use Rattle.report_texts.proofs.OneLine.{token_line_is_one}
-use Rattle.report_texts.specs.declared.wrong.Wrong.TheVariants.{Form}
-use Rattle.part_texts.specs.Fronts.{FrontsView}
-use Rattle.part_texts.specs.FrontSteps.{front_step, is_over, part_end}
-use Rattle.part_texts.specs.inside.Shown.{adds_to, are_tokens_increasing, last_of}
-use Rattle.part_texts.specs.declared.fronts.Stage.TheVariants.{Tokens}
+use Rattle.histories.specs.Sums.{Sums}
 use Rattle.part_texts.proofs.Leads.{Leads, by_both, by_line, by_nothing}
 use Rattle.part_texts.proofs.ShownFronts.{same_sums}
+use Rattle.part_texts.specs.FrontSteps.{front_step, is_over, part_end}
+use Rattle.part_texts.specs.{Fronts.FrontsView, declared.fronts.Stage.TheVariants.Tokens}
+use Rattle.part_texts.specs.inside.Shown.{adds_to, are_tokens_increasing, last_of}
+use Rattle.report_texts.proofs.{Lines.token_complete, OneLine.token_line_is_one}
+use Rattle.report_texts.specs.{Numbers.IsTokenSum, declared.wrong.Wrong.TheVariants.Form}
+use Rattle.std.specs.{List.AllByRecursion, Prelude.flat_map}
+use Rattle.tap_views.specs.declared.token.Token.{Token}
 
 abbrev pub tokens_at : FrontsView → ℕ → Option Token → Sums → FrontsView
 tokens_at s left last so_far = record s { stage = Tokens left; so_far = so_far; last = last }

@@ -1,34 +1,26 @@
 -- The sums by validator of a history, added to those of the history before it.
 use Rattle.std.proofs.Common.{◌≡◌, ◌∙◌, ◌+◌, ◌≤◌, ◌^◌, ◌||◌, ℕ, Bool, true, false, cond, List, []}
-use Rattle.std.proofs.Common.{◌∷◌, ◌++◌, length, map, filter}
-use Rattle.std.proofs.Common.{Some, None, refl, sym, ap, subst, arith}
-use Rattle.std.specs.Prelude.{nat_le, unwrap_or}
-use Rattle.std.specs.BTreeMap.{insert_entry, is_at as is_key}
-use Rattle.std.specs.BTreeSet.{insert_key}
-use Rattle.std.specs.List.{AllByRecursion}
-use Rattle.std.specs.List.Sorted.{IsStrictlySortedBy}
-use Rattle.std.specs.Map.{lookup}
-use Rattle.std.specs.Ordering.{eq_by_cmp, is_eq, match_ordering, nat_cmp}
-use Rattle.std.specs.Set.{is_member}
-use Rattle.std.specs.declared.cmp.Ordering.{Ordering}
-use Rattle.std.specs.declared.cmp.Ordering.TheVariants.{Less, Equal, Greater}
-use Rattle.std.proofs.Math.Bool.{or-false, or-true}
-use Rattle.std.proofs.lemmas.Bool.{false≢true}
-use Rattle.std.proofs.lemmas.Bool.Decides.{nat_tests}
-use Rattle.std.proofs.lemmas.Cmp.{nat_cmp_total}
-use Rattle.std.proofs.lemmas.List.{map-append}
-use Rattle.std.proofs.lemmas.List.Elements.{filter-append}
-use Rattle.histories.specs.Entry.{is_at}
-use Rattle.histories.specs.Increasing.{increasing}
-use Rattle.histories.specs.Sums.{Sums, add_sums, sums, sums_of_replies}
-use Rattle.histories.specs.SumsByKey.{entries_of_validator, sums_by_validator, validator_of}
-use Rattle.histories.specs.SumsByKey.{validators}
-use Rattle.histories.specs.declared.entry.Entry.{Entry}
+use Rattle.std.proofs.Common.{◌∷◌, ◌++◌, length, map, filter, Some, None, refl, sym, ap, subst}
+use Rattle.std.proofs.Common.{arith}
 use Rattle.histories.proofs.IncreasingLemmas.{below_all, increasing-is, increasing-unique}
 use Rattle.histories.proofs.SumsLemmas.{add_none, sums-append, sums-taps}
+use Rattle.histories.specs.{Entry.is_at, Increasing.increasing}
+use Rattle.histories.specs.Sums.{Sums, add_sums, sums, sums_of_replies}
+use Rattle.histories.specs.SumsByKey.{entries_of_validator, sums_by_validator, validator_of}
+use Rattle.histories.specs.{SumsByKey.validators, declared.entry.Entry.Entry}
+use Rattle.part_texts.proofs.KeySums.{above_same, no_entries, number_reports, number_ties, table}
+use Rattle.part_texts.proofs.KeySums.{table_same}
 use Rattle.part_texts.specs.Fronts.{no_sums, sums_within, with_validator}
 use Rattle.part_texts.specs.inside.Shown.{are_added}
-use Rattle.part_texts.proofs.KeySums.{above_same, no_entries, number_reports, number_ties, table, table_same}
+use Rattle.std.proofs.Math.Bool.{or-false, or-true}
+use Rattle.std.proofs.lemmas.{Bool.false≢true, Bool.Decides.nat_tests, Cmp.nat_cmp_total}
+use Rattle.std.proofs.lemmas.List.{map-append, Elements.filter-append}
+use Rattle.std.specs.{BTreeMap.insert_entry, BTreeMap.is_at as is_key, BTreeSet.insert_key}
+use Rattle.std.specs.{List.AllByRecursion, List.Sorted.IsStrictlySortedBy, Map.lookup}
+use Rattle.std.specs.Ordering.{eq_by_cmp, is_eq, match_ordering, nat_cmp}
+use Rattle.std.specs.Prelude.{nat_le, unwrap_or}
+use Rattle.std.specs.{Set.is_member, declared.cmp.Ordering.Ordering}
+use Rattle.std.specs.declared.cmp.Ordering.TheVariants.{Less, Equal, Greater}
 
 abbrev has : List ℕ → ℕ → Bool
 has keys key = is_member (eq_by_cmp nat_cmp) keys key

@@ -1,19 +1,14 @@
 -- The front of the whole's report, written line by line.
 use Rattle.std.proofs.Common.{◌≡◌, ◌∙◌, ◌+◌, ◌<◌, ℕ, List, [], ◌∷◌, ◌++◌, length, take, get_or}
 use Rattle.std.proofs.Common.{length-take, sym, ap, append_assoc, append-nil, arith, codes, map}
-use Rattle.std.proofs.lemmas.List.{length-map, map-append, take_more}
-use Rattle.std.specs.Prelude.{flat_map}
-use Rattle.std.specs.Fmt.{decimal}
-use Rattle.std.specs.Map.Iter.{deref_pair}
-use Rattle.std.proofs.lemmas.List.Concat.{flat_map-append}
-use Rattle.fare_texts.specs.Counts.{counts_text}
-use Rattle.fare_texts.specs.ReportLines.{validator_line}
-use Rattle.histories.specs.Sums.{sums_of}
-use Rattle.histories.specs.declared.sums.totals.Totals.{Totals}
-use Rattle.report_texts.specs.Report.{upload_line, upload_lines}
-use Rattle.report_texts.proofs.Parts.{upload_lines-push}
-use Rattle.tap_views.specs.declared.upload_end.UploadEnd.TheVariants.{Posted}
+use Rattle.fare_texts.specs.{Counts.counts_text, ReportLines.validator_line}
+use Rattle.histories.specs.{Sums.sums_of, declared.sums.totals.Totals.Totals}
 use Rattle.part_texts.specs.inside.Fronts.{shown_sums}
+use Rattle.report_texts.proofs.Parts.{upload_lines-push}
+use Rattle.report_texts.specs.Report.{upload_line, upload_lines}
+use Rattle.std.proofs.lemmas.List.{length-map, map-append, take_more, Concat.flat_map-append}
+use Rattle.std.specs.{Fmt.decimal, Map.Iter.deref_pair, Prelude.flat_map}
+use Rattle.tap_views.specs.declared.upload_end.UploadEnd.TheVariants.{Posted}
 use denote.Ref.{Bor}
 
 -- what was written of the uploads before one, and the line of that one

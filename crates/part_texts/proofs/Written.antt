@@ -1,8 +1,7 @@
 -- What is written after other pieces.
 use Rattle.std.proofs.Common.{◌≡◌, ◌∙◌, ◌++◌, [], ℕ, List, ap, append-nil, append_assoc, refl, sym}
 use Rattle.world.specs.Run.{Run, with_cut, with_written}
-use Rattle.world.specs.Writes.{IsCut}
-use Rattle.world.specs.declared.faults.WriteFault.{WriteFault}
+use Rattle.world.specs.{Writes.IsCut, declared.faults.WriteFault.WriteFault}
 
 pub written_none : (r : Run) → r ≡ with_written r []
 written_none r = ap (λ t. record r { written = t }) (sym (append-nil r.written))

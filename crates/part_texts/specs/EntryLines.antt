@@ -1,9 +1,8 @@
 -- The line of a ledger's entry, as far as parts are merged by it.
+use Rattle.ledger_fields.specs.{Lines.row_in, Rows.Row}
+use Rattle.report_texts.specs.Forms.{token_read}
 use Rattle.std.specs.Prelude.{ℕ, List, Option, Some, None, option_map}
 use Rattle.tap_views.specs.declared.token.Token.{Token}
-use Rattle.ledger_fields.specs.Lines.{row_in}
-use Rattle.ledger_fields.specs.Rows.{Row}
-use Rattle.report_texts.specs.Forms.{token_read}
 
 abbrev pub first_of : {A B : Type 0} → A × B → A
 first_of parts = parts.0

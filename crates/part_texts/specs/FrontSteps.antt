@@ -1,22 +1,18 @@
 -- What parts say with one more line, or why that line is wrong.
-use Rattle.std.specs.Prelude.{◌-◌, ◌||◌, ◌&&◌, ℕ, zero, suc, Bool, true, false, not, cond, List}
-use Rattle.std.specs.Prelude.{[], ◌∷◌, ◌++◌, Option, Some, None, Result, Ok, Err, codes, length, nat_eq}
-use Rattle.std.specs.Str.{bytes_eq}
 use Rattle.fare_texts.specs.LedgerLines.{head_text}
 use Rattle.histories.specs.Sums.{Sums}
-use Rattle.report_texts.specs.Forms.{head_in, token_line_in, totals_in, upload_in, validator_in}
-use Rattle.report_texts.specs.declared.wrong.Wrong.{Wrong}
-use Rattle.report_texts.specs.declared.wrong.Wrong.TheVariants.{Form, NotPosted, Order}
-use Rattle.report_texts.specs.declared.wrong.Wrong.TheVariants.{Totals as OtherTotals}
 use Rattle.part_texts.specs.EntryLines.{entry_token_in}
-use Rattle.part_texts.specs.HeadForms.{span_in}
-use Rattle.part_texts.specs.Fronts.{FrontsView, is_above, may_end, may_follow}
-use Rattle.part_texts.specs.Fronts.{no_sums, position_eq, plus}
-use Rattle.part_texts.specs.Fronts.{posted_in, starts, sums_eq, sums_within, taps_before}
-use Rattle.part_texts.specs.Fronts.{with_validator}
-use Rattle.part_texts.specs.declared.fronts.Stage.{Stage}
+use Rattle.part_texts.specs.Fronts.{FrontsView, is_above, may_end, may_follow, no_sums, position_eq}
+use Rattle.part_texts.specs.Fronts.{plus, posted_in, starts, sums_eq, sums_within, taps_before}
+use Rattle.part_texts.specs.{Fronts.with_validator, HeadForms.span_in, declared.fronts.Stage.Stage}
 use Rattle.part_texts.specs.declared.fronts.Stage.TheVariants.{Head, Files, Uploads, AfterTotals}
 use Rattle.part_texts.specs.declared.fronts.Stage.TheVariants.{Validators, Tokens, Entries}
+use Rattle.report_texts.specs.Forms.{head_in, token_line_in, totals_in, upload_in, validator_in}
+use Rattle.report_texts.specs.declared.wrong.Wrong.{Wrong, TheVariants.Form, TheVariants.NotPosted}
+use Rattle.report_texts.specs.declared.wrong.Wrong.TheVariants.{Order, Totals as OtherTotals}
+use Rattle.std.specs.Prelude.{◌-◌, ◌||◌, ◌&&◌, ℕ, zero, suc, Bool, true, false, not, cond, List, []}
+use Rattle.std.specs.Prelude.{◌∷◌, ◌++◌, Option, Some, None, Result, Ok, Err, codes, length, nat_eq}
+use Rattle.std.specs.Str.{bytes_eq}
 
 -- a line that says nothing lacks the form that is wanted
 abbrev pub said : {A S : Type 0} → Option A → (A → Result S Wrong) → Result S Wrong

@@ -1,18 +1,14 @@
 -- What parts say: their fronts, which are their texts up to the lines of tokens or of entries, and
 -- these lines.
-use Rattle.std.specs.Prelude.{◌+◌, ◌^◌, ◌&&◌, ℕ, Bool, true, false, cond, List, [], ◌∷◌}
-use Rattle.std.specs.Prelude.{Option, Some, None, option_map, unwrap_or, nat_eq, nat_le, nat_lt, not}
-use Rattle.std.specs.BTreeMap.{insert_entry, is_at}
-use Rattle.std.specs.Map.{lookup}
-use Rattle.std.specs.Ordering.{is_lt, nat_cmp}
 use Rattle.histories.specs.Sums.{Sums, add_sums}
-use Rattle.tap_views.specs.Token.{token_cmp}
-use Rattle.tap_views.specs.declared.token.Token.{Token}
-use Rattle.tap_views.specs.declared.upload_end.UploadEnd.{UploadEnd}
-use Rattle.tap_views.specs.declared.upload_end.UploadEnd.TheVariants.{Posted}
+use Rattle.part_texts.specs.declared.fronts.Stage.{Stage, TheVariants.Head}
 use Rattle.sorted_taps.specs.declared.positions.Position.{Position}
-use Rattle.part_texts.specs.declared.fronts.Stage.{Stage}
-use Rattle.part_texts.specs.declared.fronts.Stage.TheVariants.{Head}
+use Rattle.std.specs.{BTreeMap.insert_entry, BTreeMap.is_at, Map.lookup}
+use Rattle.std.specs.Ordering.{is_lt, nat_cmp}
+use Rattle.std.specs.Prelude.{◌+◌, ◌^◌, ◌&&◌, ℕ, Bool, true, false, cond, List, [], ◌∷◌, Option}
+use Rattle.std.specs.Prelude.{Some, None, option_map, unwrap_or, nat_eq, nat_le, nat_lt, not}
+use Rattle.tap_views.specs.{Token.token_cmp, declared.token.Token.Token}
+use Rattle.tap_views.specs.declared.upload_end.UploadEnd.{UploadEnd, TheVariants.Posted}
 
 -- what the parts say, as far as they are read
 pub record FrontsView : Type 0 where

@@ -1,11 +1,9 @@
 -- What the lines of a part's head say, each by one total function.
-use Rattle.std.specs.Prelude.{ℕ, List, Option, Some, None, codes, option_map}
-use Rattle.std.specs.Option.{option_and_then}
-use Rattle.std.specs.Str.{bytes_eq}
 use Rattle.line_forms.specs.Forms.{said_by, then_read, value_if}
 use Rattle.report_texts.specs.Forms.{count_at}
-use Rattle.sorted_taps.specs.declared.positions.Position.{Position}
-use Rattle.sorted_taps.specs.declared.positions.FileSpan.{FileSpan}
+use Rattle.sorted_taps.specs.declared.positions.{FileSpan.FileSpan, Position.Position}
+use Rattle.std.specs.{Option.option_and_then, Prelude.ℕ, Prelude.List, Prelude.Option, Prelude.Some}
+use Rattle.std.specs.{Prelude.None, Prelude.codes, Prelude.option_map, Str.bytes_eq}
 
 abbrev pub to_or : Option (ℕ × ℕ) → List ℕ → Option (Option Position)
 to_or (Some to) text = Some (Some (record { offset = to.0; skip = to.1 }))

@@ -1,9 +1,8 @@
 -- The head of a part's text: where the part's taps lie in each file.
-use Rattle.std.specs.Prelude.{ℕ, ◌+◌, List, [], ◌∷◌, ◌++◌, Option, Some, None, length, codes}
-use Rattle.std.specs.Fmt.{decimal}
 use Rattle.fare_texts.specs.ReportLines.{number_line}
-use Rattle.sorted_taps.specs.declared.positions.Position.{Position}
-use Rattle.sorted_taps.specs.declared.positions.FileSpan.{FileSpan}
+use Rattle.sorted_taps.specs.declared.positions.{FileSpan.FileSpan, Position.Position}
+use Rattle.std.specs.Fmt.{decimal}
+use Rattle.std.specs.Prelude.{ℕ, ◌+◌, List, [], ◌∷◌, ◌++◌, Option, Some, None, length, codes}
 
 -- ` to 14344 skip 25`, or ` to end`, with the line feed
 abbrev pub to_line : Option Position → List ℕ

@@ -1,14 +1,12 @@
 -- Parts of a history, and the texts of their reports.
-use Rattle.std.specs.Prelude.{◌≡◌, ◌+◌, ◌<◌, ◌^◌, ℕ, List, [], ◌∷◌, flat_map, length, map}
-use Rattle.std.specs.List.{AllByRecursion}
-use Rattle.tap_views.specs.TokenOrder.{AreBelow}
-use Rattle.histories.specs.Sums.{sums}
-use Rattle.histories.specs.SumsByKey.{sums_by_token, sums_by_validator, token_of}
-use Rattle.histories.specs.declared.entry.Entry.{Entry}
-use Rattle.report_texts.specs.Numbers.{AreCounts, IsTokenSum, IsValidatorSum}
-use Rattle.sorted_taps.specs.Positions.{AreWhole}
+use Rattle.histories.specs.{Sums.sums, SumsByKey.sums_by_token, SumsByKey.sums_by_validator}
+use Rattle.histories.specs.{SumsByKey.token_of, declared.entry.Entry.Entry}
 use Rattle.part_texts.specs.Shown.{PartReport, SpanFits, sum_up}
-use Rattle.sorted_taps.specs.declared.positions.FileSpan.{FileSpan}
+use Rattle.report_texts.specs.Numbers.{AreCounts, IsTokenSum, IsValidatorSum}
+use Rattle.sorted_taps.specs.{Positions.AreWhole, declared.positions.FileSpan.FileSpan}
+use Rattle.std.specs.List.{AllByRecursion}
+use Rattle.std.specs.Prelude.{◌≡◌, ◌+◌, ◌<◌, ◌^◌, ℕ, List, [], ◌∷◌, flat_map, length, map}
+use Rattle.tap_views.specs.TokenOrder.{AreBelow}
 
 -- where a part lies in each file, how many taps each file has there, and the history of the taps
 pub record HistoryPart : Type 0 where

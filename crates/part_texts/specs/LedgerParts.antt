@@ -1,12 +1,11 @@
 -- Parts of a history, and the texts of their ledgers.
-use Rattle.std.specs.Prelude.{◌≡◌, ◌<◌, ◌^◌, ℕ, List, ◌++◌, None, length, map}
-use Rattle.std.specs.List.{AllByRecursion}
-use Rattle.tariffs.specs.Fares.{Fares}
 use Rattle.fare_texts.specs.Ledger.{IsLedgerOver}
-use Rattle.part_texts.specs.Heads.{part_head}
-use Rattle.part_texts.specs.HistoryParts.{AreIncreasing, HistoryPart, histories_of}
-use Rattle.part_texts.specs.Shown.{SpanFits}
+use Rattle.part_texts.specs.{Heads.part_head, HistoryParts.AreIncreasing, HistoryParts.HistoryPart}
+use Rattle.part_texts.specs.{HistoryParts.histories_of, Shown.SpanFits}
 use Rattle.sorted_taps.specs.Positions.{AreWhole}
+use Rattle.std.specs.List.{AllByRecursion}
+use Rattle.std.specs.Prelude.{◌≡◌, ◌<◌, ◌^◌, ℕ, List, ◌++◌, None, length, map}
+use Rattle.tariffs.specs.Fares.{Fares}
 
 -- the text of the part: where it lies in each file, and the ledger of its history
 pub record IsPartLedger (fares : Fares) (part : HistoryPart) (text : List ℕ) : Type 0 where

@@ -1,19 +1,15 @@
 -- What the texts of parts are merged into.
-use Rattle.std.specs.Prelude.{ℕ, Bool, true, false, cond, List, [], ◌∷◌, ◌++◌, flat_map}
-use Rattle.std.specs.Prelude.{Option, Some, None, Result, Ok, Err, codes, length, map}
+use Rattle.fare_texts.specs.{Counts.totals_line, LedgerLines.head_text, ReportLines.number_line}
 use Rattle.histories.specs.Sums.{Sums}
-use Rattle.tap_views.specs.declared.upload_end.UploadEnd.TheVariants.{Posted}
-use Rattle.fare_texts.specs.Counts.{totals_line}
-use Rattle.fare_texts.specs.LedgerLines.{head_text}
-use Rattle.fare_texts.specs.ReportLines.{number_line}
 use Rattle.line_folds.specs.Folds.{bounded, lines_of, run}
-use Rattle.report_texts.specs.Report.{uploads_section, validators_section}
-use Rattle.report_texts.specs.declared.wrong.Wrong.{Wrong}
-use Rattle.report_texts.specs.declared.wrong.Wrong.TheVariants.{Form}
-use Rattle.part_texts.specs.Fronts.{FrontsView, no_fronts, no_sums}
 use Rattle.part_texts.specs.FrontSteps.{at_part, front_step, is_over, part_end}
-use Rattle.part_texts.specs.declared.fronts.Stage.{Stage}
-use Rattle.part_texts.specs.declared.fronts.Stage.TheVariants.{Head}
+use Rattle.part_texts.specs.Fronts.{FrontsView, no_fronts, no_sums}
+use Rattle.part_texts.specs.declared.fronts.Stage.{Stage, TheVariants.Head}
+use Rattle.report_texts.specs.Report.{uploads_section, validators_section}
+use Rattle.report_texts.specs.declared.wrong.Wrong.{Wrong, TheVariants.Form}
+use Rattle.std.specs.Prelude.{ℕ, Bool, true, false, cond, List, [], ◌∷◌, ◌++◌, flat_map, Option}
+use Rattle.std.specs.Prelude.{Some, None, Result, Ok, Err, codes, length, map}
+use Rattle.tap_views.specs.declared.upload_end.UploadEnd.TheVariants.{Posted}
 
 -- a text, the number of a line of it, and what is wrong with that line
 abbrev pub WrongLine : Type 0

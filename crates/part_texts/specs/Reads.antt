@@ -1,13 +1,11 @@
 -- What is merged of parts that are read line by line: of what reads gave, whatever follows.
-use Rattle.std.specs.Prelude.{◌≡◌, ⊤, ℕ, List, ◌++◌, Result, Ok, Err, Some, All, map, slice_get}
-use Rattle.std.specs.List.{AllZip}
-use Rattle.recorded_lines.specs.Texts.{CanBe}
-use Rattle.recorded_lines.specs.Unread.{IsUnread}
-use Rattle.world.specs.Run.{Calls, Run, with_cut, with_written}
-use Rattle.world.specs.Streams.{IsWhole}
 use Rattle.part_texts.specs.Merged.{WrongLine, merge_of}
 use Rattle.part_texts.specs.declared.fault.MergeFault.{MergeFault}
 use Rattle.part_texts.specs.declared.fault.MergeFault.TheVariants.{Line, Unread, Write, NoMemory}
+use Rattle.recorded_lines.specs.{Texts.CanBe, Unread.IsUnread}
+use Rattle.std.specs.List.{AllZip}
+use Rattle.std.specs.Prelude.{◌≡◌, ⊤, ℕ, List, ◌++◌, Result, Ok, Err, Some, All, map, slice_get}
+use Rattle.world.specs.{Run.Calls, Run.Run, Run.with_cut, Run.with_written, Streams.IsWhole}
 
 -- the texts that reads by these calls gave
 abbrev pub read_by : List Calls → List (List ℕ)

@@ -1,23 +1,17 @@
 //! The fronts of parts: each part's text up to its lines of tokens or of entries.
 
-ghost use Rattle.std.specs.Prelude.{◌≡◌, ◌+◌, ◌<◌, IfOk, MatchOption, None, Some, nat_le, option_map};
-ghost use Rattle.std.specs.Prelude.{unwrap_or};
-ghost use Rattle.std.specs.BTreeMap.{is_at};
-ghost use Rattle.std.specs.Map.{lookup};
-ghost use Rattle.std.specs.Ordering.{nat_cmp};
-ghost use Rattle.std.specs.Str.{bytes_eq};
 ghost use Rattle.fare_texts.specs.LedgerLines.{head_text};
-ghost use Rattle.histories.specs.Shown.{validator_sum};
-ghost use Rattle.histories.specs.Sums.{sums_of};
-ghost use Rattle.part_texts.specs.Fronts.{is_above, may_end, no_fronts, no_sums};
-ghost use Rattle.part_texts.specs.inside.Fronts.{fronts_view};
-ghost use Rattle.part_texts.specs.inside.Fronts.{IsWith, TakesAs};
-ghost use Rattle.part_texts.specs.Fronts.{position_eq, plus, posted_in, starts, sums_eq};
-ghost use Rattle.part_texts.specs.inside.Fronts.{shown_sums};
-ghost use Rattle.part_texts.specs.Fronts.{sums_within, taps_before};
+ghost use Rattle.histories.specs.{Shown.validator_sum, Sums.sums_of};
 ghost use Rattle.part_texts.specs.FrontSteps.{at_part, front_step, head_step, is_over, kind_step};
 ghost use Rattle.part_texts.specs.FrontSteps.{ledger_step, span_step, tokens_step, totals_step};
-ghost use Rattle.part_texts.specs.FrontSteps.{upload_step, uploads_step, validator_step, validators_step};
+ghost use Rattle.part_texts.specs.FrontSteps.{upload_step, uploads_step, validator_step};
+ghost use Rattle.part_texts.specs.FrontSteps.{validators_step};
+ghost use Rattle.part_texts.specs.Fronts.{is_above, may_end, no_fronts, no_sums, position_eq, plus};
+ghost use Rattle.part_texts.specs.Fronts.{posted_in, starts, sums_eq, sums_within, taps_before};
+ghost use Rattle.part_texts.specs.inside.Fronts.{fronts_view, IsWith, TakesAs, shown_sums};
+ghost use Rattle.std.specs.{BTreeMap.is_at, Map.lookup, Ordering.nat_cmp, Prelude.◌≡◌};
+ghost use Rattle.std.specs.Prelude.{◌+◌, ◌<◌, IfOk, MatchOption, None, Some, nat_le, option_map};
+ghost use Rattle.std.specs.{Prelude.unwrap_or, Str.bytes_eq};
 
 use crate::head::span_in;
 use crate::seen::Seen;

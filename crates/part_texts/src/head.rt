@@ -1,13 +1,12 @@
 //! The head of a part's text: how it is written, and how its lines are read.
 
-ghost use Rattle.std.specs.Prelude.{◌≡◌, ◌++◌, IfErr, IfOk, OnOk, codes, string_bytes};
-ghost use Rattle.std.specs.Io.KnownBytes.{Appends};
-ghost use Rattle.std.specs.Str.{bytes_eq};
-ghost use Rattle.fare_texts.specs.PrintFaults.{UnchangedUnlessWrite};
-ghost use Rattle.fare_texts.specs.WrittenOut.{Begins};
+ghost use Rattle.fare_texts.specs.{PrintFaults.UnchangedUnlessWrite, WrittenOut.Begins};
 ghost use Rattle.fare_texts.specs.declared.print_fault.PrintFault.TheVariants.{Write as ForWrite};
 ghost use Rattle.part_texts.specs.HeadForms.{span_in, to_in};
 ghost use Rattle.part_texts.specs.Heads.{part_head, span_line, span_lines};
+ghost use Rattle.std.specs.Io.KnownBytes.{Appends};
+ghost use Rattle.std.specs.Prelude.{◌≡◌, ◌++◌, IfErr, IfOk, OnOk, codes, string_bytes};
+ghost use Rattle.std.specs.Str.{bytes_eq};
 
 use fare_texts::{PrintFault, write_out};
 use line_forms::form::FormOf;

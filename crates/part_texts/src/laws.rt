@@ -1,18 +1,15 @@
 //! Theorems about texts of parts: what they are merged into.
 
-ghost use Rattle.std.specs.Prelude.{◌≡◌, ◌∷◌, ℕ, List, None, Ok, map};
-ghost use Rattle.std.specs.List.{AllZip};
-ghost use Rattle.tariffs.specs.Fares.{Fares};
 ghost use Rattle.fare_texts.specs.Ledger.{IsLedgerOver};
-ghost use Rattle.histories.specs.Sums.{sums};
-ghost use Rattle.histories.specs.SumsByKey.{sums_by_token, sums_by_validator};
-ghost use Rattle.tap_views.specs.declared.upload_end.UploadEnd.TheVariants.{Posted};
-ghost use Rattle.report_texts.specs.Report.{report};
+ghost use Rattle.histories.specs.{Sums.sums, SumsByKey.sums_by_token, SumsByKey.sums_by_validator};
 ghost use Rattle.part_texts.specs.HistoryParts.{AreRight, HistoryPart, numbers_of, report_of};
-ghost use Rattle.part_texts.specs.HistoryParts.{whole_history};
-ghost use Rattle.part_texts.specs.LedgerParts.{DoJoinUp, IsPartLedger};
-ghost use Rattle.part_texts.specs.Merged.{merge_of};
-ghost use Rattle.part_texts.specs.Shown.{part_text};
+ghost use Rattle.part_texts.specs.{HistoryParts.whole_history, LedgerParts.DoJoinUp};
+ghost use Rattle.part_texts.specs.{LedgerParts.IsPartLedger, Merged.merge_of, Shown.part_text};
+ghost use Rattle.report_texts.specs.Report.{report};
+ghost use Rattle.std.specs.List.{AllZip};
+ghost use Rattle.std.specs.Prelude.{◌≡◌, ◌∷◌, ℕ, List, None, Ok, map};
+ghost use Rattle.tap_views.specs.declared.upload_end.UploadEnd.TheVariants.{Posted};
+ghost use Rattle.tariffs.specs.Fares.{Fares};
 
 /// The reports of parts that join and rise by token are merged into that of all parts' history.
 #[tactic(auto, using(crate::proofs::HistoryParts::histories_merge))]

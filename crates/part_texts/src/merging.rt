@@ -1,19 +1,16 @@
 //! Texts of parts, merged.
 
-ghost use Rattle.std.specs.Prelude.{◌≡◌, ◌++◌, ◌<◌, IfErr, IfOk, OnOk, All, length, map, string_bytes};
-ghost use Rattle.std.specs.List.{AllZip, flat_map};
-ghost use Rattle.fare_texts.specs.LedgerLines.{head_text};
-ghost use Rattle.fare_texts.specs.ReportLines.{validator_line};
+ghost use Rattle.fare_texts.specs.{LedgerLines.head_text, ReportLines.validator_line};
 ghost use Rattle.histories.specs.Sums.{sums_of};
-ghost use Rattle.tap_views.specs.declared.upload_end.UploadEnd.TheVariants.{Posted};
+ghost use Rattle.part_texts.specs.{Merged.report_front, Merged.whole_front, Reads.MergesAs};
+ghost use Rattle.part_texts.specs.inside.Fronts.{fronts_view, shown_sums};
+ghost use Rattle.part_texts.specs.inside.Opened.{AreRead, IsInitial, IsRead, piece};
 ghost use Rattle.recorded_lines.specs.Texts.{Follows, IsFresh, calls_of};
 ghost use Rattle.report_texts.specs.Report.{upload_lines, uploads_section, validators_section};
-ghost use Rattle.world.specs.Run.{with_written};
-ghost use Rattle.world.specs.Writes.{IsCut};
-ghost use Rattle.part_texts.specs.inside.Fronts.{fronts_view, shown_sums};
-ghost use Rattle.part_texts.specs.Merged.{report_front, whole_front};
-ghost use Rattle.part_texts.specs.Reads.{MergesAs};
-ghost use Rattle.part_texts.specs.inside.Opened.{AreRead, IsInitial, IsRead, piece};
+ghost use Rattle.std.specs.{List.AllZip, List.flat_map, Prelude.◌≡◌};
+ghost use Rattle.std.specs.Prelude.{◌++◌, ◌<◌, IfErr, IfOk, OnOk, All, length, map, string_bytes};
+ghost use Rattle.tap_views.specs.declared.upload_end.UploadEnd.TheVariants.{Posted};
+ghost use Rattle.world.specs.{Run.with_written, Writes.IsCut};
 
 use crate::fault::MergeFault;
 use crate::fronts::{Fronts, Open, Refusal, Stage, no_totals};

@@ -1,14 +1,11 @@
 -- Places that are filled by several reads.
 use Rattle.std.proofs.Common.{◌≡◌, ℕ, zero, suc, ◌+◌, ◌≤◌, List, [], ◌∷◌, ◌++◌, length, take, drop}
-use Rattle.std.proofs.Common.{sym, ap, ◌∙◌, arith, IfSome, Some, None}
+use Rattle.std.proofs.Common.{sym, ap, ◌∙◌, arith, IfSome, Some, None, length-append}
+use Rattle.placed_files.specs.{Placed.IsReadAt, inside.Started.IsStartedFrom}
+use Rattle.std.proofs.lemmas.List.{take-append-drop, length-take-le, take-append-le, drop-drop}
+use Rattle.std.proofs.lemmas.{List.length-drop, Slice.take-put_mid_below}
 use Rattle.std.specs.Prelude.{Option}
 use borrow.Rule.Slice.PartMut.{put_mid, post_of}
-use Rattle.std.proofs.lemmas.List.{take-append-drop, length-take-le, take-append-le, drop-drop}
-use Rattle.std.proofs.lemmas.List.{length-drop}
-use Rattle.std.proofs.Common.{length-append}
-use Rattle.std.proofs.lemmas.Slice.{take-put_mid_below}
-use Rattle.placed_files.specs.Placed.{IsReadAt}
-use Rattle.placed_files.specs.inside.Started.{IsStartedFrom}
 
 -- the first elements of two lists, if they reach past the first list
 take_past : (us vs : List ℕ) (n m : ℕ) → m ≡ length us + n → take m (us ++ vs) ≡ us ++ take n vs

@@ -1,7 +1,6 @@
 //! By what a change of a file is noticed.
 
-ghost use Rattle.std.specs.Prelude.{◌≡◌};
-ghost use Rattle.std.specs.Fs.{metadata_len};
+ghost use Rattle.std.specs.{Fs.metadata_len, Prelude.◌≡◌};
 
 use std::fs::Metadata;
 use std::os::unix::fs::MetadataExt;

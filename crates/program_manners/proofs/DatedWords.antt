@@ -1,9 +1,8 @@
 -- Words of `--table` of which none is wrong.
-use Rattle.std.specs.Prelude.{ℕ, ◌≡◌, ◌<◌, true, false, List, Option, None, Some, length}
 use Rattle.std.proofs.Common.{refl, arith, get_or, [], ◌∷◌, Bor, map, suc, zero}
 use Rattle.program_manners.specs.TableWords.{TableNames, date_fault, found_or, wrong_later}
-use Rattle.program_manners.specs.TableWords.{wrong_word}
-use Rattle.program_manners.specs.declared.table_words.DateFault.{DateFault}
+use Rattle.program_manners.specs.{TableWords.wrong_word, declared.table_words.DateFault.DateFault}
+use Rattle.std.specs.Prelude.{ℕ, ◌≡◌, ◌<◌, true, false, List, Option, None, Some, length}
 
 -- what is found behind a word that is right
 after_right : (word : List ℕ) (fault : Option DateFault) (trailing : Option (List ℕ × DateFault))

@@ -1,12 +1,9 @@
 -- Flags of a command line: given by the text `true`, and by nothing else.
 use Rattle.std.proofs.Common.{◌≡◌, Bool, true, false, Option, None, Some, List, ℕ, refl, sym, ap}
 use Rattle.std.proofs.Common.{codes}
-use Rattle.std.specs.Prelude.{unwrap_or}
-use Rattle.std.specs.Option.{option_map_or}
-use Rattle.std.specs.Str.{bytes_eq}
-use Rattle.std.specs.Str.Parse.{ParsesBool}
-use Rattle.std.proofs.lemmas.Slice.Eq.{bytes_eq-Decides}
 use Rattle.clap.specs.Matches.{ReadsOne}
+use Rattle.std.proofs.lemmas.Slice.Eq.{bytes_eq-Decides}
+use Rattle.std.specs.{Option.option_map_or, Prelude.unwrap_or, Str.bytes_eq, Str.Parse.ParsesBool}
 
 -- a text that says that a flag is given
 abbrev pub is_true_text : List ℕ → Bool

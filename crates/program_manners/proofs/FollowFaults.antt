@@ -1,21 +1,18 @@
 -- Why a table cannot follow others from a date on.
-use Rattle.std.proofs.Common.{◌≡◌, ◌∙◌, ◌*◌, ℕ, List, [], Ok, ap, arith, false, refl, sym, true≢false}
-use Rattle.std.specs.Prelude.{Result, pos, ℤ}
-use Rattle.std.proofs.lemmas.Int.{ints}
+use Rattle.std.proofs.Common.{◌≡◌, ◌∙◌, ◌*◌, ℕ, List, [], Ok, ap, arith, false, refl, sym}
+use Rattle.std.proofs.Common.{true≢false}
+use Rattle.fare_table.specs.{TableMeaning.meaning_in, declared.fault.TableFault.TableFault}
 use Rattle.jiff_core.specs.Calendar.{days_from_civil}
-use Rattle.tariffs.specs.Fares.{Fares}
-use Rattle.tariffs.specs.Following.{IsFollowFault}
-use Rattle.tariffs.specs.TableMeaning.{TableMeaning}
-use Rattle.fare_table.specs.TableMeaning.{meaning_in}
-use Rattle.fare_table.specs.declared.fault.TableFault.{TableFault}
-use Rattle.tariffs.specs.declared.follow_fault.FollowFault.{FollowFault}
-use Rattle.tariffs.specs.declared.follow_fault.FollowFault.TheVariants.{Caps, Date, Followed}
-use Rattle.tariffs.specs.declared.follow_fault.FollowFault.TheVariants.{Modes, NoMemory, Zone}
-use Rattle.program_manners.specs.TableLoads.{FollowsFrom}
-use Rattle.program_manners.specs.TableWords.{IsMidnight}
+use Rattle.program_manners.specs.{TableLoads.FollowsFrom, TableWords.IsMidnight}
 use Rattle.program_manners.specs.declared.following.NextFault.TheVariants.{Follow}
 use Rattle.program_manners.specs.declared.table_words.WrittenDate.{WrittenDate}
 use Rattle.program_manners.specs.inside.TableLoads.{is_memory}
+use Rattle.std.proofs.lemmas.Int.{ints}
+use Rattle.std.specs.Prelude.{Result, pos, ℤ}
+use Rattle.tariffs.specs.{Fares.Fares, Following.IsFollowFault, TableMeaning.TableMeaning}
+use Rattle.tariffs.specs.declared.follow_fault.FollowFault.{FollowFault}
+use Rattle.tariffs.specs.declared.follow_fault.FollowFault.TheVariants.{Caps, Date, Followed, Modes}
+use Rattle.tariffs.specs.declared.follow_fault.FollowFault.TheVariants.{NoMemory, Zone}
 
 -- a date of the same numbers is the same day
 pub day_same : (y y' : ℤ) (m m' d d' : ℕ) → y ≡ y' → m ≡ m' → d ≡ d'

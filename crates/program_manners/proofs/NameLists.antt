@@ -2,11 +2,10 @@
 use Rattle.std.proofs.Common.{◌≡◌, ◌≢◌, ◌<◌, ◌⊎◌, ◌∙◌, ◌+◌, ◌==◌, ℕ, false, true≢false, zero, suc}
 use Rattle.std.proofs.Common.{List, [], ◌∷◌, ◌++◌, length, get_or, take, drop, refl, sym, ap, inl}
 use Rattle.std.proofs.Common.{inr, arith, append_assoc, append-nil}
-use Rattle.std.proofs.lemmas.List.{get_or-take, length-take}
-use Rattle.std.proofs.lemmas.List.Concat.{flat_map-append}
-use Rattle.std.proofs.lemmas.List.Elements.{All-push}
 use Rattle.program_manners.specs.FileLists.{IsListedName, Lacks, ended_by}
 use Rattle.program_manners.specs.inside.FileLists.{AreReadFrom}
+use Rattle.std.proofs.lemmas.List.{get_or-take, length-take, Concat.flat_map-append}
+use Rattle.std.proofs.lemmas.List.Elements.{All-push}
 
 -- what stands before a place lacks a byte that does not stand before it
 pub lacks_before : (byte : ℕ) (text : List ℕ) (at : ℕ) → ((k : ℕ) → k < at → get_or text k 0 ≢ byte)

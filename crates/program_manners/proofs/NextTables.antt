@@ -1,13 +1,12 @@
 -- One more table that was loaded behind others.
 use Rattle.std.proofs.Common.{◌≡◌, ◌∙◌, ◌+◌, ◌<◌, ℕ, List, [], ◌∷◌, ◌++◌, Bor, Option, Some, ap}
-use Rattle.std.proofs.Common.{arith}
-use Rattle.std.proofs.Common.{drop, get_or, length, length-append, map, refl, subst, suc, sym, take}
-use Rattle.std.proofs.Common.{zero}
-use Rattle.std.proofs.lemmas.List.{map_more}
-use Rattle.tariffs.specs.Fares.{Fares}
+use Rattle.std.proofs.Common.{arith, drop, get_or, length, length-append, map, refl, subst, suc}
+use Rattle.std.proofs.Common.{sym, take, zero}
 use Rattle.program_manners.specs.Loads.{Loaded, LoadsOne}
 use Rattle.program_manners.specs.TableLoads.{Follows, LoadsLater, LoadsTables}
 use Rattle.program_manners.specs.TableWords.{TableNames, file_named}
+use Rattle.std.proofs.lemmas.List.{map_more}
+use Rattle.tariffs.specs.Fares.{Fares}
 
 -- behind the tables of these words
 later_push : (fares : Fares) (words : List (List ℕ)) (word : List ℕ)

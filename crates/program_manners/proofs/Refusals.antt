@@ -1,11 +1,10 @@
 -- What was refused, and names of files among others.
 use Rattle.std.proofs.Common.{◌≡◌, ◌<◌, ℕ, List, [], ◌∷◌, Bor, Option, None, Some, ap, arith, codes}
 use Rattle.std.proofs.Common.{get_or, inl, inr, length, map, subst, suc, zero}
-use Rattle.std.specs.Prelude.{unwrap_or}
 use Rattle.clap.specs.Words.{HasKind, Kinds, kind_of}
-use Rattle.clap.specs.declared.error.Error.{Error}
-use Rattle.clap.specs.declared.error.kind.ErrorKind.TheVariants.{OutOfMemory}
+use Rattle.clap.specs.declared.error.{Error.Error, kind.ErrorKind.TheVariants.OutOfMemory}
 use Rattle.program_manners.specs.Refusals.{IsOneOf, Refuses, HasRefused}
+use Rattle.std.specs.Prelude.{unwrap_or}
 use Rattle.world.specs.declared.faults.LoadFault.{LoadFault}
 
 -- a name at a place is one of the names

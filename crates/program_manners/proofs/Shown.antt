@@ -1,13 +1,12 @@
 -- Refusals that the calls of a run show.
-use Rattle.std.proofs.Common.{◌≡◌, ◌∷◌, [], ◌++◌, ℕ, List, Option, Some, Contains, sym, subst}
-use Rattle.std.proofs.lemmas.List.Elements.{Contains-append_left, Contains-push}
-use Rattle.std.proofs.lemmas.Grind.{merely}
-use mathlib.Core.Logic.{∥∥₁_map}
-use Rattle.world.specs.Run.{Load, Run, with_all, with_load}
-use Rattle.world.specs.Loads.{IsRefused}
-use Rattle.world.specs.declared.faults.LoadFault.{LoadFault}
-use Rattle.world.specs.declared.faults.LoadFault.TheVariants as load
+use Rattle.std.proofs.Common.{◌≡◌, ℕ, List, Option, Contains, sym, subst}
 use Rattle.program_manners.specs.Refusals.{IsShown}
+use Rattle.std.proofs.lemmas.Grind.{merely}
+use Rattle.std.proofs.lemmas.List.Elements.{Contains-append_left, Contains-push}
+use Rattle.world.specs.{Loads.IsRefused, Run.Run, Run.with_all, Run.with_load}
+use Rattle.world.specs.declared.faults.LoadFault.{LoadFault}
+use mathlib.Core.Logic.{∥∥₁_map}
+use Rattle.world.specs.declared.faults.LoadFault.TheVariants as load
 
 shown_with : (r s : Run) (refusal : Option (List ℕ) × LoadFault) → IsShown r refusal
     → IsShown (with_all r s) refusal

@@ -1,27 +1,25 @@
 -- The fault of fare tables that are loaded one after another is the right one.
 use Rattle.std.proofs.Common.{◌≡◌, ◌∙◌, ℕ, List, ◌∷◌, ◌++◌, Ok, Option, Some, ap, false, inl, inr}
 use Rattle.std.proofs.Common.{refl, subst, sym, true≢false}
-use Rattle.std.specs.Prelude.{Err, IsUtf8, Result, ◌≢◌}
-use Rattle.tariffs.specs.Fares.{Fares}
-use Rattle.fare_table.specs.Meaning.{Means}
-use Rattle.fare_table.specs.TableMeaning.{meaning_in}
+use Rattle.fare_table.specs.{Meaning.Means, TableMeaning.meaning_in}
 use Rattle.fare_table.specs.declared.fault.TableFault.{TableFault}
-use Rattle.fare_table.specs.declared.fault.TableFault.TheVariants as table
-use Rattle.program_manners.specs.Loads.{Loaded, LoadsOne}
-use Rattle.program_manners.specs.Refusals.{IsOneOf, Refuses}
+use Rattle.program_manners.specs.{Loads.Loaded, Loads.LoadsOne, Refusals.IsOneOf, Refusals.Refuses}
 use Rattle.program_manners.specs.TableLoads.{FollowsFrom, LoadsTables}
 use Rattle.program_manners.specs.TableRefusals.{RefusesTable}
 use Rattle.program_manners.specs.TableWords.{TableNames, file_named, table_files, written_date}
 use Rattle.program_manners.specs.TablesFaults.{IsTablesFault}
 use Rattle.program_manners.specs.declared.following.NextFault.{NextFault}
-use Rattle.program_manners.specs.declared.following.NextFault.TheVariants as next
 use Rattle.program_manners.specs.declared.loading.FileFault.{FileFault}
-use Rattle.world.specs.declared.faults.LoadFault.{LoadFault}
-use Rattle.program_manners.specs.declared.table_loads.TablesFault.{TablesFault}
-use Rattle.program_manners.specs.declared.table_loads.TablesFault.TheVariants.{File, Follow}
-use Rattle.program_manners.specs.declared.table_loads.TablesFault.TheVariants.{NamedTable, NoMemory, Table}
+use Rattle.program_manners.specs.declared.table_loads.TablesFault.{TablesFault, TheVariants.File}
+use Rattle.program_manners.specs.declared.table_loads.TablesFault.TheVariants.{Follow, NamedTable}
+use Rattle.program_manners.specs.declared.table_loads.TablesFault.TheVariants.{NoMemory, Table}
 use Rattle.program_manners.specs.declared.table_words.WrittenDate.{WrittenDate}
 use Rattle.program_manners.specs.inside.TableLoads.{IsFirstReported, IsReportedBy, is_memory}
+use Rattle.std.specs.Prelude.{Err, IsUtf8, Result, ◌≢◌}
+use Rattle.tariffs.specs.Fares.{Fares}
+use Rattle.world.specs.declared.faults.LoadFault.{LoadFault}
+use Rattle.fare_table.specs.declared.fault.TableFault.TheVariants as table
+use Rattle.program_manners.specs.declared.following.NextFault.TheVariants as next
 
 two_ways : {A : Type 0} (r : Result A TableFault) (a : A) (fault : TableFault) → r ≡ Ok a
     → r ≡ Err fault → ⊥

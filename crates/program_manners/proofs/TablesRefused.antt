@@ -1,8 +1,6 @@
 -- The file of a table that is refused is one of those of the words.
 use Rattle.std.proofs.Common.{◌≡◌, ℕ, List, [], ◌∷◌, ◌++◌, Option, inl, inr, map, refl, subst, sym}
-use Rattle.program_manners.specs.Loads.{Loaded}
-use Rattle.program_manners.specs.Refusals.{IsOneOf}
-use Rattle.program_manners.specs.TableRefusals.{RefusesTable}
+use Rattle.program_manners.specs.{Loads.Loaded, Refusals.IsOneOf, TableRefusals.RefusesTable}
 use Rattle.program_manners.specs.TableWords.{TableNames, file_named, table_files}
 
 -- a word's file is among those of all words

@@ -1,9 +1,8 @@
 -- The names of files in a text that lists them.
-use Rattle.std.specs.Prelude.{◌≡◌, ◌≢◌, ◌⊎◌, ◌<◌, ℕ, List, [], ◌∷◌, ◌++◌, IsUtf8, flat_map}
-use Rattle.std.specs.Prelude.{length, slice_index}
-use Rattle.std.specs.List.{All}
 use Rattle.program_manners.specs.declared.file_list.NameEnd.{NameEnd}
 use Rattle.program_manners.specs.declared.file_list.NameEnd.TheVariants.{LineFeed, Nul}
+use Rattle.std.specs.{List.All, Prelude.◌≡◌, Prelude.◌≢◌, Prelude.◌⊎◌}
+use Rattle.std.specs.Prelude.{◌<◌, ℕ, List, [], ◌∷◌, ◌++◌, IsUtf8, flat_map, length, slice_index}
 
 -- the byte that ends a name
 abbrev pub end_byte : NameEnd → ℕ

@@ -1,11 +1,10 @@
 -- The lines of faults that each program may report, without their line feeds.
-use Rattle.std.specs.Prelude.{ℕ, List, ◌++◌, codes, decimal}
-use Rattle.fare_table.specs.Key.{key_name}
-use Rattle.fare_table.specs.declared.fault.TableFault.{TableFault}
-use Rattle.fare_table.specs.declared.fault.TableFault.TheVariants as table
+use Rattle.fare_table.specs.{Key.key_name, declared.fault.TableFault.TableFault}
+use Rattle.std.specs.Prelude.{ℕ, List, ◌++◌, codes}
 use Rattle.tariffs.specs.declared.follow_fault.FollowFault.{FollowFault}
-use Rattle.tariffs.specs.declared.follow_fault.FollowFault.TheVariants as follow
 use Rattle.world.specs.declared.faults.LoadFault.{LoadFault}
+use Rattle.fare_table.specs.declared.fault.TableFault.TheVariants as table
+use Rattle.tariffs.specs.declared.follow_fault.FollowFault.TheVariants as follow
 use Rattle.world.specs.declared.faults.LoadFault.TheVariants as load
 
 -- a fault of a table by its number, and the key if it has one

@@ -1,9 +1,8 @@
 -- What is known of what a source of bytes did not load.
+use Rattle.program_manners.specs.declared.refusal.Refusal.{Refusal}
 use Rattle.std.specs.Prelude.{◌≡◌, ◌<◌, ◌⊎◌, ⊤, ℕ, List, [], ◌∷◌, Option, Some, None, Contains}
 use Rattle.std.specs.Prelude.{codes, length, option_map, unwrap_or}
-use Rattle.program_manners.specs.declared.refusal.Refusal.{Refusal}
-use Rattle.world.specs.Run.{Run}
-use Rattle.world.specs.declared.faults.LoadFault.{LoadFault}
+use Rattle.world.specs.{Run.Run, declared.faults.LoadFault.LoadFault}
 use Rattle.world.specs.declared.faults.LoadFault.TheVariants as load
 
 -- The load under this name was refused by this fault. Of a source that keeps no refusal nothing is

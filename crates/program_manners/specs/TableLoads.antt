@@ -1,11 +1,10 @@
 -- Fare tables that are loaded one after another.
-use Rattle.std.specs.Prelude.{◌≡◌, ◌++◌, ℕ, List, [], ◌∷◌, IsUtf8, Option, Some}
-use Rattle.tariffs.specs.Fares.{Fares}
-use Rattle.tariffs.specs.Following.{CanFollow, with_next}
 use Rattle.fare_table.specs.Meaning.{Means}
 use Rattle.program_manners.specs.Loads.{Loaded, LoadsOne}
 use Rattle.program_manners.specs.TableWords.{IsMidnight, TableNames, file_named, written_date}
 use Rattle.program_manners.specs.declared.table_words.WrittenDate.{WrittenDate}
+use Rattle.std.specs.Prelude.{◌≡◌, ◌++◌, ℕ, List, [], ◌∷◌, IsUtf8, Option, Some}
+use Rattle.tariffs.specs.{Fares.Fares, Following.CanFollow, Following.with_next}
 
 -- The text means a table that follows these fares from the date on, and these are all of them.
 pub record FollowsFrom (fares : Fares) (date : WrittenDate) (text : List ℕ) (all : Fares)

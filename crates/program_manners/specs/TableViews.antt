@@ -1,9 +1,7 @@
 -- What contracts see of the words of `--table`, and of a wrong one.
+use Rattle.program_manners.specs.{TableWords.TableNames, declared.table_words.DateFault.DateFault}
+use Rattle.program_manners.specs.declared.table_words.{TableWords.TableWords, WrongWord.WrongWord}
 use Rattle.std.specs.Prelude.{ℕ, List, map}
-use Rattle.program_manners.specs.declared.table_words.DateFault.{DateFault}
-use Rattle.program_manners.specs.TableWords.{TableNames}
-use Rattle.program_manners.specs.declared.table_words.TableWords.{TableWords}
-use Rattle.program_manners.specs.declared.table_words.WrongWord.{WrongWord}
 
 -- the word that is wrong, and what is wrong with it
 abbrev pub wrong_of : WrongWord → List ℕ × DateFault

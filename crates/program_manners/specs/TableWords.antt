@@ -1,16 +1,13 @@
 -- The words of `--table`: a file, and the date from which its table is valid.
-use Rattle.std.specs.Prelude.{◌≡◌, ℕ, ◌+◌, ◌-◌, ◌*◌, ◌&&◌, ◌==◌, Bool, List, [], ◌∷◌, ◌++◌, Option}
-use Rattle.std.specs.Prelude.{None}
-use Rattle.std.specs.Prelude.{Some, codes, drop, false, if◌then◌else◌, is_some, length, nat_le, pos}
-use Rattle.std.specs.Prelude.{slice_index_or, map, take, true}
 use Rattle.jiff_core.specs.Calendar.{days_from_civil, days_in_month}
-use Rattle.tariffs.specs.ClockView.{ClockView}
-use Rattle.tariffs.specs.Until.{midnight_by, moment_nanos}
 use Rattle.program_manners.specs.declared.table_words.DateFault.{DateFault}
 use Rattle.program_manners.specs.declared.table_words.DateFault.TheVariants.{IsFirst, NoDate}
-use Rattle.program_manners.specs.declared.table_words.DateFault.TheVariants.{NotADay}
-use Rattle.program_manners.specs.declared.table_words.DateFault.TheVariants.{OtherYear}
+use Rattle.program_manners.specs.declared.table_words.DateFault.TheVariants.{NotADay, OtherYear}
 use Rattle.program_manners.specs.declared.table_words.WrittenDate.{WrittenDate}
+use Rattle.std.specs.Prelude.{◌≡◌, ℕ, ◌+◌, ◌-◌, ◌*◌, ◌&&◌, ◌==◌, Bool, List, [], ◌∷◌, Option}
+use Rattle.std.specs.Prelude.{None, Some, codes, drop, false, if◌then◌else◌, is_some, length}
+use Rattle.std.specs.Prelude.{nat_le, pos, slice_index_or, map, take, true}
+use Rattle.tariffs.specs.{ClockView.ClockView, Until.midnight_by, Until.moment_nanos}
 
 -- a decimal digit
 abbrev pub is_digit : ℕ → Bool

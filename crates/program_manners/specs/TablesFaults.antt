@@ -1,14 +1,12 @@
 -- Why fare tables were not loaded.
-use Rattle.std.specs.Prelude.{⊤, ℕ, List, Option, Some}
-use Rattle.program_manners.specs.Loads.{Loaded}
-use Rattle.program_manners.specs.Refusals.{IsOneOf, Refuses}
+use Rattle.program_manners.specs.{Loads.Loaded, Refusals.IsOneOf, Refusals.Refuses}
 use Rattle.program_manners.specs.TableRefusals.{RefusesTable}
 use Rattle.program_manners.specs.TableWords.{TableNames, file_named, table_files}
+use Rattle.program_manners.specs.declared.table_loads.TablesFault.{TablesFault, TheVariants.File}
+use Rattle.program_manners.specs.declared.table_loads.TablesFault.TheVariants.{Follow, NamedTable}
+use Rattle.program_manners.specs.declared.table_loads.TablesFault.TheVariants.{NoMemory, Table}
+use Rattle.std.specs.Prelude.{⊤, ℕ, List, Option, Some}
 use Rattle.world.specs.declared.faults.LoadFault.{LoadFault}
-use Rattle.program_manners.specs.declared.table_loads.TablesFault.{TablesFault}
-use Rattle.program_manners.specs.declared.table_loads.TablesFault.TheVariants.{File, Follow}
-use Rattle.program_manners.specs.declared.table_loads.TablesFault.TheVariants.{NamedTable, NoMemory}
-use Rattle.program_manners.specs.declared.table_loads.TablesFault.TheVariants.{Table}
 
 -- The file that the fault names, which is the first table's if it names none, is that of one of the
 -- words. It is one that the source refused so, or its text is no table, or none that follows those

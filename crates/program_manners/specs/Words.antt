@@ -1,15 +1,14 @@
 -- The rules of a command line's options, and what is no mistake in its words.
-use Rattle.std.specs.Prelude.{◌≡◌, ◌⊎◌, ℤ, Bool, List, [], ◌∷◌, Some, codes, false, pos, true}
-use Rattle.std.specs.Option.{option_map_or}
-use Rattle.std.specs.Str.{bytes_eq}
-use Rattle.clap.specs.Lexer.{usize_max}
+use Rattle.clap.specs.{Lexer.usize_max, Simple.on_top}
 use Rattle.clap.specs.Words.{App, Row, Rule, Text, new_app, new_rule, one_of}
-use Rattle.clap.specs.Simple.{on_top}
 use Rattle.clap.specs.declared.builder.action.ArgAction.{ArgAction}
 use Rattle.clap.specs.declared.builder.action.ArgAction.TheVariants.{Append, Set, SetTrue}
 use Rattle.clap.specs.declared.builder.value_parser.ValueParser.TheVariants.{Signed}
 use Rattle.clap.specs.declared.error.kind.ErrorKind.{ErrorKind}
 use Rattle.clap.specs.declared.error.kind.ErrorKind.TheVariants.{DisplayHelp, DisplayVersion}
+use Rattle.std.specs.Option.{option_map_or}
+use Rattle.std.specs.Prelude.{◌≡◌, ◌⊎◌, ℤ, Bool, List, [], ◌∷◌, Some, codes, false, pos, true}
+use Rattle.std.specs.Str.{bytes_eq}
 
 -- `--NAME VALUE`
 abbrev pub option_rule : Text → Rule

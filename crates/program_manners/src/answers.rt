@@ -1,9 +1,8 @@
 //! What clap answers if there is nothing to run.
-ghost use Rattle.std.specs.Prelude.{◌≡◌, ◌≢◌, ◌≤◌, IfErr, IfOk, Ok, Some, codes};
-ghost use Rattle.std.specs.Io.KnownBytes.{Keeps};
 ghost use Rattle.clap.specs.Words.{kind_of};
-ghost use Rattle.program_manners.specs.LineWritten.{LineWritten};
-ghost use Rattle.program_manners.specs.Words.{IsRequest};
+ghost use Rattle.program_manners.specs.{LineWritten.LineWritten, Words.IsRequest};
+ghost use Rattle.std.specs.Io.KnownBytes.{Keeps};
+ghost use Rattle.std.specs.Prelude.{◌≡◌, ◌≢◌, ◌≤◌, IfErr, IfOk, Ok, Some, codes};
 
 use crate::complaints::Complaints;
 use crate::output::{Output, WriteEnd};

@@ -1,7 +1,6 @@
 //! Where usage errors and faults are reported.
-ghost use Rattle.std.specs.Prelude.{◌≡◌, IfSome, false};
-ghost use Rattle.std.specs.Io.KnownBytes.{Appends};
 ghost use Rattle.program_manners.specs.LineWritten.{LineWritten};
+ghost use Rattle.std.specs.{Io.KnownBytes.Appends, Prelude.◌≡◌, Prelude.IfSome, Prelude.false};
 
 use std::fmt::Display;
 use std::io::Write;

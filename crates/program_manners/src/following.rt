@@ -1,10 +1,9 @@
 //! Fare tables that follow others from a date on.
+ghost use Rattle.program_manners.specs.Lines.{follow_text, named_class_text, named_table_text};
+ghost use Rattle.program_manners.specs.{TableLoads.FollowsFrom, TableWords.has_year};
+ghost use Rattle.program_manners.specs.{TableWords.is_day, inside.TableLoads.is_memory};
 ghost use Rattle.std.specs.Prelude.{◌≡◌, ◌≤◌, IfErr, IfOk, Some, false, true};
 ghost use Rattle.tariffs.specs.Fares.{Fares};
-ghost use Rattle.program_manners.specs.Lines.{follow_text, named_class_text, named_table_text};
-ghost use Rattle.program_manners.specs.TableLoads.{FollowsFrom};
-ghost use Rattle.program_manners.specs.TableWords.{has_year, is_day};
-ghost use Rattle.program_manners.specs.inside.TableLoads.{is_memory};
 
 use crate::table_words::{WrittenDate, day_of};
 use fare_table::{FareTable, FollowFault, ReadFareTable, TableFault};

@@ -1,13 +1,12 @@
 //! Fare tables that are loaded in the order of their words.
-ghost use Rattle.std.specs.Prelude.{◌≡◌, ◌++◌, ◌∷◌, [], ℕ, List, Option, None, Some, IfErr, IfOk};
-ghost use Rattle.std.specs.Prelude.{OnOk, false, map};
-ghost use Rattle.program_manners.specs.Loads.{Loaded, LoadsOne};
-ghost use Rattle.program_manners.specs.Refusals.{Refuses};
+ghost use Rattle.program_manners.specs.{Loads.Loaded, Loads.LoadsOne, Refusals.Refuses};
 ghost use Rattle.program_manners.specs.TableLoads.{Follows, LoadsTables};
 ghost use Rattle.program_manners.specs.TableViews.{names_of};
 ghost use Rattle.program_manners.specs.TableWords.{TableNames, date_fault, file_named, wrong_word};
 ghost use Rattle.program_manners.specs.TablesFaults.{IsTablesFault};
 ghost use Rattle.program_manners.specs.inside.TableLoads.{IsFirstReported, IsReportedBy};
+ghost use Rattle.std.specs.Prelude.{◌≡◌, ◌++◌, ◌∷◌, [], ℕ, List, Option, None, Some, IfErr, IfOk};
+ghost use Rattle.std.specs.Prelude.{OnOk, false, map};
 
 use crate::file_source::FileSource;
 use crate::following::{FollowLine, NamedTableLine, NextFault, table_after};

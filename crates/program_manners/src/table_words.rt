@@ -1,12 +1,11 @@
 //! Words of `--table`: a file, and the date from which its table is valid.
+ghost use Rattle.program_manners.specs.TableViews.{names_of, wrong_of};
+ghost use Rattle.program_manners.specs.TableWords.{byte_at, date_fault, date_of, date_text};
+ghost use Rattle.program_manners.specs.TableWords.{file_named, has_form, is_day, tables_in};
+ghost use Rattle.program_manners.specs.TableWords.{two_digits, written_date, written_in};
+ghost use Rattle.program_manners.specs.TableWords.{wrong_date, wrong_later, wrong_word};
 ghost use Rattle.std.specs.Prelude.{◌≡◌, ◌≤◌, ◌+◌, IfOk, IfSome, Some, is_some, map, option_map};
 ghost use Rattle.std.specs.Prelude.{pos};
-ghost use Rattle.program_manners.specs.TableWords.{byte_at, date_fault, date_of, date_text};
-ghost use Rattle.program_manners.specs.TableWords.{file_named};
-ghost use Rattle.program_manners.specs.TableWords.{has_form, is_day, tables_in, two_digits};
-ghost use Rattle.program_manners.specs.TableWords.{written_date, written_in, wrong_date};
-ghost use Rattle.program_manners.specs.TableWords.{wrong_later, wrong_word};
-ghost use Rattle.program_manners.specs.TableViews.{names_of, wrong_of};
 
 use jiff::civil::Date;
 use std::alloc::{AllocError, Global};

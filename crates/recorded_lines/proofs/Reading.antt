@@ -1,30 +1,21 @@
 -- Streams that are read on.
 use Rattle.std.proofs.Common.{◌≡◌, ◌<◌, ℕ, Bool, true, false, List, [], ◌∷◌, ◌++◌, length, drop}
 use Rattle.std.proofs.Common.{Option, Some, None, Ok, Err, refl, sym, ap, subst, ◌∙◌, append_assoc}
-use Rattle.std.proofs.Common.{◌⊎◌, inl, inr}
-use Rattle.std.proofs.Common.{if◌then◌else◌}
-use Rattle.std.specs.Prelude.{is_some, nat_lt}
-use Rattle.std.proofs.Math.Seq.{drop-append_seam}
-use Rattle.std.proofs.Common.{arith}
-use Rattle.std.proofs.lemmas.Bool.Decides.{nat_tests}
-use Rattle.std.proofs.lemmas.List.{length-append, nil_from_length}
-use Rattle.world.specs.Loads.{IsRefused}
-use Rattle.world.specs.Run.{Load, Run, nothing_yet, with_load}
-use Rattle.world.specs.Streams.{HasRead, IsWhole}
-use Rattle.world.specs.declared.faults.LoadFault.{LoadFault}
-use Rattle.world.specs.declared.faults.LoadFault.TheVariants as load
-use Rattle.world.specs.declared.stream.Opened.{Opened}
-use Rattle.world.specs.declared.stream.Stream.{Stream}
+use Rattle.std.proofs.Common.{◌⊎◌, inl, inr, if◌then◌else◌, arith}
 use Rattle.line_folds.specs.Folds.{lines_of}
 use Rattle.line_folds.specs.declared.reader.NextLine.TheVariants.{Whole, Long, End}
-use Rattle.line_folds.specs.declared.reader.ReadFault.{ReadFault}
-use Rattle.line_folds.specs.declared.reader.ReadFault.TheVariants.{Unread}
-use Rattle.recorded_lines.specs.Texts.{CanBe, Follows, HasReadLine, IsEndAt, calls_of, left}
-use Rattle.recorded_lines.specs.Texts.{pending}
-use Rattle.recorded_lines.specs.Unread.{IsUnread}
-use Rattle.recorded_lines.specs.declared.text.Lines.{Lines}
-use Rattle.recorded_lines.specs.inside.Taken.{HasReadOn, HasTaken, IsLine, ends_line}
+use Rattle.line_folds.specs.declared.reader.ReadFault.{ReadFault, TheVariants.Unread}
 use Rattle.recorded_lines.proofs.Plain.{long_line, more_line, one_line}
+use Rattle.recorded_lines.specs.Texts.{CanBe, Follows, HasReadLine, IsEndAt, calls_of, left}
+use Rattle.recorded_lines.specs.{Texts.pending, Unread.IsUnread, declared.text.Lines.Lines}
+use Rattle.recorded_lines.specs.inside.Taken.{HasReadOn, HasTaken, IsLine, ends_line}
+use Rattle.std.proofs.Math.Seq.{drop-append_seam}
+use Rattle.std.proofs.lemmas.{Bool.Decides.nat_tests, List.length-append, List.nil_from_length}
+use Rattle.std.specs.Prelude.{is_some, nat_lt}
+use Rattle.world.specs.{Loads.IsRefused, Run.Load, Run.Run, Run.nothing_yet, Run.with_load}
+use Rattle.world.specs.{Streams.HasRead, Streams.IsWhole, declared.faults.LoadFault.LoadFault}
+use Rattle.world.specs.declared.stream.{Opened.Opened, Stream.Stream}
+use Rattle.world.specs.declared.faults.LoadFault.TheVariants as load
 
 -- a stream that was read to its end has nothing left to be read
 at_end : (s : Stream) (name : Option (List ℕ)) (bytes : List ℕ) → HasRead s name bytes

@@ -1,14 +1,11 @@
 -- A text that is read line by line: what it can be, by what reads gave of it, and what is left.
-use Rattle.std.specs.Prelude.{◌≡◌, ℕ, List, [], ◌∷◌, ◌++◌, IfErr, IfOk, Result, drop, false, length, nat_lt, true}
-use Rattle.line_folds.specs.Folds.{lines_of}
-use Rattle.line_folds.specs.declared.reader.NextLine.{NextLine}
+use Rattle.line_folds.specs.{Folds.lines_of, declared.reader.NextLine.NextLine}
 use Rattle.line_folds.specs.declared.reader.NextLine.TheVariants.{Whole, Long, End}
-use Rattle.line_folds.specs.declared.reader.ReadFault.{ReadFault}
-use Rattle.line_folds.specs.declared.reader.ReadFault.TheVariants.{Unread}
-use Rattle.world.specs.Run.{Calls}
-use Rattle.world.specs.Streams.{IsWhole}
-use Rattle.recorded_lines.specs.Unread.{IsUnread}
-use Rattle.recorded_lines.specs.declared.text.Lines.{Lines}
+use Rattle.line_folds.specs.declared.reader.ReadFault.{ReadFault, TheVariants.Unread}
+use Rattle.recorded_lines.specs.{Unread.IsUnread, declared.text.Lines.Lines}
+use Rattle.std.specs.Prelude.{◌≡◌, ℕ, List, [], ◌∷◌, ◌++◌, IfErr, IfOk, Result, drop, false, length}
+use Rattle.std.specs.Prelude.{nat_lt, true}
+use Rattle.world.specs.{Run.Calls, Streams.IsWhole}
 
 -- The whole text may be this: what reads gave, whatever follows. Nothing does if they came to the end.
 pub record CanBe (calls : Calls) (whole : List ℕ) : Type 0 where

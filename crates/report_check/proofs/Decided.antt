@@ -1,25 +1,21 @@
 -- A true verdict says that a report is the ledger's exactly if it is.
 use Rattle.std.proofs.Common.{◌≡◌, ◌∙◌, ℕ, Bool, true, false, List, ◌++◌, length, Some, None}
 use Rattle.std.proofs.Common.{Result, Ok, Err, append_assoc, codes, refl, sym, ap, eq-eqb, eqb-true}
-use Rattle.std.specs.Prelude.{◌↔◌, nat_eq, sum_by}
-use Rattle.std.proofs.lemmas.Bool.{false≢true}
-use Rattle.fare_texts.specs.ReportLines.{number_line}
-use Rattle.fare_texts.specs.Counts.{totals_line}
-use Rattle.histories.specs.Sums.{sums}
-use Rattle.histories.specs.SumsByKey.{sums_by_token, sums_by_validator}
+use Rattle.fare_texts.specs.{Counts.totals_line, ReportLines.number_line}
+use Rattle.histories.specs.{Sums.sums, SumsByKey.sums_by_token, SumsByKey.sums_by_validator}
 use Rattle.histories.specs.declared.entry.Entry.{Entry}
 use Rattle.ledger_check.specs.Lines.{lines_of}
-use Rattle.report_texts.specs.Report.{tokens_section, upload_lines, validators_section}
-use Rattle.tap_views.specs.UploadEnds.{taps_of_end}
-use Rattle.tap_views.specs.declared.upload_end.UploadEnd.{UploadEnd}
+use Rattle.report_check.proofs.Differences.{none_same, same_none}
+use Rattle.report_check.proofs.EndLines.{uploads_complete, uploads_sound}
 use Rattle.report_check.specs.Reports.{IsDifferenceFrom, IsReportOfLedger, IsVerdictBy, IsVerdictOn}
 use Rattle.report_check.specs.Reports.{ReportVerdictsDecide, is_of_ledger, report_of}
 use Rattle.report_check.specs.Uploads.{uploads_in}
-use Rattle.report_check.specs.declared.verdict.ReportVerdict.{ReportVerdict}
-use Rattle.report_check.specs.declared.verdict.ReportVerdict.TheVariants.{OfLedger, Wants, NoLine}
-use Rattle.report_check.specs.declared.verdict.ReportVerdict.TheVariants.{Taps}
-use Rattle.report_check.proofs.Differences.{none_same, same_none}
-use Rattle.report_check.proofs.EndLines.{uploads_complete, uploads_sound}
+use Rattle.report_check.specs.declared.verdict.ReportVerdict.{ReportVerdict, TheVariants.OfLedger}
+use Rattle.report_check.specs.declared.verdict.ReportVerdict.TheVariants.{Wants, NoLine, Taps}
+use Rattle.report_texts.specs.Report.{tokens_section, upload_lines, validators_section}
+use Rattle.std.proofs.lemmas.Bool.{false≢true}
+use Rattle.std.specs.Prelude.{◌↔◌, nat_eq, sum_by}
+use Rattle.tap_views.specs.{UploadEnds.taps_of_end, declared.upload_end.UploadEnd.UploadEnd}
 
 other : (Is : Type 0) → ¬ Is → (false ≡ true) ↔ Is
 other Is not = (λ is. absurd (false≢true is), λ own. absurd (not own))

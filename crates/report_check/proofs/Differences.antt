@@ -3,8 +3,7 @@ use Rattle.std.proofs.Common.{◌≡◌, ◌∙◌, ◌==◌, ℕ, ◌+◌, Bool
 use Rattle.std.proofs.Common.{Option, Some, None, refl, sym, ap, arith, length, ◌≤◌, ◌<◌}
 use Rattle.std.proofs.Common.{if◌then◌else◌}
 use Rattle.ledger_check.specs.Lines.{started_with, lines_of}
-use Rattle.line_forms.specs.Forms.{after}
-use Rattle.line_forms.specs.FormLaws.{after_complete, after_sound}
+use Rattle.line_forms.specs.{FormLaws.after_complete, FormLaws.after_sound, Forms.after}
 use Rattle.report_check.specs.Reports.{difference, rest_or}
 
 -- the text of lines

@@ -3,29 +3,23 @@ use Rattle.std.proofs.Common.{◌≡◌, ◌∙◌, ℕ, zero, suc, ◌+◌, ◌
 use Rattle.std.proofs.Common.{[], ◌∷◌, ◌++◌, length, Option, Some, None, Ok, Err, codes, refl, sym}
 use Rattle.std.proofs.Common.{ap, subst, arith, append_assoc, append-nil, length-append, option_map}
 use Rattle.std.proofs.Common.{◌-◌, ◌≤◌, eq-eqb, nat_eq}
-use Rattle.std.specs.Fmt.{decimal}
-use Rattle.std.specs.Str.{bytes_eq}
-use Rattle.std.specs.List.{AllByRecursion}
-use Rattle.std.proofs.lemmas.List.Elements.{All-nil, All-push, recursion_from_All}
 use Rattle.fare_texts.specs.ReportLines.{number_line}
-use Rattle.ledger_check.proofs.FieldLemmas.{decimal_lacks}
+use Rattle.ledger_check.proofs.{FieldLemmas.decimal_lacks, FullCheckLemmas.line_ends}
 use Rattle.ledger_check.proofs.LineLemmas.{lacks-tested, lines-line}
-use Rattle.ledger_check.proofs.FullCheckLemmas.{line_ends}
 use Rattle.ledger_check.specs.Lines.{IsLine, Lacks, lines_of}
-use Rattle.line_forms.specs.Forms.{value_if}
-use Rattle.report_texts.proofs.EndTexts.{line_words, refused_spelled, small_number}
-use Rattle.report_texts.proofs.Lines.{head_complete, head_sound, upload_complete, upload_sound}
-use Rattle.line_forms.specs.FormLaws.{some_one}
-use Rattle.report_texts.specs.FormLaws.{count_form}
-use Rattle.report_texts.specs.Forms.{count_at, head_in, upload_in}
-use Rattle.report_texts.specs.Numbers.{IsUploadEnd}
-use Rattle.report_texts.specs.Report.{upload_line, upload_lines}
-use Rattle.report_texts.specs.inside.EndWords.{end_words, fault_number}
-use Rattle.tap_views.specs.declared.upload_end.UploadEnd.{UploadEnd}
-use Rattle.tap_views.specs.declared.upload_end.UploadEnd.TheVariants.{Posted, Refused, Cut, Undrawn}
+use Rattle.line_forms.specs.{FormLaws.some_one, Forms.value_if}
 use Rattle.report_check.specs.Reports.{IsReportEnd}
 use Rattle.report_check.specs.Uploads.{cut_or, end_at, end_if, end_in, ends_from, found_or}
 use Rattle.report_check.specs.Uploads.{numbered, or_else, unfinished_in, uploads_in}
+use Rattle.report_texts.proofs.EndTexts.{line_words, refused_spelled, small_number}
+use Rattle.report_texts.proofs.Lines.{head_complete, head_sound, upload_complete, upload_sound}
+use Rattle.report_texts.specs.{FormLaws.count_form, Forms.count_at, Forms.head_in, Forms.upload_in}
+use Rattle.report_texts.specs.{Numbers.IsUploadEnd, Report.upload_line, Report.upload_lines}
+use Rattle.report_texts.specs.inside.EndWords.{end_words, fault_number}
+use Rattle.std.proofs.lemmas.List.Elements.{All-nil, All-push, recursion_from_All}
+use Rattle.std.specs.{Fmt.decimal, List.AllByRecursion, Str.bytes_eq}
+use Rattle.tap_views.specs.declared.upload_end.UploadEnd.{UploadEnd}
+use Rattle.tap_views.specs.declared.upload_end.UploadEnd.TheVariants.{Posted, Refused, Cut, Undrawn}
 
 -- ---- one line
 count_upload : (number : ℕ) (end : UploadEnd) → number < 2 ^ 64

@@ -1,20 +1,16 @@
 -- The verdict by what the lines of the uploads say.
 use Rattle.std.proofs.Common.{◌≡◌, ◌≢◌, ◌∙◌, ℕ, ◌+◌, Bool, List, length, Result, Ok, sym, ap, subst}
 use Rattle.std.proofs.Common.{eq-eqb}
-use Rattle.std.specs.Prelude.{sum_by}
-use Rattle.std.proofs.lemmas.Bool.{ne_eqb}
-use Rattle.histories.specs.Sums.{Sums}
-use Rattle.histories.specs.declared.entry.Entry.{Entry}
 use Rattle.histories.proofs.SumsLemmas.{sums-taps}
-use Rattle.ledger_check.specs.Lines.{lines_of}
-use Rattle.tap_views.specs.UploadEnds.{taps_of_end}
-use Rattle.tap_views.specs.declared.upload_end.UploadEnd.{UploadEnd}
-use Rattle.report_check.specs.Reports.{IsDifferenceFrom, IsVerdictBy, IsVerdictOn, report_of}
-use Rattle.ledger_check.specs.Sums.{AreSumsOf}
-use Rattle.report_check.specs.Uploads.{uploads_in}
+use Rattle.histories.specs.{Sums.Sums, declared.entry.Entry.Entry}
+use Rattle.ledger_check.specs.{Lines.lines_of, Sums.AreSumsOf}
 use Rattle.ledger_check.specs.declared.open_sums.EntrySums.{EntrySums}
-use Rattle.report_check.specs.declared.verdict.ReportVerdict.{ReportVerdict}
-use Rattle.report_check.specs.declared.verdict.ReportVerdict.TheVariants.{Taps}
+use Rattle.report_check.specs.Reports.{IsDifferenceFrom, IsVerdictBy, IsVerdictOn, report_of}
+use Rattle.report_check.specs.Uploads.{uploads_in}
+use Rattle.report_check.specs.declared.verdict.ReportVerdict.{ReportVerdict, TheVariants.Taps}
+use Rattle.std.proofs.lemmas.Bool.{ne_eqb}
+use Rattle.std.specs.Prelude.{sum_by}
+use Rattle.tap_views.specs.{UploadEnds.taps_of_end, declared.upload_end.UploadEnd.UploadEnd}
 
 counted : (entries : List Entry) (made : EntrySums) → AreSumsOf entries made
     → made.totals.taps ≡ length entries

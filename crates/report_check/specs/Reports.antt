@@ -1,20 +1,16 @@
 -- What a check finds of a report beside the entries of a ledger.
-use Rattle.std.specs.Prelude.{◌≡◌, ◌↔◌, ℕ, ◌+◌, ◌<◌, ◌^◌, All, List, [], ◌∷◌, Option, Some, None}
-use Rattle.std.specs.Prelude.{Bool, true, false, Result, Ok, Err, length, nat_eq, sum_by}
+use Rattle.histories.specs.{Sums.sums, SumsByKey.sums_by_token, SumsByKey.sums_by_validator}
+use Rattle.histories.specs.declared.entry.Entry.{Entry}
 use Rattle.ledger_check.specs.Lines.{lines_of}
 use Rattle.line_forms.specs.Forms.{after}
-use Rattle.report_texts.specs.Numbers.{IsUploadEnd}
-use Rattle.report_texts.specs.Report.{report}
-use Rattle.tap_views.specs.UploadEnds.{taps_of_end}
-use Rattle.tap_views.specs.declared.upload_end.UploadEnd.{UploadEnd}
-use Rattle.tap_views.specs.declared.upload_end.UploadEnd.TheVariants.{Posted, Refused, Cut, Undrawn}
-use Rattle.histories.specs.Sums.{sums}
-use Rattle.histories.specs.SumsByKey.{sums_by_token, sums_by_validator}
-use Rattle.histories.specs.declared.entry.Entry.{Entry}
 use Rattle.report_check.specs.Uploads.{uploads_in}
-use Rattle.report_check.specs.declared.verdict.ReportVerdict.{ReportVerdict}
-use Rattle.report_check.specs.declared.verdict.ReportVerdict.TheVariants.{OfLedger, Wants, NoLine}
-use Rattle.report_check.specs.declared.verdict.ReportVerdict.TheVariants.{Taps}
+use Rattle.report_check.specs.declared.verdict.ReportVerdict.{ReportVerdict, TheVariants.OfLedger}
+use Rattle.report_check.specs.declared.verdict.ReportVerdict.TheVariants.{Wants, NoLine, Taps}
+use Rattle.report_texts.specs.{Numbers.IsUploadEnd, Report.report}
+use Rattle.std.specs.Prelude.{◌≡◌, ◌↔◌, ℕ, ◌+◌, ◌<◌, ◌^◌, All, List, [], ◌∷◌, Option, Some, None}
+use Rattle.std.specs.Prelude.{Bool, true, false, Result, Ok, Err, length, nat_eq, sum_by}
+use Rattle.tap_views.specs.{UploadEnds.taps_of_end, declared.upload_end.UploadEnd.UploadEnd}
+use Rattle.tap_views.specs.declared.upload_end.UploadEnd.TheVariants.{Posted, Refused, Cut, Undrawn}
 
 -- an end as the line of an upload has it, whole or cut: the numbers have 64 bits
 abbrev pub IsReportEnd : UploadEnd → Type 0

@@ -1,13 +1,12 @@
 //! The lines of the uploads, with which a report begins.
 
-ghost use Rattle.std.specs.Prelude.{◌≡◌, ◌∷◌, ◌<◌, IfOk, MatchOption, None, Some, codes, length};
-ghost use Rattle.std.specs.Prelude.{sum_by};
-ghost use Rattle.std.specs.Str.{bytes_eq};
 ghost use Rattle.ledger_check.specs.Lines.{lines_of};
-ghost use Rattle.report_texts.specs.Forms.{count_at};
-ghost use Rattle.tap_views.specs.UploadEnds.{taps_of_end};
 ghost use Rattle.report_check.specs.Uploads.{cut_in, end_at, end_in, unfinished_in, uploads_in};
 ghost use Rattle.report_check.specs.inside.Uploads.{found_of};
+ghost use Rattle.report_texts.specs.Forms.{count_at};
+ghost use Rattle.std.specs.Prelude.{◌≡◌, ◌∷◌, ◌<◌, IfOk, MatchOption, None, Some, codes, length};
+ghost use Rattle.std.specs.{Prelude.sum_by, Str.bytes_eq};
+ghost use Rattle.tap_views.specs.UploadEnds.{taps_of_end};
 
 use ledger_check::{same_bytes, split_line};
 use line_forms::form::FormOf;

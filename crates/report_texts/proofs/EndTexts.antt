@@ -1,16 +1,14 @@
 -- How an upload ended, at the end of its line.
 use Rattle.std.proofs.Common.{◌≡◌, ℕ, ◌<◌, ◌^◌, ◌++◌, ◌+◌, ◌∷◌, [], List, refl, sym, ap, ◌∙◌}
 use Rattle.std.proofs.Common.{append_assoc, arith, codes}
-use Rattle.std.specs.Fmt.{decimal}
-use Rattle.std.proofs.lemmas.Fmt.{decimal_digit}
-use Rattle.tap_views.specs.Names.{fault_name}
-use Rattle.tap_views.specs.declared.fault.LayoutFault.{LayoutFault}
-use Rattle.tap_views.specs.declared.fault.LayoutFault.TheVariants.{Short, Magic, Flags, TooMany}
-use Rattle.tap_views.specs.declared.fault.LayoutFault.TheVariants.{Length, Moment}
 use Rattle.report_texts.specs.Report.{upload_line}
 use Rattle.report_texts.specs.inside.EndWords.{end_words, fault_number, fault_words}
-use Rattle.tap_views.specs.declared.upload_end.UploadEnd.{UploadEnd}
-use Rattle.tap_views.specs.declared.upload_end.UploadEnd.TheVariants.{Posted, Refused, Cut, Undrawn}
+use Rattle.std.proofs.lemmas.Fmt.{decimal_digit}
+use Rattle.std.specs.Fmt.{decimal}
+use Rattle.tap_views.specs.{Names.fault_name, declared.fault.LayoutFault.LayoutFault}
+use Rattle.tap_views.specs.declared.fault.LayoutFault.TheVariants.{Short, Magic, Flags, TooMany}
+use Rattle.tap_views.specs.declared.fault.LayoutFault.TheVariants.{Length, Moment}
+use Rattle.tap_views.specs.declared.upload_end.UploadEnd.{UploadEnd, TheVariants.Refused}
 
 -- an upload's line by its words
 pub line_words : (number : ℕ) (end : UploadEnd)

@@ -1,38 +1,31 @@
 -- The lines of a report are read back: the line of a value says this value, and no other line does.
-use Rattle.std.proofs.Common.{◌≡◌, ℕ, zero, suc, ◌+◌, ◌*◌, ◌<◌, ◌≤◌, ◌^◌, ◌&&◌, Bool, true, false}
-use Rattle.std.proofs.Common.{List, [], ◌∷◌, ◌++◌}
-use Rattle.std.proofs.Common.{Option, Some, None, option_map, codes, cond, nat_eq, nat_le, nat_lt}
-use Rattle.std.proofs.Common.{refl, sym, ap, subst, ◌∙◌, append_assoc, arith}
-use Rattle.std.specs.Fmt.{decimal}
-use Rattle.std.proofs.lemmas.Bool.{false≢true, and_from, and_parts}
-use Rattle.std.proofs.lemmas.Bool.Decides.{nat_tests}
-use Rattle.hex.specs.Hex.{encode_lower}
+use Rattle.std.proofs.Common.{◌≡◌, ℕ, zero, suc, ◌+◌, ◌*◌, ◌<◌, ◌^◌, ◌&&◌, Bool, true, false, List}
+use Rattle.std.proofs.Common.{[], ◌∷◌, ◌++◌, Option, Some, None, option_map, codes, cond, nat_eq}
+use Rattle.std.proofs.Common.{nat_le, nat_lt, refl, sym, ap, subst, ◌∙◌, append_assoc, arith}
 use Rattle.fare_texts.specs.Counts.{counts_text, first_counts, last_counts, totals_line}
 use Rattle.fare_texts.specs.ReportLines.{number_line, token_line, validator_line}
+use Rattle.hex.specs.Hex.{encode_lower}
 use Rattle.histories.specs.Sums.{Sums}
-use Rattle.tap_views.specs.Token.{Fits, bytes_of}
-use Rattle.tap_views.specs.declared.token.Token.{Token}
+use Rattle.line_forms.specs.FormLaws.{after_law, line_complete, line_sound, some_one, then_law}
 use Rattle.line_forms.specs.Forms.{IsAfter, IsForm, IsThen, said_by, then_read, after_read}
-use Rattle.line_forms.specs.Forms.{value_if}
-use Rattle.line_forms.specs.FormLaws.{after_law, line_complete, line_sound, number_law, some_one, then_law}
-use Rattle.line_forms.specs.FormLaws.{wide_64}
-use Rattle.line_forms.specs.Numbers.{BeginsWithNoDigit, IsNumber}
+use Rattle.line_forms.specs.{Forms.value_if, Numbers.BeginsWithNoDigit}
+use Rattle.report_texts.proofs.EndTexts.{refused_spelled, small_number}
+use Rattle.report_texts.specs.FormLaws.{IsCount, IsCountedText, IsCountsText, IsTokenDigits}
+use Rattle.report_texts.specs.FormLaws.{count_form, counts_law, begins, begins_then, token_law}
+use Rattle.report_texts.specs.FormLaws.{value_if_some, begins_chosen}
 use Rattle.report_texts.specs.Forms.{Counted, count_at, counts_read, end_in, end_or, fault_by}
 use Rattle.report_texts.specs.Forms.{head_in, refused_by, refused_in, sums_by, sums_with}
 use Rattle.report_texts.specs.Forms.{token_line_in, token_read, totals_in, upload_if, upload_in}
 use Rattle.report_texts.specs.Forms.{validator_if, validator_in}
-use Rattle.report_texts.specs.FormLaws.{IsCount, IsCountedText, IsCountsText, IsTokenDigits}
-use Rattle.report_texts.specs.FormLaws.{count_form, counts_law, begins, begins_then}
-use Rattle.report_texts.specs.FormLaws.{token_law, value_if_some, begins_chosen}
 use Rattle.report_texts.specs.Numbers.{AreCounts, IsNameAlone, IsTokenSum, IsUploadEnd}
-use Rattle.report_texts.specs.Numbers.{IsValidatorSum}
-use Rattle.report_texts.specs.Report.{upload_line}
+use Rattle.report_texts.specs.{Numbers.IsValidatorSum, Report.upload_line}
 use Rattle.report_texts.specs.inside.EndWords.{end_words, fault_number}
-use Rattle.report_texts.proofs.EndTexts.{refused_spelled, small_number}
-use Rattle.tap_views.specs.declared.fault.LayoutFault.{LayoutFault}
+use Rattle.std.proofs.lemmas.Bool.{and_from, and_parts, Decides.nat_tests}
+use Rattle.std.specs.Fmt.{decimal}
+use Rattle.tap_views.specs.{Token.bytes_of, declared.fault.LayoutFault.LayoutFault}
 use Rattle.tap_views.specs.declared.fault.LayoutFault.TheVariants.{Short, Magic, Flags, TooMany}
 use Rattle.tap_views.specs.declared.fault.LayoutFault.TheVariants.{Length, Moment}
-use Rattle.tap_views.specs.declared.upload_end.UploadEnd.{UploadEnd}
+use Rattle.tap_views.specs.declared.{token.Token.Token, upload_end.UploadEnd.UploadEnd}
 use Rattle.tap_views.specs.declared.upload_end.UploadEnd.TheVariants.{Posted, Refused, Cut, Undrawn}
 
 -- ---- the texts of counts

@@ -1,28 +1,20 @@
 -- Each line that is written is one line: its line feed stands last, and no other is in it.
-use Rattle.std.proofs.Common.{◌≡◌, ℕ, suc, zero, ◌+◌, ◌*◌, ◌/◌, ◌%◌, ◌<◌, ◌≤◌, ◌^◌, Bool, true}
-use Rattle.std.proofs.Common.{false, not, List, []}
-use Rattle.std.proofs.Common.{◌∷◌, ◌++◌, length, length-append, append_assoc, refl, sym, ap, subst}
-use Rattle.std.proofs.Common.{◌∙◌, arith, ◌&&◌, get_or}
-use Rattle.std.specs.Prelude.{codes, ◌==◌}
-use Rattle.std.specs.Char.{is_ascii_digit}
-use Rattle.std.specs.Fmt.{decimal}
-use Rattle.std.specs.List.{AllByRecursion}
-use Rattle.std.specs.Str.{all_ascii_digits}
-use Rattle.std.proofs.lemmas.Bool.{false≢true, and_parts}
-use Rattle.std.proofs.lemmas.Bool.Decides.{nat_tests}
-use Rattle.std.proofs.lemmas.Fmt.{digits_decimal, length-decimal-le}
-use Rattle.std.proofs.lemmas.Str.Parse.{IsNumeralModel, numerals_by_value, tells_all_ascii_digits}
-use Rattle.std.specs.Str.Parse.{digits_value}
-use Rattle.hex.specs.Hex.{encode_lower, encode_with, lower_digits}
-use Rattle.tap_views.specs.Token.{bytes_of}
-use Rattle.tap_views.specs.declared.token.Token.{Token}
-use Rattle.tap_views.specs.declared.upload_end.UploadEnd.TheVariants.{Posted}
+use Rattle.std.proofs.Common.{◌≡◌, ℕ, suc, zero, ◌+◌, ◌/◌, ◌%◌, ◌<◌, ◌≤◌, ◌^◌, Bool, true}
+use Rattle.std.proofs.Common.{not, List, [], ◌∷◌, ◌++◌, length, length-append, append_assoc}
+use Rattle.std.proofs.Common.{refl, sym, ap, subst, ◌∙◌, arith, ◌&&◌, get_or}
 use Rattle.fare_texts.specs.Counts.{counts_text, first_counts, last_counts, totals_line}
 use Rattle.fare_texts.specs.ReportLines.{number_line, token_line, validator_line}
+use Rattle.hex.specs.Hex.{encode_lower, encode_with, lower_digits}
 use Rattle.histories.specs.Sums.{Sums}
-use Rattle.report_texts.specs.Numbers.{AreCounts, IsTokenSum, IsValidatorSum}
-use Rattle.report_texts.specs.Report.{upload_line}
-use Rattle.report_texts.specs.FormLaws.{token_digits}
+use Rattle.report_texts.specs.{FormLaws.token_digits, Numbers.AreCounts, Numbers.IsTokenSum}
+use Rattle.report_texts.specs.{Numbers.IsValidatorSum, Report.upload_line}
+use Rattle.std.proofs.lemmas.Bool.{false≢true, and_parts}
+use Rattle.std.proofs.lemmas.Fmt.{digits_decimal, length-decimal-le}
+use Rattle.std.proofs.lemmas.Str.Parse.{IsNumeralModel, numerals_by_value, tells_all_ascii_digits}
+use Rattle.std.specs.{Char.is_ascii_digit, Fmt.decimal, List.AllByRecursion, Prelude.codes}
+use Rattle.std.specs.{Prelude.◌==◌, Str.all_ascii_digits, Str.Parse.digits_value}
+use Rattle.tap_views.specs.Token.{bytes_of}
+use Rattle.tap_views.specs.declared.{token.Token.Token, upload_end.UploadEnd.TheVariants.Posted}
 
 -- no line feed is in the bytes
 abbrev pub HasNoFeed : List ℕ → Type 0

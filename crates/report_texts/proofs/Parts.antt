@@ -1,22 +1,19 @@
 -- Texts that are written part by part.
-use Rattle.std.specs.Prelude.{ℕ, ◌≡◌, ◌+◌, ◌<◌, ◌≤◌, List, [], ◌∷◌, ◌++◌, drop, length, take}
-use Rattle.std.specs.Prelude.{Option, Some, slice_get, codes}
-use Rattle.std.specs.Io.KnownBytes.{Appends}
-use Rattle.std.specs.List.{flat_map}
-use Rattle.std.proofs.Common.{get_or, length-take}
-use Rattle.std.proofs.Common.{sym, ◌∙◌, ap, subst, append_assoc, append-nil, arith, add-zero}
+use Rattle.std.proofs.Common.{get_or, length-take, sym, ◌∙◌, ap, subst, append_assoc, append-nil}
+use Rattle.std.proofs.Common.{arith, add-zero}
+use Rattle.fare_texts.proofs.Beginnings.{goes_last, goes_on, goes_then_on}
+use Rattle.fare_texts.proofs.Parts.{in_parts}
+use Rattle.fare_texts.specs.{ReportLines.token_line, WrittenOut.Begins, WrittenOut.GoesOut}
+use Rattle.histories.specs.Sums.{Sums}
+use Rattle.report_texts.specs.Report.{upload_line, upload_lines}
 use Rattle.std.proofs.lemmas.Grind.{flat_map-append}
 use Rattle.std.proofs.lemmas.List.{take-append-drop, take_more, take_all, flat_map_more}
-use Rattle.histories.specs.Sums.{Sums}
-use Rattle.tap_views.specs.declared.token.Token.{Token}
+use Rattle.std.specs.{Io.KnownBytes.Appends, List.flat_map}
+use Rattle.std.specs.Prelude.{ℕ, ◌≡◌, ◌+◌, ◌<◌, ◌≤◌, List, [], ◌∷◌, ◌++◌, drop, length, take}
+use Rattle.std.specs.Prelude.{Option, Some, slice_get, codes}
 use Rattle.tap_views.proofs.Lists.{take_next}
-use Rattle.fare_texts.specs.ReportLines.{token_line}
-use Rattle.fare_texts.proofs.Parts.{in_parts}
-use Rattle.fare_texts.specs.WrittenOut.{Begins, GoesOut}
-use Rattle.fare_texts.proofs.Beginnings.{goes_last, goes_on, goes_then_on}
-use Rattle.report_texts.specs.Report.{upload_line, upload_lines}
-use Rattle.tap_views.specs.declared.upload_end.UploadEnd.{UploadEnd}
-use Rattle.tap_views.specs.declared.upload_end.UploadEnd.TheVariants.{Posted}
+use Rattle.tap_views.specs.declared.token.Token.{Token}
+use Rattle.tap_views.specs.declared.upload_end.UploadEnd.{UploadEnd, TheVariants.Posted}
 
 -- a line of a word, a number and what follows, of which the rest was written after the two
 pub in_line : (start middle done word number rest : List ℕ)

@@ -1,32 +1,26 @@
 -- The laws of the forms of a report's lines: the line of a value says this value, and no other line
 -- does.
-use Rattle.std.proofs.Common.{◌≡◌, ℕ, ◌+◌, ◌*◌, ◌<◌, ◌≤◌, ◌^◌, ◌&&◌, Bool, true, false, List, [], ◌∷◌, ◌++◌}
-use Rattle.std.proofs.Common.{Option, Some, None, Result, Ok, Err, option_map, codes, cond, nat_eq, nat_le, nat_lt}
-use Rattle.std.proofs.Common.{take, drop, length, length-append, get_or, refl, sym, ap, subst, ◌∙◌, append_assoc, arith}
-use Rattle.std.specs.Fmt.{decimal}
-use Rattle.std.specs.Int.{from_be_bytes, w64}
-use Rattle.std.specs.Prelude.{MatchResult}
-use Rattle.std.specs.Result.{is_err}
-use Rattle.std.specs.Str.{bytes_eq}
-use Rattle.std.proofs.lemmas.Bool.{false≢true, and_from, and_parts}
-use Rattle.std.proofs.lemmas.Bool.Decides.{nat_tests}
-use Rattle.std.proofs.lemmas.List.{drop_at, take_at, take-append-drop}
-use Rattle.std.proofs.lemmas.Slice.Eq.{bytes_eq-Decides}
+use Rattle.std.proofs.Common.{◌≡◌, ℕ, ◌+◌, ◌*◌, ◌<◌, ◌^◌, Bool, true, false, List, ◌++◌, Option}
+use Rattle.std.proofs.Common.{Some, None, Result, Ok, Err, codes, cond, nat_lt, take, drop, length}
+use Rattle.std.proofs.Common.{length-append, get_or, refl, sym, ap, subst, ◌∙◌, append_assoc, arith}
+use Rattle.hex.proofs.HexLemmas.{decode_of-ok, decode_sized-encode_lower, decode_sized-ok}
+use Rattle.hex.proofs.HexLemmas.{decode_sized-twice, length-encode_with}
 use Rattle.hex.specs.Hex.{decode_sized, encode_lower, lower_digits}
 use Rattle.hex.specs.declared.error.FromHexError.{FromHexError}
 use Rattle.histories.specs.Sums.{Sums}
-use Rattle.tap_views.specs.Token.{Fits, bytes_of}
-use Rattle.tap_views.specs.declared.token.Token.{Token}
-use Rattle.hex.proofs.HexLemmas.{decode_of-ok, decode_sized-encode_lower, decode_sized-ok}
-use Rattle.hex.proofs.HexLemmas.{decode_sized-twice, length-encode_with}
+use Rattle.line_forms.specs.FormLaws.{after_law, number_law, some_one, then_law, wide_64}
+use Rattle.line_forms.specs.FormLaws.{with_rest_some}
+use Rattle.line_forms.specs.Forms.{IsAfter, IsFirst, IsForm, IsThen, Reader, value_if, with_rest}
+use Rattle.line_forms.specs.Numbers.{BeginsWithNoDigit, IsNumber}
+use Rattle.report_texts.specs.Forms.{Counted, again, chosen, count_at, counted_read, counts_read}
+use Rattle.report_texts.specs.Forms.{sums_by, token_in, token_read, token_with}
+use Rattle.std.proofs.lemmas.{Bool.false≢true, Bool.Decides.nat_tests, List.drop_at, List.take_at}
+use Rattle.std.proofs.lemmas.{List.take-append-drop, Slice.Eq.bytes_eq-Decides}
+use Rattle.std.specs.{Int.from_be_bytes, Int.w64, Prelude.MatchResult, Result.is_err, Str.bytes_eq}
 use Rattle.tap_views.proofs.TokenBytes.{back_byte, eight_bytes, front_byte, token_bytes}
 use Rattle.tap_views.proofs.TokenBytes.{token_length, two_numbers}
 use Rattle.tap_views.proofs.TokenLemmas.{high_back, low_back}
-use Rattle.line_forms.specs.Forms.{IsAfter, IsFirst, IsForm, IsThen, Reader, said_by, value_if, with_rest}
-use Rattle.line_forms.specs.FormLaws.{after_law, number_law, some_one, then_law, wide_64, with_rest_some}
-use Rattle.line_forms.specs.Numbers.{BeginsWithNoDigit, IsNumber}
-use Rattle.report_texts.specs.Forms.{Counted, again, chosen, count_at, counted_read, counts_read, sums_by, sums_with, token_in, token_read, token_with}
-use Rattle.report_texts.specs.Numbers.{AreCounts}
+use Rattle.tap_views.specs.{Token.Fits, Token.bytes_of, declared.token.Token.Token}
 
 -- ---- values that are made of others
 chosen_some : {A B : Type 0} (choice : A → Option B) (r : Option (A × List ℕ)) (b : B) (rest : List ℕ)

@@ -1,19 +1,17 @@
 -- What the lines of a report say. Each line is read by one total function.
+use Rattle.hex.specs.{Hex.decode_sized, Hex.encode_lower, declared.error.FromHexError.FromHexError}
+use Rattle.histories.specs.Sums.{Sums}
+use Rattle.line_forms.specs.Forms.{Reader, after_read, said_by, then_read, value_if, with_rest}
+use Rattle.line_forms.specs.Numbers.{number_at}
+use Rattle.std.specs.Int.{from_be_bytes, w64}
 use Rattle.std.specs.Prelude.{ℕ, ◌+◌, ◌*◌, ◌^◌, ◌&&◌, List, codes, cond, nat_eq, nat_le, nat_lt}
 use Rattle.std.specs.Prelude.{Option, Some, None, Result, Ok, Err, option_map, take, drop, length}
-use Rattle.std.specs.Int.{from_be_bytes, w64}
 use Rattle.std.specs.Str.{bytes_eq}
-use Rattle.hex.specs.Hex.{decode_sized, encode_lower}
-use Rattle.hex.specs.declared.error.FromHexError.{FromHexError}
-use Rattle.histories.specs.Sums.{Sums}
 use Rattle.tap_views.specs.declared.fault.LayoutFault.{LayoutFault}
 use Rattle.tap_views.specs.declared.fault.LayoutFault.TheVariants.{Short, Magic, Flags, TooMany}
 use Rattle.tap_views.specs.declared.fault.LayoutFault.TheVariants.{Length, Moment}
-use Rattle.tap_views.specs.declared.token.Token.{Token}
-use Rattle.tap_views.specs.declared.upload_end.UploadEnd.{UploadEnd}
+use Rattle.tap_views.specs.declared.{token.Token.Token, upload_end.UploadEnd.UploadEnd}
 use Rattle.tap_views.specs.declared.upload_end.UploadEnd.TheVariants.{Posted, Refused}
-use Rattle.line_forms.specs.Forms.{Reader, after_read, said_by, then_read, value_if, with_rest}
-use Rattle.line_forms.specs.Numbers.{number_at}
 
 -- the number of 64 bits after a word
 abbrev pub count_at : List ℕ → Reader ℕ

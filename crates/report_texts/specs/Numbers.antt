@@ -1,12 +1,10 @@
 -- What the numbers in a report's lines can be.
+use Rattle.histories.specs.Sums.{Sums}
 use Rattle.std.specs.Prelude.{◌≡◌, ℕ, ◌+◌, ◌*◌, ◌<◌, ◌≤◌, ◌^◌}
-use Rattle.tap_views.specs.declared.fault.LayoutFault.{LayoutFault}
+use Rattle.tap_views.specs.{Token.Fits, declared.fault.LayoutFault.LayoutFault}
 use Rattle.tap_views.specs.declared.fault.LayoutFault.TheVariants.{Short, Magic, Flags, TooMany}
 use Rattle.tap_views.specs.declared.fault.LayoutFault.TheVariants.{Length, Moment}
-use Rattle.tap_views.specs.Token.{Fits}
-use Rattle.tap_views.specs.declared.token.Token.{Token}
-use Rattle.histories.specs.Sums.{Sums}
-use Rattle.tap_views.specs.declared.upload_end.UploadEnd.{UploadEnd}
+use Rattle.tap_views.specs.declared.{token.Token.Token, upload_end.UploadEnd.UploadEnd}
 use Rattle.tap_views.specs.declared.upload_end.UploadEnd.TheVariants.{Posted, Refused, Cut, Undrawn}
 
 -- a fault as a line has it, by its name: each of its own numbers, which no line has, is 0

@@ -1,16 +1,13 @@
 -- The texts over a history: the report of uploads, and the statement of a token.
-use Rattle.std.specs.Prelude.{◌≡◌, ℕ, List}
-use Rattle.tariffs.specs.Fares.{Fares}
-use Rattle.tap_views.specs.declared.token.Token.{Token}
-use Rattle.histories.specs.Statement.{IsStatement}
-use Rattle.histories.specs.Sums.{sums}
-use Rattle.histories.specs.SumsByKey.{sums_by_validator, sums_by_token}
-use Rattle.histories.specs.declared.entry.Entry.{Entry}
-use Rattle.histories.specs.declared.statement.Statement.{Statement}
 use Rattle.fare_texts.specs.StatementText.{IsStatementText}
+use Rattle.histories.specs.{Statement.IsStatement, Sums.sums}
+use Rattle.histories.specs.SumsByKey.{sums_by_validator, sums_by_token}
+use Rattle.histories.specs.declared.{entry.Entry.Entry, statement.Statement.Statement}
 use Rattle.report_texts.specs.Report.{report}
+use Rattle.std.specs.Prelude.{◌≡◌, ℕ, List}
 use Rattle.tap_views.specs.UploadEnds.{ArePlainEnds}
-use Rattle.tap_views.specs.declared.upload_end.UploadEnd.{UploadEnd}
+use Rattle.tap_views.specs.declared.{token.Token.Token, upload_end.UploadEnd.UploadEnd}
+use Rattle.tariffs.specs.Fares.{Fares}
 
 -- the text of a token's statement over a history
 pub record IsStatementOver (fares : Fares) (history : List Entry) (token : Token) (text : List ℕ)

@@ -1,14 +1,12 @@
 -- The text of the report, as a list of bytes. Each line ends with one line feed, numbers are
 -- decimal, and tokens are hexadecimal digits in lower case.
-use Rattle.std.specs.Prelude.{ℕ, ◌+◌, List, [], ◌∷◌, ◌++◌, length, codes}
-use Rattle.std.specs.Fmt.{decimal}
-use Rattle.std.specs.List.{flat_map}
-use Rattle.histories.specs.Sums.{Sums}
-use Rattle.tap_views.specs.UploadEnds.{end_text}
-use Rattle.tap_views.specs.declared.token.Token.{Token}
-use Rattle.tap_views.specs.declared.upload_end.UploadEnd.{UploadEnd}
-use Rattle.fare_texts.specs.ReportLines.{number_line, token_line, validator_line}
 use Rattle.fare_texts.specs.Counts.{totals_line}
+use Rattle.fare_texts.specs.ReportLines.{number_line, token_line, validator_line}
+use Rattle.histories.specs.Sums.{Sums}
+use Rattle.std.specs.{Fmt.decimal, List.flat_map}
+use Rattle.std.specs.Prelude.{ℕ, ◌+◌, List, [], ◌∷◌, ◌++◌, length, codes}
+use Rattle.tap_views.specs.UploadEnds.{end_text}
+use Rattle.tap_views.specs.declared.{token.Token.Token, upload_end.UploadEnd.UploadEnd}
 
 -- `upload 0 posted 4`
 unfoldable pub upload_line : ℕ → UploadEnd → List ℕ

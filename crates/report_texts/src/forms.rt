@@ -1,12 +1,11 @@
 //! The forms of a report's lines: what each line says.
 
-ghost use Rattle.std.specs.Prelude.{◌≡◌, ◌^◌, ◌↔◌, IsTrue, MatchOption, None, Some, option_map};
 ghost use Rattle.hex.specs.Hex.{encode_lower};
-ghost use Rattle.histories.specs.Shown.{token_sum, validator_sum};
-ghost use Rattle.histories.specs.Sums.{sums_of};
+ghost use Rattle.histories.specs.{Shown.token_sum, Shown.validator_sum, Sums.sums_of};
 ghost use Rattle.report_texts.specs.Forms.{count_at, counted_read, end_in, fault_by, head_in};
-ghost use Rattle.report_texts.specs.Forms.{refused_in, sums_by, token_in, token_line_in};
-ghost use Rattle.report_texts.specs.Forms.{totals_in, upload_in, validator_in};
+ghost use Rattle.report_texts.specs.Forms.{refused_in, sums_by, token_in, token_line_in, totals_in};
+ghost use Rattle.report_texts.specs.Forms.{upload_in, validator_in};
+ghost use Rattle.std.specs.Prelude.{◌≡◌, ◌^◌, ◌↔◌, IsTrue, MatchOption, None, Some, option_map};
 
 use histories::{TokenSum, Totals, ValidatorSum};
 use line_forms::form::FormOf;

@@ -1,14 +1,12 @@
 //! The text of the report but for the lines of the tokens: a function a line, list and part.
 
-ghost use Rattle.std.specs.Prelude.{◌≡◌, ◌++◌, IfOk, OnOk, length, map, string_bytes, codes};
-ghost use Rattle.std.specs.Fmt.{decimal};
-ghost use Rattle.histories.specs.Shown.{validator_sum};
-ghost use Rattle.histories.specs.Sums.{sums_of};
-ghost use Rattle.std.specs.List.{flat_map};
 ghost use Rattle.fare_texts.specs.Counts.{counts_text, totals_line};
+ghost use Rattle.fare_texts.specs.ReportLines.{number_line, token_line, validator_line};
+ghost use Rattle.histories.specs.{Shown.validator_sum, Sums.sums_of};
 ghost use Rattle.report_texts.specs.Report.{report, uploads_section, validators_section};
 ghost use Rattle.report_texts.specs.Report.{upload_line, upload_lines};
-ghost use Rattle.fare_texts.specs.ReportLines.{number_line, token_line, validator_line};
+ghost use Rattle.std.specs.{Fmt.decimal, List.flat_map};
+ghost use Rattle.std.specs.Prelude.{◌≡◌, ◌++◌, IfOk, OnOk, length, map, string_bytes, codes};
 
 use fare_texts::{write_counts, write_totals};
 use histories::{TokenSums, Totals, ValidatorSum};

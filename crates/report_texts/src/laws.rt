@@ -1,15 +1,14 @@
 //! Theorems about a report's lines: the line of a value says this value, and no other line does.
 
-ghost use Rattle.std.specs.Prelude.{◌≡◌, ◌<◌, ◌^◌, ℕ, List, Some};
 ghost use Rattle.fare_texts.specs.Counts.{totals_line};
 ghost use Rattle.fare_texts.specs.ReportLines.{number_line, token_line, validator_line};
 ghost use Rattle.histories.specs.Sums.{Sums};
-ghost use Rattle.tap_views.specs.declared.token.Token.{Token};
-ghost use Rattle.tap_views.specs.declared.upload_end.UploadEnd.{UploadEnd};
 ghost use Rattle.report_texts.specs.Forms.{head_in, token_line_in, totals_in, upload_in};
 ghost use Rattle.report_texts.specs.Forms.{validator_in};
 ghost use Rattle.report_texts.specs.Numbers.{AreCounts, IsTokenSum, IsUploadEnd, IsValidatorSum};
 ghost use Rattle.report_texts.specs.Report.{upload_line};
+ghost use Rattle.std.specs.Prelude.{◌≡◌, ◌<◌, ◌^◌, ℕ, List, Some};
+ghost use Rattle.tap_views.specs.declared.{token.Token.Token, upload_end.UploadEnd.UploadEnd};
 
 /// The head of a section is read back.
 pub fn heads_are_read()

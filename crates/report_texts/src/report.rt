@@ -1,15 +1,12 @@
 //! The report: the end of each upload, the totals, the sums of each validator and of each token.
 
-ghost use Rattle.std.specs.Prelude.{◌≡◌, ◌≤◌, ◌++◌, OnOk, IfOk, IfErr, map, vec_capacity};
-ghost use Rattle.std.specs.Io.KnownBytes.{Appends};
-ghost use Rattle.std.specs.List.{flat_map};
-ghost use Rattle.fare_texts.specs.PrintFaults.{UnchangedUnlessWrite};
-ghost use Rattle.fare_texts.specs.ReportLines.{token_line};
+ghost use Rattle.fare_texts.specs.{PrintFaults.UnchangedUnlessWrite, ReportLines.token_line};
 ghost use Rattle.fare_texts.specs.WrittenOut.{Begins};
 ghost use Rattle.fare_texts.specs.declared.print_fault.PrintFault.TheVariants.{Write as ForWrite};
-ghost use Rattle.histories.specs.Shown.{validator_sum};
-ghost use Rattle.histories.specs.Sums.{sums_of};
+ghost use Rattle.histories.specs.{Shown.validator_sum, Sums.sums_of};
 ghost use Rattle.report_texts.specs.Report.{report};
+ghost use Rattle.std.specs.{Io.KnownBytes.Appends, List.flat_map};
+ghost use Rattle.std.specs.Prelude.{◌≡◌, ◌≤◌, ◌++◌, OnOk, IfOk, IfErr, map, vec_capacity};
 
 use crate::front::report_front;
 use crate::token_lines::write_lines;

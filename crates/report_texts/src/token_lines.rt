@@ -1,17 +1,14 @@
 //! The lines of the report's tokens: of many tokens, most of the text.
 
-ghost use Rattle.std.specs.Prelude.{◌≡◌, ◌+◌, ◌≤◌, [], ◌++◌, OnErr, OnOk, IfErr, length};
-ghost use Rattle.std.specs.Prelude.{codes, vec_capacity, vec_len};
-ghost use Rattle.std.specs.Io.KnownBytes.{Appends};
-ghost use Rattle.std.specs.List.{flat_map};
-ghost use Rattle.hex.specs.Hex.{encode_lower};
-ghost use Rattle.histories.specs.Shown.{token_sum};
-ghost use Rattle.histories.specs.Sums.{sums_of};
-ghost use Rattle.tap_views.specs.Token.{bytes_of};
-ghost use Rattle.fare_texts.specs.Counts.{first_counts, last_counts};
-ghost use Rattle.fare_texts.specs.ReportLines.{token_line};
+ghost use Rattle.fare_texts.specs.{Counts.first_counts, Counts.last_counts, ReportLines.token_line};
 ghost use Rattle.fare_texts.specs.WrittenOut.{Begins, GoesOut};
 ghost use Rattle.fare_texts.specs.declared.print_fault.PrintFault.TheVariants.{Write as ForWrite};
+ghost use Rattle.hex.specs.Hex.{encode_lower};
+ghost use Rattle.histories.specs.{Shown.token_sum, Sums.sums_of};
+ghost use Rattle.std.specs.{Io.KnownBytes.Appends, List.flat_map};
+ghost use Rattle.std.specs.Prelude.{◌≡◌, ◌+◌, ◌≤◌, [], ◌++◌, OnErr, OnOk, IfErr, length, codes};
+ghost use Rattle.std.specs.Prelude.{vec_capacity, vec_len};
+ghost use Rattle.tap_views.specs.Token.{bytes_of};
 
 use fare_texts::{Line, PrintFault, write_out};
 use histories::{TokenSum, TokenSums, Totals};

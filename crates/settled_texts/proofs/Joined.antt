@@ -1,25 +1,22 @@
 -- Lists one behind the other, and taps between places of a list.
-use Rattle.std.proofs.Common.{◌≡◌, ℕ, ◌+◌, ◌<◌, ◌≤◌, List, [], ◌∷◌, ◌++◌, All, Option}
-use Rattle.std.proofs.Common.{length, take, drop, get_or, flat_map, refl, sym, ap, subst, ◌∙◌}
-use Rattle.std.proofs.Common.{append-nil, add-one, drop-cons, Vec, Global}
-use Rattle.std.specs.List.{between}
-use Rattle.std.proofs.lemmas.List.{take-append-drop, take-take, take_more}
-use Rattle.std.proofs.lemmas.List.Concat.{flat_map-append}
-use Rattle.std.proofs.lemmas.List.Edits.{split_between}
-use Rattle.std.proofs.lemmas.Slice.{between_is}
-use Rattle.tariffs.specs.Fares.{Fares}
-use Rattle.tap_views.specs.Layout.{moment_limit}
-use Rattle.tap_views.specs.declared.encoder.TapFields.{TapFields}
-use Rattle.tap_views.proofs.Lists.{All-split}
+use Rattle.std.proofs.Common.{◌≡◌, ℕ, ◌+◌, ◌<◌, ◌≤◌, List, [], ◌∷◌, ◌++◌, All, Option, length, take}
+use Rattle.std.proofs.Common.{drop, get_or, flat_map, refl, sym, ap, subst, ◌∙◌, append-nil}
+use Rattle.std.proofs.Common.{add-one, drop-cons, Vec, Global}
+use Rattle.fare_texts.proofs.Beginnings.{goes_begins, goes_on}
 use Rattle.fare_texts.specs.WrittenOut.{Begins, GoesOut}
 use Rattle.fare_texts.specs.declared.explainer.Explainer.{Explainer}
-use Rattle.fare_texts.proofs.Beginnings.{goes_begins, goes_on}
-use Rattle.settlement.specs.Nondecreasing.{TapsNondecreasingFrom, last_token}
-use Rattle.settlement.proofs.Nondecreasing.{nondecreasing_append}
+use Rattle.settled_texts.proofs.TapsExplained.{begins_longer, explains_then, lines_front}
+use Rattle.settled_texts.proofs.TapsExplained.{lines_then, may_front, may_rest}
 use Rattle.settled_texts.specs.ExplainedTaps.{Explains, HaveLines, MayExplain}
 use Rattle.settled_texts.specs.inside.WorkerSlots.{IsSoundList}
-use Rattle.settled_texts.proofs.TapsExplained.{begins_longer, explains_then, lines_front, lines_then}
-use Rattle.settled_texts.proofs.TapsExplained.{may_front, may_rest}
+use Rattle.settlement.proofs.Nondecreasing.{nondecreasing_append}
+use Rattle.settlement.specs.Nondecreasing.{TapsNondecreasingFrom, last_token}
+use Rattle.std.proofs.lemmas.List.{take-append-drop, take-take, take_more, Concat.flat_map-append}
+use Rattle.std.proofs.lemmas.{List.Edits.split_between, Slice.between_is}
+use Rattle.std.specs.List.{between}
+use Rattle.tap_views.proofs.Lists.{All-split}
+use Rattle.tap_views.specs.{Layout.moment_limit, declared.encoder.TapFields.TapFields}
+use Rattle.tariffs.specs.Fares.{Fares}
 
 -- the elements before a place, the one there and those behind it
 pub around : {X : Type 0} (xs : List X) (i : ℕ) (other : X) → i < length xs

@@ -1,17 +1,13 @@
 -- Taps that are numbered one after the other.
-use Rattle.std.proofs.Common.{◌≡◌, ◌∙◌, ℕ, ◌+◌, List, [], ◌∷◌, ◌++◌, length, refl, ap, sym}
-use Rattle.std.proofs.Common.{◌<◌, get_or, take}
-use Rattle.std.proofs.Common.{arith, append_assoc, append-nil, Bool, true, false, not}
-use Rattle.std.specs.Prelude.{◌&&◌}
-use Rattle.std.specs.List.{list_all}
-use Rattle.std.proofs.lemmas.List.{length-take, take_more}
-use Rattle.std.proofs.lemmas.List.Folds.{list_all-append}
-use Rattle.tap_views.specs.Layout.{Tap}
-use Rattle.tap_parts.specs.Parts.{taps_at}
-use Rattle.tap_views.specs.Files.{ValidBatchesView}
-use Rattle.tap_views.specs.declared.encoder.TapFields.{TapFields}
+use Rattle.std.proofs.Common.{◌≡◌, ◌∙◌, ℕ, ◌+◌, List, [], ◌∷◌, ◌++◌, length, refl, ap, sym, ◌<◌}
+use Rattle.std.proofs.Common.{get_or, take, arith, append_assoc, append-nil, Bool, true, false, not}
 use Rattle.settled_texts.specs.Traces.{valid_fields, is_whole, numbered, traced_from}
 use Rattle.settled_texts.specs.declared.trace.TracedTap.{TracedTap}
+use Rattle.std.proofs.lemmas.List.{length-take, take_more, Folds.list_all-append}
+use Rattle.std.specs.{List.list_all, Prelude.◌&&◌}
+use Rattle.tap_parts.specs.Parts.{taps_at}
+use Rattle.tap_views.specs.{Files.ValidBatchesView, Layout.Tap}
+use Rattle.tap_views.specs.declared.encoder.TapFields.{TapFields}
 
 -- taps behind others go on with the position after these
 pub numbered_append : (upload position : ℕ) (xs ys : List TapFields)

@@ -1,8 +1,7 @@
 -- The own entries of a token, of which all are its own.
 use Rattle.std.proofs.Common.{◌≡◌, Bool, true, false, cond, List, [], ◌∷◌, filter, refl, ap, ◌∙◌}
+use Rattle.histories.specs.{Entry.is_of, Entry.own, declared.entry.Entry.Entry}
 use Rattle.tap_views.specs.declared.token.Token.{Token}
-use Rattle.histories.specs.Entry.{is_of, own}
-use Rattle.histories.specs.declared.entry.Entry.{Entry}
 
 kept_again : {X : Type 0} (p : X → Bool) (xs : List X) → filter p (filter p xs) ≡ filter p xs
 kept_again p [] = refl

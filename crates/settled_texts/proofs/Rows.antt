@@ -1,23 +1,18 @@
 -- The ledger of taps in canonical order: the tokens of their entries do not fall.
 use Rattle.std.proofs.Common.{◌≡◌, ℕ, All, List, None, [], ◌∷◌, ◌++◌}
-use Rattle.std.specs.List.Sorted.{IsSorted}
-use Rattle.tariffs.specs.Fares.{Fares}
-use Rattle.tap_views.specs.declared.token.Token.{Token}
-use Rattle.tap_views.specs.declared.encoder.TapFields.{TapFields}
-use Rattle.histories.specs.declared.entry.Entry.{Entry}
-use Rattle.histories.specs.Plain.{answered}
-use Rattle.tap_parts.specs.Canonical.{tap_cmp}
-use Rattle.fare_texts.specs.Explainers.{HasExplained}
-use Rattle.fare_texts.specs.Ledger.{IsLedgerOver}
-use Rattle.fare_texts.specs.LedgerLines.{head_text}
+use Rattle.fare_texts.proofs.{Along.ledger_along, PieceWriting.consumed_first}
+use Rattle.fare_texts.specs.{Explainers.HasExplained, Ledger.IsLedgerOver, LedgerLines.head_text}
 use Rattle.fare_texts.specs.Lines.{Nondecreasing, NondecreasingFrom}
 use Rattle.fare_texts.specs.declared.explainer.Explainer.{Explainer}
-use Rattle.fare_texts.proofs.Along.{ledger_along}
-use Rattle.fare_texts.proofs.PieceWriting.{consumed_first}
-use Rattle.settlement.specs.Posted.{HasName, posted, posted_after, token_of_tap, unposted}
-use Rattle.settlement.specs.Nondecreasing.{TapsNondecreasingFrom}
-use Rattle.settlement.proofs.Nondecreasing.{canonical_nondecreasing}
+use Rattle.histories.specs.{Plain.answered, declared.entry.Entry.Entry}
 use Rattle.settled_texts.specs.ExplainedTaps.{HaveLines}
+use Rattle.settlement.proofs.Nondecreasing.{canonical_nondecreasing}
+use Rattle.settlement.specs.Nondecreasing.{TapsNondecreasingFrom}
+use Rattle.settlement.specs.Posted.{HasName, posted, posted_after, token_of_tap, unposted}
+use Rattle.std.specs.List.Sorted.{IsSorted}
+use Rattle.tap_parts.specs.Canonical.{tap_cmp}
+use Rattle.tap_views.specs.declared.{encoder.TapFields.TapFields, token.Token.Token}
+use Rattle.tariffs.specs.Fares.{Fares}
 
 -- the entries of taps whose tokens do not fall
 posted_from : (fares : Fares) (earlier : List Entry) (token : Token) (taps : List TapFields)

@@ -1,29 +1,21 @@
 -- The taps of a trace are the settled taps of the files.
 use Rattle.std.proofs.Common.{◌≡◌, ◌∙◌, ℕ, ◌+◌, ◌<◌, Bool, false, List, [], ◌∷◌, ◌++◌, All, Less}
 use Rattle.std.proofs.Common.{Equal, Greater, Ordering, arith, length, map, refl, sym, ap, subst}
-use Rattle.std.specs.Prelude.{slice_index_or}
-use Rattle.std.specs.List.Sorted.{IsPermutation, IsSorted}
-use Rattle.std.specs.Ordering.{is_lt, nat_cmp, ordering_then}
-use Rattle.std.proofs.lemmas.List.{get_or-map, length-map, map-append}
-use Rattle.std.proofs.lemmas.List.Sorted.{IsPermutation-map}
-use Rattle.tariffs.specs.Fares.{Fares}
-use Rattle.histories.specs.Entry.{AreEntriesOf}
-use Rattle.histories.specs.declared.entry.Entry.{Entry}
-use Rattle.histories.specs.Plain.{IsPlain}
-use Rattle.tap_views.specs.Encoding.{fields_of}
-use Rattle.tap_views.specs.Files.{AreValidTapsOfEach, ValidBatchesView, HasUniqueParse}
-use Rattle.tap_views.specs.Files.{taps_of_batches}
-use Rattle.tap_views.specs.Layout.{Tap}
-use Rattle.tap_views.specs.TapOrder.{tap_cmp}
-use Rattle.tap_views.specs.declared.encoder.TapFields.{TapFields}
-use Rattle.tap_views.proofs.ParseLemmas.{valid_taps}
-use Rattle.tap_parts.specs.Parts.{taps_of_uploads}
-use Rattle.settlement.specs.SettledTaps.{AreSettledTaps}
-use Rattle.settlement.proofs.ValidTokens.{valid_tokens}
-use Rattle.settlement.proofs.SettledOrders.{settled_order}
+use Rattle.histories.specs.{Entry.AreEntriesOf, Plain.IsPlain, declared.entry.Entry.Entry}
 use Rattle.settled_texts.specs.Traces.{AreReadAs, IsTrace, valid_fields, numbered, taps_of_trace}
 use Rattle.settled_texts.specs.Traces.{traced_cmp, traced_from}
 use Rattle.settled_texts.specs.declared.trace.TracedTap.{TracedTap}
+use Rattle.settlement.proofs.{SettledOrders.settled_order, ValidTokens.valid_tokens}
+use Rattle.settlement.specs.SettledTaps.{AreSettledTaps}
+use Rattle.std.proofs.lemmas.List.{get_or-map, length-map, map-append, Sorted.IsPermutation-map}
+use Rattle.std.specs.{List.Sorted.IsPermutation, List.Sorted.IsSorted, Ordering.is_lt}
+use Rattle.std.specs.{Ordering.nat_cmp, Ordering.ordering_then, Prelude.slice_index_or}
+use Rattle.tap_parts.specs.Parts.{taps_of_uploads}
+use Rattle.tap_views.proofs.ParseLemmas.{valid_taps}
+use Rattle.tap_views.specs.{Encoding.fields_of, Files.AreValidTapsOfEach}
+use Rattle.tap_views.specs.Files.{ValidBatchesView, HasUniqueParse, taps_of_batches}
+use Rattle.tap_views.specs.{Layout.Tap, TapOrder.tap_cmp, declared.encoder.TapFields.TapFields}
+use Rattle.tariffs.specs.Fares.{Fares}
 
 abbrev tap_in : TracedTap → TapFields
 tap_in traced = traced.tap

@@ -1,32 +1,24 @@
 -- The lines of taps, and of more taps behind them.
-use Rattle.std.proofs.Common.{◌≡◌, ℕ, List, [], ◌∷◌, ◌++◌}
-use Rattle.std.proofs.Common.{Option, Some, refl, sym, ap, subst, ◌∙◌, append-nil, append_assoc}
-use Rattle.std.proofs.Common.{◌<◌, All, arith, false, length, length-append}
-use Rattle.std.specs.Prelude.{slice_get}
-use Rattle.tariffs.specs.Fares.{Fares}
-use Rattle.tap_views.specs.declared.token.Token.{Token}
-use Rattle.tap_views.specs.declared.encoder.TapFields.{TapFields}
-use Rattle.histories.specs.Entry.{own, taps_of}
-use Rattle.histories.specs.declared.entry.Entry.{Entry}
-use Rattle.fare_texts.specs.Explainers.{HasExplained, next_entry}
-use Rattle.fare_texts.specs.LedgerLines.{IsLedgerLineAfter}
-use Rattle.fare_texts.specs.declared.explainer.Explainer.{Explainer}
-use Rattle.histories.specs.Plain.{answered}
-use Rattle.fare_texts.specs.Lines.{AreLinesAlong, HasConsumed}
-use Rattle.tap_views.specs.TokenOrder.{IsUpTo}
-use Rattle.fare_texts.specs.WrittenOut.{Begins}
+use Rattle.std.proofs.Common.{◌≡◌, ℕ, List, [], ◌∷◌, ◌++◌, Option, Some, refl, sym, ap, subst, ◌∙◌}
+use Rattle.std.proofs.Common.{append-nil, append_assoc, ◌<◌, All, arith, false, length}
+use Rattle.std.proofs.Common.{length-append}
 use Rattle.fare_texts.proofs.Beginnings.{begins_front}
-use Rattle.tap_views.specs.Layout.{moment_limit}
-use Rattle.tap_views.specs.Token.{token_eq}
-use Rattle.tap_views.proofs.Lists.{All-split}
-use Rattle.tap_views.proofs.TokensUp.{up_itself}
 use Rattle.fare_texts.proofs.PieceWriting.{along_append, consumed_next, consumed_on}
 use Rattle.fare_texts.proofs.TextsExist.{along_exist}
-use Rattle.settlement.specs.Posted.{posted_after, token_of_tap, unposted}
+use Rattle.fare_texts.specs.Explainers.{HasExplained, next_entry}
+use Rattle.fare_texts.specs.{LedgerLines.IsLedgerLineAfter, Lines.AreLinesAlong, Lines.HasConsumed}
+use Rattle.fare_texts.specs.{WrittenOut.Begins, declared.explainer.Explainer.Explainer}
+use Rattle.histories.specs.{Entry.own, Entry.taps_of, Plain.answered, declared.entry.Entry.Entry}
+use Rattle.settled_texts.specs.ExplainedTaps.{AreExplained, Explains, HaveLines, MayExplain}
 use Rattle.settlement.proofs.Concats.{posted_append}
 use Rattle.settlement.proofs.Nondecreasing.{last_append, nondecreasing_append}
-use Rattle.settled_texts.specs.ExplainedTaps.{AreExplained, Explains, HaveLines, MayExplain}
 use Rattle.settlement.specs.Nondecreasing.{TapsNondecreasingFrom, last_token}
+use Rattle.settlement.specs.Posted.{posted_after, token_of_tap, unposted}
+use Rattle.std.specs.Prelude.{slice_get}
+use Rattle.tap_views.proofs.{Lists.All-split, TokensUp.up_itself}
+use Rattle.tap_views.specs.{Layout.moment_limit, Token.token_eq, TokenOrder.IsUpTo}
+use Rattle.tap_views.specs.declared.{encoder.TapFields.TapFields, token.Token.Token}
+use Rattle.tariffs.specs.Fares.{Fares}
 
 -- ---- the lines
 

@@ -1,22 +1,19 @@
 -- Columns behind the lines of a text.
 use Rattle.std.proofs.Common.{◌≡◌, ◌∙◌, ℕ, ◌+◌, ◌<◌, ◌==◌, false, List, [], ◌∷◌, ◌++◌, Option, refl}
 use Rattle.std.proofs.Common.{sym, ap, subst, drop, take, get_or, append_assoc, append-nil, length}
-use Rattle.std.specs.Prelude.{codes}
-use Rattle.std.specs.Io.KnownBytes.{Appends}
-use Rattle.std.proofs.lemmas.List.{map-append, take-append-drop, take_more}
-use Rattle.tariffs.specs.Fares.{Fares}
-use Rattle.tap_views.specs.declared.encoder.TapFields.{TapFields}
-use Rattle.fare_texts.specs.LedgerLines.{head_text}
-use Rattle.fare_texts.specs.WrittenOut.{Begins, GoesOut}
-use Rattle.fare_texts.specs.declared.explainer.Explainer.{Explainer}
 use Rattle.fare_texts.proofs.Beginnings.{begins_front, goes_last, goes_passed, goes_then}
-use Rattle.settled_texts.specs.Columns.{columns_by, head_columns, with_columns}
-use Rattle.settled_texts.specs.ExplainedTaps.{Explains, HaveLines}
-use Rattle.settled_texts.specs.Traces.{taps_of_trace}
-use Rattle.settled_texts.specs.declared.trace.TracedTap.{TracedTap}
-use Rattle.settled_texts.specs.inside.Puts.{Puts}
+use Rattle.fare_texts.specs.{LedgerLines.head_text, WrittenOut.Begins, WrittenOut.GoesOut}
+use Rattle.fare_texts.specs.declared.explainer.Explainer.{Explainer}
 use Rattle.settled_texts.proofs.Joined.{around}
 use Rattle.settled_texts.proofs.TapsExplained.{explained_lines, lines_front}
+use Rattle.settled_texts.specs.Columns.{columns_by, head_columns, with_columns}
+use Rattle.settled_texts.specs.ExplainedTaps.{Explains, HaveLines}
+use Rattle.settled_texts.specs.{Traces.taps_of_trace, declared.trace.TracedTap.TracedTap}
+use Rattle.settled_texts.specs.inside.Puts.{Puts}
+use Rattle.std.proofs.lemmas.List.{map-append, take-append-drop, take_more}
+use Rattle.std.specs.{Io.KnownBytes.Appends, Prelude.codes}
+use Rattle.tap_views.specs.declared.encoder.TapFields.{TapFields}
+use Rattle.tariffs.specs.Fares.{Fares}
 
 pub no_columns : (text : List ℕ) → with_columns text [] ≡ text
 no_columns [] = refl

@@ -1,13 +1,12 @@
 -- Lines of taps, posted one after the other.
-use Rattle.std.specs.Prelude.{◌≡◌, ◌+◌, ◌^◌, ◌<◌, ◌≤◌, ℕ, List, ◌++◌, length}
-use Rattle.tariffs.specs.Fares.{Fares}
-use Rattle.tap_views.specs.Encoding.{AreEarly}
-use Rattle.tap_views.specs.declared.encoder.TapFields.{TapFields}
-use Rattle.histories.specs.declared.entry.Entry.{Entry}
-use Rattle.fare_texts.specs.declared.explainer.Explainer.{Explainer}
 use Rattle.fare_texts.specs.Lines.{AreLinesAlong, HasConsumed}
+use Rattle.fare_texts.specs.declared.explainer.Explainer.{Explainer}
+use Rattle.histories.specs.declared.entry.Entry.{Entry}
 use Rattle.settlement.specs.Nondecreasing.{TapsNondecreasingFrom, last_token}
 use Rattle.settlement.specs.Posted.{posted_after}
+use Rattle.std.specs.Prelude.{◌≡◌, ◌+◌, ◌^◌, ◌<◌, ◌≤◌, ℕ, List, ◌++◌, length}
+use Rattle.tap_views.specs.{Encoding.AreEarly, declared.encoder.TapFields.TapFields}
+use Rattle.tariffs.specs.Fares.{Fares}
 
 -- these are the lines of taps that follow the entries, and the explainer has consumed all of them
 pub record AreExplained (fares : Fares) (earlier : List Entry) (taps : List TapFields)

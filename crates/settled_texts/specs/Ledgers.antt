@@ -1,12 +1,11 @@
 -- Traced ledgers.
-use Rattle.std.specs.Prelude.{◌≡◌, ℕ, Bool, List, ◌∷◌, None}
-use Rattle.tariffs.specs.Fares.{Fares}
 use Rattle.fare_texts.specs.Ledger.{IsLedgerOver}
-use Rattle.settlement.specs.Posted.{posted}
-use Rattle.settlement.specs.Settled.{IsSettledHistory}
 use Rattle.settled_texts.specs.Columns.{columns_by, head_columns, with_columns}
 use Rattle.settled_texts.specs.Traces.{IsTrace, taps_of_trace}
 use Rattle.settled_texts.specs.declared.trace.TracedTap.{TracedTap}
+use Rattle.settlement.specs.{Posted.posted, Settled.IsSettledHistory}
+use Rattle.std.specs.Prelude.{◌≡◌, ℕ, Bool, List, ◌∷◌, None}
+use Rattle.tariffs.specs.Fares.{Fares}
 
 -- The text is the traced ledger of the files, by a function that gives the class of each token at a
 -- moment. It is the ledger of the taps of their trace, which is that of the files' settled history,

@@ -1,14 +1,12 @@
 -- The valid taps of uploads, each with its upload and its place there.
-use Rattle.std.specs.Prelude.{◌≡◌, ℕ, ◌+◌, Bool, List, [], ◌∷◌, ◌++◌, map, not, is_some}
-use Rattle.std.specs.List.{AllZip, list_all}
-use Rattle.std.specs.List.Sorted.{IsPermutation, IsSorted}
+use Rattle.settled_texts.specs.declared.trace.TracedTap.{TracedTap}
+use Rattle.std.specs.List.{AllZip, list_all, Sorted.IsPermutation, Sorted.IsSorted}
 use Rattle.std.specs.Ordering.{nat_cmp, ordering_then}
+use Rattle.std.specs.Prelude.{◌≡◌, ℕ, ◌+◌, Bool, List, [], ◌∷◌, ◌++◌, map, not, is_some}
 use Rattle.std.specs.declared.cmp.Ordering.{Ordering}
 use Rattle.tap_views.specs.Encoding.{fields_of}
 use Rattle.tap_views.specs.Files.{ValidBatchesView, IsReadAs, taps_of_batches}
-use Rattle.tap_views.specs.TapOrder.{tap_cmp}
-use Rattle.tap_views.specs.declared.encoder.TapFields.{TapFields}
-use Rattle.settled_texts.specs.declared.trace.TracedTap.{TracedTap}
+use Rattle.tap_views.specs.{TapOrder.tap_cmp, declared.encoder.TapFields.TapFields}
 
 -- taps of this upload, in their order, of which the first has this place
 abbrev pub numbered : ℕ → ℕ → List TapFields → List TracedTap

@@ -1,11 +1,10 @@
 //! The three columns after the lines of a traced ledger.
 
-ghost use Rattle.std.specs.Prelude.{◌≡◌, ◌++◌, ◌∷◌, [], ℕ, List, IfOk, OnOk, codes};
-ghost use Rattle.std.specs.Prelude.{◌==◌};
-ghost use Rattle.std.specs.Fmt.{decimal};
+ghost use Rattle.class_names.specs.Names.{class_by};
 ghost use Rattle.settled_texts.specs.Columns.{columns_by, columns_of, with_columns};
 ghost use Rattle.settled_texts.specs.inside.Puts.{Puts};
-ghost use Rattle.class_names.specs.Names.{class_by};
+ghost use Rattle.std.specs.Fmt.{decimal};
+ghost use Rattle.std.specs.Prelude.{◌≡◌, ◌++◌, ◌∷◌, [], ℕ, List, IfOk, OnOk, codes, ◌==◌};
 
 use crate::trace::TracedTap;
 use class_names::ClassNames;

@@ -1,17 +1,15 @@
 //! The ledger of settled taps.
 
-ghost use Rattle.std.specs.Prelude.{◌≡◌, ◌+◌, ◌*◌, ◌^◌, ◌<◌, ◌++◌, ℕ, All, List, None, IfErr, IfOk};
-ghost use Rattle.std.specs.Prelude.{OnErr, OnOk, flat_map, length, string_bytes};
-ghost use Rattle.std.specs.List.Sorted.{IsSorted};
-ghost use Rattle.std.specs.Io.KnownBytes.{Appends};
-ghost use Rattle.tap_views.specs.Encoding.{AreEarly};
-ghost use Rattle.tap_parts.specs.Canonical.{tap_cmp};
-ghost use Rattle.fare_texts.specs.PrintFaults.{UnchangedUnlessWrite};
+ghost use Rattle.fare_texts.specs.{Ledger.IsLedgerOver, PrintFaults.UnchangedUnlessWrite};
 ghost use Rattle.fare_texts.specs.WrittenOut.{Begins, GoesOut};
 ghost use Rattle.fare_texts.specs.declared.print_fault.PrintFault.TheVariants.{Write as ForWrite};
-ghost use Rattle.fare_texts.specs.Ledger.{IsLedgerOver};
-ghost use Rattle.settlement.specs.Posted.{HasName, posted};
 ghost use Rattle.settled_texts.specs.ExplainedTaps.{Explains, HaveLines, MayExplain};
+ghost use Rattle.settlement.specs.Posted.{HasName, posted};
+ghost use Rattle.std.specs.{Io.KnownBytes.Appends, List.Sorted.IsSorted};
+ghost use Rattle.std.specs.Prelude.{◌≡◌, ◌+◌, ◌*◌, ◌^◌, ◌<◌, ◌++◌, ℕ, All, List, None, IfErr, IfOk};
+ghost use Rattle.std.specs.Prelude.{OnErr, OnOk, flat_map, length, string_bytes};
+ghost use Rattle.tap_parts.specs.Canonical.{tap_cmp};
+ghost use Rattle.tap_views.specs.Encoding.{AreEarly};
 
 use crate::rounds::{slots_of, write_by_workers};
 use crate::slot::WorkerSlot;

@@ -1,19 +1,14 @@
 //! The ledger and the statements of one token, from its settled taps.
 
-ghost use Rattle.std.specs.Prelude.{◌≡◌, ◌<◌, ◌++◌, ◌∷◌, [], ℕ, List, All, Some, IfErr, IfOk, OnOk};
-ghost use Rattle.std.specs.Prelude.{string_bytes};
-ghost use Rattle.std.specs.Io.KnownBytes.{Appends};
-ghost use Rattle.tap_views.specs.Encoding.{AreEarly};
-ghost use Rattle.histories.specs.Entry.{own};
-ghost use Rattle.histories.specs.declared.entry.Entry.{Entry};
-ghost use Rattle.fare_texts.specs.PrintFaults.{UnchangedUnlessWrite};
-ghost use Rattle.fare_texts.specs.WrittenOut.{Begins};
+ghost use Rattle.fare_texts.specs.{ExplainedForms.IsExplainedOver, Ledger.IsLedgerOver};
+ghost use Rattle.fare_texts.specs.{PrintFaults.UnchangedUnlessWrite, WrittenOut.Begins};
 ghost use Rattle.fare_texts.specs.declared.print_fault.PrintFault.TheVariants.{Write as ForWrite};
+ghost use Rattle.histories.specs.{Entry.own, declared.entry.Entry.Entry};
 ghost use Rattle.report_texts.specs.OverHistory.{IsStatementOver};
-ghost use Rattle.fare_texts.specs.ExplainedForms.{IsExplainedOver};
-ghost use Rattle.fare_texts.specs.Ledger.{IsLedgerOver};
-ghost use Rattle.settlement.specs.Posted.{posted, token_of_tap};
-ghost use Rattle.settlement.specs.Replays.{HasPosted};
+ghost use Rattle.settlement.specs.{Posted.posted, Posted.token_of_tap, Replays.HasPosted};
+ghost use Rattle.std.specs.{Io.KnownBytes.Appends, Prelude.◌≡◌, Prelude.◌<◌, Prelude.◌++◌};
+ghost use Rattle.std.specs.Prelude.{◌∷◌, [], ℕ, List, All, Some, IfErr, IfOk, OnOk, string_bytes};
+ghost use Rattle.tap_views.specs.Encoding.{AreEarly};
 
 use fare_texts::{
     Form, PrintFault, statement_text, write_explained_of, write_ledger_of, write_out,

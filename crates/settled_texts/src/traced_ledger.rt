@@ -1,21 +1,17 @@
 //! The traced ledger of uploads.
 
-ghost use Rattle.std.specs.Prelude.{◌≡◌, ◌++◌, ◌∷◌, [], ℕ, List, None};
-ghost use Rattle.std.specs.Prelude.{Bool, IfErr, IfOk, OnErr, OnOk, map};
-ghost use Rattle.std.specs.Io.KnownBytes.{Appends};
+ghost use Rattle.class_names.specs.Names.{class_by};
+ghost use Rattle.fare_texts.specs.{Ledger.IsLedgerOver, LedgerLines.head_text};
 ghost use Rattle.fare_texts.specs.PrintFaults.{UnchangedUnlessWrite};
 ghost use Rattle.fare_texts.specs.WrittenOut.{Begins, GoesOut};
 ghost use Rattle.fare_texts.specs.declared.print_fault.PrintFault.TheVariants.{Write as ForWrite};
-ghost use Rattle.fare_texts.specs.Ledger.{IsLedgerOver};
-ghost use Rattle.fare_texts.specs.LedgerLines.{head_text};
-ghost use Rattle.settlement.specs.Posted.{posted};
-ghost use Rattle.settlement.specs.SettledTaps.{AreSettledTaps};
-ghost use Rattle.settled_texts.specs.ExplainedTaps.{Explains, HaveLines, MayExplain};
 ghost use Rattle.settled_texts.specs.Columns.{columns_by, head_columns, with_columns};
+ghost use Rattle.settled_texts.specs.ExplainedTaps.{Explains, HaveLines, MayExplain};
+ghost use Rattle.settled_texts.specs.{Ledgers.IsTracedLedger, Traces.taps_of_trace};
 ghost use Rattle.settled_texts.specs.inside.Puts.{Puts};
-ghost use Rattle.settled_texts.specs.Ledgers.{IsTracedLedger};
-ghost use Rattle.class_names.specs.Names.{class_by};
-ghost use Rattle.settled_texts.specs.Traces.{taps_of_trace};
+ghost use Rattle.settlement.specs.{Posted.posted, SettledTaps.AreSettledTaps};
+ghost use Rattle.std.specs.{Io.KnownBytes.Appends, Prelude.◌≡◌, Prelude.◌++◌};
+ghost use Rattle.std.specs.Prelude.{◌∷◌, [], ℕ, List, None, Bool, IfErr, IfOk, OnErr, OnOk, map};
 
 use crate::columns::put_lines;
 use crate::lines::explain_tap;

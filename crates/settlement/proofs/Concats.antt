@@ -1,16 +1,13 @@
 -- Histories of lists that share no token, one behind the other, and their sums by token.
-use Rattle.std.proofs.Common.{◌≡◌, List, ◌∷◌, ◌++◌, map, filter, []}
-use Rattle.std.proofs.Common.{All, refl, sym, ap, ◌∙◌, append-nil, append_assoc}
-use Rattle.std.proofs.lemmas.List.Elements.{All-head, All-tail, filter-append}
-use Rattle.tariffs.specs.Fares.{Fares}
-use Rattle.tap_views.specs.Token.{bytes_of}
-use Rattle.tap_views.specs.declared.encoder.TapFields.{TapFields}
-use Rattle.fare_caps.specs.CappedReplies.{capped_reply}
-use Rattle.fare_caps.specs.CapMeanings.{capped_rules_of}
+use Rattle.std.proofs.Common.{◌≡◌, List, ◌∷◌, ◌++◌, map, filter, [], All, refl, sym, ap, ◌∙◌}
+use Rattle.std.proofs.Common.{append-nil, append_assoc}
+use Rattle.fare_caps.specs.{CapMeanings.capped_rules_of, CappedReplies.capped_reply}
 use Rattle.histories.specs.Entry.{is_of, own, tap_of, taps_of}
-use Rattle.histories.specs.declared.entry.Entry.{Entry}
-use Rattle.histories.specs.Plain.{answered, with_reply}
+use Rattle.histories.specs.{Plain.answered, Plain.with_reply, declared.entry.Entry.Entry}
 use Rattle.settlement.specs.Posted.{posted, posted_after, token_of_tap, unposted}
+use Rattle.std.proofs.lemmas.List.Elements.{All-head, All-tail, filter-append}
+use Rattle.tap_views.specs.{Token.bytes_of, declared.encoder.TapFields.TapFields}
+use Rattle.tariffs.specs.Fares.{Fares}
 
 -- entries of other tokens decide no reply
 answered_others : (fares : Fares) (front earlier : List Entry) (entry : Entry)

@@ -1,10 +1,9 @@
 -- Elements of a list, of what a test keeps of it, and of what a function makes of it.
 use Rattle.std.proofs.Common.{◌≡◌, ℕ, zero, suc, ◌<◌, List, ◌∷◌, length, get_or, map, filter, []}
 use Rattle.std.proofs.Common.{Bool, true, false, cond, refl, sym, ap, subst, ◌∙◌, arith, inl, inr}
-use Rattle.std.specs.Prelude.{◌⊎◌, Contains}
-use Rattle.std.specs.List.{list_all}
 use Rattle.std.proofs.lemmas.List.Elements.{All-contains, All-contains_itself, All-filter}
 use Rattle.std.proofs.lemmas.List.Folds.{list_all_at}
+use Rattle.std.specs.{List.list_all, Prelude.◌⊎◌, Prelude.Contains}
 
 -- the first element is in the list
 pub first_there : {X : Type 0} (x : X) (xs : List X) → Contains (x ∷ xs) x

@@ -1,10 +1,9 @@
 -- The taps of uploads have moments that a file can have.
 use Rattle.std.proofs.Common.{ℕ, List, ◌∷◌, sym, subst, All, []}
 use Rattle.std.proofs.lemmas.List.Elements.{All-nil, All-append}
-use Rattle.tap_views.specs.Layout.{Tap}
-use Rattle.tap_parts.specs.Parts.{taps_of_uploads}
 use Rattle.tap_parts.proofs.Early.{Early, file_early}
-use Rattle.tap_views.specs.Files.{AreValidTapsOfEach}
+use Rattle.tap_parts.specs.Parts.{taps_of_uploads}
+use Rattle.tap_views.specs.{Files.AreValidTapsOfEach, Layout.Tap}
 
 -- the taps of uploads have moments that fit
 pub uploads_early : (uploads : List (List ℕ)) (taps : List (List Tap))

@@ -1,12 +1,10 @@
 -- Files that read alike have the same plain history and the same ends.
 use Rattle.std.proofs.Common.{◌≡◌, List, ◌∷◌, ◌++◌, length, map, refl, ap, ◌∙◌, [], arith}
-use Rattle.tariffs.specs.Fares.{Fares}
-use Rattle.tap_views.specs.Encoding.{fields_of}
-use Rattle.tap_views.specs.Layout.{Tap}
-use Rattle.tap_views.specs.declared.encoder.TapFields.{TapFields}
 use Rattle.account_rule.specs.declared.reply.Answer.TheVariants.{Unknown}
-use Rattle.histories.specs.declared.entry.Entry.{Entry}
 use Rattle.histories.specs.Plain.{token_of_bytes, unanswered, answered, plain_after}
+use Rattle.histories.specs.declared.entry.Entry.{Entry}
+use Rattle.tap_views.specs.{Encoding.fields_of, Layout.Tap, declared.encoder.TapFields.TapFields}
+use Rattle.tariffs.specs.Fares.{Fares}
 
 -- an entry with no reply, by the fields
 unfoldable pub entry_of : TapFields → Entry

@@ -1,9 +1,8 @@
 -- Uploads that are loaded already are read as what they are.
 use Rattle.std.proofs.Common.{◌≡◌, ℕ, ◌+◌, List, [], arith, length, get_or, subst}
-use Rattle.std.proofs.lemmas.List.{ext_get_or}
-use Rattle.world.specs.Origins.{memory}
-use Rattle.world.specs.Run.{Run}
 use Rattle.settlement.specs.Reading.{AreRead}
+use Rattle.std.proofs.lemmas.List.{ext_get_or}
+use Rattle.world.specs.{Origins.memory, Run.Run}
 
 -- files that were read one after another are all files
 pub loaded_files : (all files : List (List ℕ)) (r s : Run)

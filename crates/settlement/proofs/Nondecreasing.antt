@@ -1,24 +1,18 @@
 -- Taps in canonical order, whose tokens do not fall.
-use Rattle.std.proofs.Common.{◌≡◌, ℕ, ◌+◌, ◌<◌, false, List, [], ◌∷◌, ◌++◌, length, take, drop, get_or}
-use Rattle.std.proofs.Common.{refl, sym, ap, subst, ◌∙◌, All, arith, add-one, drop-cons}
-use Rattle.std.specs.Cmp.{ranks}
-use Rattle.std.specs.Cmp.Lexicographic.{slice_cmp}
-use Rattle.std.specs.List.Sorted.{IsSorted}
+use Rattle.std.proofs.Common.{◌≡◌, ℕ, ◌+◌, ◌<◌, false, List, [], ◌∷◌, ◌++◌, length, take, drop}
+use Rattle.std.proofs.Common.{get_or, refl, sym, ap, subst, ◌∙◌, All, arith, add-one, drop-cons}
+use Rattle.settlement.proofs.Placed.{NotLess, Pairs, sorted_pairs}
+use Rattle.settlement.specs.Nondecreasing.{TapsNondecreasingFrom, last_token}
+use Rattle.settlement.specs.Posted.{HasName, token_of_tap}
+use Rattle.std.proofs.lemmas.List.{take-append-drop, Elements.All-head, Elements.All-tail}
+use Rattle.std.specs.{Cmp.ranks, Cmp.Lexicographic.slice_cmp, List.Sorted.IsSorted}
 use Rattle.std.specs.Ordering.{MatchOrdering, is_lt, nat_cmp, ordering_then}
 use Rattle.std.specs.declared.cmp.Ordering.{Ordering}
 use Rattle.std.specs.declared.cmp.Ordering.TheVariants.{Less, Equal, Greater}
-use Rattle.std.proofs.lemmas.List.{take-append-drop}
-use Rattle.std.proofs.lemmas.List.Elements.{All-head, All-tail}
-use Rattle.tap_views.specs.Token.{token_cmp}
-use Rattle.tap_views.specs.TokenOrder.{IsUpTo}
-use Rattle.tap_views.specs.declared.token.Token.{Token}
-use Rattle.tap_views.specs.declared.encoder.TapFields.{TapFields}
-use Rattle.tap_views.proofs.Orderings.{first_not_less}
-use Rattle.tap_views.proofs.TokenBytes.{token-order}
 use Rattle.tap_parts.specs.Canonical.{tap_cmp}
-use Rattle.settlement.specs.Nondecreasing.{TapsNondecreasingFrom, last_token}
-use Rattle.settlement.specs.Posted.{HasName, token_of_tap}
-use Rattle.settlement.proofs.Placed.{NotLess, Pairs, sorted_pairs}
+use Rattle.tap_views.proofs.{Orderings.first_not_less, TokenBytes.token-order}
+use Rattle.tap_views.specs.{Token.token_cmp, TokenOrder.IsUpTo}
+use Rattle.tap_views.specs.declared.{encoder.TapFields.TapFields, token.Token.Token}
 
 pub nondecreasing_append : (token : Token) (xs ys : List TapFields)
     → TapsNondecreasingFrom token (xs ++ ys)

@@ -1,26 +1,19 @@
 -- The taps of one token among taps: collected from uploads, and posted alone.
-use Rattle.std.proofs.Common.{◌≡◌, Bool, true, false, cond, List, ◌∷◌, ◌++◌, map, refl}
-use Rattle.std.proofs.Common.{sym, ap, ◌∙◌, append-nil, append_assoc, flat_map, [], Vec, Global}
-use Rattle.std.specs.List.{AllZip}
-use Rattle.std.proofs.lemmas.List.{map-append}
-use Rattle.std.proofs.lemmas.List.Concat.{flat_map-append}
-use Rattle.std.proofs.lemmas.List.Elements.{filter-append}
-use Rattle.tariffs.specs.Fares.{Fares}
-use Rattle.tap_views.specs.Token.{bytes_of, token_eq}
-use Rattle.tap_views.specs.declared.token.Token.{Token}
-use Rattle.tap_views.specs.Encoding.{fields_of}
-use Rattle.tap_views.specs.Layout.{Tap}
-use Rattle.tap_views.specs.declared.encoder.TapFields.{TapFields}
-use Rattle.fare_caps.specs.CappedReplies.{capped_reply}
-use Rattle.fare_caps.specs.CapMeanings.{capped_rules_of}
-use Rattle.histories.specs.Entry.{is_of, own, tap_of, taps_of}
-use Rattle.histories.specs.declared.entry.Entry.{Entry}
-use Rattle.tap_views.proofs.TokenLemmas.{same_token}
-use Rattle.tap_parts.specs.Parts.{taps_of_uploads}
-use Rattle.histories.specs.Plain.{answered, with_reply}
+use Rattle.std.proofs.Common.{◌≡◌, Bool, true, false, cond, List, ◌∷◌, ◌++◌, map, refl, sym, ap}
+use Rattle.std.proofs.Common.{◌∙◌, append-nil, append_assoc, flat_map, [], Vec, Global}
+use Rattle.fare_caps.specs.{CapMeanings.capped_rules_of, CappedReplies.capped_reply}
 use Rattle.histories.proofs.OwnEntries.{own-append, own_other, own_same}
-use Rattle.settlement.specs.Posted.{only, posted, posted_after, token_of_tap, unposted}
+use Rattle.histories.specs.Entry.{is_of, own, tap_of, taps_of}
+use Rattle.histories.specs.{Plain.answered, Plain.with_reply, declared.entry.Entry.Entry}
 use Rattle.settlement.proofs.Files.{taps_in}
+use Rattle.settlement.specs.Posted.{only, posted, posted_after, token_of_tap, unposted}
+use Rattle.std.proofs.lemmas.List.{map-append, Concat.flat_map-append, Elements.filter-append}
+use Rattle.std.specs.List.{AllZip}
+use Rattle.tap_parts.specs.Parts.{taps_of_uploads}
+use Rattle.tap_views.proofs.TokenLemmas.{same_token}
+use Rattle.tap_views.specs.{Encoding.fields_of, Layout.Tap, Token.bytes_of, Token.token_eq}
+use Rattle.tap_views.specs.declared.{encoder.TapFields.TapFields, token.Token.Token}
+use Rattle.tariffs.specs.Fares.{Fares}
 
 -- ---- taps of one token
 -- whether the tap is of the token

@@ -1,34 +1,25 @@
 -- Bills to which taps are added one by one.
-use Rattle.std.proofs.Common.{◌≡◌, ◌≢◌, ◌==◌, ℕ, ◌+◌, true, false, List, [], ◌∷◌, ◌++◌, length}
-use Rattle.std.proofs.Common.{map, refl, sym, ap, subst, ◌∙◌, arith, All, append-nil, append_assoc}
+use Rattle.std.proofs.Common.{◌≡◌, ◌≢◌, ◌==◌, ℕ, ◌+◌, true, false, List, [], ◌∷◌, ◌++◌, length, map}
+use Rattle.std.proofs.Common.{refl, sym, ap, subst, ◌∙◌, arith, All, append-nil, append_assoc}
 use Rattle.std.proofs.Common.{get_or, length-append}
-use Rattle.std.specs.declared.cmp.Ordering.TheVariants.{Less}
-use Rattle.std.proofs.lemmas.List.{map-append}
-use Rattle.std.proofs.lemmas.List.Elements.{All-append, All-cons, All-head, All-map, All-nil}
-use Rattle.std.proofs.lemmas.List.Elements.{All-weaker}
-use Rattle.tariffs.specs.Fares.{Fares}
-use Rattle.tap_views.specs.Token.{token_cmp, token_eq}
-use Rattle.tap_views.specs.declared.token.Token.{Token}
-use Rattle.tap_views.specs.declared.encoder.TapFields.{TapFields}
-use Rattle.histories.specs.Plain.{answered}
-use Rattle.histories.specs.Entry.{own, reply_of}
+use Rattle.histories.proofs.SumsByToken.{by_token_joined, one_token_list, below_same, none_of}
+use Rattle.histories.proofs.SumsLemmas.{sums-append, sums-taps}
+use Rattle.histories.specs.{Entry.own, Entry.reply_of, Plain.answered}
 use Rattle.histories.specs.Sums.{Sums, add_sums, sums, sums_of_replies}
 use Rattle.histories.specs.SumsByKey.{sums_by_token, token_of, validator_of}
-use Rattle.histories.specs.TalliesByKey.{AreByKey}
-use Rattle.histories.specs.Tally.{sums_of_tally}
-use Rattle.histories.specs.declared.sums.tally.Tally.{Tally}
-use Rattle.histories.proofs.SumsLemmas.{sums-append, sums-taps}
-use Rattle.histories.specs.declared.entry.Entry.{Entry}
-use Rattle.histories.proofs.SumsByToken.{by_token_joined, one_token_list, below_same, none_of}
-use Rattle.tap_views.specs.TokenOrder.{AreBelow, IsUpTo}
-use Rattle.settlement.specs.Posted.{posted, token_of_tap, unposted}
-use Rattle.settlement.specs.Bills.{IsBillOf}
-use Rattle.settlement.specs.Replays.{HasPosted}
-use Rattle.settlement.specs.declared.bill.Bill.{Bill}
+use Rattle.histories.specs.{TalliesByKey.AreByKey, Tally.sums_of_tally}
+use Rattle.histories.specs.declared.{entry.Entry.Entry, sums.tally.Tally.Tally}
 use Rattle.settlement.proofs.TokenRuns.{posted_length, posted_next, up_apart}
+use Rattle.settlement.specs.{Bills.IsBillOf, OpenBills.IsOpenBill, Posted.posted}
+use Rattle.settlement.specs.{Posted.token_of_tap, Posted.unposted, Replays.HasPosted}
+use Rattle.settlement.specs.declared.{bill.Bill.Bill, open_bill.OpenBill.OpenBill}
+use Rattle.std.proofs.lemmas.List.{map-append, Elements.All-append}
+use Rattle.std.proofs.lemmas.List.Elements.{All-cons, All-head, All-map, All-nil, All-weaker}
+use Rattle.std.specs.declared.cmp.Ordering.TheVariants.{Less}
 use Rattle.tap_views.proofs.TokenLemmas.{less_apart, token_cmp-total, token_eq-sym}
-use Rattle.settlement.specs.declared.open_bill.OpenBill.{OpenBill}
-use Rattle.settlement.specs.OpenBills.{IsOpenBill}
+use Rattle.tap_views.specs.{Token.token_cmp, Token.token_eq, TokenOrder.AreBelow, TokenOrder.IsUpTo}
+use Rattle.tap_views.specs.declared.{encoder.TapFields.TapFields, token.Token.Token}
+use Rattle.tariffs.specs.Fares.{Fares}
 
 module _ (fares : Fares) (taps : List TapFields) (bill : OpenBill)
     (is : IsOpenBill fares taps bill) where

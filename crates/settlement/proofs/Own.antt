@@ -1,13 +1,10 @@
 -- The taps of one token, in two lists that have the same taps and are in order within each token.
 use Rattle.std.proofs.Common.{◌≡◌, Bool, true, sym, ap, ◌∙◌, arith}
-use Rattle.std.proofs.lemmas.Bool.Decides.{nat_tests}
-use Rattle.tap_views.specs.declared.encoder.TapFields.{TapFields}
-use Rattle.tap_views.specs.declared.token.Token.{Token}
-use Rattle.histories.specs.Entry.{is_of}
+use Rattle.histories.specs.{Entry.is_of, Keys.same_token, Plain.token_of_bytes}
 use Rattle.histories.specs.declared.entry.Entry.{Entry}
-use Rattle.histories.specs.Keys.{same_token}
+use Rattle.std.proofs.lemmas.Bool.Decides.{nat_tests}
 use Rattle.tap_views.specs.Token.{bytes_of, token_eq}
-use Rattle.histories.specs.Plain.{token_of_bytes}
+use Rattle.tap_views.specs.declared.{encoder.TapFields.TapFields, token.Token.Token}
 
 -- the fields' token is the one that its bytes name
 abbrev pub IsNamedBy : TapFields → Type 0

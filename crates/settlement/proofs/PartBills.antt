@@ -1,33 +1,30 @@
 -- Bills of parts that are ranges of tokens, and of runs of such parts.
-use Rattle.std.proofs.Common.{◌≡◌, ℕ, suc, ◌+◌, ◌<◌, ◌≤◌, List, ◌∷◌, ◌++◌, [], All}
-use Rattle.std.proofs.Common.{length, map, flat_map, take, drop, get_or, sym, ap, subst, ◌∙◌}
-use Rattle.std.proofs.Common.{arith, length-append}
-use Rattle.std.specs.List.{AllZip}
-use Rattle.std.proofs.lemmas.List.{get_or_default, get_or-take, get_or-drop}
-use Rattle.std.proofs.lemmas.List.{flat_map_more, length-take, length-drop}
-use Rattle.std.proofs.lemmas.List.{take-append-drop, take_more}
-use Rattle.std.proofs.lemmas.List.Concat.{flat_map-append}
-use Rattle.std.proofs.lemmas.List.Elements.{All-append, All-nil, All-weaker}
-use Rattle.std.proofs.lemmas.List.Sorted.{All-permutation, IsPermutation-append, length_permutation}
-use Rattle.std.proofs.lemmas.List.Sorted.{IsPermutation-refl}
-use Rattle.tariffs.specs.Fares.{Fares}
-use Rattle.tap_views.specs.declared.token.Token.{Token}
-use Rattle.tap_views.specs.declared.encoder.TapFields.{TapFields}
-use Rattle.tap_views.specs.TokenOrder.{AreBelow}
-use Rattle.tap_parts.specs.Canonical.{IsCanonical}
-use Rattle.tap_parts.proofs.RangeLemmas.{ranges_in_order}
-use Rattle.histories.specs.SumsByKey.{token_of}
-use Rattle.histories.specs.declared.entry.Entry.{Entry}
-use Rattle.settlement.specs.Bills.{HaveBillRoom, IsBillOf}
-use Rattle.settlement.specs.Nondecreasing.{TapsNondecreasingFrom, last_token}
-use Rattle.settlement.specs.Posted.{HasName, posted, token_of_tap}
-use Rattle.settlement.specs.declared.bill.Bill.{Bill}
-use Rattle.settlement.specs.inside.Billing.{AreFewInRanges, AreRangesFrom, IsBillOfTaps, IsSoundTap}
+use Rattle.std.proofs.Common.{◌≡◌, ℕ, suc, ◌+◌, ◌<◌, ◌≤◌, List, ◌∷◌, ◌++◌, [], All, length, map}
+use Rattle.std.proofs.Common.{flat_map, take, drop, get_or, sym, ap, subst, ◌∙◌, arith}
+use Rattle.std.proofs.Common.{length-append}
+use Rattle.histories.specs.{SumsByKey.token_of, declared.entry.Entry.Entry}
 use Rattle.settlement.proofs.Nondecreasing.{canonical_nondecreasing, nondecreasing_append}
 use Rattle.settlement.proofs.Placed.{NotLess, pairs_append, sorted_pairs}
 use Rattle.settlement.proofs.Ranges.{AreTapsBelow, has_name, later_range, posted_below, to_tokens}
 use Rattle.settlement.proofs.Sorting.{sorted_by_pairs}
 use Rattle.settlement.proofs.TokenRuns.{posted_length, tokens_posted}
+use Rattle.settlement.specs.Bills.{HaveBillRoom, IsBillOf}
+use Rattle.settlement.specs.Nondecreasing.{TapsNondecreasingFrom, last_token}
+use Rattle.settlement.specs.Posted.{HasName, posted, token_of_tap}
+use Rattle.settlement.specs.declared.bill.Bill.{Bill}
+use Rattle.settlement.specs.inside.Billing.{AreFewInRanges, AreRangesFrom, IsBillOfTaps, IsSoundTap}
+use Rattle.std.proofs.lemmas.List.{get_or_default, get_or-take, get_or-drop, flat_map_more}
+use Rattle.std.proofs.lemmas.List.{length-take, length-drop, take-append-drop, take_more}
+use Rattle.std.proofs.lemmas.List.Concat.{flat_map-append}
+use Rattle.std.proofs.lemmas.List.Elements.{All-append, All-nil, All-weaker}
+use Rattle.std.proofs.lemmas.List.Sorted.{All-permutation, IsPermutation-append, length_permutation}
+use Rattle.std.proofs.lemmas.List.Sorted.{IsPermutation-refl}
+use Rattle.std.specs.List.{AllZip}
+use Rattle.tap_parts.proofs.RangeLemmas.{ranges_in_order}
+use Rattle.tap_parts.specs.Canonical.{IsCanonical}
+use Rattle.tap_views.specs.TokenOrder.{AreBelow}
+use Rattle.tap_views.specs.declared.{encoder.TapFields.TapFields, token.Token.Token}
+use Rattle.tariffs.specs.Fares.{Fares}
 
 -- the taps of parts, one part after the other
 abbrev pub flat : List (List TapFields) → List TapFields

@@ -1,20 +1,16 @@
 -- Settled files: whose taps are where, and in which order.
-use Rattle.std.proofs.Common.{◌≡◌, suc, ◌<◌, ◌≤◌, ◌==◌, List, ◌∷◌, ◌++◌, []}
-use Rattle.std.proofs.Common.{true, false, cond, sym, ap, ◌∙◌, arith, All, inl, inr}
-use Rattle.std.specs.Prelude.{◌⊎◌}
-use Rattle.std.specs.Cmp.Lexicographic.{slice_cmp}
-use Rattle.std.specs.List.Sorted.{IsSorted}
-use Rattle.std.specs.Ordering.{nat_cmp, is_lt, ordering_then}
-use Rattle.std.specs.declared.cmp.Ordering.TheVariants.{Less, Equal, Greater}
-use Rattle.std.specs.Cmp.{tied_itself}
-use Rattle.std.proofs.lemmas.Bool.{cases_lt, lt-ltb}
-use Rattle.std.proofs.lemmas.Cmp.{nat_list_cmp_total}
+use Rattle.std.proofs.Common.{◌≡◌, suc, ◌<◌, ◌≤◌, ◌==◌, List, ◌∷◌, ◌++◌, [], true, false, cond, sym}
+use Rattle.std.proofs.Common.{ap, ◌∙◌, arith, All, inl, inr}
+use Rattle.settlement.proofs.Unique.{tail}
+use Rattle.std.proofs.lemmas.{Bool.cases_lt, Bool.lt-ltb, Cmp.nat_list_cmp_total}
 use Rattle.std.proofs.lemmas.List.Elements.{All-append, All-head, All-tail, All-weaker}
 use Rattle.std.proofs.lemmas.List.Sorted.{ranks_by, sorted_far}
-use Rattle.tap_views.specs.declared.encoder.TapFields.{TapFields}
-use Rattle.tap_parts.specs.Canonical.{tap_cmp}
+use Rattle.std.specs.{Cmp.tied_itself, Cmp.Lexicographic.slice_cmp, List.Sorted.IsSorted}
+use Rattle.std.specs.{Ordering.nat_cmp, Ordering.is_lt, Ordering.ordering_then, Prelude.◌⊎◌}
+use Rattle.std.specs.declared.cmp.Ordering.TheVariants.{Less, Equal, Greater}
 use Rattle.tap_parts.proofs.Total.{tap_cmp_total, tap_cmp_exact}
-use Rattle.settlement.proofs.Unique.{tail}
+use Rattle.tap_parts.specs.Canonical.{tap_cmp}
+use Rattle.tap_views.specs.declared.encoder.TapFields.{TapFields}
 
 -- R holds of each element and each later one
 abbrev pub Pairs : {X : Type 0} → (X → X → Type 0) → List X → Type 0

@@ -1,35 +1,24 @@
 -- Parts that are ranges of tokens: their histories, one behind the other, are that of all taps.
-use Rattle.std.proofs.Common.{◌≡◌, ℕ, ◌<◌, ◌≤◌, false, List, ◌++◌, []}
-use Rattle.std.proofs.Common.{length, get_or, map, refl, sym, ap, subst, ◌∙◌, arith, All}
-use Rattle.std.proofs.Common.{inl, inr, w64, take, drop}
-use Rattle.std.specs.Prelude.{◌⊎◌}
-use Rattle.std.specs.Cmp.Lexicographic.{slice_cmp}
-use Rattle.std.specs.Int.{from_be_bytes}
-use Rattle.std.specs.Ordering.{nat_cmp, ordering_reverse}
-use Rattle.std.specs.declared.cmp.Ordering.TheVariants.{Less, Greater}
-use Rattle.std.proofs.lemmas.Bool.{cases_lt}
-use Rattle.std.proofs.lemmas.Cmp.{nat_list_cmp_total}
+use Rattle.std.proofs.Common.{◌≡◌, ℕ, ◌<◌, ◌≤◌, false, List, ◌++◌, [], length, get_or, map, refl}
+use Rattle.std.proofs.Common.{sym, ap, subst, ◌∙◌, arith, All, inl, inr, w64, take, drop}
+use Rattle.histories.proofs.SumsByToken.{none_of}
+use Rattle.histories.specs.{Plain.token_of_bytes, SumsByKey.token_of}
+use Rattle.settlement.proofs.{Concats.posted_apart, Own.IsNamedBy, TokenRuns.tokens_posted}
+use Rattle.settlement.specs.Posted.{HasName, posted, token_of_tap}
+use Rattle.std.proofs.lemmas.{Bool.cases_lt, Cmp.nat_list_cmp_total}
 use Rattle.std.proofs.lemmas.List.Elements.{All-map, All-weaker}
+use Rattle.std.specs.{Cmp.Lexicographic.slice_cmp, Int.from_be_bytes, Ordering.nat_cmp}
+use Rattle.std.specs.{Ordering.ordering_reverse, Prelude.◌⊎◌}
+use Rattle.std.specs.declared.cmp.Ordering.TheVariants.{Less, Greater}
+use Rattle.tap_parts.proofs.{RangeLemmas.counts_ascend, TokenOrder.number_order}
+use Rattle.tap_parts.specs.{Canonical.HasTokenBytes, Ranges.range_of_token}
+use Rattle.tap_views.proofs.Lists.{All-unmap}
 use Rattle.tap_views.proofs.TokenBytes.{back_byte, front_byte, token-order, two_numbers}
 use Rattle.tap_views.proofs.TokenBytes.{eight_bytes, token_bytes, token_length}
-use Rattle.tariffs.specs.Fares.{Fares}
-use Rattle.tap_views.specs.Token.{bytes_of, token_cmp, token_eq}
-use Rattle.tap_views.specs.Layout.{num}
-use Rattle.tap_views.specs.declared.encoder.TapFields.{TapFields}
-use Rattle.tap_parts.specs.Canonical.{HasTokenBytes}
-use Rattle.tap_parts.specs.Ranges.{range_of_token}
-use Rattle.tap_parts.proofs.RangeLemmas.{counts_ascend}
-use Rattle.tap_parts.proofs.TokenOrder.{number_order}
-use Rattle.histories.specs.SumsByKey.{token_of}
 use Rattle.tap_views.proofs.TokenLemmas.{token_eq-sym, less_apart}
-use Rattle.tap_views.proofs.Lists.{All-unmap}
-use Rattle.histories.specs.Plain.{token_of_bytes}
-use Rattle.histories.proofs.SumsByToken.{none_of}
-use Rattle.tap_views.specs.TokenOrder.{AreBelow}
-use Rattle.settlement.specs.Posted.{HasName, posted, token_of_tap}
-use Rattle.settlement.proofs.TokenRuns.{tokens_posted}
-use Rattle.settlement.proofs.Concats.{posted_apart}
-use Rattle.settlement.proofs.Own.{IsNamedBy}
+use Rattle.tap_views.specs.{Layout.num, Token.bytes_of, Token.token_cmp, Token.token_eq}
+use Rattle.tap_views.specs.{TokenOrder.AreBelow, declared.encoder.TapFields.TapFields}
+use Rattle.tariffs.specs.Fares.{Fares}
 
 -- ---- tokens of 16 bytes
 

@@ -1,24 +1,19 @@
 -- Uploads that were read one after another, and what is kept of them.
 use Rattle.std.proofs.Common.{◌≡◌, ℕ, suc, ◌+◌, ◌-◌, ◌<◌, ◌≤◌, List, ◌∷◌, ◌++◌, All, length, get_or}
-use Rattle.std.proofs.Common.{[], ap, ◌∙◌, sym, subst, arith, inl, inr, length-append}
-use Rattle.std.proofs.Common.{append-nil, append_assoc}
+use Rattle.std.proofs.Common.{[], ap, ◌∙◌, sym, subst, arith, inl, inr, length-append, append-nil}
+use Rattle.std.proofs.Common.{append_assoc}
+use Rattle.settlement.specs.{Reading.AreRead, Reading.loads_in_order, inside.Taken.AreInRuns}
+use Rattle.settlement.specs.inside.Taken.{AreTaken, HasToken, HasValidTokens, IsUploadKept}
+use Rattle.std.proofs.lemmas.{Bool.cases_lt, List.get_or_append_left, List.get_or-append-add}
+use Rattle.std.proofs.lemmas.List.{Concat.flat_map-append, Elements.All-append, Elements.All-nil}
 use Rattle.std.specs.Prelude.{◌⊎◌}
-use Rattle.std.proofs.lemmas.Bool.{cases_lt}
-use Rattle.std.proofs.lemmas.List.{get_or_append_left, get_or-append-add}
-use Rattle.std.proofs.lemmas.List.Concat.{flat_map-append}
-use Rattle.std.proofs.lemmas.List.Elements.{All-append, All-nil}
-use Rattle.tap_views.specs.Files.{AreValidTaps}
-use Rattle.tap_views.specs.Layout.{Tap}
-use Rattle.tap_views.specs.UploadEnds.{IsPlainEnd}
-use Rattle.tap_views.specs.declared.upload_end.UploadEnd.{UploadEnd}
-use Rattle.tap_views.proofs.Lists.{AllZip-append}
 use Rattle.tap_parts.specs.Parts.{taps_of_uploads}
+use Rattle.tap_views.proofs.Lists.{AllZip-append}
+use Rattle.tap_views.specs.{Files.AreValidTaps, Layout.Tap, UploadEnds.IsPlainEnd}
+use Rattle.tap_views.specs.declared.upload_end.UploadEnd.{UploadEnd}
+use Rattle.world.proofs.Laws.{joined_loads, more_loads, no_loads}
 use Rattle.world.specs.Origins.{IsFrom, IsProvided, Origin, loads_from, with_loads}
 use Rattle.world.specs.Run.{Run, nothing_yet, with_all}
-use Rattle.world.proofs.Laws.{joined_loads, more_loads, no_loads}
-use Rattle.settlement.specs.Reading.{AreRead, loads_in_order}
-use Rattle.settlement.specs.inside.Taken.{AreInRuns, AreTaken, HasToken, HasValidTokens}
-use Rattle.settlement.specs.inside.Taken.{IsUploadKept}
 
 loads_append : (origin : ℕ → Origin) (start : ℕ) (xs ys : List (List ℕ))
     → loads_in_order origin start (xs ++ ys)

@@ -1,11 +1,10 @@
 -- Uploads with the same taps are settled as files that read alike.
-use Rattle.std.proofs.Common.{◌≡◌, ℕ, ◌+◌, ◌==◌, List, ◌∷◌, map, filter, Bool, true, []}
-use Rattle.std.proofs.Common.{false, cond, refl, sym, ap, ◌∙◌, arith}
-use Rattle.std.specs.List.{sum_by}
+use Rattle.std.proofs.Common.{◌≡◌, ℕ, ◌+◌, ◌==◌, List, ◌∷◌, map, filter, Bool, true, [], false}
+use Rattle.std.proofs.Common.{cond, refl, sym, ap, ◌∙◌, arith}
 use Rattle.std.proofs.lemmas.List.Sums.{sum_by-cons}
-use Rattle.tap_views.specs.Encoding.{fields_of}
-use Rattle.tap_views.specs.Layout.{Tap}
+use Rattle.std.specs.List.{sum_by}
 use Rattle.tap_parts.specs.Parts.{taps_at}
+use Rattle.tap_views.specs.{Encoding.fields_of, Layout.Tap}
 
 -- ---- parts of lists
 pub sum_filter : {X : Type 0} (p : X → Bool) (f : X → ℕ) (xs : List X)

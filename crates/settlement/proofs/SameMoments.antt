@@ -1,28 +1,21 @@
 -- A known tap behind a twin is stale.
 use Rattle.std.proofs.Common.{◌≡◌, ℕ, ◌≤◌, true, false, List, ◌∷◌, ◌++◌, map, filter, nat_lt, refl}
 use Rattle.std.proofs.Common.{sym, ap, ◌∙◌, arith, Option, Some, None}
-use Rattle.std.specs.List.{Contains}
-use Rattle.std.specs.Prelude.{is_some, option_map}
-use Rattle.std.proofs.lemmas.Bool.{le-ltb}
-use Rattle.tariffs.specs.Fares.{Fares, mode_at}
-use Rattle.tap_views.specs.Token.{bytes_of}
-use Rattle.tap_views.specs.declared.token.Token.{Token}
-use Rattle.account_rule.specs.Replies.{reply_with}
-use Rattle.account_rule.specs.TokenRules.{rules_of}
-use Rattle.account_rule.specs.Taps.{is_later}
-use Rattle.account_rule.specs.declared.reply.Answer.TheVariants.{Stale}
-use Rattle.account_rule.specs.declared.reply.Reply.{Reply}
-use Rattle.account_rule.specs.declared.tap.TapIn.{TapIn}
 use Rattle.account_rule.proofs.StepLemmas.{reply_stale}
-use Rattle.fare_caps.specs.CapMeanings.{capped_rules_of}
-use Rattle.fare_caps.specs.CappedReplies.{capped_reply}
+use Rattle.account_rule.specs.{Replies.reply_with, Taps.is_later, TokenRules.rules_of}
+use Rattle.account_rule.specs.declared.reply.{Answer.TheVariants.Stale, Reply.Reply}
+use Rattle.account_rule.specs.declared.tap.TapIn.{TapIn}
 use Rattle.fare_caps.proofs.AnswerLemmas.{stale-capped}
+use Rattle.fare_caps.specs.{CapMeanings.capped_rules_of, CappedReplies.capped_reply}
 use Rattle.histories.specs.Entry.{is_of, mode_of_position, own, tap_of, taps_of}
-use Rattle.histories.specs.History.{IsLegal, IsReplied}
-use Rattle.histories.specs.declared.entry.Entry.{Entry}
-use Rattle.settlement.specs.SameMoments.{HasSameMoment}
+use Rattle.histories.specs.{History.IsLegal, History.IsReplied, declared.entry.Entry.Entry}
 use Rattle.settlement.proofs.Contained.{kept_there, mapped_there, not_all}
 use Rattle.settlement.proofs.Own.{own_entry}
+use Rattle.settlement.specs.SameMoments.{HasSameMoment}
+use Rattle.std.proofs.lemmas.Bool.{le-ltb}
+use Rattle.std.specs.{List.Contains, Prelude.is_some, Prelude.option_map}
+use Rattle.tap_views.specs.{Token.bytes_of, declared.token.Token.Token}
+use Rattle.tariffs.specs.Fares.{Fares, mode_at}
 
 known_position : (o : Option ℕ) → is_some o ≡ true → is_some (option_map mode_of_position o) ≡ true
 known_position None known = known

@@ -1,42 +1,30 @@
 -- The good taps of uploads in canonical order: their history, and the taps of one token among them.
-use Rattle.std.proofs.Common.{◌≡◌, ℕ, ◌<◌, ◌≤◌, ◌^◌, List, ◌∷◌, ◌++◌, All, cond, length, map, flat_map}
-use Rattle.std.proofs.Common.{arith, refl, sym, ap, true, ◌∙◌, subst, Vec, Global, []}
-use Rattle.std.specs.List.{AllZip, sum_by}
-use Rattle.std.specs.Ordering.{is_lt}
-use Rattle.std.proofs.lemmas.List.Folds.{flat_map-map}
-use Rattle.std.proofs.lemmas.List.Elements.{All-filter, All-map, filter_passes, All-weaker}
-use Rattle.std.proofs.lemmas.List.Kept.{IsSortedBy-filter}
-use Rattle.std.proofs.lemmas.List.Sorted.{All-permutation, IsPermutation-sym}
-use Rattle.std.proofs.lemmas.List.Sorted.{IsPermutation-trans, ranks_by, sum_by-IsPermutation}
-use Rattle.tariffs.specs.Fares.{Fares}
-use Rattle.tap_views.specs.declared.token.Token.{Token}
-use Rattle.tap_views.specs.Encoding.{AreEarly, fields_of}
-use Rattle.tap_views.specs.Files.{AreValidTapsOfEach}
-use Rattle.tap_views.specs.Layout.{Tap, moment_limit}
-use Rattle.tap_views.specs.declared.encoder.TapFields.{TapFields}
-use Rattle.tap_views.proofs.TokenLemmas.{same_token}
-use Rattle.tap_parts.specs.Canonical.{HasTokenBytes, IsCanonical, tap_cmp}
-use Rattle.tap_parts.specs.Parts.{taps_of_uploads}
-use Rattle.tap_parts.proofs.Total.{tap_cmp_exact, tap_cmp_total}
-use Rattle.tap_views.specs.declared.upload_end.UploadEnd.{UploadEnd}
-use Rattle.histories.specs.declared.entry.Entry.{Entry}
+use Rattle.std.proofs.Common.{◌≡◌, ℕ, ◌<◌, ◌≤◌, ◌^◌, List, ◌∷◌, ◌++◌, All, cond, length, map}
+use Rattle.std.proofs.Common.{flat_map, arith, refl, sym, ap, true, ◌∙◌, subst, Vec, Global, []}
 use Rattle.histories.specs.Plain.{answered, plain_after, unanswered}
+use Rattle.histories.specs.declared.entry.Entry.{Entry}
+use Rattle.settlement.proofs.{Early.uploads_early, Files.taps_in, OnlyTaps.is_its}
+use Rattle.settlement.proofs.PartBills.{flat, lists_joined, sound_flat}
+use Rattle.settlement.proofs.{Ranges.has_name, Same.sum_filter, Sorting.canonical_order}
+use Rattle.settlement.proofs.{Sorting.unmoved, TokenRuns.posted_length, Unique.same_sorted}
 use Rattle.settlement.specs.Bills.{IsBillOf}
 use Rattle.settlement.specs.Posted.{HasName, only, posted, posted_after, token_of_tap}
-use Rattle.settlement.specs.Settled.{IsSettledHistory}
-use Rattle.settlement.specs.SettledTaps.{AreSettledTaps, AreSettledTapsOf}
-use Rattle.settlement.specs.declared.bill.Bill.{Bill}
-use Rattle.settlement.specs.inside.Billing.{IsBillOfTaps}
-use Rattle.settlement.specs.inside.SplitUploads.{AreSplit}
-use Rattle.settlement.proofs.Early.{uploads_early}
-use Rattle.settlement.proofs.Files.{taps_in}
-use Rattle.settlement.proofs.OnlyTaps.{is_its}
-use Rattle.settlement.proofs.Ranges.{has_name}
-use Rattle.settlement.proofs.Same.{sum_filter}
-use Rattle.settlement.proofs.PartBills.{flat, lists_joined, sound_flat}
-use Rattle.settlement.proofs.Sorting.{canonical_order, unmoved}
-use Rattle.settlement.proofs.TokenRuns.{posted_length}
-use Rattle.settlement.proofs.Unique.{same_sorted}
+use Rattle.settlement.specs.{Settled.IsSettledHistory, SettledTaps.AreSettledTaps}
+use Rattle.settlement.specs.{SettledTaps.AreSettledTapsOf, declared.bill.Bill.Bill}
+use Rattle.settlement.specs.inside.{Billing.IsBillOfTaps, SplitUploads.AreSplit}
+use Rattle.std.proofs.lemmas.List.Elements.{All-filter, All-map, filter_passes, All-weaker}
+use Rattle.std.proofs.lemmas.List.{Folds.flat_map-map, Kept.IsSortedBy-filter}
+use Rattle.std.proofs.lemmas.List.Sorted.{All-permutation, IsPermutation-sym, IsPermutation-trans}
+use Rattle.std.proofs.lemmas.List.Sorted.{ranks_by, sum_by-IsPermutation}
+use Rattle.std.specs.{List.AllZip, List.sum_by, Ordering.is_lt}
+use Rattle.tap_parts.proofs.Total.{tap_cmp_exact, tap_cmp_total}
+use Rattle.tap_parts.specs.Canonical.{HasTokenBytes, IsCanonical, tap_cmp}
+use Rattle.tap_parts.specs.Parts.{taps_of_uploads}
+use Rattle.tap_views.proofs.TokenLemmas.{same_token}
+use Rattle.tap_views.specs.{Encoding.AreEarly, Encoding.fields_of, Files.AreValidTapsOfEach}
+use Rattle.tap_views.specs.{Layout.Tap, Layout.moment_limit, declared.encoder.TapFields.TapFields}
+use Rattle.tap_views.specs.declared.{token.Token.Token, upload_end.UploadEnd.UploadEnd}
+use Rattle.tariffs.specs.Fares.{Fares}
 
 -- taps in canonical order, with their tokens' names, are a settled order
 pub settled_order : (uploads : List (List ℕ)) (taps : List (List Tap)) (order : List TapFields)

@@ -1,31 +1,25 @@
 -- Laws of settled histories.
 use Rattle.std.proofs.Common.{◌≡◌, ℕ, List, ◌∷◌, ◌++◌, map, refl, sym, ap, subst, ◌∙◌, All, []}
-use Rattle.std.specs.List.Sorted.{IsPermutation}
-use Rattle.std.proofs.lemmas.List.Elements.{All-head, All-tail, All-contains}
-use Rattle.std.proofs.lemmas.List.Sorted.{All-permutation}
-use Rattle.tariffs.specs.Fares.{Fares}
-use Rattle.tap_views.specs.Encoding.{fields_of}
-use Rattle.tap_views.specs.Layout.{Tap}
-use Rattle.tap_views.specs.declared.encoder.TapFields.{TapFields}
 use Rattle.account_rule.specs.declared.reply.Answer.TheVariants.{Stale}
-use Rattle.histories.specs.History.{IsLegal}
-use Rattle.tap_views.specs.Token.{bytes_of}
-use Rattle.histories.specs.Entry.{AreEntriesOf}
-use Rattle.histories.specs.declared.entry.Entry.{Entry}
-use Rattle.tap_views.specs.Files.{AreValidTapsOfEach, HasUniqueParse}
-use Rattle.histories.specs.Plain.{IsPlain, plain, plain_after, answered, unanswered}
 use Rattle.histories.proofs.PlainReplies.{bare, plain_bare, plain_legal}
-use Rattle.settlement.specs.Alike.{HaveSameTaps}
-use Rattle.settlement.specs.Settled.{IsSettledHistory}
-use Rattle.tap_parts.specs.Parts.{taps_of_uploads}
-use Rattle.settlement.specs.SameMoments.{HasSameMoment, IsInTimeOrder}
-use Rattle.settlement.proofs.Histories.{same_after}
-use Rattle.settlement.proofs.Own.{IsNamedBy}
+use Rattle.histories.specs.{Entry.AreEntriesOf, History.IsLegal}
+use Rattle.histories.specs.Plain.{IsPlain, plain, plain_after, answered, unanswered}
+use Rattle.histories.specs.declared.entry.Entry.{Entry}
+use Rattle.settlement.proofs.{Histories.same_after, Own.IsNamedBy}
 use Rattle.settlement.proofs.Placed.{all_ascending, no_earlier, Pairs, Ascends}
-use Rattle.tap_views.proofs.ParseLemmas.{one_list}
 use Rattle.settlement.proofs.Sorting.{canonical_order, one_canonical}
 use Rattle.settlement.proofs.Stale.{before_ascends, fields, has_same_moment, same_fields}
 use Rattle.settlement.proofs.ValidTokens.{fields_named}
+use Rattle.settlement.specs.{Alike.HaveSameTaps, SameMoments.HasSameMoment}
+use Rattle.settlement.specs.{SameMoments.IsInTimeOrder, Settled.IsSettledHistory}
+use Rattle.std.proofs.lemmas.List.Elements.{All-head, All-tail, All-contains}
+use Rattle.std.proofs.lemmas.List.Sorted.{All-permutation}
+use Rattle.std.specs.List.Sorted.{IsPermutation}
+use Rattle.tap_parts.specs.Parts.{taps_of_uploads}
+use Rattle.tap_views.proofs.ParseLemmas.{one_list}
+use Rattle.tap_views.specs.{Encoding.fields_of, Files.AreValidTapsOfEach, Files.HasUniqueParse}
+use Rattle.tap_views.specs.{Layout.Tap, Token.bytes_of, declared.encoder.TapFields.TapFields}
+use Rattle.tariffs.specs.Fares.{Fares}
 
 pub same_history : (fares : Fares) (uploads others : List (List ℕ)) (history again : List Entry)
     → All HasUniqueParse uploads → All HasUniqueParse others → HaveSameTaps uploads others

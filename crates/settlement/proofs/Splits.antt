@@ -1,33 +1,23 @@
 -- Uploads whose taps are split into parts by ranges of tokens.
-use Rattle.std.proofs.Common.{◌≡◌, ℕ, zero, suc, ◌+◌, ◌<◌, ◌≤◌, ◌==◌, List, [], ◌∷◌, ◌++◌, All, Bool}
-use Rattle.std.proofs.Common.{arith, length, map, take, get_or, refl, sym, ap, subst, ◌∙◌}
-use Rattle.std.specs.List.{AllZip}
-use Rattle.std.specs.List.Sorted.{IsPermutation}
-use Rattle.std.proofs.lemmas.Bool.{eqb-true, lt-ltb}
-use Rattle.std.proofs.lemmas.List.{take_all}
-use Rattle.std.proofs.lemmas.List.Elements.{All-cons, All-filter, All-head, All-map, All-nil}
-use Rattle.std.proofs.lemmas.List.Elements.{All-tail, filter_passes}
-use Rattle.std.proofs.lemmas.List.Sorted.{IsPermutation-append, IsPermutation-refl}
-use Rattle.std.proofs.lemmas.List.Sorted.{IsPermutation-trans}
-use Rattle.tap_views.specs.Encoding.{fields_of}
-use Rattle.tap_views.specs.Files.{AreValidTapsOfEach}
-use Rattle.tap_views.specs.Layout.{Tap, moment_limit}
-use Rattle.tap_views.specs.UploadEnds.{ArePlainEnds}
-use Rattle.tap_views.specs.declared.encoder.TapFields.{TapFields}
-use Rattle.tap_views.specs.declared.upload_end.UploadEnd.{UploadEnd}
-use Rattle.tap_parts.specs.Canonical.{HasTokenBytes}
-use Rattle.tap_parts.specs.Parts.{taps_at, taps_of_uploads}
+use Rattle.std.proofs.Common.{◌≡◌, ℕ, zero, suc, ◌+◌, ◌<◌, ◌≤◌, ◌==◌, List, [], ◌∷◌, ◌++◌, All}
+use Rattle.std.proofs.Common.{Bool, arith, length, map, take, get_or, refl, sym, ap, subst, ◌∙◌}
+use Rattle.settlement.proofs.{Early.uploads_early, PartBills.flat, PartBills.flat_more}
+use Rattle.settlement.proofs.Same.{part_fields}
+use Rattle.settlement.specs.inside.{Billing.IsSoundTap, SplitUploads.AreSplit}
+use Rattle.settlement.specs.inside.Taken.{ArePartsOf, in_part}
+use Rattle.std.proofs.lemmas.{Bool.eqb-true, Bool.lt-ltb, List.take_all, List.Elements.All-cons}
+use Rattle.std.proofs.lemmas.List.Elements.{All-filter, All-head, All-map, All-nil, All-tail}
+use Rattle.std.proofs.lemmas.List.{Elements.filter_passes, Sorted.IsPermutation-append}
+use Rattle.std.proofs.lemmas.List.Sorted.{IsPermutation-refl, IsPermutation-trans}
+use Rattle.std.specs.List.{AllZip, Sorted.IsPermutation}
+use Rattle.tap_parts.proofs.{Adding.fields-append, Positions.none_before, Positions.one_position}
+use Rattle.tap_parts.proofs.RangeLemmas.{range_below}
+use Rattle.tap_parts.specs.{Canonical.HasTokenBytes, Parts.taps_at, Parts.taps_of_uploads}
 use Rattle.tap_parts.specs.Ranges.{range_of_token}
 use Rattle.tap_parts.specs.inside.Positions.{at_position, before_position}
-use Rattle.tap_parts.proofs.Adding.{fields-append}
-use Rattle.tap_parts.proofs.Positions.{none_before, one_position}
-use Rattle.tap_parts.proofs.RangeLemmas.{range_below}
-use Rattle.settlement.specs.inside.Billing.{IsSoundTap}
-use Rattle.settlement.specs.inside.SplitUploads.{AreSplit}
-use Rattle.settlement.specs.inside.Taken.{ArePartsOf, in_part}
-use Rattle.settlement.proofs.Early.{uploads_early}
-use Rattle.settlement.proofs.PartBills.{flat, flat_more}
-use Rattle.settlement.proofs.Same.{part_fields}
+use Rattle.tap_views.specs.{Encoding.fields_of, Files.AreValidTapsOfEach, Layout.Tap}
+use Rattle.tap_views.specs.{Layout.moment_limit, UploadEnds.ArePlainEnds}
+use Rattle.tap_views.specs.declared.{encoder.TapFields.TapFields, upload_end.UploadEnd.UploadEnd}
 
 all_before : (position_of : TapFields → ℕ) (n : ℕ) (taps : List TapFields)
     → All (λ tap. position_of tap < n) taps → before_position position_of n taps ≡ taps

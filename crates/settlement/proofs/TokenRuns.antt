@@ -1,23 +1,19 @@
 -- The histories and the sums of taps that are posted token by token.
-use Rattle.std.proofs.Common.{◌≡◌, ◌≢◌, ℕ, suc, ◌+◌, ◌<◌, List, ◌∷◌, ◌++◌}
-use Rattle.std.proofs.Common.{length, get_or, take, map, refl, sym, ap, subst, ◌∙◌, [], All}
+use Rattle.std.proofs.Common.{◌≡◌, ◌≢◌, ℕ, suc, ◌+◌, ◌<◌, List, ◌∷◌, ◌++◌, length, get_or, take}
+use Rattle.std.proofs.Common.{map, refl, sym, ap, subst, ◌∙◌, [], All}
+use Rattle.histories.specs.Plain.{answered, token_of_bytes}
+use Rattle.histories.specs.{SumsByKey.token_of, declared.entry.Entry.Entry}
+use Rattle.settlement.proofs.Concats.{posted_append}
+use Rattle.settlement.specs.Posted.{posted, posted_after, token_of_tap, unposted}
+use Rattle.std.proofs.lemmas.List.{take_more, Elements.All-map}
 use Rattle.std.specs.declared.cmp.Ordering.{Ordering}
 use Rattle.std.specs.declared.cmp.Ordering.TheVariants.{Less, Equal, Greater}
-use Rattle.std.proofs.lemmas.List.{take_more}
-use Rattle.std.proofs.lemmas.List.Elements.{All-map}
 use Rattle.tap_views.proofs.Lists.{All-unmap}
-use Rattle.tariffs.specs.Fares.{Fares}
-use Rattle.tap_views.specs.Token.{Fits, bytes_of, token_cmp}
-use Rattle.tap_views.specs.declared.token.Token.{Token}
-use Rattle.tap_views.specs.declared.encoder.TapFields.{TapFields}
-use Rattle.histories.specs.SumsByKey.{token_of}
-use Rattle.histories.specs.declared.entry.Entry.{Entry}
 use Rattle.tap_views.proofs.TokenLemmas.{high_back, low_back, token_cmp-total, token_cmp-ties}
-use Rattle.histories.specs.Plain.{answered, token_of_bytes}
-use Rattle.settlement.specs.Posted.{posted, posted_after, token_of_tap, unposted}
-use Rattle.settlement.proofs.Concats.{posted_append}
 use Rattle.tap_views.proofs.TokensUp.{not_greater}
-use Rattle.tap_views.specs.TokenOrder.{IsUpTo}
+use Rattle.tap_views.specs.{Token.Fits, Token.bytes_of, Token.token_cmp, TokenOrder.IsUpTo}
+use Rattle.tap_views.specs.declared.{encoder.TapFields.TapFields, token.Token.Token}
+use Rattle.tariffs.specs.Fares.{Fares}
 
 -- ---- what is posted
 -- the tokens of the entries are those of the taps

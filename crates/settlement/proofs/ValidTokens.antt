@@ -1,21 +1,15 @@
 -- The good taps of uploads have tokens of 16 bytes.
 use Rattle.std.proofs.Common.{◌≡◌, ℕ, List, ◌∷◌, All, None, map, sym, ap, subst, ◌∙◌, []}
-use Rattle.std.proofs.lemmas.List.Elements.{All-cons, All-nil, All-weaker}
-use Rattle.tariffs.specs.Fares.{Fares}
-use Rattle.tariffs.specs.declared.window_span.WindowLength.TheVariants.{CalendarDay}
-use Rattle.histories.specs.Entry.{AreEntriesOf}
-use Rattle.histories.specs.declared.entry.Entry.{Entry}
-use Rattle.tap_views.specs.Encoding.{fields_of}
-use Rattle.tap_views.specs.Files.{AreValidTapsOfEach, HasUniqueParse}
-use Rattle.tap_views.specs.Layout.{Tap}
-use Rattle.tap_parts.specs.Canonical.{HasTokenBytes}
-use Rattle.tap_parts.specs.Parts.{taps_of_uploads}
-use Rattle.tap_views.specs.Token.{bytes_of}
-use Rattle.histories.specs.Plain.{IsPlain, unanswered}
 use Rattle.histories.proofs.PlainReplies.{bare, plain_bare}
-use Rattle.settlement.proofs.Own.{IsNamedBy}
-use Rattle.settlement.proofs.Ranges.{has_token_bytes}
+use Rattle.histories.specs.{Entry.AreEntriesOf, Plain.IsPlain, Plain.unanswered}
+use Rattle.histories.specs.declared.entry.Entry.{Entry}
+use Rattle.settlement.proofs.{Own.IsNamedBy, Ranges.has_token_bytes}
+use Rattle.std.proofs.lemmas.List.Elements.{All-cons, All-nil, All-weaker}
+use Rattle.tap_parts.specs.{Canonical.HasTokenBytes, Parts.taps_of_uploads}
 use Rattle.tap_views.proofs.ParseLemmas.{one_list}
+use Rattle.tap_views.specs.{Encoding.fields_of, Files.AreValidTapsOfEach, Files.HasUniqueParse}
+use Rattle.tap_views.specs.{Layout.Tap, Token.bytes_of}
+use Rattle.tariffs.specs.{Fares.Fares, declared.window_span.WindowLength.TheVariants.CalendarDay}
 
 -- taps whose entries have their fields have tokens that their bytes name
 pub fields_named : (taps : List Tap) (entries : List Entry) → AreEntriesOf taps entries

@@ -1,10 +1,7 @@
 -- Uploads that have the same taps.
-use Rattle.std.specs.Prelude.{ℕ, List, map}
-use Rattle.std.specs.List.Sorted.{IsPermutation}
-use Rattle.tap_views.specs.Encoding.{fields_of}
-use Rattle.tap_views.specs.Layout.{Tap}
-use Rattle.tap_views.specs.Files.{AreValidTapsOfEach}
+use Rattle.std.specs.{List.Sorted.IsPermutation, Prelude.ℕ, Prelude.List, Prelude.map}
 use Rattle.tap_parts.specs.Parts.{taps_of_uploads}
+use Rattle.tap_views.specs.{Encoding.fields_of, Files.AreValidTapsOfEach, Layout.Tap}
 
 -- the valid taps of the uploads are those of the others, in some order
 pub record HaveSameTaps (uploads others : List (List ℕ)) : Type 0 where

@@ -1,11 +1,8 @@
 -- What settled taps come to.
-use Rattle.std.specs.Prelude.{◌≡◌, ◌==◌, ◌+◌, ◌^◌, ◌≤◌, List, length}
-use Rattle.histories.specs.Sums.{sums}
-use Rattle.histories.specs.SumsByKey.{sums_by_token, validator_of}
-use Rattle.histories.specs.TalliesByKey.{AreByKey}
-use Rattle.histories.specs.Tally.{sums_of_tally}
-use Rattle.histories.specs.declared.entry.Entry.{Entry}
+use Rattle.histories.specs.{Sums.sums, SumsByKey.sums_by_token, SumsByKey.validator_of}
+use Rattle.histories.specs.{TalliesByKey.AreByKey, Tally.sums_of_tally, declared.entry.Entry.Entry}
 use Rattle.settlement.specs.declared.bill.Bill.{Bill}
+use Rattle.std.specs.Prelude.{◌≡◌, ◌==◌, ◌+◌, ◌^◌, ◌≤◌, List, length}
 
 -- the bill has the sums of these entries by validator, and of all
 pub record IsCountOf (entries : List Entry) (bill : Bill) : Type 0 where

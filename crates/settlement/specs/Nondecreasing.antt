@@ -1,9 +1,8 @@
 -- Taps whose tokens do not fall.
-use Rattle.std.specs.Prelude.{List, [], ◌∷◌}
-use Rattle.tap_views.specs.declared.token.Token.{Token}
-use Rattle.tap_views.specs.declared.encoder.TapFields.{TapFields}
-use Rattle.tap_views.specs.TokenOrder.{IsUpTo}
 use Rattle.settlement.specs.Posted.{token_of_tap}
+use Rattle.std.specs.Prelude.{List, [], ◌∷◌}
+use Rattle.tap_views.specs.TokenOrder.{IsUpTo}
+use Rattle.tap_views.specs.declared.{encoder.TapFields.TapFields, token.Token.Token}
 
 -- the taps' tokens never fall, from this one on
 abbrev pub TapsNondecreasingFrom : Token → List TapFields → Type 0

@@ -1,17 +1,12 @@
 -- Bills to which taps are added one by one.
-use Rattle.std.specs.Prelude.{◌≡◌, ◌==◌, ◌+◌, ◌^◌, ◌<◌, ◌≤◌, ℕ, true, false, All, List, [], ◌∷◌}
-use Rattle.std.specs.Prelude.{◌++◌, length, map}
-use Rattle.tariffs.specs.Fares.{Fares}
-use Rattle.tap_views.specs.declared.encoder.TapFields.{TapFields}
 use Rattle.histories.specs.Sums.{sums}
 use Rattle.histories.specs.SumsByKey.{sums_by_token, token_of, validator_of}
-use Rattle.histories.specs.TalliesByKey.{AreByKey}
-use Rattle.histories.specs.Tally.{sums_of_tally}
-use Rattle.histories.specs.declared.entry.Entry.{Entry}
-use Rattle.settlement.specs.Posted.{posted}
-use Rattle.settlement.specs.Replays.{HasPosted}
-use Rattle.tap_views.specs.TokenOrder.{AreBelow}
-use Rattle.settlement.specs.declared.open_bill.OpenBill.{OpenBill}
+use Rattle.histories.specs.{TalliesByKey.AreByKey, Tally.sums_of_tally, declared.entry.Entry.Entry}
+use Rattle.settlement.specs.{Posted.posted, Replays.HasPosted, declared.open_bill.OpenBill.OpenBill}
+use Rattle.std.specs.Prelude.{◌≡◌, ◌==◌, ◌+◌, ◌^◌, ◌<◌, ◌≤◌, ℕ, true, false, All, List, [], ◌∷◌}
+use Rattle.std.specs.Prelude.{◌++◌, length, map}
+use Rattle.tap_views.specs.{TokenOrder.AreBelow, declared.encoder.TapFields.TapFields}
+use Rattle.tariffs.specs.Fares.{Fares}
 
 -- The entries of the taps are those of lower tokens, and then those of the last token, whose account
 -- has posted them. The bill has the sums of the others, and all entries by validator.

@@ -1,12 +1,10 @@
 -- Taps that are posted in their order, by their fields.
-use Rattle.std.specs.Prelude.{◌≡◌, List, ◌∷◌, ◌++◌, filter, []}
-use Rattle.tap_views.specs.declared.encoder.TapFields.{TapFields}
-use Rattle.tariffs.specs.Fares.{Fares}
-use Rattle.tap_views.specs.Token.{Fits, bytes_of, token_eq}
-use Rattle.tap_views.specs.declared.token.Token.{Token}
 use Rattle.account_rule.specs.declared.reply.Answer.TheVariants.{Unknown}
-use Rattle.histories.specs.declared.entry.Entry.{Entry}
-use Rattle.histories.specs.Plain.{answered, token_of_bytes}
+use Rattle.histories.specs.{Plain.answered, Plain.token_of_bytes, declared.entry.Entry.Entry}
+use Rattle.std.specs.Prelude.{◌≡◌, List, ◌∷◌, ◌++◌, filter, []}
+use Rattle.tap_views.specs.Token.{Fits, bytes_of, token_eq}
+use Rattle.tap_views.specs.declared.{encoder.TapFields.TapFields, token.Token.Token}
+use Rattle.tariffs.specs.Fares.{Fares}
 
 -- the token of a tap
 abbrev pub token_of_tap : TapFields → Token

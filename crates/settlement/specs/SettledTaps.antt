@@ -1,13 +1,10 @@
 -- The valid taps of uploads in canonical order, and those of one token among them.
-use Rattle.std.specs.Prelude.{◌≡◌, ℕ, List, All, map}
-use Rattle.tap_views.specs.Encoding.{AreEarly, fields_of}
-use Rattle.tap_views.specs.Files.{AreValidTapsOfEach}
-use Rattle.tap_views.specs.Layout.{Tap}
-use Rattle.tap_views.specs.declared.encoder.TapFields.{TapFields}
-use Rattle.tap_views.specs.declared.token.Token.{Token}
-use Rattle.tap_parts.specs.Canonical.{IsCanonical}
-use Rattle.tap_parts.specs.Parts.{taps_of_uploads}
 use Rattle.settlement.specs.Posted.{HasName, only}
+use Rattle.std.specs.Prelude.{◌≡◌, ℕ, List, All, map}
+use Rattle.tap_parts.specs.{Canonical.IsCanonical, Parts.taps_of_uploads}
+use Rattle.tap_views.specs.Encoding.{AreEarly, fields_of}
+use Rattle.tap_views.specs.{Files.AreValidTapsOfEach, Layout.Tap}
+use Rattle.tap_views.specs.declared.{encoder.TapFields.TapFields, token.Token.Token}
 
 -- The list has all valid taps of the uploads, in canonical order. The moments are before 2100, and
 -- the 16 bytes of each token name it.

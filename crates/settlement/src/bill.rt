@@ -1,10 +1,9 @@
 //! The bill of settled taps: their sums.
 
-ghost use Rattle.std.specs.Prelude.{◌++◌, List, OnOk, map, []};
-ghost use Rattle.histories.specs.SumsByKey.{token_of};
-ghost use Rattle.histories.specs.declared.entry.Entry.{Entry};
-ghost use Rattle.tap_views.specs.TokenOrder.{AreBelow};
+ghost use Rattle.histories.specs.{SumsByKey.token_of, declared.entry.Entry.Entry};
 ghost use Rattle.settlement.specs.Bills.{HaveBillRoom, IsBillOf};
+ghost use Rattle.std.specs.Prelude.{◌++◌, List, OnOk, map, []};
+ghost use Rattle.tap_views.specs.TokenOrder.{AreBelow};
 
 use histories::{HashSeed, Tally, TokenSums, ValidatorTallies};
 use std::alloc::Global;

@@ -1,9 +1,8 @@
 //! The lists of the parts, made by several threads.
 
-ghost use Rattle.std.specs.Prelude.{◌≡◌, ◌++◌, IfOk, map};
-ghost use Rattle.std.specs.List.{AllZip};
-ghost use denote.Param.Send.{IsSync};
+ghost use Rattle.std.specs.{List.AllZip, Prelude.◌≡◌, Prelude.◌++◌, Prelude.IfOk, Prelude.map};
 ghost use Rattle.tap_parts.specs.Canonical.{IsCanonical};
+ghost use denote.Param.Send.{IsSync};
 
 use crate::part_lists::lists_of;
 use crate::pieces::Pieces;

@@ -1,15 +1,13 @@
 //! A bill to which taps are added one by one.
 
+ghost use Rattle.settlement.specs.{Bills.IsBillOf, Nondecreasing.TapsNondecreasingFrom};
+ghost use Rattle.settlement.specs.{Nondecreasing.last_token, OpenBills.HasRoomFor};
+ghost use Rattle.settlement.specs.{OpenBills.IsOpenBill, Posted.posted, Posted.token_of_tap};
 ghost use Rattle.std.specs.Prelude.{◌≡◌, ◌+◌, ◌<◌, ◌≤◌, ◌^◌, ◌++◌, ◌∷◌, [], List, IfOk, OnOk};
 ghost use Rattle.std.specs.Prelude.{length};
-ghost use Rattle.tariffs.specs.Fares.{Fares};
-ghost use Rattle.tap_views.specs.Encoding.{AreEarly};
+ghost use Rattle.tap_views.specs.{Encoding.AreEarly, TokenOrder.IsUpTo};
 ghost use Rattle.tap_views.specs.declared.encoder.TapFields.{TapFields};
-ghost use Rattle.tap_views.specs.TokenOrder.{IsUpTo};
-ghost use Rattle.settlement.specs.Bills.{IsBillOf};
-ghost use Rattle.settlement.specs.Posted.{posted, token_of_tap};
-ghost use Rattle.settlement.specs.Nondecreasing.{TapsNondecreasingFrom, last_token};
-ghost use Rattle.settlement.specs.OpenBills.{HasRoomFor, IsOpenBill};
+ghost use Rattle.tariffs.specs.Fares.{Fares};
 
 use crate::bill::Bill;
 use crate::replay::Replay;

@@ -1,7 +1,6 @@
 //! The taps of each part in a list, in canonical order.
 
-ghost use Rattle.std.specs.Prelude.{IfOk, map};
-ghost use Rattle.std.specs.List.{AllZip};
+ghost use Rattle.std.specs.{List.AllZip, Prelude.IfOk, Prelude.map};
 ghost use Rattle.tap_parts.specs.Canonical.{IsCanonical};
 
 use crate::pieces::Pieces;

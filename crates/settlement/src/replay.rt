@@ -1,16 +1,13 @@
 //! The taps of one token, posted one after another by its account alone.
 
-ghost use Rattle.std.specs.Prelude.{◌≡◌, ◌<◌, List, ◌∷◌, ◌++◌, length, []};
-ghost use Rattle.std.specs.Option.{ForSome};
-ghost use Rattle.tariffs.specs.Fares.{Fares};
-ghost use Rattle.tap_views.specs.Token.{bytes_of};
-ghost use Rattle.fare_caps.specs.CapMeanings.{capped_rules_of};
-ghost use Rattle.fare_caps.specs.CappedReplies.{capped_window};
+ghost use Rattle.fare_caps.specs.{CapMeanings.capped_rules_of, CappedReplies.capped_window};
 ghost use Rattle.histories.specs.Entry.{own, tap_of, taps_of};
-ghost use Rattle.histories.specs.declared.entry.Entry.{Entry};
-ghost use Rattle.histories.specs.Plain.{answered};
-ghost use Rattle.settlement.specs.Posted.{token_of_tap, unposted};
-ghost use Rattle.settlement.specs.Replays.{HasPosted};
+ghost use Rattle.histories.specs.{Plain.answered, declared.entry.Entry.Entry};
+ghost use Rattle.settlement.specs.{Posted.token_of_tap, Posted.unposted, Replays.HasPosted};
+ghost use Rattle.std.specs.Option.{ForSome};
+ghost use Rattle.std.specs.Prelude.{◌≡◌, ◌<◌, List, ◌∷◌, ◌++◌, length, []};
+ghost use Rattle.tap_views.specs.Token.{bytes_of};
+ghost use Rattle.tariffs.specs.Fares.{Fares};
 
 use account_rule::{TapIn, WindowView};
 use fare_caps::CappedAccount;

@@ -1,15 +1,11 @@
 //! Uploads, settled.
 
-ghost use Rattle.std.specs.Prelude.{◌≡◌, ◌<◌, ◌≤◌, ◌^◌, All, IfOk, List, ℕ, flat_map, length};
-ghost use Rattle.tap_views.specs.UploadEnds.{ArePlainEnds};
-ghost use Rattle.tap_views.specs.Encoding.{AreEarly};
 ghost use Rattle.histories.specs.declared.entry.Entry.{Entry};
-ghost use Rattle.settlement.specs.Bills.{IsBillOf};
-ghost use Rattle.settlement.specs.Posted.{token_of_tap};
-ghost use Rattle.settlement.specs.Reading.{AreRead};
-ghost use Rattle.settlement.specs.Settled.{IsSettledHistory};
-ghost use Rattle.settlement.specs.SettledTaps.{AreSettledTaps, AreSettledTapsOf};
-ghost use Rattle.settlement.specs.inside.SplitUploads.{AreSplit};
+ghost use Rattle.settlement.specs.{Bills.IsBillOf, Posted.token_of_tap, Reading.AreRead};
+ghost use Rattle.settlement.specs.{Settled.IsSettledHistory, SettledTaps.AreSettledTaps};
+ghost use Rattle.settlement.specs.{SettledTaps.AreSettledTapsOf, inside.SplitUploads.AreSplit};
+ghost use Rattle.std.specs.Prelude.{◌≡◌, ◌<◌, ◌≤◌, ◌^◌, All, IfOk, List, ℕ, flat_map, length};
+ghost use Rattle.tap_views.specs.{Encoding.AreEarly, UploadEnds.ArePlainEnds};
 
 use crate::bill::Bill;
 use crate::bill_by_threads::bill_by_threads;

@@ -2,35 +2,26 @@
 use Rattle.std.proofs.Common.{◌≡◌, ℕ, suc, ◌+◌, ◌<◌, arith, List, [], ◌∷◌, ◌++◌, length, refl}
 use Rattle.std.proofs.Common.{Option, Some, None, slice_get, sym, ap, subst, ◌∙◌, Bool, true, false}
 use Rattle.std.proofs.Common.{cond, is_some, ⊎_elim}
-use Rattle.std.specs.Option.{unwrap_or}
-use Rattle.std.specs.Map.{keys_of, lookup}
-use Rattle.std.specs.List.{position_or_len}
+use Rattle.account_rule.specs.TokenRules.{rules_of}
+use Rattle.account_rule.specs.declared.{reply.Reply.Reply, tap.TapIn.TapIn}
+use Rattle.fare_caps.specs.{CapMeanings.capped_rules_of, Represents.Represents}
+use Rattle.fare_caps.specs.{Represents.no_further, declared.further.Further.Further}
+use Rattle.histories.specs.{Counts.sums_of_counts, Sums.Sums, Sums.add_sums, Sums.sums_of_replies}
+use Rattle.indexmap.proofs.CallerLemmas.{insert_entry-new, updates-with_value_at}
 use Rattle.indexmap.specs.IndexMap.{IsUnique, Updates, get, insert_entry, insert_index}
 use Rattle.indexmap.specs.IndexMap.{with_value_at}
-use Rattle.indexmap.proofs.CallerLemmas.{insert_entry-new, updates-with_value_at}
-use Rattle.account_rule.specs.declared.tap.TapIn.{TapIn}
-use Rattle.tariffs.specs.Fares.{Fares}
-use Rattle.account_rule.specs.declared.reply.Reply.{Reply}
-use Rattle.account_rule.specs.Represents as plain
-use Rattle.account_rule.specs.TokenRules.{rules_of}
-use Rattle.fare_caps.specs.CapMeanings.{capped_rules_of}
-use Rattle.fare_caps.specs.Represents.{Represents, no_further}
-use Rattle.fare_caps.specs.declared.further.Further.{Further}
-use Rattle.shard_book.specs.declared.accounts.Accounts.{Accounts}
-use Rattle.shard_book.specs.declared.accounts.KeptAccount.{KeptAccount}
-use Rattle.shard_book.specs.inside.Accounts.{IsKept, IsKeptOrFresh, HasPositionFor, IsPosition}
-use Rattle.shard_book.specs.inside.Accounts.{HasKept, StaysKept, Steps, StillKept}
-use Rattle.shard_book.specs.inside.Accounts.{StillRepresents}
-use Rattle.shard_book.specs.inside.Accounts.{capped_of, counted, further_at, kept_at}
-use Rattle.histories.specs.Counts.{sums_of_counts}
-use Rattle.shard_book.specs.inside.Packed.{KeepPositions, tokens_of}
-use Rattle.histories.specs.Sums.{Sums, add_sums, sums_of_replies}
-use Rattle.tap_views.specs.Token.{bytes_of, token_eq}
-use Rattle.tap_views.specs.declared.token.Token.{Token}
-use Rattle.tap_views.proofs.TokenLemmas.{same_token, token_eq-laws}
 use Rattle.shard_book.proofs.PackedLemmas.{keep_entries, keep_same}
-use Rattle.std.proofs.lemmas.Bool.{cases_Bool, false≢true}
-use Rattle.std.proofs.lemmas.Option.{slice_get_within}
+use Rattle.shard_book.specs.declared.accounts.{Accounts.Accounts, KeptAccount.KeptAccount}
+use Rattle.shard_book.specs.inside.Accounts.{IsKept, IsKeptOrFresh, HasPositionFor, IsPosition}
+use Rattle.shard_book.specs.inside.Accounts.{HasKept, StaysKept, Steps, StillKept, StillRepresents}
+use Rattle.shard_book.specs.inside.Accounts.{capped_of, counted, further_at, kept_at}
+use Rattle.shard_book.specs.inside.Packed.{KeepPositions, tokens_of}
+use Rattle.std.proofs.lemmas.{Bool.cases_Bool, Bool.false≢true, Option.slice_get_within}
+use Rattle.std.specs.{List.position_or_len, Map.keys_of, Map.lookup, Option.unwrap_or}
+use Rattle.tap_views.proofs.TokenLemmas.{same_token, token_eq-laws}
+use Rattle.tap_views.specs.{Token.bytes_of, Token.token_eq, declared.token.Token.Token}
+use Rattle.tariffs.specs.Fares.{Fares}
+use Rattle.account_rule.specs.Represents as plain
 
 -- the kept account, or else a fresh one, stands for the taps
 pub holds_or : (fares : Fares) (token : List ℕ) (kept : Option KeptAccount) (here : KeptAccount)

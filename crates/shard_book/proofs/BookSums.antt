@@ -1,19 +1,15 @@
 -- The entries of several books, their sums and their tallies.
 use Rattle.std.proofs.Common.{◌≡◌, ℕ, ◌+◌, ◌*◌, ◌<◌, ◌≤◌, ◌^◌, Bool, List, [], ◌∷◌, ◌++◌, length}
 use Rattle.std.proofs.Common.{map, take, get_or, None, sym, ap, subst, ◌∙◌, arith, Ordering}
-use Rattle.std.proofs.lemmas.List.{length-append, take_more, append-nil}
-use Rattle.std.proofs.lemmas.Grind.{flat_map-append}
-use Rattle.std.specs.List.{slice_get}
-use Rattle.histories.specs.declared.entry.Entry.{Entry}
-use Rattle.histories.specs.declared.sums.tally.Tally.{Tally}
-use Rattle.histories.specs.declared.sums.ValidatorSum.{ValidatorSum}
-use Rattle.shard_book.specs.Book.{Book, all_entries}
+use Rattle.histories.specs.{Increasing.increasing, Shown.validator_sum, Sums.Sums, SumsBy.sums_by}
 use Rattle.histories.specs.SumsByKey.{sums_by_validator, validators}
-use Rattle.histories.specs.SumsBy.{sums_by}
-use Rattle.histories.specs.Increasing.{increasing}
-use Rattle.histories.specs.Shown.{validator_sum}
-use Rattle.histories.specs.Sums.{Sums}
 use Rattle.histories.specs.TalliesByKey.{AreByKey, HaveRoom}
+use Rattle.histories.specs.declared.entry.Entry.{Entry}
+use Rattle.histories.specs.declared.sums.{ValidatorSum.ValidatorSum, tally.Tally.Tally}
+use Rattle.shard_book.specs.Book.{Book, all_entries}
+use Rattle.std.proofs.lemmas.Grind.{flat_map-append}
+use Rattle.std.proofs.lemmas.List.{length-append, take_more, append-nil}
+use Rattle.std.specs.List.{slice_get}
 
 -- all entries of one book more
 pub all-more : (books : List Book) (i : ℕ) (blank : Book) → i < length books

@@ -2,16 +2,14 @@
 use Rattle.std.proofs.Common.{◌≡◌, ℕ, ◌+◌, ◌*◌, ◌/◌, ◌%◌, min, ◌<◌, ◌≤◌, ◌^◌, Bool, List, [], ◌∷◌}
 use Rattle.std.proofs.Common.{◌++◌, length, take, drop, suc, refl, sym, ap, subst, ◌∙◌, arith}
 use Rattle.std.proofs.Common.{append_assoc, length-append, drop-drop}
-use Rattle.std.specs.Prelude.{Result, Ok, IfOk, OnOk, slice_index_or}
-use Rattle.std.specs.HashMap.{HashMap}
-use Rattle.std.proofs.lemmas.List.{take-append-drop, append-nil, drop_all, nil_from_length}
-use Rattle.std.proofs.lemmas.Grind.{div_ceil_times}
-use Rattle.histories.specs.declared.entry.Entry.{Entry}
-use Rattle.histories.specs.declared.sums.tally.Tally.{Tally}
-use Rattle.shard_book.specs.Book.{Book}
-use Rattle.shard_book.specs.Book.{all_entries}
 use Rattle.histories.specs.TalliesByKey.{AreByKey, HaveRoom}
+use Rattle.histories.specs.declared.{entry.Entry.Entry, sums.tally.Tally.Tally}
 use Rattle.shard_book.proofs.BookSums.{parts-room, parts-by_key, parts-few}
+use Rattle.shard_book.specs.Book.{Book, all_entries}
+use Rattle.std.proofs.lemmas.Grind.{div_ceil_times}
+use Rattle.std.proofs.lemmas.List.{take-append-drop, append-nil, drop_all, nil_from_length}
+use Rattle.std.specs.HashMap.{HashMap}
+use Rattle.std.specs.Prelude.{Result, Ok, IfOk, OnOk, slice_index_or}
 
 -- no chunks are of no books
 pub no-chunks : (size : ℕ) (books : List Book) → 0 < size

@@ -1,23 +1,17 @@
 -- What is kept of the tokens counts their entries.
 use Rattle.std.proofs.Common.{◌≡◌, ℕ, suc, ◌==◌, not, length, arith, Bool, true, false, cond, ◌||◌}
 use Rattle.std.proofs.Common.{List, [], ◌∷◌, ◌++◌, map, None, refl, sym, ap, ◌∙◌, ⊎_elim}
-use Rattle.std.specs.Set.{is_member}
-use Rattle.std.proofs.lemmas.Bool.{cases_Bool}
-use Rattle.std.proofs.lemmas.Bool.Decides.{nat_tests}
-use Rattle.std.proofs.lemmas.List.{append-nil}
-use Rattle.std.proofs.lemmas.List.Elements.{filter-append}
-use Rattle.shard_book.specs.declared.accounts.Accounts.{Accounts}
-use Rattle.histories.specs.declared.entry.Entry.{Entry}
-use Rattle.tap_views.specs.declared.token.Token.{Token}
-use Rattle.shard_book.specs.inside.Accounts.{kept_at, counted}
-use Rattle.shard_book.specs.inside.Counting.{AreCounted}
-use Rattle.histories.specs.Entry.{is_of, own, reply_of}
-use Rattle.histories.specs.SumsByKey.{token_of}
-use Rattle.histories.specs.Sums.{Sums, sums, sums_of_replies, add_sums}
-use Rattle.histories.specs.Sums.{has_taps}
-use Rattle.tap_views.specs.Token.{token_eq}
-use Rattle.tap_views.proofs.TokenLemmas.{same_token, token_eq-sym}
 use Rattle.histories.proofs.SumsLemmas.{sums-append}
+use Rattle.histories.specs.Entry.{is_of, own, reply_of}
+use Rattle.histories.specs.Sums.{Sums, sums, sums_of_replies, add_sums, has_taps}
+use Rattle.histories.specs.{SumsByKey.token_of, declared.entry.Entry.Entry}
+use Rattle.shard_book.specs.declared.accounts.Accounts.{Accounts}
+use Rattle.shard_book.specs.inside.{Accounts.kept_at, Accounts.counted, Counting.AreCounted}
+use Rattle.std.proofs.lemmas.Bool.{cases_Bool, Decides.nat_tests}
+use Rattle.std.proofs.lemmas.List.{append-nil, Elements.filter-append}
+use Rattle.std.specs.Set.{is_member}
+use Rattle.tap_views.proofs.TokenLemmas.{same_token, token_eq-sym}
+use Rattle.tap_views.specs.{Token.token_eq, declared.token.Token.Token}
 
 -- the token's own entries after one more
 own-push : (token : Token) (entries : List Entry) (entry : Entry)

@@ -1,18 +1,15 @@
 -- A history that is read entry by entry.
 use Rattle.std.proofs.Common.{◌≡◌, ℕ, ◌+◌, ◌<◌, ◌≤◌, List, [], ◌∷◌, ◌++◌, Some, None, length, take}
 use Rattle.std.proofs.Common.{slice_get, get_or, min, refl, sym, ap, ◌∙◌, ⊎_elim, arith}
-use Rattle.std.proofs.lemmas.List.{append_assoc}
-use Rattle.std.proofs.lemmas.List.Elements.{filter-append}
-use Rattle.std.proofs.lemmas.Bool.{cases_lt}
+use Rattle.account_rule.specs.declared.reply.Reply.{Reply}
+use Rattle.histories.proofs.SumsLemmas.{sums-more}
+use Rattle.histories.specs.{Entry.is_of, Entry.own, Entry.reply_of, Sums.Sums, Sums.sums}
+use Rattle.histories.specs.{Sums.sums_of_replies, Sums.add_sums, declared.entry.Entry.Entry}
+use Rattle.std.proofs.lemmas.{Bool.cases_lt, List.append_assoc, List.Elements.filter-append}
 use Rattle.std.proofs.lemmas.Option.{slice_get-get_or, slice_get_past, slice_get_within}
 use Rattle.std.proofs.lemmas.Option.{get_or_from_slice_get}
-use Rattle.account_rule.specs.declared.reply.Reply.{Reply}
-use Rattle.histories.specs.declared.entry.Entry.{Entry}
-use Rattle.tap_views.specs.declared.token.Token.{Token}
 use Rattle.tap_views.proofs.Lists.{take_next}
-use Rattle.histories.specs.Entry.{is_of, own, reply_of}
-use Rattle.histories.specs.Sums.{Sums, sums, sums_of_replies, add_sums}
-use Rattle.histories.proofs.SumsLemmas.{sums-more}
+use Rattle.tap_views.specs.declared.token.Token.{Token}
 
 -- the sums of one entry more
 pub sums-read : (entries : List Entry) (i : ℕ) (entry : Entry) (answered : Reply) (old new : Sums)

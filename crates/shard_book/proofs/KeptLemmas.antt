@@ -1,20 +1,14 @@
 -- Accounts that stand for a history.
-use Rattle.std.proofs.Common.{◌≡◌, Bool, true, false, cond, List, [], ◌∷◌, ◌++◌}
-use Rattle.std.proofs.Common.{Option, sym, subst, ⊎_elim}
-use Rattle.std.proofs.lemmas.Bool.{cases_Bool}
-use Rattle.tariffs.specs.Fares.{Fares}
+use Rattle.std.proofs.Common.{◌≡◌, Bool, true, false, cond, List, [], ◌∷◌, ◌++◌, sym, subst, ⊎_elim}
 use Rattle.account_rule.specs.declared.tap.TapIn.{TapIn}
-use Rattle.shard_book.specs.declared.accounts.Accounts.{Accounts}
-use Rattle.shard_book.specs.declared.accounts.KeptAccount.{KeptAccount}
-use Rattle.fare_caps.specs.CapMeanings.{capped_rules_of}
-use Rattle.histories.specs.declared.entry.Entry.{Entry}
-use Rattle.tap_views.specs.declared.token.Token.{Token}
-use Rattle.shard_book.specs.inside.Accounts.{HasKept, IsKept, StaysKept, further_at, kept_at}
-use Rattle.histories.specs.Entry.{tap_of, taps_of}
-use Rattle.shard_book.specs.inside.Sound.{AreKept}
-use Rattle.tap_views.proofs.TokenLemmas.{same_token}
-use Rattle.tap_views.specs.Token.{bytes_of, token_eq}
 use Rattle.histories.proofs.Histories.{taps-push}
+use Rattle.histories.specs.{Entry.tap_of, Entry.taps_of, declared.entry.Entry.Entry}
+use Rattle.shard_book.specs.declared.accounts.Accounts.{Accounts}
+use Rattle.shard_book.specs.inside.{Accounts.HasKept, Accounts.StaysKept, Sound.AreKept}
+use Rattle.std.proofs.lemmas.Bool.{cases_Bool}
+use Rattle.tap_views.proofs.TokenLemmas.{same_token}
+use Rattle.tap_views.specs.{Token.token_eq, declared.token.Token.Token}
+use Rattle.tariffs.specs.Fares.{Fares}
 
 -- the accounts stand for the history with one entry more, if its token's account does and the
 -- others stayed

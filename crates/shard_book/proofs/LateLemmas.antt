@@ -1,26 +1,18 @@
 -- Taps that came after a tap of their token that is as late or later.
-use Rattle.std.proofs.Common.{◌≡◌, ℕ, ◌+◌, ◌<◌, ◌==◌, ◌&&◌, ◌||◌, Bool, true, false, not, cond}
-use Rattle.std.proofs.Common.{List}
-use Rattle.std.proofs.Common.{[], ◌∷◌, ◌++◌, Some, None, length, take, drop, get_or, refl, sym, ap}
-use Rattle.std.proofs.Common.{subst, ◌∙◌}
-use Rattle.std.proofs.Common.{arith, eq-eqb}
-use Rattle.std.specs.Prelude.{if◌then◌else◌}
-use Rattle.std.specs.List.{list_any, slice_get}
+use Rattle.std.proofs.Common.{◌≡◌, ℕ, ◌+◌, ◌<◌, ◌&&◌, ◌||◌, Bool, true, false, not, cond}
+use Rattle.std.proofs.Common.{List, [], ◌∷◌, ◌++◌, Some, length, take, drop, get_or, refl}
+use Rattle.std.proofs.Common.{sym, ap, subst, ◌∙◌, arith, eq-eqb}
+use Rattle.histories.specs.{Sums.is_stale, declared.entry.Entry.Entry}
+use Rattle.shard_book.proofs.{BookSums.all-more, HistoryLemmas.grown-read}
+use Rattle.shard_book.specs.{Book.Book, Book.all_entries, Late.is_late, Late.late_after}
+use Rattle.shard_book.specs.{Late.late_taps, declared.late.TapKey.TapKey, inside.Late.AreLeft}
+use Rattle.shard_book.specs.inside.Late.{AreStale, IsTaken, has_stale, has_tap, key_eq, key_of}
+use Rattle.std.proofs.{Math.Nat.zero-add, lemmas.Grind.flat_map-append}
 use Rattle.std.proofs.lemmas.List.{append_assoc, append-nil, take-append-drop}
 use Rattle.std.proofs.lemmas.List.Folds.{list_any-append, list_any_at}
 use Rattle.std.proofs.lemmas.Option.{slice_get_within, get_or_from_slice_get}
-use Rattle.std.proofs.lemmas.Grind.{flat_map-append}
-use Rattle.std.proofs.Math.Nat.{zero-add}
-use Rattle.histories.specs.declared.entry.Entry.{Entry}
-use Rattle.histories.specs.Sums.{is_stale}
+use Rattle.std.specs.{List.list_any, List.slice_get, Prelude.if◌then◌else◌}
 use Rattle.tap_views.proofs.Lists.{take_next}
-use Rattle.shard_book.proofs.BookSums.{all-more}
-use Rattle.shard_book.proofs.HistoryLemmas.{grown-read}
-use Rattle.shard_book.specs.Book.{Book, all_entries}
-use Rattle.shard_book.specs.Late.{is_late, late_after, late_taps}
-use Rattle.shard_book.specs.declared.late.TapKey.{TapKey}
-use Rattle.shard_book.specs.inside.Late.{AreLeft, AreStale, IsTaken, has_stale, has_tap, key_eq}
-use Rattle.shard_book.specs.inside.Late.{key_of}
 
 -- ---- tests
 put : (a b s x : Bool) → s ≡ true → x ≡ b → cond a true x ≡ (b || ((s && a) || false))

@@ -1,24 +1,21 @@
 -- What packed entries stand for stays if accounts are only appended.
 use Rattle.std.proofs.Common.{◌≡◌, ℕ, zero, suc, ◌+◌, ◌*◌, ◌<◌, ◌/◌, ◌%◌, ◌^◌, List, [], ◌∷◌, ◌++◌}
 use Rattle.std.proofs.Common.{Option, Some, refl, sym, ap, subst, ◌∙◌, slice_get, unwrap_or, arith}
+use Rattle.account_rule.specs.declared.reply.Answer.{Answer, TheVariants.Paid}
+use Rattle.account_rule.specs.declared.reply.Answer.TheVariants.{Transfer, Capped, Stale, Unknown}
+use Rattle.account_rule.specs.declared.reply.Reply.{Reply}
+use Rattle.histories.specs.{Positions.count_position, declared.entry.Entry.Entry}
+use Rattle.shard_book.specs.declared.accounts.KeptAccount.{KeptAccount}
+use Rattle.shard_book.specs.declared.packed.PackedEntry.{PackedEntry}
+use Rattle.shard_book.specs.inside.Packed.{ArePlaced, HasToken, KeepPositions, answer_at, entry_of}
+use Rattle.shard_book.specs.inside.Packed.{entry_with, history_of, no_token, bits_answer}
+use Rattle.shard_book.specs.inside.Packed.{bits_cents, bits_moment}
 use Rattle.std.proofs.lemmas.List.{map-append}
 use Rattle.std.proofs.lemmas.List.Elements.{All-nil, All-head, All-tail, All-push, All-weaker}
 use Rattle.std.proofs.lemmas.Nat.{div-mul-add, mod-mul-add}
 use Rattle.std.proofs.lemmas.Option.{get_or_from_slice_get, slice_get-map, slice_get_within}
-use Rattle.std.specs.Map.{keys_of}
-use Rattle.std.specs.Option.{option_map}
-use Rattle.account_rule.specs.declared.reply.Answer.{Answer}
-use Rattle.account_rule.specs.declared.reply.Reply.{Reply}
-use Rattle.account_rule.specs.declared.reply.Answer.TheVariants.{Paid, Transfer, Capped, Stale}
-use Rattle.account_rule.specs.declared.reply.Answer.TheVariants.{Unknown}
-use Rattle.shard_book.specs.declared.accounts.KeptAccount.{KeptAccount}
-use Rattle.histories.specs.declared.entry.Entry.{Entry}
-use Rattle.shard_book.specs.declared.packed.PackedEntry.{PackedEntry}
+use Rattle.std.specs.{Map.keys_of, Option.option_map}
 use Rattle.tap_views.specs.declared.token.Token.{Token}
-use Rattle.shard_book.specs.inside.Packed.{ArePlaced, HasToken, KeepPositions, answer_at, entry_of}
-use Rattle.shard_book.specs.inside.Packed.{entry_with, history_of, no_token, bits_answer}
-use Rattle.shard_book.specs.inside.Packed.{bits_cents, bits_moment}
-use Rattle.histories.specs.Positions.{count_position}
 
 -- the answer with the number of an answer is that answer
 answer-back : (answer : Answer) → answer_at (count_position answer) ≡ answer

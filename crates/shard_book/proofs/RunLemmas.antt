@@ -1,20 +1,14 @@
 -- A run, posted tap by tap.
 use Rattle.std.proofs.Common.{◌≡◌, ℕ, ◌+◌, ◌<◌, ◌≤◌, List, [], ◌∷◌, ◌++◌, length, map, refl, sym}
 use Rattle.std.proofs.Common.{ap, subst, ◌∙◌, arith}
-use Rattle.std.specs.List.{AllByRecursion}
-use Rattle.std.proofs.lemmas.List.{length-append, map-append, append_assoc, append-nil}
-use Rattle.tap_views.specs.Layout.{Tap}
-use Rattle.tap_views.specs.Shards.{ShardRun, run_taps, IsShardTap}
 use Rattle.account_rule.specs.declared.reply.Reply.{Reply}
-use Rattle.histories.specs.declared.entry.Entry.{Entry}
-use Rattle.shard_book.specs.Book.{Book, PostsTap, with_entries}
-use Rattle.histories.specs.Entry.{IsEntryOf, reply_of}
-use Rattle.histories.specs.History.{IsLegal}
-use Rattle.histories.specs.Replies.{RepliesView}
-use Rattle.histories.specs.Entry.{AreEntriesOf}
-use Rattle.shard_book.specs.Visits.{PostsRun}
-use Rattle.shard_book.specs.inside.Visits.{PostsTaps}
-use Rattle.shard_book.specs.declared.run_end.RunEnd.TheVariants.{Whole}
+use Rattle.histories.specs.Entry.{IsEntryOf, reply_of, AreEntriesOf}
+use Rattle.histories.specs.{History.IsLegal, Replies.RepliesView, declared.entry.Entry.Entry}
+use Rattle.shard_book.specs.{Book.Book, Book.PostsTap, Book.with_entries, Visits.PostsRun}
+use Rattle.shard_book.specs.{declared.run_end.RunEnd.TheVariants.Whole, inside.Visits.PostsTaps}
+use Rattle.std.proofs.lemmas.List.{length-append, map-append, append_assoc, append-nil}
+use Rattle.std.specs.List.{AllByRecursion}
+use Rattle.tap_views.specs.{Layout.Tap, Shards.ShardRun, Shards.run_taps, Shards.IsShardTap}
 
 -- the first taps of the run are posted, and the others are left
 pub record IsPosting (run : ShardRun) (done left : List Tap) (posted : ℕ) (book after : Book)

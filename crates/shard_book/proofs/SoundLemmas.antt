@@ -1,32 +1,26 @@
 -- A book stays sound when a tap is posted.
-use Rattle.std.proofs.Common.{◌≡◌, ℕ, List, [], ◌∷◌, ◌++◌, false, refl, sym, ap, subst, ◌∙◌}
-use Rattle.std.proofs.Common.{Option, None, ◌<◌, ◌≤◌}
-use Rattle.std.specs.Option.{option_map}
-use Rattle.std.proofs.lemmas.List.Elements.{All-nil, All-push}
-use Rattle.tap_views.specs.Shards.{shard_of_token}
-use Rattle.tariffs.specs.Fares.{Fares, mode_at}
-use Rattle.tariffs.specs.declared.mode.Mode.{Mode}
+use Rattle.std.proofs.Common.{◌≡◌, ℕ, List, [], ◌∷◌, ◌++◌, false, refl, sym, ap, subst, ◌∙◌, Option}
+use Rattle.std.proofs.Common.{None, ◌<◌, ◌≤◌}
 use Rattle.account_rule.specs.declared.tap.TapIn.{TapIn}
-use Rattle.fare_caps.specs.CapMeanings.{capped_rules_of}
-use Rattle.fare_caps.specs.CappedReplies.{capped_reply}
+use Rattle.fare_caps.specs.{CapMeanings.capped_rules_of, CappedReplies.capped_reply}
 use Rattle.fare_caps.specs.Represents.{no_further}
-use Rattle.shard_book.specs.declared.accounts.Accounts.{Accounts}
-use Rattle.shard_book.specs.declared.accounts.KeptAccount.{KeptAccount}
-use Rattle.histories.specs.declared.entry.Entry.{Entry}
-use Rattle.tap_views.specs.declared.token.Token.{Token}
-use Rattle.shard_book.specs.inside.Accounts.{further_at, kept_at, IsCounting, HasKept}
-use Rattle.shard_book.specs.inside.Accounts.{StaysKept, Steps, StillKept, StillRepresents, counted}
-use Rattle.histories.specs.Entry.{own, tap_of, taps_of, reply_of}
-use Rattle.histories.specs.History.{IsReplied}
-use Rattle.shard_book.specs.inside.Sound.{IsBook, IsSound, AreKept}
-use Rattle.tap_views.specs.Token.{Fits, bytes_of, token_eq}
-use Rattle.histories.specs.Sums.{sums_of_replies, add_sums}
-use Rattle.shard_book.specs.declared.packed.PackedEntry.{PackedEntry}
-use Rattle.shard_book.specs.inside.Packed.{KeepPositions, history_of, tokens_of}
-use Rattle.shard_book.proofs.CountingLemmas.{counted-same, counted-push, counted-none}
 use Rattle.histories.proofs.Histories.{legal-none, legal-push, tap_of-post}
+use Rattle.histories.specs.Entry.{own, tap_of, taps_of, reply_of}
+use Rattle.histories.specs.{History.IsReplied, Sums.sums_of_replies, Sums.add_sums}
+use Rattle.histories.specs.declared.entry.Entry.{Entry}
+use Rattle.shard_book.proofs.CountingLemmas.{counted-same, counted-push, counted-none}
 use Rattle.shard_book.proofs.KeptLemmas.{kept-push}
 use Rattle.shard_book.proofs.PackedLemmas.{history-same, placed-kept, placed-none}
+use Rattle.shard_book.specs.declared.{accounts.Accounts.Accounts, packed.PackedEntry.PackedEntry}
+use Rattle.shard_book.specs.inside.Accounts.{further_at, kept_at, IsCounting, HasKept, StaysKept}
+use Rattle.shard_book.specs.inside.Accounts.{Steps, StillKept, StillRepresents, counted}
+use Rattle.shard_book.specs.inside.Packed.{KeepPositions, history_of, tokens_of}
+use Rattle.shard_book.specs.inside.Sound.{IsBook, IsSound, AreKept}
+use Rattle.std.proofs.lemmas.List.Elements.{All-nil, All-push}
+use Rattle.std.specs.Option.{option_map}
+use Rattle.tap_views.specs.{Shards.shard_of_token, Token.Fits, Token.bytes_of, Token.token_eq}
+use Rattle.tap_views.specs.declared.token.Token.{Token}
+use Rattle.tariffs.specs.{Fares.Fares, Fares.mode_at, declared.mode.Mode.Mode}
 
 -- nothing was posted: the entries are the same, and what is kept of the tokens stands on
 pub sound-on : {table : Fares} {shard shards : ℕ} {accounts after : Accounts}

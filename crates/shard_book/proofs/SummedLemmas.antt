@@ -2,45 +2,34 @@
 use Rattle.std.proofs.Common.{◌≡◌, ℕ, ◌+◌, ◌<◌, ◌≤◌, Bool, true, false, cond, ◌||◌, List, [], ◌∷◌}
 use Rattle.std.proofs.Common.{◌++◌, length, take, get_or, map, filter, Some, None, refl, sym, ap}
 use Rattle.std.proofs.Common.{subst, ◌∙◌, ⊎_elim, arith}
+use Rattle.histories.proofs.IncreasingLemmas.{increasing-only, sorted-increases}
+use Rattle.histories.specs.{Counts.sums_of_counts, Counts.token_counts, Entry.is_of, Entry.own}
+use Rattle.histories.specs.Sums.{Sums, sums, sums_of_replies, has_taps}
+use Rattle.histories.specs.SumsByKey.{token_of, tokens, sums_by_token}
+use Rattle.histories.specs.declared.{entry.Entry.Entry, sums.counts.TokenCounts.TokenCounts}
 use Rattle.indexmap.specs.IndexMap.{get}
-use Rattle.std.specs.List.{All, AllByRecursion, Contains, IsDistinct, slice_get}
-use Rattle.std.specs.List.Sorted.{IsPermutation, IsSorted, IsSortedByKey}
-use Rattle.std.specs.Map.{keys_of, lookup}
-use Rattle.std.specs.Ordering.{eq_by_cmp, is_lt}
-use Rattle.std.specs.Set.{is_member}
-use Rattle.std.proofs.lemmas.Bool.{cases_Bool, false≢true}
-use Rattle.std.proofs.lemmas.Bool.Decides.{nat_tests}
+use Rattle.shard_book.proofs.{BookSums.all-more, CountingLemmas.own-member}
+use Rattle.shard_book.specs.Book.{Book, AreOfShard, all_entries}
+use Rattle.shard_book.specs.declared.accounts.{Accounts.Accounts, KeptAccount.KeptAccount}
+use Rattle.shard_book.specs.inside.Accounts.{kept_at, counted, is_used, pair_of, pairs_of}
+use Rattle.shard_book.specs.inside.Counting.{AreCounted, AreSummed, AddsSums, AreBelow}
+use Rattle.std.proofs.lemmas.Bool.{cases_Bool, false≢true, Decides.nat_tests}
 use Rattle.std.proofs.lemmas.List.{map-append, length-map, append-nil, get_or-map}
 use Rattle.std.proofs.lemmas.List.Elements.{All-append, All-contains_itself, All-map, All-weaker}
 use Rattle.std.proofs.lemmas.List.Elements.{All-nil, All-from_recursion, recursion_from_All}
 use Rattle.std.proofs.lemmas.List.Elements.{filter-append, All-filter}
-use Rattle.std.proofs.lemmas.List.Folds.{list_any-append}
-use Rattle.std.proofs.lemmas.List.Sorted.{All-permutation, IsPermutation-map}
-use Rattle.std.proofs.lemmas.List.Sorted.{list_any-IsPermutation}
+use Rattle.std.proofs.lemmas.List.{Folds.list_any-append, Sorted.All-permutation}
+use Rattle.std.proofs.lemmas.List.Sorted.{IsPermutation-map, list_any-IsPermutation}
 use Rattle.std.proofs.lemmas.Map.Keys.{IsDistinct-IsPermutation, IsDistinct-head, IsDistinct-tail}
-use Rattle.std.proofs.lemmas.Map.Views.{lookup-from_Contains}
 use Rattle.std.proofs.lemmas.Map.Made.{All-is_member, IsDistinct-keys_filter, keys_of-map_values}
-use Rattle.shard_book.specs.declared.accounts.Accounts.{Accounts}
-use Rattle.shard_book.specs.declared.accounts.KeptAccount.{KeptAccount}
-use Rattle.histories.specs.declared.entry.Entry.{Entry}
-use Rattle.tap_views.specs.declared.token.Token.{Token}
-use Rattle.shard_book.specs.inside.Accounts.{kept_at, counted, is_used, pair_of, pairs_of}
-use Rattle.histories.specs.declared.sums.counts.TokenCounts.{TokenCounts}
-use Rattle.tap_views.specs.Shards.{shard_of_token}
-use Rattle.shard_book.specs.Book.{Book, AreOfShard}
-use Rattle.shard_book.specs.inside.Counting.{AreCounted, AreSummed, AddsSums, AreBelow}
-use Rattle.histories.specs.Counts.{sums_of_counts, token_counts}
-use Rattle.histories.specs.Entry.{is_of, own}
-use Rattle.histories.specs.SumsByKey.{token_of, tokens, sums_by_token}
-use Rattle.shard_book.specs.Book.{all_entries}
-use Rattle.histories.specs.Sums.{Sums, sums, sums_of_replies}
-use Rattle.histories.specs.Sums.{has_taps}
-use Rattle.tap_views.specs.Token.{bytes_of, token_eq, token_cmp}
-use Rattle.shard_book.proofs.CountingLemmas.{own-member}
+use Rattle.std.proofs.lemmas.Map.Views.{lookup-from_Contains}
+use Rattle.std.specs.List.{All, AllByRecursion, Contains, IsDistinct, slice_get}
+use Rattle.std.specs.List.Sorted.{IsPermutation, IsSorted, IsSortedByKey}
+use Rattle.std.specs.{Map.keys_of, Map.lookup, Ordering.eq_by_cmp, Ordering.is_lt, Set.is_member}
 use Rattle.tap_views.proofs.TokenLemmas.{same_token, token_eq-sym, token_eq-laws, token_cmp-total}
 use Rattle.tap_views.proofs.TokenLemmas.{token_cmp-ties}
-use Rattle.histories.proofs.IncreasingLemmas.{increasing-only, sorted-increases}
-use Rattle.shard_book.proofs.BookSums.{all-more}
+use Rattle.tap_views.specs.{Shards.shard_of_token, Token.bytes_of, Token.token_eq, Token.token_cmp}
+use Rattle.tap_views.specs.declared.token.Token.{Token}
 
 -- a token that is apart from all keys is apart from those that a test leaves
 member-apart : (test : Token × KeptAccount → Bool) (token : Token) (es : List (Token × KeptAccount))

@@ -1,23 +1,18 @@
 -- A token's entries carry the account rule's replies to its taps.
 use Rattle.std.proofs.Common.{◌≡◌, ℕ, true, false, cond, List, [], ◌∷◌, ◌++◌, map, count_by, sum_by}
 use Rattle.std.proofs.Common.{refl, sym, ap, subst, ◌∙◌}
-use Rattle.std.proofs.lemmas.List.{append_assoc}
-use Rattle.tariffs.specs.Fares.{Fares}
-use Rattle.account_rule.specs.declared.reply.Reply.{Reply}
-use Rattle.account_rule.specs.declared.tap.TapIn.{TapIn}
-use Rattle.account_rule.specs.Laws.{is_paid_reply}
-use Rattle.account_rule.specs.declared.reply.Answer.TheVariants.{Paid, Transfer, Capped, Stale}
-use Rattle.account_rule.specs.declared.reply.Answer.TheVariants.{Unknown}
-use Rattle.histories.specs.Sums.{sums_of_replies, is_paid}
+use Rattle.account_rule.specs.{Laws.is_paid_reply, declared.reply.Answer.TheVariants.Paid}
+use Rattle.account_rule.specs.declared.reply.Answer.TheVariants.{Transfer, Capped, Stale, Unknown}
+use Rattle.account_rule.specs.declared.{reply.Reply.Reply, tap.TapIn.TapIn}
 use Rattle.fare_caps.specs.CapMeanings.{capped_rules_of}
 use Rattle.fare_caps.specs.CappedReplies.{capped_replies, capped_replies_after, capped_reply}
-use Rattle.histories.specs.declared.entry.Entry.{Entry}
-use Rattle.tap_views.specs.declared.token.Token.{Token}
-use Rattle.histories.specs.Entry.{is_of, own, tap_of, taps_of, reply_of}
-use Rattle.histories.specs.History.{IsReplied, IsLegal}
-use Rattle.histories.specs.Keys.{same_token}
-use Rattle.tap_views.specs.Token.{bytes_of}
 use Rattle.histories.proofs.Histories.{taps-push}
+use Rattle.histories.specs.Entry.{is_of, own, tap_of, taps_of, reply_of}
+use Rattle.histories.specs.{History.IsReplied, History.IsLegal, Keys.same_token}
+use Rattle.histories.specs.{Sums.sums_of_replies, Sums.is_paid, declared.entry.Entry.Entry}
+use Rattle.std.proofs.lemmas.List.{append_assoc}
+use Rattle.tap_views.specs.{Token.bytes_of, declared.token.Token.Token}
+use Rattle.tariffs.specs.Fares.{Fares}
 
 -- the replies of the token's entries after some others
 replies-after : (table : Fares) (token : Token) (before rest : List Entry)

@@ -1,13 +1,9 @@
 -- What contracts see of a book.
-use Rattle.std.specs.Prelude.{◌≡◌, ℕ, List, [], ◌∷◌, ◌++◌, All, flat_map, slice_get}
-use Rattle.std.specs.Prelude.{Some}
-use Rattle.tap_views.specs.Layout.{Tap}
-use Rattle.tap_views.specs.Shards.{shard_of_token}
-use Rattle.tariffs.specs.Fares.{Fares}
 use Rattle.account_rule.specs.declared.reply.Reply.{Reply}
-use Rattle.histories.specs.declared.entry.Entry.{Entry}
-use Rattle.histories.specs.Entry.{IsEntryOf, reply_of}
-use Rattle.tap_views.specs.Token.{bytes_of}
+use Rattle.histories.specs.{Entry.IsEntryOf, Entry.reply_of, declared.entry.Entry.Entry}
+use Rattle.std.specs.Prelude.{◌≡◌, ℕ, List, [], ◌∷◌, ◌++◌, All, flat_map, slice_get, Some}
+use Rattle.tap_views.specs.{Layout.Tap, Shards.shard_of_token, Token.bytes_of}
+use Rattle.tariffs.specs.Fares.{Fares}
 
 -- a book: its table, its shard and the number of shards, and its whole history
 pub record Book : Type 0 where

@@ -1,9 +1,7 @@
 -- Taps that came after a tap of their token that is as late or later.
-use Rattle.std.specs.Prelude.{ℕ, ◌+◌, ◌==◌, ◌&&◌, Bool, not, List, [], ◌∷◌, ◌++◌}
-use Rattle.std.specs.Prelude.{if◌then◌else◌}
+use Rattle.histories.specs.{Sums.is_stale, declared.entry.Entry.Entry}
 use Rattle.std.specs.List.{list_any}
-use Rattle.histories.specs.declared.entry.Entry.{Entry}
-use Rattle.histories.specs.Sums.{is_stale}
+use Rattle.std.specs.Prelude.{ℕ, ◌+◌, ◌==◌, ◌&&◌, Bool, not, List, [], ◌∷◌, ◌++◌, if◌then◌else◌}
 use Rattle.tap_views.specs.Token.{token_eq}
 
 -- whether two entries are of equal taps: of one token, at one moment, at one validator

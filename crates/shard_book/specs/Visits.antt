@@ -1,12 +1,10 @@
 -- What one turn appends to a history.
+use Rattle.histories.specs.Entry.{AreEntriesOf, reply_of}
+use Rattle.histories.specs.{Replies.RepliesView, declared.entry.Entry.Entry}
+use Rattle.shard_book.specs.Book.{Book, with_entries}
+use Rattle.shard_book.specs.declared.run_end.RunEnd.{RunEnd, TheVariants.Whole, TheVariants.Cut}
 use Rattle.std.specs.Prelude.{◌≡◌, ◌+◌, ◌<◌, List, ◌++◌, length, take, map}
 use Rattle.tap_views.specs.Layout.{Tap}
-use Rattle.histories.specs.declared.entry.Entry.{Entry}
-use Rattle.shard_book.specs.declared.run_end.RunEnd.{RunEnd}
-use Rattle.shard_book.specs.declared.run_end.RunEnd.TheVariants.{Whole, Cut}
-use Rattle.shard_book.specs.Book.{Book, with_entries}
-use Rattle.histories.specs.Entry.{AreEntriesOf, reply_of}
-use Rattle.histories.specs.Replies.{RepliesView}
 
 -- the visit of a run: of all its taps, or, if it was cut, of its first ones and not of all
 abbrev pub IsVisit : List Tap → RunEnd → List Entry → Type 0

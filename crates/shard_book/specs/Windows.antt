@@ -1,24 +1,17 @@
 -- What holds of the windows of a token's taps.
-use Rattle.std.specs.Prelude.{◌≡◌, ◌≤◌, ℕ, false, List, [], map, filter, flat_map, All, sum_by}
-use Rattle.tariffs.specs.Fares.{Fares, has_caps_or_prices, terms_at}
-use Rattle.tariffs.specs.TableMeaning.{TableMeaning}
-use Rattle.tariffs.specs.declared.terms.Terms.{Terms}
-use Rattle.account_rule.specs.declared.reply.Reply.{Reply}
 use Rattle.account_rule.specs.Laws.{GrowsWithinLimits, charge_reply, is_ride}
-use Rattle.account_rule.specs.TokenRules.{rules_of}
-use Rattle.account_rule.specs.Taps.{LiveTap}
+use Rattle.account_rule.specs.{Taps.LiveTap, TokenRules.rules_of}
 use Rattle.account_rule.specs.Windows.{charges, paid_rides, window_cents, windows}
-use Rattle.account_rule.specs.declared.tap.TapIn.{TapIn}
-use Rattle.fare_caps.specs.CapMeanings.{capped_rules_of}
-use Rattle.fare_caps.specs.CapWindows.{Charged, all_caps, cents_for, charged, counted_in}
-use Rattle.fare_caps.specs.CapWindows.{windows_of}
-use Rattle.fare_caps.specs.Caps.{CapRules, CappedRules}
-use Rattle.fare_caps.specs.Laws.{KeepsCeiling}
-use Rattle.histories.specs.declared.entry.Entry.{Entry}
-use Rattle.tap_views.specs.declared.token.Token.{Token}
+use Rattle.account_rule.specs.declared.{reply.Reply.Reply, tap.TapIn.TapIn}
+use Rattle.fare_caps.specs.{CapMeanings.capped_rules_of, CapWindows.Charged}
+use Rattle.fare_caps.specs.CapWindows.{all_caps, cents_for, charged, counted_in, windows_of}
+use Rattle.fare_caps.specs.{Caps.CapRules, Caps.CappedRules, Laws.KeepsCeiling}
 use Rattle.histories.specs.Entry.{own, taps_of, reply_of}
-use Rattle.histories.specs.Sums.{sums_of_replies}
-use Rattle.tap_views.specs.Token.{bytes_of}
+use Rattle.histories.specs.{Sums.sums_of_replies, declared.entry.Entry.Entry}
+use Rattle.std.specs.Prelude.{◌≡◌, ◌≤◌, ℕ, false, List, [], map, filter, flat_map, All, sum_by}
+use Rattle.tap_views.specs.{Token.bytes_of, declared.token.Token.Token}
+use Rattle.tariffs.specs.Fares.{Fares, has_caps_or_prices, terms_at}
+use Rattle.tariffs.specs.{TableMeaning.TableMeaning, declared.terms.Terms.Terms}
 
 -- No window has more paid rides than the ride limit or costs more than the ceiling.
 pub record BlocksKeepLimits (terms : LiveTap → Terms) (limits : Terms)

@@ -1,23 +1,21 @@
 //! The accounts of a book, by token: the one place that knows their kind of map.
 
-ghost use Rattle.std.specs.Prelude.{◌≡◌, ◌<◌, ◌≤◌, ℕ, List, [], ◌∷◌, ◌++◌, length, map, is_some};
-ghost use Rattle.std.specs.Prelude.{IfNone, IfOk, IfSome, OnOk, OnErr, None, Some, true, false};
-ghost use Rattle.std.specs.Prelude.{IsTrue, slice_get};
-ghost use Rattle.std.specs.Option.{ForSome};
 ghost use Rattle.account_rule.specs.declared.tap.TapIn.{TapIn};
 ghost use Rattle.fare_caps.specs.CapMeanings.{capped_rules_of};
 ghost use Rattle.fare_caps.specs.Represents.{Represents, no_further};
-ghost use Rattle.tariffs.specs.Fares.{Fares, has_caps_or_prices};
+ghost use Rattle.histories.specs.{Counts.token_counts, declared.entry.Entry.Entry};
+ghost use Rattle.shard_book.specs.declared.accounts.KeptAccount.{KeptAccount};
 ghost use Rattle.shard_book.specs.inside.Accounts.{further_at, kept_at, pairs_of, HasKept, IsKept};
 ghost use Rattle.shard_book.specs.inside.Accounts.{HasPositionFor, IsPosition, StaysKept, Steps};
 ghost use Rattle.shard_book.specs.inside.Accounts.{IsCounting, StillKept, capped_of};
-ghost use Rattle.shard_book.specs.declared.accounts.KeptAccount.{KeptAccount};
 ghost use Rattle.shard_book.specs.inside.Counting.{AreCounted, AreSummed};
 ghost use Rattle.shard_book.specs.inside.Packed.{HasToken, KeepPositions, tokens_of};
-ghost use Rattle.histories.specs.Counts.{token_counts};
-ghost use Rattle.histories.specs.declared.entry.Entry.{Entry};
-ghost use Rattle.tap_views.specs.Token.{bytes_of, token_eq};
-ghost use Rattle.tap_views.specs.declared.token.Token.{Token};
+ghost use Rattle.std.specs.Option.{ForSome};
+ghost use Rattle.std.specs.Prelude.{◌≡◌, ◌<◌, ◌≤◌, ℕ, List, [], ◌∷◌, ◌++◌, length, map, is_some};
+ghost use Rattle.std.specs.Prelude.{IfNone, IfOk, IfSome, OnOk, OnErr, None, Some, true, false};
+ghost use Rattle.std.specs.Prelude.{IsTrue, slice_get};
+ghost use Rattle.tap_views.specs.{Token.bytes_of, Token.token_eq, declared.token.Token.Token};
+ghost use Rattle.tariffs.specs.Fares.{Fares, has_caps_or_prices};
 
 use account_rule::{Account, Reply, TapIn};
 use fare_caps::{CappedAccount, Further};

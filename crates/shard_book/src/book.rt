@@ -1,16 +1,12 @@
 //! The book of one shard: its table, its accounts and its whole history.
 
+ghost use Rattle.fare_caps.specs.{CapMeanings.capped_rules_of, Represents.Represents};
+ghost use Rattle.histories.specs.{Counts.token_counts, Entry.TokensFit, Entry.taps_of};
+ghost use Rattle.histories.specs.History.{IsLegal};
+ghost use Rattle.shard_book.specs.{Book.AreOfShard, Book.PostsTap, inside.Counting.AddsSums};
 ghost use Rattle.std.specs.Prelude.{◌≡◌, ◌<◌, ◌≤◌, [], length, map, slice_get, IfOk, OnOk, OnErr};
 ghost use Rattle.std.specs.Prelude.{IsTrue, Some};
-ghost use Rattle.tap_views.specs.Shards.{shard_of_token};
-ghost use Rattle.fare_caps.specs.CapMeanings.{capped_rules_of};
-ghost use Rattle.fare_caps.specs.Represents.{Represents};
-ghost use Rattle.shard_book.specs.inside.Counting.{AddsSums};
-ghost use Rattle.histories.specs.Counts.{token_counts};
-ghost use Rattle.histories.specs.Entry.{TokensFit, taps_of};
-ghost use Rattle.tap_views.specs.Token.{bytes_of};
-ghost use Rattle.shard_book.specs.Book.{AreOfShard, PostsTap};
-ghost use Rattle.histories.specs.History.{IsLegal};
+ghost use Rattle.tap_views.specs.{Shards.shard_of_token, Token.bytes_of};
 
 use crate::accounts::Accounts;
 use crate::packed::PackedEntry;

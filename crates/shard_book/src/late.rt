@@ -1,12 +1,9 @@
 //! Taps that came after a tap of their token that is as late or later.
-ghost use Rattle.std.specs.Prelude.{◌≡◌, ◌+◌, ◌&&◌, ◌++◌, ◌∷◌, List, [], IfOk, OnOk};
-ghost use Rattle.std.specs.Prelude.{if◌then◌else◌};
-ghost use Rattle.std.specs.List.{list_any};
-ghost use Rattle.histories.specs.Sums.{is_stale};
-ghost use Rattle.histories.specs.declared.entry.Entry.{Entry};
-ghost use Rattle.shard_book.specs.Book.{all_entries};
-ghost use Rattle.shard_book.specs.Late.{late_after, late_taps};
+ghost use Rattle.histories.specs.{Sums.is_stale, declared.entry.Entry.Entry};
+ghost use Rattle.shard_book.specs.{Book.all_entries, Late.late_after, Late.late_taps};
 ghost use Rattle.shard_book.specs.inside.Late.{AreLeft, AreStale, IsTaken, key_eq, key_of};
+ghost use Rattle.std.specs.List.{list_any};
+ghost use Rattle.std.specs.Prelude.{◌≡◌, ◌+◌, ◌&&◌, ◌++◌, ◌∷◌, List, [], IfOk, OnOk, if◌then◌else◌};
 
 use crate::book::ShardBook;
 use account_rule::Answer;

@@ -1,8 +1,7 @@
 //! The statement of one token of a book.
 
+ghost use Rattle.histories.specs.{Entry.own, Statement.IsStatement};
 ghost use Rattle.std.specs.Prelude.{◌≡◌, ◌∷◌, [], ◌++◌, IfOk, OnOk};
-ghost use Rattle.histories.specs.Entry.{own};
-ghost use Rattle.histories.specs.Statement.{IsStatement};
 
 use crate::book::ShardBook;
 use histories::{Entry, Lines, Statement, totals_of_entries};

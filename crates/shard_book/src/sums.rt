@@ -1,10 +1,9 @@
 //! Sums of books: in all, by validator and by token.
 
-ghost use Rattle.std.specs.Prelude.{◌≡◌, ◌<◌, ◌≤◌, ◌^◌, length, map, IfOk};
-ghost use Rattle.shard_book.specs.Book.{all_entries};
+ghost use Rattle.histories.specs.{Shown.validator_sum, Shown.token_sum, Sums.sums, Sums.sums_of};
 ghost use Rattle.histories.specs.SumsByKey.{sums_by_validator, sums_by_token, tokens};
-ghost use Rattle.histories.specs.Shown.{validator_sum, token_sum};
-ghost use Rattle.histories.specs.Sums.{sums, sums_of};
+ghost use Rattle.shard_book.specs.Book.{all_entries};
+ghost use Rattle.std.specs.Prelude.{◌≡◌, ◌<◌, ◌≤◌, ◌^◌, length, map, IfOk};
 
 use crate::book::ShardBook;
 use crate::sums::by_key::sums_of_books;

@@ -2,26 +2,25 @@
 use Rattle.std.proofs.Common.{◌≡◌, ℕ, ◌+◌, ◌<◌, ◌≤◌, ◌≢◌, eqb, true, length, List, [], ◌∷◌, ◌++◌}
 use Rattle.std.proofs.Common.{set, get_or, refl, sym, ap, ◌∙◌, subst, arith, ⊎_elim, max}
 use Rattle.std.proofs.Common.{length-set, get_or-set_same, lt_of_not-le, true≢false}
-use Rattle.std.proofs.lemmas.List.{set-get_or}
-use Rattle.std.proofs.lemmas.List.Sums.{sum_by-append}
-use mathlib.Core.Option.{some, none, some-ne-none, some-injective}
-use mathlib.Core.Logic.{dite}
-use native.Mathlib.Decide.{ℕ_discrete, dec_le}
-use prog.Atomic.{either}
-use lib.ListN.{get_elem?}
-use Rattle.atomic_table.specs.Table.{State, Me, step, keeps, Allows, Splits, Joins, Seen, Final}
 use Rattle.atomic_table.proofs.Lists.{at_set, at_snoc, set_else, exchanged}
-use Rattle.shared_books.specs.declared.drawing.rule.DrawerState.{DrawerState}
-use Rattle.shared_books.specs.Claims.{all_claims}
-use Rattle.shared_books.specs.Drawing.{times, NoneTwice, AllBelow, HasAll}
-use Rattle.shared_books.specs.inside.Drawing.{IsSpentDrawer, times_drawn, IsDrawn}
-use Rattle.shared_books.specs.inside.DrawerStates.{drawer_state, left_drawer_state}
-use Rattle.shared_books.specs.inside.DrawerStates.{new_drawer_state, spent_drawer_state}
-use Rattle.shared_books.specs.inside.DrawerStates.{both_drawer_states, HasTried, HasLooked}
+use Rattle.atomic_table.specs.Table.{State, Me, step, keeps, Allows, Splits, Joins, Seen, Final}
 use Rattle.shared_books.proofs.Changed.{sum_set, sum_part, sum_only}
 use Rattle.shared_books.proofs.ClaimSteps.{claims_set, claims_split, claims_join, claims_most}
 use Rattle.shared_books.proofs.ClaimSteps.{others_spent}
 use Rattle.shared_books.proofs.Numbers.{times-append, times-same, times-other, as_many}
+use Rattle.shared_books.specs.Claims.{all_claims}
+use Rattle.shared_books.specs.Drawing.{times, NoneTwice, AllBelow, HasAll}
+use Rattle.shared_books.specs.declared.drawing.rule.DrawerState.{DrawerState}
+use Rattle.shared_books.specs.inside.DrawerStates.{drawer_state, left_drawer_state}
+use Rattle.shared_books.specs.inside.DrawerStates.{new_drawer_state, spent_drawer_state}
+use Rattle.shared_books.specs.inside.DrawerStates.{both_drawer_states, HasTried, HasLooked}
+use Rattle.shared_books.specs.inside.Drawing.{IsSpentDrawer, times_drawn, IsDrawn}
+use Rattle.std.proofs.lemmas.List.{set-get_or, Sums.sum_by-append}
+use lib.ListN.{get_elem?}
+use mathlib.Core.Logic.{dite}
+use mathlib.Core.Option.{some, none, some-ne-none, some-injective}
+use native.Mathlib.Decide.{ℕ_discrete, dec_le}
+use prog.Atomic.{either}
 
 abbrev S : Type 0
 S = State (Unit {0}) DrawerState

@@ -2,11 +2,9 @@
 use Rattle.std.proofs.Common.{◌≡◌, ℕ, ◌+◌, ◌*◌, ◌^◌, ◌<◌, List, [], ◌∷◌, sym, ap, ◌∙◌, subst}
 use Rattle.std.proofs.Common.{Option, Some, None}
 use Rattle.atomic_table.specs.Table.{Allows, rest}
-use Rattle.shared_books.specs.declared.turns.rule.Opening.{Opening}
-use Rattle.shared_books.specs.Turns.{Boxed, IsTurn}
-use Rattle.shared_books.specs.inside.Steps.{Seat, given_back}
-use Rattle.shared_books.specs.inside.SeatStates.{BringsVisit}
 use Rattle.shared_books.proofs.TurnSteps.{gives_turn}
+use Rattle.shared_books.specs.{Turns.Boxed, Turns.IsTurn, declared.turns.rule.Opening.Opening}
+use Rattle.shared_books.specs.inside.{SeatStates.BringsVisit, Steps.Seat, Steps.given_back}
 
 abbrev Slots : Type 0
 Slots = List (ℕ × Option Boxed)

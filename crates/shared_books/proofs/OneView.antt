@@ -1,31 +1,21 @@
 -- The machine of a turn, as a table shows it, if one view of it changes.
-use Rattle.std.proofs.Common.{◌≡◌, ℕ, ◌+◌, ◌*◌, ◌≢◌, ◌⊎◌}
-use Rattle.std.proofs.Common.{true, List, [], ◌∷◌, ◌++◌, length, set, get_or, refl}
-use Rattle.std.proofs.Common.{sym, ap, ◌∙◌, subst, arith, inl, inr, ⊎_elim, Option}
-use Rattle.std.proofs.Common.{append-nil}
-use Rattle.std.proofs.Common.{true≢false}
-use mathlib.Core.Option.{Option as Maybe, some, none, some-injective}
-use mathlib.Core.Logic.{dite}
-use native.Mathlib.Decide.{ℕ_discrete}
-use lib.ListN.{get_elem?}
-use Rattle.atomic_table.specs.Table.{State}
+use Rattle.std.proofs.Common.{◌≡◌, ℕ, ◌+◌, ◌*◌, ◌≢◌, ◌⊎◌, true, List, [], ◌∷◌, ◌++◌, length, set}
+use Rattle.std.proofs.Common.{get_or, refl, sym, ap, ◌∙◌, subst, arith, inl, inr, ⊎_elim, Option}
+use Rattle.std.proofs.Common.{append-nil, true≢false}
 use Rattle.atomic_table.proofs.Lists.{at_set, set_here, set_else}
-use Rattle.histories.specs.declared.entry.Entry.{Entry}
-use Rattle.histories.specs.History.{IsLegal}
-use Rattle.shared_books.specs.declared.turns.rule.Opening.{Opening}
-use Rattle.shared_books.specs.declared.turns.rule.Mark.{Mark}
-use Rattle.shared_books.specs.declared.turns.rule.PassState.{PassState}
-use Rattle.shared_books.specs.Machine.{Machine, Event, May, next, after}
-use Rattle.shared_books.specs.Machine.{IsSchedule}
-use Rattle.shared_books.specs.Marks.{others, visits_of, history_of_visits, made_at}
-use Rattle.shared_books.specs.Marks.{Begins}
-use Rattle.shared_books.specs.Turns.{Boxed, makers, FitsMachine, IsSpentPass}
-use Rattle.shared_books.specs.Turns.{ShowsMachine}
+use Rattle.atomic_table.specs.Table.{State}
+use Rattle.histories.specs.{History.IsLegal, declared.entry.Entry.Entry}
+use Rattle.shared_books.proofs.{Changed.sum_set, Changed.at_less, ClaimSteps.claims_set}
+use Rattle.shared_books.proofs.MarkLists.{visits-caught, length-visits}
+use Rattle.shared_books.specs.Machine.{Machine, Event, May, next, after, IsSchedule}
+use Rattle.shared_books.specs.Marks.{others, visits_of, history_of_visits, made_at, Begins}
 use Rattle.shared_books.specs.PassStates.{pass_state}
-use Rattle.shared_books.proofs.Changed.{sum_set, at_less}
-use Rattle.shared_books.proofs.ClaimSteps.{claims_set}
-use Rattle.shared_books.proofs.MarkLists.{visits-caught}
-use Rattle.shared_books.proofs.MarkLists.{length-visits}
+use Rattle.shared_books.specs.Turns.{Boxed, makers, FitsMachine, IsSpentPass, ShowsMachine}
+use Rattle.shared_books.specs.declared.turns.rule.{Mark.Mark, Opening.Opening, PassState.PassState}
+use lib.ListN.{get_elem?}
+use mathlib.Core.Logic.{dite}
+use mathlib.Core.Option.{Option as Maybe, some, none, some-injective}
+use native.Mathlib.Decide.{ℕ_discrete}
 
 -- what a table of one shared book has
 abbrev pub S : Type 0

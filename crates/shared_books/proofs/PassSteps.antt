@@ -1,37 +1,26 @@
 -- A pass that splits and passes that join keep the rule of the turn.
-use Rattle.std.proofs.Common.{◌≡◌, ℕ, ◌+◌, ◌*◌, ◌^◌, ◌≤◌, ◌≢◌}
-use Rattle.std.proofs.Common.{true, false, List, [], ◌∷◌, ◌++◌, length, set, get_or, refl}
-use Rattle.std.proofs.Common.{sym, ap, ◌∙◌, subst, arith, ⊎_elim}
+use Rattle.std.proofs.Common.{◌≡◌, ℕ, ◌+◌, ◌*◌, ◌^◌, ◌≤◌, ◌≢◌, true, false, List, [], ◌∷◌, ◌++◌}
+use Rattle.std.proofs.Common.{length, set, get_or, refl, sym, ap, ◌∙◌, subst, arith, ⊎_elim}
 use Rattle.std.proofs.Common.{lt_of_not-le, true≢false}
-use Rattle.std.proofs.lemmas.List.{set-get_or}
-use Rattle.std.proofs.lemmas.List.Sums.{sum_by-append}
-use mathlib.Core.Option.{some, some-injective}
-use mathlib.Core.Logic.{dite}
-use native.Mathlib.Decide.{dec_le}
-use lib.ListN.{get_elem?}
-use Rattle.atomic_table.specs.Table.{keeps, Allows, Splits}
-use Rattle.atomic_table.specs.Table.{Joins}
 use Rattle.atomic_table.proofs.Lists.{at_set, at_snoc, set_else, at_longer}
-use Rattle.shared_books.specs.declared.turns.rule.Opening.{Opening}
-use Rattle.shared_books.specs.declared.turns.rule.Mark.{Mark}
-use Rattle.shared_books.specs.declared.turns.rule.PassState.{PassState}
+use Rattle.atomic_table.specs.Table.{keeps, Allows, Splits, Joins}
+use Rattle.shared_books.proofs.{Changed.sum_set, Changed.sum_part, ClaimSteps.claims_split}
+use Rattle.shared_books.proofs.{ClaimSteps.claims_join, MarkLists.visits-others}
+use Rattle.shared_books.proofs.MarkLists.{length-visits, made_at-others, made_at-merged}
+use Rattle.shared_books.proofs.MarkLists.{begins_merged, begins_either, begins_shorter}
+use Rattle.shared_books.proofs.OneView.{S, acts, word_of, turn_set, seen_set}
 use Rattle.shared_books.specs.Machine.{Machine, start, after}
-use Rattle.shared_books.specs.Marks.{visits_of, made_at}
-use Rattle.shared_books.specs.Marks.{Apart, Begins, joined_marks}
-use Rattle.shared_books.specs.Turns.{makers, FitsMachine, IsSpentPass}
-use Rattle.shared_books.specs.Turns.{ShowsMachine, IsTurn}
+use Rattle.shared_books.specs.Marks.{visits_of, made_at, Apart, Begins, joined_marks}
 use Rattle.shared_books.specs.PassStates.{pass_state}
+use Rattle.shared_books.specs.Turns.{makers, FitsMachine, IsSpentPass, ShowsMachine, IsTurn}
+use Rattle.shared_books.specs.declared.turns.rule.{Mark.Mark, Opening.Opening, PassState.PassState}
 use Rattle.shared_books.specs.inside.Steps.{Seat, spent_pass_state, new_pass_state, left_pass_state}
-use Rattle.shared_books.specs.inside.Steps.{both_pass_states}
-use Rattle.shared_books.specs.inside.Steps.{HasEndedJoin}
-use Rattle.shared_books.proofs.Changed.{sum_set, sum_part}
-use Rattle.shared_books.proofs.ClaimSteps.{claims_split, claims_join}
-use Rattle.shared_books.proofs.MarkLists.{visits-others}
-use Rattle.shared_books.proofs.MarkLists.{length-visits, made_at-others}
-use Rattle.shared_books.proofs.MarkLists.{made_at-merged, begins_merged}
-use Rattle.shared_books.proofs.MarkLists.{begins_either, begins_shorter}
-use Rattle.shared_books.proofs.OneView.{S, acts, word_of, turn_set}
-use Rattle.shared_books.proofs.OneView.{seen_set}
+use Rattle.shared_books.specs.inside.Steps.{both_pass_states, HasEndedJoin}
+use Rattle.std.proofs.lemmas.List.{set-get_or, Sums.sum_by-append}
+use lib.ListN.{get_elem?}
+use mathlib.Core.Logic.{dite}
+use mathlib.Core.Option.{some, some-injective}
+use native.Mathlib.Decide.{dec_le}
 
 -- a new pass
 pub parts : (k : Opening) (id : ℕ) (v : PassState) → v.unjoined ≡ true

@@ -4,29 +4,22 @@ use Rattle.std.proofs.Common.{List, [], ◌∷◌, ◌++◌, length, refl, sym, 
 use Rattle.std.proofs.Common.{Option, Some, unwrap_or, append_assoc, append-nil, length-append}
 use Rattle.std.proofs.Common.{lt_of_not-le}
 use Rattle.atomic_table.specs.Seated.{TableId}
-use Rattle.histories.specs.declared.entry.Entry.{Entry}
+use Rattle.histories.specs.{History.IsLegal, declared.entry.Entry.Entry}
 use Rattle.shard_book.specs.Book.{Book, with_entries}
-use Rattle.histories.specs.History.{IsLegal}
-use Rattle.shared_books.specs.declared.turns.rule.Opening.{Opening}
-use Rattle.shared_books.specs.declared.turns.rule.Mark.{Mark}
-use Rattle.shared_books.specs.declared.turns.rule.PassState.{PassState}
-use Rattle.shared_books.specs.Claims.{all_claims}
-use Rattle.shared_books.specs.Marks.{mark, others, visits_of, history_of_visits, made_from}
-use Rattle.shared_books.specs.Marks.{joined_marks, Apart}
-use Rattle.shared_books.specs.Passes.{PassView, seen_by, book_of, HasSeenMore, Visits, IsFull}
-use Rattle.shared_books.specs.Passes.{IsJoined, HasMadeAll}
-use Rattle.shared_books.specs.inside.Passes.{opened_of}
-use Rattle.shared_books.specs.Turns.{Boxed, book_after}
-use Rattle.shared_books.specs.PassStates.{pass_state}
-use Rattle.shared_books.specs.inside.Steps.{Seat, new_pass_state, left_pass_state, both_pass_states}
-use Rattle.shared_books.specs.inside.Steps.{HasSeen, HasEndedJoin}
-use Rattle.shared_books.specs.inside.SeatStates.{IsFree, SeesMore, HasBookOut, FindsFull}
-use Rattle.shared_books.specs.inside.SeatStates.{BringsVisit, IsPass}
 use Rattle.shared_books.proofs.MarkLists.{visits-caught, visits-append, visits-others}
 use Rattle.shared_books.proofs.MarkLists.{length-visits, others-append, joined-snoc, made-others}
 use Rattle.shared_books.proofs.MarkLists.{made-caught, made-snoc, made_few, made_all}
-use Rattle.shared_books.proofs.MarkLists.{length-made-merged}
-use Rattle.shared_books.proofs.TurnEnds.{Closes}
+use Rattle.shared_books.proofs.{MarkLists.length-made-merged, TurnEnds.Closes}
+use Rattle.shared_books.specs.{Claims.all_claims, Marks.mark, Marks.others}
+use Rattle.shared_books.specs.Marks.{visits_of, history_of_visits, made_from, joined_marks, Apart}
+use Rattle.shared_books.specs.{PassStates.pass_state, Passes.PassView, Passes.seen_by}
+use Rattle.shared_books.specs.Passes.{book_of, HasSeenMore, Visits, IsFull, IsJoined, HasMadeAll}
+use Rattle.shared_books.specs.Turns.{Boxed, book_after}
+use Rattle.shared_books.specs.declared.turns.rule.{Mark.Mark, Opening.Opening, PassState.PassState}
+use Rattle.shared_books.specs.inside.{Passes.opened_of, SeatStates.IsFree, SeatStates.SeesMore}
+use Rattle.shared_books.specs.inside.SeatStates.{HasBookOut, FindsFull, BringsVisit, IsPass}
+use Rattle.shared_books.specs.inside.Steps.{Seat, new_pass_state, left_pass_state, both_pass_states}
+use Rattle.shared_books.specs.inside.Steps.{HasSeen, HasEndedJoin}
 
 -- a pass, as contracts see it
 abbrev pub knows : TableId → Seat → PassView

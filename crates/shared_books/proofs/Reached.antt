@@ -1,20 +1,17 @@
 -- A state that the rule allows is one that a schedule reaches.
 use Rattle.std.proofs.Common.{◌≡◌, ℕ, ◌+◌, ◌*◌, Option, Some, [], ◌∷◌, ◌++◌, refl, false, sym, ◌∙◌}
 use Rattle.std.proofs.Common.{arith, ⊎_elim, get_or, set, true, ap, subst}
-use mathlib.Core.Option.{some, none, some-ne-none, some-injective}
 use Rattle.atomic_table.specs.Table.{State}
-use Rattle.shared_books.specs.declared.turns.rule.Opening.{Opening}
-use Rattle.shared_books.specs.declared.turns.rule.PassState.{PassState}
-use Rattle.shared_books.specs.Machine.{Machine, taken, given, start, after}
-use Rattle.shared_books.specs.Marks.{mark, others, visits_of, history_of_visits}
 use Rattle.histories.specs.History.{IsLegal}
-use Rattle.shared_books.specs.Turns.{Boxed, book_after, HoldsTurn, ShowsMachine}
-use Rattle.shared_books.specs.PassStates.{pass_state}
+use Rattle.shared_books.proofs.{MarkLists.made_at-caught, OneView.schedule_snoc, OneView.after-snoc}
+use Rattle.shared_books.proofs.{OneView.word_of, OneView.caught_up, TurnSteps.took, TurnSteps.gave}
 use Rattle.shared_books.specs.Events.{IsShown, StepsAreEvents, TakesAreEvents, GivesAreEvents}
-use Rattle.shared_books.specs.Events.{taken_by}
-use Rattle.shared_books.proofs.MarkLists.{made_at-caught}
-use Rattle.shared_books.proofs.OneView.{schedule_snoc, after-snoc, word_of, caught_up}
-use Rattle.shared_books.proofs.TurnSteps.{took, gave}
+use Rattle.shared_books.specs.{Events.taken_by, Machine.Machine, Machine.taken, Machine.given}
+use Rattle.shared_books.specs.{Machine.start, Machine.after, Marks.mark, Marks.others}
+use Rattle.shared_books.specs.{Marks.visits_of, Marks.history_of_visits, PassStates.pass_state}
+use Rattle.shared_books.specs.Turns.{Boxed, book_after, HoldsTurn, ShowsMachine}
+use Rattle.shared_books.specs.declared.turns.rule.{Opening.Opening, PassState.PassState}
+use mathlib.Core.Option.{some, none, some-ne-none, some-injective}
 
 -- who has the turn is the holder
 holder_is : (k : Opening) (m : Machine) (s : State (Option Boxed) PassState) (seat : ℕ)

@@ -1,31 +1,22 @@
 -- The rule of the turn at the start, and what the table shows when it closes.
-use Rattle.std.proofs.Common.{◌≡◌, ℕ, ◌+◌, ◌*◌, ◌/◌, ◌%◌, ◌^◌, ◌<◌, ◌≤◌, ◌≢◌, zero, suc}
-use Rattle.std.proofs.Common.{true, false, List, [], ◌∷◌, length, get_or, refl}
-use Rattle.std.proofs.Common.{sym, ap, ◌∙◌, subst, arith, inr, ⊎_elim, Option, Some}
-use Rattle.std.proofs.Common.{true≢false}
-use mathlib.Core.Option.{some, none, some-ne-none, some-injective}
-use mathlib.Core.Logic.{dite}
-use native.Mathlib.Decide.{ℕ_discrete}
-use lib.ListN.{get_elem?}
+use Rattle.std.proofs.Common.{◌≡◌, ℕ, ◌+◌, ◌*◌, ◌/◌, ◌%◌, ◌^◌, ◌<◌, ◌≤◌, ◌≢◌, zero, suc, true}
+use Rattle.std.proofs.Common.{false, List, [], ◌∷◌, length, get_or, refl, sym, ap, ◌∙◌, subst}
+use Rattle.std.proofs.Common.{arith, inr, ⊎_elim, Option, Some, true≢false}
 use Rattle.atomic_table.specs.Table.{opening, Seen, Final}
-use Rattle.shard_book.specs.Book.{Book}
 use Rattle.histories.specs.History.{IsLegal}
-use Rattle.shared_books.specs.declared.turns.rule.Opening.{Opening}
-use Rattle.shared_books.specs.declared.turns.rule.Mark.{Mark}
-use Rattle.shared_books.specs.declared.turns.rule.PassState.{PassState}
-use Rattle.shared_books.specs.Claims.{all_claims}
-use Rattle.shared_books.specs.Machine.{Machine, start, after}
-use Rattle.shared_books.specs.Marks.{visits_of, made_at, made_from}
-use Rattle.shared_books.specs.Turns.{Boxed, book_after, FitsMachine, IsSpentPass}
-use Rattle.shared_books.specs.Turns.{ShowsMachine, IsTurn}
-use Rattle.shared_books.specs.PassStates.{pass_state}
-use Rattle.shared_books.proofs.Changed.{sum_only}
-use Rattle.shared_books.proofs.ClaimSteps.{claims_most}
-use Rattle.shared_books.proofs.ClaimSteps.{others_spent}
-use Rattle.shared_books.proofs.MarkLists.{length-visits}
-use Rattle.shared_books.proofs.MarkLists.{made_many}
-use Rattle.shared_books.proofs.MarkLists.{begins_whole, begins_shorter}
+use Rattle.shard_book.specs.Book.{Book}
+use Rattle.shared_books.proofs.{Changed.sum_only, ClaimSteps.claims_most, ClaimSteps.others_spent}
+use Rattle.shared_books.proofs.MarkLists.{length-visits, made_many, begins_whole, begins_shorter}
 use Rattle.shared_books.proofs.OneView.{S, word_of}
+use Rattle.shared_books.specs.{Claims.all_claims, Machine.Machine, Machine.start, Machine.after}
+use Rattle.shared_books.specs.Marks.{visits_of, made_at, made_from}
+use Rattle.shared_books.specs.{PassStates.pass_state, Turns.Boxed}
+use Rattle.shared_books.specs.Turns.{book_after, FitsMachine, IsSpentPass, ShowsMachine, IsTurn}
+use Rattle.shared_books.specs.declared.turns.rule.{Mark.Mark, Opening.Opening, PassState.PassState}
+use lib.ListN.{get_elem?}
+use mathlib.Core.Logic.{dite}
+use mathlib.Core.Option.{some, none, some-ne-none, some-injective}
+use native.Mathlib.Decide.{ℕ_discrete}
 
 -- the table at the start
 pub opens : (first : ℕ) (o : Opening) (b : Book) (x : Boxed) → x.value ≡ b → o.first ≡ first

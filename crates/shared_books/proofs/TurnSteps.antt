@@ -1,40 +1,29 @@
 -- A look at the turn word, the turn that is taken, and the turn that is given back keep its rule.
-use Rattle.std.proofs.Common.{◌≡◌, ℕ, ◌+◌, ◌*◌, ◌^◌, ◌<◌, ◌≢◌, eqb}
-use Rattle.std.proofs.Common.{true, false, List, [], ◌∷◌, ◌++◌, length, set, get_or, drop, refl}
-use Rattle.std.proofs.Common.{sym, ap, ◌∙◌, subst, arith, inl, inr, ⊎_elim, Some}
-use Rattle.std.proofs.Common.{length-set, length-append, get_or-set_same, append_assoc, append-nil}
-use Rattle.std.proofs.Common.{true≢false}
+use Rattle.std.proofs.Common.{◌≡◌, ℕ, ◌+◌, ◌*◌, ◌^◌, ◌<◌, ◌≢◌, eqb, true, false, List, [], ◌∷◌}
+use Rattle.std.proofs.Common.{◌++◌, length, set, get_or, drop, refl, sym, ap, ◌∙◌, subst, arith}
+use Rattle.std.proofs.Common.{inl, inr, ⊎_elim, Some, length-set, length-append, get_or-set_same}
+use Rattle.std.proofs.Common.{append_assoc, append-nil, true≢false}
+use Rattle.atomic_table.proofs.Lists.{at_set, set_here, exchanged}
+use Rattle.atomic_table.specs.Table.{step, keeps, takes, gives, Allows}
+use Rattle.histories.specs.{History.IsLegal, declared.entry.Entry.Entry}
+use Rattle.shared_books.proofs.Changed.{sum_set, at_less}
+use Rattle.shared_books.proofs.{ClaimSteps.claims_set, MarkLists.visits-append}
+use Rattle.shared_books.proofs.MarkLists.{length-visits, joined-snoc, drop_all, made_at-caught}
+use Rattle.shared_books.proofs.MarkLists.{made_at-here, made_at-else, made_at-beyond}
+use Rattle.shared_books.proofs.OneView.{S, acts, schedule_snoc, after-snoc, word_of, seen_set}
+use Rattle.shared_books.proofs.OneView.{caught_up, begins_itself}
+use Rattle.shared_books.specs.Machine.{Machine, taken, given, start, next, after}
+use Rattle.shared_books.specs.Marks.{mark, others, visits_of, history_of_visits, made_at, Begins}
+use Rattle.shared_books.specs.{PassStates.pass_state, Turns.Boxed, Turns.book_after}
+use Rattle.shared_books.specs.Turns.{makers, FitsMachine, IsSpentPass, ShowsMachine, IsTurn}
+use Rattle.shared_books.specs.declared.turns.rule.{Mark.Mark, Opening.Opening, PassState.PassState}
+use Rattle.shared_books.specs.inside.Steps.{Seat, HasSeen, HasTriedTurn, given_back}
 use Rattle.std.proofs.lemmas.List.{set-get_or}
-use mathlib.Core.Option.{some, none, some-ne-none, some-injective}
+use lib.ListN.{get_elem?}
 use mathlib.Core.Logic.{dite}
+use mathlib.Core.Option.{some, none, some-ne-none, some-injective}
 use native.Mathlib.Decide.{ℕ_discrete}
 use prog.Atomic.{either}
-use lib.ListN.{get_elem?}
-use Rattle.atomic_table.specs.Table.{State, Me, Step, step, keeps, takes, gives, Allows, Splits}
-use Rattle.atomic_table.specs.Table.{Joins, opening, Seen, Final}
-use Rattle.atomic_table.proofs.Lists.{at_set, set_here}
-use Rattle.atomic_table.proofs.Lists.{exchanged}
-use Rattle.histories.specs.declared.entry.Entry.{Entry}
-use Rattle.histories.specs.History.{IsLegal}
-use Rattle.shared_books.specs.declared.turns.rule.Opening.{Opening}
-use Rattle.shared_books.specs.declared.turns.rule.Mark.{Mark}
-use Rattle.shared_books.specs.declared.turns.rule.PassState.{PassState}
-use Rattle.shared_books.specs.Machine.{Machine, taken, given, start, next, after}
-use Rattle.shared_books.specs.Marks.{mark, others, visits_of, history_of_visits, made_at}
-use Rattle.shared_books.specs.Marks.{Begins}
-use Rattle.shared_books.specs.Turns.{Boxed, book_after, makers, FitsMachine, IsSpentPass}
-use Rattle.shared_books.specs.Turns.{ShowsMachine, IsTurn}
-use Rattle.shared_books.specs.PassStates.{pass_state}
-use Rattle.shared_books.specs.inside.Steps.{Seat}
-use Rattle.shared_books.specs.inside.Steps.{HasSeen, HasTriedTurn, given_back}
-use Rattle.shared_books.proofs.Changed.{sum_set, at_less}
-use Rattle.shared_books.proofs.ClaimSteps.{claims_set}
-use Rattle.shared_books.proofs.MarkLists.{visits-append}
-use Rattle.shared_books.proofs.MarkLists.{length-visits, joined-snoc, drop_all}
-use Rattle.shared_books.proofs.MarkLists.{made_at-caught, made_at-here, made_at-else}
-use Rattle.shared_books.proofs.MarkLists.{made_at-beyond}
-use Rattle.shared_books.proofs.OneView.{S, acts, schedule_snoc, after-snoc, word_of}
-use Rattle.shared_books.proofs.OneView.{seen_set, caught_up, begins_itself}
 
 -- a look at the turn word
 pub looks : (k : Opening) (slots id : ℕ) (me : Seat) → me.0.unjoined ≡ true

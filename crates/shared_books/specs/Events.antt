@@ -1,17 +1,15 @@
 -- What turn word, slot and views show of the turn machine, between any two steps.
-use Rattle.std.specs.Prelude.{◌≡◌, ℕ, ◌+◌, ◌*◌, ◌^◌, ◌<◌, List, [], ◌∷◌, ◌++◌, length, slice_index}
-use Rattle.std.specs.Prelude.{slice_set, Option, Some, true, false}
-use mathlib.Core.Option.{some, none}
-use lib.ListN.{get_elem?}
 use Rattle.atomic_table.specs.Table.{State}
-use Rattle.histories.specs.History.{IsLegal}
-use Rattle.histories.specs.declared.entry.Entry.{Entry}
-use Rattle.shared_books.specs.declared.turns.rule.Opening.{Opening}
-use Rattle.shared_books.specs.declared.turns.rule.PassState.{PassState}
+use Rattle.histories.specs.{History.IsLegal, declared.entry.Entry.Entry}
 use Rattle.shared_books.specs.Machine.{Machine, Event, taken, given, start, after, IsSchedule}
 use Rattle.shared_books.specs.Marks.{mark, others, visits_of, history_of_visits, Begins}
-use Rattle.shared_books.specs.Turns.{Boxed, book_after, HasBook, HoldsTurn, IsTurn}
 use Rattle.shared_books.specs.PassStates.{pass_state}
+use Rattle.shared_books.specs.Turns.{Boxed, book_after, HasBook, HoldsTurn, IsTurn}
+use Rattle.shared_books.specs.declared.turns.rule.{Opening.Opening, PassState.PassState}
+use Rattle.std.specs.Prelude.{◌≡◌, ℕ, ◌+◌, ◌*◌, ◌^◌, ◌<◌, List, [], ◌∷◌, ◌++◌, length, slice_index}
+use Rattle.std.specs.Prelude.{slice_set, Option, Some, true, false}
+use lib.ListN.{get_elem?}
+use mathlib.Core.Option.{some, none}
 
 -- the turn word is even: `count` visits are counted, nobody has the turn, and the book of all
 -- visits is in the slot

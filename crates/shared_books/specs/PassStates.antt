@@ -1,8 +1,6 @@
 -- The state of a pass that was not joined into another.
+use Rattle.shared_books.specs.declared.turns.rule.{Mark.Mark, Opening.Opening, PassState.PassState}
 use Rattle.std.specs.Prelude.{ℕ, Bool, true, List}
-use Rattle.shared_books.specs.declared.turns.rule.Opening.{Opening}
-use Rattle.shared_books.specs.declared.turns.rule.Mark.{Mark}
-use Rattle.shared_books.specs.declared.turns.rule.PassState.{PassState}
 
 -- what a pass knows until it is joined into another
 abbrev pub pass_state : Opening → ℕ → Bool → List Mark → List Mark → PassState

@@ -1,14 +1,13 @@
 -- What contracts see of a shared book and of the passes to it.
-use Rattle.std.specs.Prelude.{◌≡◌, ℕ, ◌+◌, ◌≤◌, ◌<◌, ◌^◌, ◌⊎◌, true, List, [], ◌∷◌, ◌++◌, length}
 use Rattle.atomic_table.specs.Seated.{TableId}
-use Rattle.tariffs.specs.Fares.{Fares}
-use Rattle.histories.specs.declared.entry.Entry.{Entry}
+use Rattle.histories.specs.{History.IsLegal, declared.entry.Entry.Entry}
 use Rattle.shard_book.specs.Book.{Book}
-use Rattle.histories.specs.History.{IsLegal}
-use Rattle.shared_books.specs.declared.turns.rule.Mark.{Mark}
 use Rattle.shared_books.specs.Claims.{all_claims, claims_given, claims_left}
 use Rattle.shared_books.specs.Marks.{mark, others, visits_of, history_of_visits, made_from}
 use Rattle.shared_books.specs.Marks.{numbered, joined_marks, Apart, Begins}
+use Rattle.shared_books.specs.declared.turns.rule.Mark.{Mark}
+use Rattle.std.specs.Prelude.{◌≡◌, ℕ, ◌+◌, ◌≤◌, ◌<◌, ◌^◌, ◌⊎◌, true, List, [], ◌∷◌, ◌++◌, length}
+use Rattle.tariffs.specs.Fares.{Fares}
 
 -- a shared book: which one it is, the number of its first visit, and the table, shard and shards
 -- that it was opened with. They never change

@@ -1,15 +1,11 @@
 -- What the calls of a shared book return.
+use Rattle.histories.specs.{Entry.reply_of, Replies.RepliesView, declared.entry.Entry.Entry}
+use Rattle.shard_book.specs.{Book.Book, Visits.IsVisit}
+use Rattle.shared_books.specs.Passes.{SharedBookView, PassView, HasSeenMore, Visits, IsFull}
+use Rattle.shared_books.specs.declared.turns.results.ReadFault.{ReadFault, TheVariants.Full}
+use Rattle.shared_books.specs.declared.turns.results.{ReadFault.TheVariants.NoMemory, Visit.Visit}
 use Rattle.std.specs.Prelude.{◌≡◌, ℕ, ◌+◌, List, [], ◌++◌, length, map}
 use Rattle.tap_views.specs.Shards.{ShardRun, run_taps}
-use Rattle.histories.specs.declared.entry.Entry.{Entry}
-use Rattle.histories.specs.Entry.{reply_of}
-use Rattle.shard_book.specs.Book.{Book}
-use Rattle.histories.specs.Replies.{RepliesView}
-use Rattle.shard_book.specs.Visits.{IsVisit}
-use Rattle.shared_books.specs.declared.turns.results.Visit.{Visit}
-use Rattle.shared_books.specs.declared.turns.results.ReadFault.{ReadFault}
-use Rattle.shared_books.specs.declared.turns.results.ReadFault.TheVariants.{Full, NoMemory}
-use Rattle.shared_books.specs.Passes.{SharedBookView, PassView, HasSeenMore, Visits, IsFull}
 
 -- the shared book has the number, and the table, shard and shards of the book that was handed in
 pub record IsOpenedAs (first : ℕ) (handed : Book) (o : SharedBookView) : Type 0 where

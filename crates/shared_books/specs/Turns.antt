@@ -1,20 +1,17 @@
 -- The rule of a shared book: between any two steps, turn word, slot and all views show a state of
 -- the turn machine.
-use Rattle.std.specs.Prelude.{◌≡◌, ℕ, ◌+◌, ◌*◌, ◌^◌, ◌<◌, ◌≤◌, true, false, List, [], length}
-use Rattle.std.specs.Prelude.{slice_index, sum_by, Option, Some}
-use mathlib.Core.Option.{none, some}
-use lib.ListN.{get_elem?}
 use Rattle.atomic_table.specs.Table.{State}
-use Rattle.std.specs.declared.boxed.Box.{Box}
-use Rattle.std.specs.declared.alloc.Global.{Global}
-use Rattle.histories.specs.declared.entry.Entry.{Entry}
+use Rattle.histories.specs.{History.IsLegal, declared.entry.Entry.Entry}
 use Rattle.shard_book.specs.Book.{Book}
-use Rattle.histories.specs.History.{IsLegal}
-use Rattle.shared_books.specs.declared.turns.rule.Opening.{Opening}
-use Rattle.shared_books.specs.declared.turns.rule.PassState.{PassState}
 use Rattle.shared_books.specs.Claims.{AreClaims}
 use Rattle.shared_books.specs.Machine.{Machine, Event, start, after, IsSchedule}
 use Rattle.shared_books.specs.Marks.{visits_of, history_of_visits, made_at, Begins}
+use Rattle.shared_books.specs.declared.turns.rule.{Opening.Opening, PassState.PassState}
+use Rattle.std.specs.Prelude.{◌≡◌, ℕ, ◌+◌, ◌*◌, ◌^◌, ◌<◌, ◌≤◌, true, false, List, [], length}
+use Rattle.std.specs.Prelude.{slice_index, sum_by, Option, Some}
+use Rattle.std.specs.declared.{alloc.Global.Global, boxed.Box.Box}
+use lib.ListN.{get_elem?}
+use mathlib.Core.Option.{none, some}
 
 -- a book on the heap, as it lies in the slot
 abbrev pub Boxed : Type 0

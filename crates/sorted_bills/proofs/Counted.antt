@@ -1,18 +1,13 @@
 -- Sorted files whose taps were counted: how they end.
 use Rattle.std.proofs.Common.{◌≡◌, ℕ, zero, suc, ◌^◌, ◌<◌, List, [], ◌∷◌, length, map, true, None}
 use Rattle.std.proofs.Common.{refl, sym, ap, subst, ◌∙◌, arith}
-use Rattle.std.specs.Prelude.{sum}
-use Rattle.std.proofs.lemmas.List.{length-map}
-use Rattle.std.proofs.lemmas.List.Concat.{length-flat_map}
-use Rattle.std.proofs.lemmas.List.Sums.{sum-map}
-use Rattle.tap_views.specs.Encoding.{fields_of}
-use Rattle.tap_views.specs.Files.{taps_of_batches}
-use Rattle.tap_views.specs.declared.encoder.TapFields.{TapFields}
-use Rattle.tap_views.specs.UploadEnds.{ArePlainEnds, are_posted}
-use Rattle.tap_views.specs.declared.upload_end.UploadEnd.TheVariants.{Posted}
-use Rattle.sorted_taps.specs.Checked.{AreCountedFiles}
-use Rattle.sorted_taps.specs.Merges.{AreSortedFiles}
 use Rattle.sorted_bills.specs.Faults.{HaveTooManyTaps}
+use Rattle.sorted_taps.specs.{Checked.AreCountedFiles, Merges.AreSortedFiles}
+use Rattle.std.proofs.lemmas.List.{length-map, Concat.length-flat_map, Sums.sum-map}
+use Rattle.std.specs.Prelude.{sum}
+use Rattle.tap_views.specs.{Encoding.fields_of, Files.taps_of_batches, UploadEnds.ArePlainEnds}
+use Rattle.tap_views.specs.{UploadEnds.are_posted, declared.encoder.TapFields.TapFields}
+use Rattle.tap_views.specs.declared.upload_end.UploadEnd.TheVariants.{Posted}
 
 -- files whose taps were all posted
 pub all_posted : (numbers : List ℕ) → are_posted (map Posted numbers) ≡ true

@@ -1,47 +1,35 @@
 -- Parts of files that join, and what the files have in all of them.
-use Rattle.std.proofs.Common.{◌≡◌, ℕ, suc, zero, ◌+◌, List, [], ◌∷◌, ◌++◌, length, map, All}
-use Rattle.std.proofs.Common.{get_or, refl, sym, ap, subst, ◌∙◌, arith, None, Some}
-use Rattle.std.proofs.Common.{append-nil, append_assoc, length-append}
-use Rattle.std.specs.Prelude.{Option, flat_map}
-use Rattle.std.specs.Ordering.{is_lt, nat_cmp, ordering_reverse, ordering_then}
-use Rattle.std.specs.Cmp.Lexicographic.{slice_cmp}
-use Rattle.std.specs.declared.cmp.Ordering.TheVariants.{Less, Greater}
-use Rattle.std.proofs.Math.Seq.{drop-length}
-use Rattle.std.proofs.lemmas.Cmp.{nat_list_cmp_total}
-use Rattle.std.proofs.lemmas.List.Elements.{All-append, All-cons, All-head, All-map, All-nil}
-use Rattle.std.proofs.lemmas.List.Elements.{All-tail}
-use Rattle.std.proofs.lemmas.List.Sorted.{IsPermutation-append}
-use Rattle.std.proofs.lemmas.List.Sorted.{IsPermutation-trans}
-use Rattle.tariffs.specs.Fares.{Fares}
-use Rattle.tap_views.specs.Token.{token_cmp}
-use Rattle.tap_views.specs.TokenOrder.{AreBelow}
-use Rattle.tap_views.specs.UploadEnds.{ArePlainEnds}
-use Rattle.tap_views.specs.declared.encoder.TapFields.{TapFields}
-use Rattle.tap_views.specs.declared.upload_end.UploadEnd.TheVariants.{Posted}
-use Rattle.tap_views.proofs.TokenBytes.{token-order}
-use Rattle.tap_parts.specs.Canonical.{IsCanonical}
-use Rattle.histories.specs.SumsByKey.{token_of}
-use Rattle.histories.specs.declared.entry.Entry.{Entry}
+use Rattle.std.proofs.Common.{◌≡◌, ℕ, suc, zero, ◌+◌, List, [], ◌∷◌, ◌++◌, length, map, All, get_or}
+use Rattle.std.proofs.Common.{refl, sym, ap, subst, ◌∙◌, arith, None, Some, append-nil}
+use Rattle.std.proofs.Common.{append_assoc, length-append}
+use Rattle.histories.specs.{SumsByKey.token_of, declared.entry.Entry.Entry}
+use Rattle.settlement.proofs.{Ranges.posted_below, Ranges.to_taps, TokenRuns.tokens_posted}
 use Rattle.settlement.specs.Posted.{HasName, posted, token_of_tap}
 use Rattle.settlement.specs.SettledTaps.{AreSettledTaps}
-use Rattle.settlement.proofs.Ranges.{posted_below, to_taps}
-use Rattle.settlement.proofs.TokenRuns.{tokens_posted}
-use Rattle.sorted_taps.specs.Merged.{IsNotBefore}
-use Rattle.sorted_taps.specs.Merges.{AreSortedFiles}
-use Rattle.sorted_taps.specs.Positions.{AreSpanned, AreWhole, DoJoin, IsLeftAfter, IsLeftAt}
-use Rattle.sorted_taps.specs.Positions.{IsSpanned, first_position}
-use Rattle.sorted_taps.specs.Reading.{AreTapsBetween}
-use Rattle.sorted_taps.specs.Sorted.{IsSortedFile}
-use Rattle.sorted_taps.specs.declared.positions.FileSpan.{FileSpan}
-use Rattle.sorted_taps.specs.declared.positions.Position.{Position}
-use Rattle.sorted_taps.proofs.Joining.{sorted_across, sorted_then}
-use Rattle.sorted_taps.proofs.Standing.{whole_file}
-use Rattle.sorted_taps.proofs.Taking.{all_of, both, both_moved}
+use Rattle.sorted_bills.proofs.{Counted.plain_ends, Settled.files_more, Settled.settled_list}
 use Rattle.sorted_bills.specs.Parts.{ArePartsOf, AreIncreasing, IsPartOf, PartView, added}
 use Rattle.sorted_bills.specs.Parts.{numbers_of_parts}
 use Rattle.sorted_bills.specs.inside.Charged.{HaveTaps, joined_spans}
-use Rattle.sorted_bills.proofs.Counted.{plain_ends}
-use Rattle.sorted_bills.proofs.Settled.{files_more, settled_list}
+use Rattle.sorted_taps.proofs.{Joining.sorted_across, Joining.sorted_then, Standing.whole_file}
+use Rattle.sorted_taps.proofs.Taking.{all_of, both, both_moved}
+use Rattle.sorted_taps.specs.{Merged.IsNotBefore, Merges.AreSortedFiles, Positions.AreSpanned}
+use Rattle.sorted_taps.specs.Positions.{AreWhole, DoJoin, IsLeftAfter, IsLeftAt, IsSpanned}
+use Rattle.sorted_taps.specs.{Positions.first_position, Reading.AreTapsBetween, Sorted.IsSortedFile}
+use Rattle.sorted_taps.specs.declared.positions.{FileSpan.FileSpan, Position.Position}
+use Rattle.std.proofs.Math.Seq.{drop-length}
+use Rattle.std.proofs.lemmas.{Cmp.nat_list_cmp_total, List.Elements.All-append}
+use Rattle.std.proofs.lemmas.List.Elements.{All-cons, All-head, All-map, All-nil, All-tail}
+use Rattle.std.proofs.lemmas.List.Sorted.{IsPermutation-append, IsPermutation-trans}
+use Rattle.std.specs.Cmp.Lexicographic.{slice_cmp}
+use Rattle.std.specs.Ordering.{is_lt, nat_cmp, ordering_reverse, ordering_then}
+use Rattle.std.specs.Prelude.{Option, flat_map}
+use Rattle.std.specs.declared.cmp.Ordering.TheVariants.{Less, Greater}
+use Rattle.tap_parts.specs.Canonical.{IsCanonical}
+use Rattle.tap_views.proofs.TokenBytes.{token-order}
+use Rattle.tap_views.specs.{Token.token_cmp, TokenOrder.AreBelow, UploadEnds.ArePlainEnds}
+use Rattle.tap_views.specs.declared.encoder.TapFields.{TapFields}
+use Rattle.tap_views.specs.declared.upload_end.UploadEnd.TheVariants.{Posted}
+use Rattle.tariffs.specs.Fares.{Fares}
 
 -- ---- the lists of two parts, file by file
 pub joined_lengths : (lists others : List (List TapFields))

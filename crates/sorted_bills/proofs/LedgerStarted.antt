@@ -1,29 +1,20 @@
 -- A ledger of which a beginning was written.
-use Rattle.std.proofs.Common.{◌≡◌, ◌∙◌, ℕ, List, [], ◌∷◌, ◌++◌, Option, Some, ◌⊎◌, None, ap, inl, inr}
-use Rattle.std.proofs.Common.{map, refl, subst, sym}
-use Rattle.std.proofs.lemmas.List.Sorted.{All-permutation}
-use Rattle.tariffs.specs.Fares.{Fares}
-use Rattle.tap_views.specs.declared.encoder.TapFields.{TapFields}
-use Rattle.tap_views.specs.declared.token.Token.{Token}
-use Rattle.fare_texts.specs.LedgerLines.{head_text}
-use Rattle.fare_texts.specs.WrittenOut.{Begins}
-use Rattle.fare_texts.proofs.Along.{ledger_along}
-use Rattle.fare_texts.proofs.TextsExist.{along_exist}
-use Rattle.settlement.specs.Posted.{HasName, posted, posted_after}
-use Rattle.settlement.specs.Settled.{IsSettledHistory}
-use Rattle.settlement.specs.SettledTaps.{AreSettledTaps}
+use Rattle.std.proofs.Common.{◌≡◌, ◌∙◌, ℕ, List, [], ◌∷◌, ◌++◌, Option, Some, ◌⊎◌, None, ap, inl}
+use Rattle.std.proofs.Common.{inr, map, refl, subst, sym}
+use Rattle.fare_texts.proofs.{Along.ledger_along, TextsExist.along_exist}
+use Rattle.fare_texts.specs.{LedgerLines.head_text, WrittenOut.Begins}
+use Rattle.settled_texts.proofs.{Rows.posted_nondecreasing, TapsExplained.begins_longer}
 use Rattle.settlement.proofs.Nondecreasing.{canonical_nondecreasing}
-use Rattle.settled_texts.proofs.Rows.{posted_nondecreasing}
-use Rattle.settled_texts.proofs.TapsExplained.{begins_longer}
-use Rattle.sorted_taps.specs.Merges.{AreStarted}
-use Rattle.sorted_taps.specs.declared.reader.TapReader.{TapReader}
-use Rattle.sorted_taps.proofs.Taking.{all_of}
+use Rattle.settlement.specs.Posted.{HasName, posted, posted_after}
+use Rattle.settlement.specs.{Settled.IsSettledHistory, SettledTaps.AreSettledTaps}
+use Rattle.sorted_bills.proofs.{Explained.along_both, Rest.goes_on, Settled.settled_list}
 use Rattle.sorted_bills.specs.Ledgers.{IsLedgerOfFiles}
-use Rattle.sorted_bills.specs.inside.Explained.{HasLines}
-use Rattle.sorted_bills.specs.inside.OwnTaps.{AreOwnOf}
-use Rattle.sorted_bills.proofs.Explained.{along_both}
-use Rattle.sorted_bills.proofs.Rest.{goes_on}
-use Rattle.sorted_bills.proofs.Settled.{settled_list}
+use Rattle.sorted_bills.specs.inside.{Explained.HasLines, OwnTaps.AreOwnOf}
+use Rattle.sorted_taps.proofs.Taking.{all_of}
+use Rattle.sorted_taps.specs.{Merges.AreStarted, declared.reader.TapReader.TapReader}
+use Rattle.std.proofs.lemmas.List.Sorted.{All-permutation}
+use Rattle.tap_views.specs.declared.{encoder.TapFields.TapFields, token.Token.Token}
+use Rattle.tariffs.specs.Fares.{Fares}
 
 -- the texts are known, or they are not
 abbrev AreKnown : List (Option (List ℕ)) → Type 0

@@ -1,40 +1,31 @@
 -- The taps of one token, collected from sorted files.
-use Rattle.std.proofs.Common.{◌≡◌, ℕ, zero, suc, ◌+◌, ◌<◌, Bool, true, false, List, [], ◌∷◌, ◌++◌, All}
-use Rattle.std.proofs.Common.{length, map, take, get_or, cond, refl, sym, ap, subst, ◌∙◌}
+use Rattle.std.proofs.Common.{◌≡◌, ℕ, zero, suc, ◌+◌, ◌<◌, Bool, true, false, List, [], ◌∷◌, ◌++◌}
+use Rattle.std.proofs.Common.{All, length, map, take, get_or, cond, refl, sym, ap, subst, ◌∙◌}
 use Rattle.std.proofs.Common.{append-nil, option_map, Option, None, Some, arith, length-take-le}
-use Rattle.std.specs.Prelude.{slice_get}
-use Rattle.std.proofs.lemmas.List.{get_or-take, map-append, take_more}
-use Rattle.std.proofs.lemmas.List.Concat.{flat_map-append}
-use Rattle.std.proofs.lemmas.List.Elements.{All-append, All-cons, All-nil, filter-append}
-use Rattle.std.proofs.lemmas.List.Elements.{All-weaker}
-use Rattle.std.proofs.lemmas.Option.{same_Some, slice_get-get_or, slice_get-map}
-use Rattle.tap_views.specs.Token.{token_eq}
-use Rattle.tap_views.specs.declared.encoder.TapFields.{TapFields}
-use Rattle.tap_views.specs.declared.token.Token.{Token}
-use Rattle.tap_views.specs.TokenOrder.{IsUpTo}
-use Rattle.tap_views.proofs.TokensUp.{up_both}
-use Rattle.tap_parts.specs.Canonical.{HasTokenBytes, IsCanonical}
-use Rattle.tap_views.specs.UploadEnds.{ArePlainEnds}
-use Rattle.tap_views.specs.declared.upload_end.UploadEnd.TheVariants.{Posted}
+use Rattle.settlement.proofs.{Ranges.has_token_bytes, SettledOrders.own_settled}
 use Rattle.settlement.specs.Posted.{HasName, only, token_of_tap}
 use Rattle.settlement.specs.SettledTaps.{AreSettledTapsOf}
-use Rattle.settlement.proofs.Ranges.{has_token_bytes}
-use Rattle.settlement.proofs.SettledOrders.{own_settled}
-use Rattle.sorted_taps.specs.Checked.{AreCountedFiles, IsFirstFault}
-use Rattle.sorted_taps.specs.Merges.{AreSortedFiles}
-use Rattle.sorted_taps.specs.Readers.{ahead, IsPassed, IsPositionedIn}
-use Rattle.sorted_taps.specs.Sorted.{IsSortedFault, IsSortedFile}
-use Rattle.sorted_taps.specs.declared.fault.FileFault.{FileFault}
-use Rattle.sorted_taps.specs.declared.reader.TapReader.{TapReader}
-use Rattle.sorted_taps.proofs.Files.{known_number}
-use Rattle.sorted_taps.proofs.Standing.{positioned_further, sorted_at_end}
-use Rattle.sorted_taps.proofs.Taking.{all_of}
+use Rattle.sorted_bills.proofs.{Counted.counted_ends, Parts.nondecreasing_between}
+use Rattle.sorted_bills.proofs.Settled.{file_taps, files_more}
 use Rattle.sorted_bills.specs.declared.own_by_threads.OwnTaps.{OwnTaps}
 use Rattle.sorted_bills.specs.inside.OwnTaps.{AreOwnOf, IsOwnOf, IsOwnPushed, own_of}
 use Rattle.sorted_bills.specs.inside.Taken.{AreFollowing}
-use Rattle.sorted_bills.proofs.Counted.{counted_ends}
-use Rattle.sorted_bills.proofs.Parts.{nondecreasing_between}
-use Rattle.sorted_bills.proofs.Settled.{file_taps, files_more}
+use Rattle.sorted_taps.proofs.{Files.known_number, Standing.positioned_further}
+use Rattle.sorted_taps.proofs.{Standing.sorted_at_end, Taking.all_of}
+use Rattle.sorted_taps.specs.{Checked.AreCountedFiles, Checked.IsFirstFault, Merges.AreSortedFiles}
+use Rattle.sorted_taps.specs.Readers.{ahead, IsPassed, IsPositionedIn}
+use Rattle.sorted_taps.specs.Sorted.{IsSortedFault, IsSortedFile}
+use Rattle.sorted_taps.specs.declared.{fault.FileFault.FileFault, reader.TapReader.TapReader}
+use Rattle.std.proofs.lemmas.List.{get_or-take, map-append, take_more, Concat.flat_map-append}
+use Rattle.std.proofs.lemmas.List.Elements.{All-append, All-cons, All-nil, filter-append}
+use Rattle.std.proofs.lemmas.List.Elements.{All-weaker}
+use Rattle.std.proofs.lemmas.Option.{same_Some, slice_get-get_or, slice_get-map}
+use Rattle.std.specs.Prelude.{slice_get}
+use Rattle.tap_parts.specs.Canonical.{HasTokenBytes, IsCanonical}
+use Rattle.tap_views.proofs.TokensUp.{up_both}
+use Rattle.tap_views.specs.{Token.token_eq, TokenOrder.IsUpTo, UploadEnds.ArePlainEnds}
+use Rattle.tap_views.specs.declared.{encoder.TapFields.TapFields, token.Token.Token}
+use Rattle.tap_views.specs.declared.upload_end.UploadEnd.TheVariants.{Posted}
 
 only_both : (token : Option Token) (xs ys : List TapFields)
     → own_of token (xs ++ ys) ≡ own_of token xs ++ own_of token ys

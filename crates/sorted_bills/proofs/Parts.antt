@@ -1,28 +1,20 @@
 -- Taps of parts, one behind the other.
-use Rattle.std.proofs.Common.{◌≡◌, ℕ, List, [], ◌∷◌, ◌++◌, All, get_or, map, Option}
-use Rattle.std.proofs.Common.{sym, ap, subst, ◌∙◌, arith}
-use Rattle.std.specs.Ordering.{is_lt, ordering_reverse}
-use Rattle.std.specs.declared.cmp.Ordering.TheVariants.{Less}
-use Rattle.std.proofs.lemmas.List.Elements.{All-cons, All-map, All-nil, All-weaker}
-use Rattle.tariffs.specs.Fares.{Fares}
-use Rattle.tap_views.specs.Token.{token_cmp}
-use Rattle.tap_views.specs.declared.encoder.TapFields.{TapFields}
-use Rattle.tap_views.specs.declared.token.Token.{Token}
-use Rattle.tap_views.proofs.TokenLemmas.{token_cmp-total}
-use Rattle.histories.specs.SumsByKey.{token_of}
-use Rattle.histories.specs.declared.entry.Entry.{Entry}
-use Rattle.tap_views.specs.TokenOrder.{IsUpTo}
-use Rattle.tap_views.proofs.TokensUp.{up_chain, up_itself}
-use Rattle.settlement.specs.Bills.{IsBillOf}
-use Rattle.settlement.specs.Posted.{posted, token_of_tap}
-use Rattle.settlement.specs.declared.bill.Bill.{Bill}
-use Rattle.tap_views.specs.TokenOrder.{AreBelow}
-use Rattle.settlement.specs.Bills.{HaveBillRoom}
+use Rattle.std.proofs.Common.{◌≡◌, ℕ, List, [], ◌∷◌, ◌++◌, All, get_or, map, Option, sym, ap, subst}
+use Rattle.std.proofs.Common.{◌∙◌, arith}
+use Rattle.histories.specs.{SumsByKey.token_of, declared.entry.Entry.Entry}
 use Rattle.settlement.proofs.Ranges.{posted_below}
 use Rattle.settlement.proofs.TokenRuns.{less_up, posted_length, tokens_posted, up_less}
+use Rattle.settlement.specs.Bills.{IsBillOf, HaveBillRoom}
 use Rattle.settlement.specs.Nondecreasing.{TapsNondecreasingFrom, last_token}
-use Rattle.sorted_bills.specs.inside.Charged.{IsPart}
-use Rattle.sorted_bills.specs.declared.part.Part.{Part}
+use Rattle.settlement.specs.{Posted.posted, Posted.token_of_tap, declared.bill.Bill.Bill}
+use Rattle.sorted_bills.specs.{declared.part.Part.Part, inside.Charged.IsPart}
+use Rattle.std.proofs.lemmas.List.Elements.{All-cons, All-map, All-nil, All-weaker}
+use Rattle.std.specs.Ordering.{is_lt, ordering_reverse}
+use Rattle.std.specs.declared.cmp.Ordering.TheVariants.{Less}
+use Rattle.tap_views.proofs.{TokenLemmas.token_cmp-total, TokensUp.up_chain, TokensUp.up_itself}
+use Rattle.tap_views.specs.{Token.token_cmp, TokenOrder.IsUpTo, TokenOrder.AreBelow}
+use Rattle.tap_views.specs.declared.{encoder.TapFields.TapFields, token.Token.Token}
+use Rattle.tariffs.specs.Fares.{Fares}
 
 abbrev pub From : Token → TapFields → Type 0
 From first tap = IsUpTo first (token_of_tap tap)

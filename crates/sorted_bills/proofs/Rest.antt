@@ -1,29 +1,23 @@
 -- What is left of sorted files after taps that were taken: with it they are all in canonical order.
 use Rattle.std.proofs.Common.{◌≡◌, ◌∙◌, ℕ, zero, suc, ◌<◌, List, [], ◌∷◌, ◌++◌, All, append_assoc}
 use Rattle.std.proofs.Common.{arith, ap, drop, get_or, length, map, refl, subst, sym}
-use Rattle.std.specs.List.Sorted.{IsPermutation, IsSorted}
-use Rattle.std.proofs.Math.Seq.{drop-append_seam}
-use Rattle.std.proofs.lemmas.List.{drop-map}
-use Rattle.std.proofs.lemmas.List.Elements.{All-append, All-nil}
-use Rattle.std.proofs.lemmas.List.Sorted.{All-permutation, IsPermutation-append}
-use Rattle.std.proofs.lemmas.List.Sorted.{IsPermutation-append_right, IsPermutation-refl}
-use Rattle.std.proofs.lemmas.List.Sorted.{IsPermutation-trans}
-use Rattle.tap_views.specs.Encoding.{fields_of}
-use Rattle.tap_views.specs.Files.{IsFile, taps_of_batches}
-use Rattle.tap_views.specs.Layout.{Tap}
-use Rattle.tap_views.specs.declared.encoder.TapFields.{TapFields}
-use Rattle.tap_parts.specs.Canonical.{IsCanonical, tap_cmp}
-use Rattle.tap_parts.specs.Parts.{taps_of_uploads}
 use Rattle.settlement.proofs.Sorting.{canonical_order, unmoved}
-use Rattle.sorted_taps.specs.Merged.{BeginsNotBefore, IsNotBefore}
-use Rattle.sorted_taps.specs.Merges.{AreStarted, AreSortedFiles, AreTaken}
-use Rattle.sorted_taps.specs.Readers.{IsPassed, IsPositionedIn, ahead}
-use Rattle.sorted_taps.specs.Sorted.{IsSortedFile}
-use Rattle.sorted_taps.specs.declared.reader.TapReader.{TapReader}
+use Rattle.sorted_bills.proofs.Settled.{file_taps}
 use Rattle.sorted_taps.proofs.After.{after_read, none_of_nothing}
 use Rattle.sorted_taps.proofs.Joining.{inner_swap, none_before, sorted_across, sorted_back}
 use Rattle.sorted_taps.proofs.Taking.{all_of, some_of}
-use Rattle.sorted_bills.proofs.Settled.{file_taps}
+use Rattle.sorted_taps.specs.Merged.{BeginsNotBefore, IsNotBefore}
+use Rattle.sorted_taps.specs.Merges.{AreStarted, AreSortedFiles, AreTaken}
+use Rattle.sorted_taps.specs.Readers.{IsPassed, IsPositionedIn, ahead}
+use Rattle.sorted_taps.specs.{Sorted.IsSortedFile, declared.reader.TapReader.TapReader}
+use Rattle.std.proofs.{Math.Seq.drop-append_seam, lemmas.List.drop-map}
+use Rattle.std.proofs.lemmas.List.{Elements.All-append, Elements.All-nil, Sorted.All-permutation}
+use Rattle.std.proofs.lemmas.List.Sorted.{IsPermutation-append, IsPermutation-append_right}
+use Rattle.std.proofs.lemmas.List.Sorted.{IsPermutation-refl, IsPermutation-trans}
+use Rattle.std.specs.List.Sorted.{IsPermutation, IsSorted}
+use Rattle.tap_parts.specs.{Canonical.IsCanonical, Canonical.tap_cmp, Parts.taps_of_uploads}
+use Rattle.tap_views.specs.{Encoding.fields_of, Files.IsFile, Files.taps_of_batches, Layout.Tap}
+use Rattle.tap_views.specs.declared.encoder.TapFields.{TapFields}
 
 -- ---- one file
 -- what a reader that began at its file's begin has left: it begins with the reader's head

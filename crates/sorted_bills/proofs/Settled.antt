@@ -1,21 +1,14 @@
 -- The taps of sorted files are settled taps.
-use Rattle.std.proofs.Common.{◌≡◌, ℕ, zero, suc, ◌<◌, List, [], ◌∷◌, ◌++◌, map, All}
-use Rattle.std.proofs.Common.{refl, sym, ap, subst, ◌∙◌, arith, get_or, length}
-use Rattle.std.specs.Prelude.{flat_map}
-use Rattle.std.proofs.lemmas.List.{map-append}
-use Rattle.std.proofs.lemmas.List.Elements.{All-map}
-use Rattle.std.proofs.lemmas.List.Sorted.{All-permutation}
-use Rattle.tap_views.specs.Encoding.{fields_of}
-use Rattle.tap_views.specs.Files.{AreValidTapsOfEach, taps_of_batches}
-use Rattle.tap_views.specs.Layout.{Tap, moment_limit}
-use Rattle.tap_views.specs.declared.encoder.TapFields.{TapFields}
-use Rattle.tap_parts.specs.Canonical.{IsCanonical}
-use Rattle.tap_parts.specs.Parts.{taps_of_uploads}
-use Rattle.settlement.specs.Posted.{HasName}
-use Rattle.settlement.specs.SettledTaps.{AreSettledTaps}
+use Rattle.std.proofs.Common.{◌≡◌, ℕ, zero, suc, ◌<◌, List, [], ◌∷◌, ◌++◌, map, All, refl, sym, ap}
+use Rattle.std.proofs.Common.{subst, ◌∙◌, arith, get_or, length}
 use Rattle.settlement.proofs.Early.{uploads_early}
-use Rattle.sorted_taps.specs.Merges.{AreSortedFiles}
-use Rattle.sorted_taps.specs.Sorted.{IsSortedFile}
+use Rattle.settlement.specs.{Posted.HasName, SettledTaps.AreSettledTaps}
+use Rattle.sorted_taps.specs.{Merges.AreSortedFiles, Sorted.IsSortedFile}
+use Rattle.std.proofs.lemmas.List.{map-append, Elements.All-map, Sorted.All-permutation}
+use Rattle.std.specs.Prelude.{flat_map}
+use Rattle.tap_parts.specs.{Canonical.IsCanonical, Parts.taps_of_uploads}
+use Rattle.tap_views.specs.{Encoding.fields_of, Files.AreValidTapsOfEach, Files.taps_of_batches}
+use Rattle.tap_views.specs.{Layout.Tap, Layout.moment_limit, declared.encoder.TapFields.TapFields}
 
 -- a file more in front
 pub files_more : (file : List ℕ) (files : List (List ℕ)) (list : List TapFields)

@@ -1,22 +1,16 @@
 -- Taps that are taken one after the other, and more behind them.
-use Rattle.std.proofs.Common.{◌≡◌, ℕ, ◌<◌, List, [], ◌∷◌, ◌++◌, Option}
-use Rattle.std.proofs.Common.{refl, sym, ap, subst, ◌∙◌, Bool, true, ◌==◌, Vec, Global, vec_len}
-use Rattle.std.proofs.Common.{append-nil, arith}
-use Rattle.std.proofs.lemmas.Bool.{eqb-true}
-use Rattle.std.proofs.lemmas.List.{nil_from_length}
-use Rattle.std.proofs.lemmas.List.Elements.{All-append, All-cons, All-nil}
-use Rattle.tap_views.specs.Layout.{moment_limit}
-use Rattle.tap_views.specs.Token.{Fits, bytes_of}
-use Rattle.tap_views.specs.declared.encoder.TapFields.{TapFields}
-use Rattle.tap_views.specs.declared.token.Token.{Token}
-use Rattle.tap_views.specs.TokenOrder.{IsUpTo}
-use Rattle.settlement.specs.Posted.{HasName, token_of_tap}
-use Rattle.settlement.proofs.TokenRuns.{named_token}
+use Rattle.std.proofs.Common.{◌≡◌, ℕ, ◌<◌, List, [], ◌∷◌, ◌++◌, Option, refl, sym, ap, subst, ◌∙◌}
+use Rattle.std.proofs.Common.{Bool, true, ◌==◌, Vec, Global, vec_len, append-nil, arith}
+use Rattle.settlement.proofs.{Nondecreasing.last_append, TokenRuns.named_token}
 use Rattle.settlement.specs.Nondecreasing.{TapsNondecreasingFrom, last_token}
-use Rattle.settlement.proofs.Nondecreasing.{last_append}
-use Rattle.sorted_taps.specs.declared.reader.TapReader.{TapReader}
-use Rattle.sorted_taps.proofs.Taking.{taken_append, taken_none}
+use Rattle.settlement.specs.Posted.{HasName, token_of_tap}
 use Rattle.sorted_bills.specs.inside.Taken.{AreFollowing, AreTapsTaken}
+use Rattle.sorted_taps.proofs.Taking.{taken_append, taken_none}
+use Rattle.sorted_taps.specs.declared.reader.TapReader.{TapReader}
+use Rattle.std.proofs.lemmas.{Bool.eqb-true, List.nil_from_length}
+use Rattle.std.proofs.lemmas.List.Elements.{All-append, All-cons, All-nil}
+use Rattle.tap_views.specs.{Layout.moment_limit, Token.Fits, Token.bytes_of, TokenOrder.IsUpTo}
+use Rattle.tap_views.specs.declared.{encoder.TapFields.TapFields, token.Token.Token}
 
 abbrev pub Early : TapFields → Type 0
 Early tap = tap.moment < moment_limit

@@ -1,11 +1,9 @@
 -- Why sorted files are not charged.
+use Rattle.sorted_bills.specs.declared.fault.BillFault.{BillFault, TheVariants.Changed}
+use Rattle.sorted_bills.specs.declared.fault.BillFault.TheVariants.{File, Late, TooManyTaps, Write}
+use Rattle.sorted_taps.specs.{Checked.IsFirstFault, Merges.AreSortedFiles}
 use Rattle.std.specs.Prelude.{◌≢◌, ◌^◌, ◌<◌, ℕ, List, flat_map, length}
 use Rattle.tap_views.specs.declared.encoder.TapFields.{TapFields}
-use Rattle.sorted_taps.specs.Checked.{IsFirstFault}
-use Rattle.sorted_taps.specs.Merges.{AreSortedFiles}
-use Rattle.sorted_bills.specs.declared.fault.BillFault.{BillFault}
-use Rattle.sorted_bills.specs.declared.fault.BillFault.TheVariants.{Changed, File, Late}
-use Rattle.sorted_bills.specs.declared.fault.BillFault.TheVariants.{TooManyTaps, Write}
 
 -- the files are sorted, and have more than 2^46 taps
 pub record HaveTooManyTaps (files : List (List ℕ)) : Type 0 where

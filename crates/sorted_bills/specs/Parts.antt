@@ -1,14 +1,11 @@
 -- Parts of sorted files: the taps between two places of each file, posted in canonical order.
-use Rattle.std.specs.Prelude.{◌≡◌, ℕ, ◌+◌, List, [], ◌∷◌, All, flat_map, length, map}
-use Rattle.tariffs.specs.Fares.{Fares}
-use Rattle.tap_views.specs.TokenOrder.{AreBelow}
-use Rattle.tap_views.specs.declared.encoder.TapFields.{TapFields}
-use Rattle.tap_parts.specs.Canonical.{IsCanonical}
-use Rattle.histories.specs.SumsByKey.{token_of}
-use Rattle.histories.specs.declared.entry.Entry.{Entry}
+use Rattle.histories.specs.{SumsByKey.token_of, declared.entry.Entry.Entry}
 use Rattle.settlement.specs.Posted.{HasName, posted}
-use Rattle.sorted_taps.specs.Positions.{AreSpanned}
-use Rattle.sorted_taps.specs.declared.positions.FileSpan.{FileSpan}
+use Rattle.sorted_taps.specs.{Positions.AreSpanned, declared.positions.FileSpan.FileSpan}
+use Rattle.std.specs.Prelude.{◌≡◌, ℕ, ◌+◌, List, [], ◌∷◌, All, flat_map, length, map}
+use Rattle.tap_parts.specs.Canonical.{IsCanonical}
+use Rattle.tap_views.specs.{TokenOrder.AreBelow, declared.encoder.TapFields.TapFields}
+use Rattle.tariffs.specs.Fares.{Fares}
 
 -- The files have the taps of the lists between the places of the spans. The history is that of all
 -- these taps, posted in canonical order.

@@ -1,13 +1,11 @@
 //! The bill of sorted files.
 
-ghost use Rattle.std.specs.Prelude.{◌≡◌, ◌≢◌, ◌≤◌, ◌^◌, true, ℕ, List, IfErr, IfOk, Ok, Some, length};
-ghost use Rattle.std.specs.Prelude.{map};
-ghost use Rattle.tap_views.specs.UploadEnds.{ArePlainEnds, are_posted};
 ghost use Rattle.histories.specs.declared.entry.Entry.{Entry};
-ghost use Rattle.settlement.specs.Bills.{IsBillOf};
-ghost use Rattle.settlement.specs.Settled.{IsSettledHistory};
-ghost use Rattle.sorted_bills.specs.Faults.{IsBillFault};
-ghost use Rattle.sorted_bills.specs.inside.Charged.{IsPart};
+ghost use Rattle.settlement.specs.{Bills.IsBillOf, Settled.IsSettledHistory};
+ghost use Rattle.sorted_bills.specs.{Faults.IsBillFault, inside.Charged.IsPart};
+ghost use Rattle.std.specs.Prelude.{◌≡◌, ◌≢◌, ◌≤◌, ◌^◌, true, ℕ, List, IfErr, IfOk, Ok, Some};
+ghost use Rattle.std.specs.Prelude.{length, map};
+ghost use Rattle.tap_views.specs.UploadEnds.{ArePlainEnds, are_posted};
 
 use crate::by_threads::part_by_threads;
 use crate::fault::BillFault;

@@ -1,9 +1,8 @@
 //! Taps of merged files, charged.
 
-ghost use Rattle.std.specs.Prelude.{[], IfOk, OnOk, length, map};
-ghost use Rattle.sorted_bills.specs.inside.Charged.{IsCharged};
 ghost use Rattle.settlement.specs.OpenBills.{IsOpenBill};
-ghost use Rattle.sorted_bills.specs.inside.Taken.{IsReady};
+ghost use Rattle.sorted_bills.specs.inside.{Charged.IsCharged, Taken.IsReady};
+ghost use Rattle.std.specs.Prelude.{[], IfOk, OnOk, length, map};
 
 use crate::taker::{TAKEN_TAPS, Taker};
 use placed_files::Placed;

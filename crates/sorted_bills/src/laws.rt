@@ -1,17 +1,14 @@
 //! Theorems about merged files, each the contract of a small function.
 
-ghost use Rattle.std.specs.Prelude.{ℕ, List, All, flat_map, map};
-ghost use Rattle.tariffs.specs.Fares.{Fares};
-ghost use Rattle.tap_views.specs.declared.encoder.TapFields.{TapFields};
-ghost use Rattle.settlement.specs.Posted.{HasName};
-ghost use Rattle.settlement.specs.Settled.{IsSettledHistory};
+ghost use Rattle.settlement.specs.{Posted.HasName, Settled.IsSettledHistory};
 ghost use Rattle.settlement.specs.SettledTaps.{AreSettledTaps};
-ghost use Rattle.tap_views.specs.UploadEnds.{ArePlainEnds};
-ghost use Rattle.tap_views.specs.declared.upload_end.UploadEnd.TheVariants.{Posted};
 ghost use Rattle.sorted_bills.specs.Parts.{ArePartsOf, AreIncreasing, PartView, numbers_of_parts};
-ghost use Rattle.sorted_taps.specs.Positions.{AreWhole};
 ghost use Rattle.sorted_taps.specs.Merges.{AreAtEnd, AreStarted, AreTaken};
-ghost use Rattle.sorted_taps.specs.declared.reader.TapReader.{TapReader};
+ghost use Rattle.sorted_taps.specs.{Positions.AreWhole, declared.reader.TapReader.TapReader};
+ghost use Rattle.std.specs.Prelude.{ℕ, List, All, flat_map, map};
+ghost use Rattle.tap_views.specs.{UploadEnds.ArePlainEnds, declared.encoder.TapFields.TapFields};
+ghost use Rattle.tap_views.specs.declared.upload_end.UploadEnd.TheVariants.{Posted};
+ghost use Rattle.tariffs.specs.Fares.{Fares};
 
 use sorted_taps::laws::taken_taps_are_canonical;
 

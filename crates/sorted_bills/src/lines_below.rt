@@ -1,12 +1,11 @@
 //! The lines of taps of merged files, in rounds.
 
-ghost use Rattle.std.specs.Prelude.{◌≡◌, ◌<◌, ◌^◌, ℕ, List, IfErr, OnOk, length, map};
-ghost use Rattle.std.specs.Io.KnownBytes.{Appends};
 ghost use Rattle.fare_texts.specs.WrittenOut.{Begins};
-ghost use Rattle.sorted_taps.specs.declared.reader.TapReader.{TapReader as AReader};
 ghost use Rattle.sorted_bills.specs.Faults.{IsBeforeText, IsBillFault};
-ghost use Rattle.sorted_bills.specs.inside.Explained.{HasLines};
-ghost use Rattle.sorted_bills.specs.inside.Taken.{IsReady};
+ghost use Rattle.sorted_bills.specs.inside.{Explained.HasLines, Taken.IsReady};
+ghost use Rattle.sorted_taps.specs.declared.reader.TapReader.{TapReader as AReader};
+ghost use Rattle.std.specs.Io.KnownBytes.{Appends};
+ghost use Rattle.std.specs.Prelude.{◌≡◌, ◌<◌, ◌^◌, ℕ, List, IfErr, OnOk, length, map};
 
 use crate::fault::BillFault;
 use crate::taker::{TAKEN_TAPS, Taker};

@@ -1,14 +1,12 @@
 //! The taps of one token of sorted files, collected by several threads.
 
-ghost use Rattle.std.specs.Prelude.{◌≡◌, ◌≢◌, ◌++◌, ◌∷◌, [], ℕ, List, Option, Result, Some};
-ghost use Rattle.std.specs.Prelude.{IfErr, IfOk, OnOk, length, map, slice_get};
-ghost use Rattle.tap_views.specs.declared.token.Token.{Token as AToken};
-ghost use Rattle.sorted_taps.specs.Checked.{IsFirstFault};
-ghost use Rattle.sorted_taps.specs.Sorted.{IsSortedFault};
-ghost use Rattle.sorted_taps.specs.declared.fault.SortedFault.{SortedFault as AFault};
-ghost use Rattle.sorted_bills.specs.Faults.{IsBillFault};
+ghost use Rattle.sorted_bills.specs.{Faults.IsBillFault, declared.own_by_threads.OwnTaps.OwnTaps};
 ghost use Rattle.sorted_bills.specs.inside.OwnTaps.{AreOwnOf, IsOwnAt, IsOwnOf};
-ghost use Rattle.sorted_bills.specs.declared.own_by_threads.OwnTaps.{OwnTaps};
+ghost use Rattle.sorted_taps.specs.{Checked.IsFirstFault, Sorted.IsSortedFault};
+ghost use Rattle.sorted_taps.specs.declared.fault.SortedFault.{SortedFault as AFault};
+ghost use Rattle.std.specs.Prelude.{◌≡◌, ◌≢◌, ◌++◌, ◌∷◌, [], ℕ, List, Option, Result, Some, IfErr};
+ghost use Rattle.std.specs.Prelude.{IfOk, OnOk, length, map, slice_get};
+ghost use Rattle.tap_views.specs.declared.token.Token.{Token as AToken};
 
 use crate::fault::BillFault;
 use crate::own_taps::own_of_file;

@@ -1,15 +1,14 @@
 //! The taps of one token of sorted files.
 
-ghost use Rattle.std.specs.Prelude.{◌≡◌, ◌≢◌, ◌≤◌, true, ℕ, List, All, IfErr, IfOk, IfSome, OnOk};
-ghost use Rattle.std.specs.Prelude.{Some, length, map};
-ghost use Rattle.tap_views.specs.Encoding.{AreEarly};
-ghost use Rattle.tap_parts.specs.Canonical.{IsCanonical};
-ghost use Rattle.tap_views.specs.UploadEnds.{ArePlainEnds, are_posted};
-ghost use Rattle.settlement.specs.Posted.{token_of_tap};
-ghost use Rattle.settlement.specs.SettledTaps.{AreSettledTapsOf};
-ghost use Rattle.sorted_taps.specs.Reading.{window_bytes};
+ghost use Rattle.settlement.specs.{Posted.token_of_tap, SettledTaps.AreSettledTapsOf};
 ghost use Rattle.sorted_bills.specs.Faults.{IsBillFault};
 ghost use Rattle.sorted_bills.specs.inside.OwnTaps.{IsOwnPushed, IsOwnResult};
+ghost use Rattle.sorted_taps.specs.Reading.{window_bytes};
+ghost use Rattle.std.specs.Prelude.{◌≡◌, ◌≢◌, ◌≤◌, true, ℕ, List, All, IfErr, IfOk, IfSome, OnOk};
+ghost use Rattle.std.specs.Prelude.{Some, length, map};
+ghost use Rattle.tap_parts.specs.Canonical.{IsCanonical};
+ghost use Rattle.tap_views.specs.Encoding.{AreEarly};
+ghost use Rattle.tap_views.specs.UploadEnds.{ArePlainEnds, are_posted};
 
 use crate::fault::BillFault;
 use crate::own_by_threads::{OwnTaps, own_of_files};

@@ -1,17 +1,14 @@
 //! The ledger of a part of sorted files.
 
-ghost use Rattle.std.specs.Prelude.{◌≡◌, ◌++◌, [], ℕ, List, IfErr, IsTrue, OnOk, None, Some, map};
-ghost use Rattle.std.specs.Io.KnownBytes.{Appends};
-ghost use Rattle.tap_views.specs.declared.encoder.TapFields.{TapFields};
-ghost use Rattle.fare_texts.specs.Ledger.{IsLedgerOver};
-ghost use Rattle.fare_texts.specs.LedgerLines.{head_text};
-ghost use Rattle.fare_texts.specs.Lines.{AreLinesAlong};
+ghost use Rattle.fare_texts.specs.{Ledger.IsLedgerOver, LedgerLines.head_text, Lines.AreLinesAlong};
 ghost use Rattle.fare_texts.specs.WrittenOut.{Begins};
 ghost use Rattle.histories.specs.declared.entry.Entry.{Entry};
 ghost use Rattle.settlement.specs.Posted.{posted};
-ghost use Rattle.sorted_bills.specs.Faults.{IsBeforeText, IsBillFault};
-ghost use Rattle.sorted_bills.specs.Parts.{IsPartOf};
+ghost use Rattle.sorted_bills.specs.{Faults.IsBeforeText, Faults.IsBillFault, Parts.IsPartOf};
 ghost use Rattle.sorted_bills.specs.declared.fault.BillFault.TheVariants.{Write as AFailedWrite};
+ghost use Rattle.std.specs.Io.KnownBytes.{Appends};
+ghost use Rattle.std.specs.Prelude.{◌≡◌, ◌++◌, [], ℕ, List, IfErr, IsTrue, OnOk, None, Some, map};
+ghost use Rattle.tap_views.specs.declared.encoder.TapFields.{TapFields};
 
 use crate::fault::BillFault;
 use crate::lines_below::write_lines;

@@ -1,19 +1,15 @@
 //! A part of sorted files: the taps of a range of tokens, and where they are in each file.
 
-ghost use Rattle.std.specs.Prelude.{◌≡◌, ◌≢◌, ◌≤◌, ◌^◌, true, ℕ, List, IfErr, IfOk, Some, length};
-ghost use Rattle.std.specs.Prelude.{map};
-ghost use Rattle.tap_views.specs.UploadEnds.{are_posted};
-ghost use Rattle.tap_views.specs.declared.encoder.TapFields.{TapFields};
-ghost use Rattle.tap_views.specs.declared.upload_end.UploadEnd.TheVariants.{Posted};
 ghost use Rattle.histories.specs.declared.entry.Entry.{Entry};
 ghost use Rattle.settlement.specs.Bills.{IsBillOf};
-ghost use Rattle.sorted_taps.specs.Merges.{AreTaken};
-ghost use Rattle.sorted_taps.specs.Positions.{ArePlaced, AreSpanned};
+ghost use Rattle.sorted_bills.specs.{Faults.IsBillFault, Parts.IsPartOf};
+ghost use Rattle.sorted_bills.specs.inside.{Charged.HaveTaps, Taken.IsReady};
+ghost use Rattle.sorted_taps.specs.{Merges.AreTaken, Positions.ArePlaced, Positions.AreSpanned};
 ghost use Rattle.sorted_taps.specs.declared.reader.TapReader.{TapReader as AReader};
-ghost use Rattle.sorted_bills.specs.Faults.{IsBillFault};
-ghost use Rattle.sorted_bills.specs.Parts.{IsPartOf};
-ghost use Rattle.sorted_bills.specs.inside.Charged.{HaveTaps};
-ghost use Rattle.sorted_bills.specs.inside.Taken.{IsReady};
+ghost use Rattle.std.specs.Prelude.{◌≡◌, ◌≢◌, ◌≤◌, ◌^◌, true, ℕ, List, IfErr, IfOk, Some, length};
+ghost use Rattle.std.specs.Prelude.{map};
+ghost use Rattle.tap_views.specs.{UploadEnds.are_posted, declared.encoder.TapFields.TapFields};
+ghost use Rattle.tap_views.specs.declared.upload_end.UploadEnd.TheVariants.{Posted};
 
 use crate::bill::unless_changed;
 use crate::fault::BillFault;

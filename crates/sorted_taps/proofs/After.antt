@@ -1,12 +1,10 @@
 -- Batches are read in one way: what is left of a file after some that were read.
 use Rattle.std.proofs.Common.{◌≡◌, ◌∙◌, ℕ, List, [], ◌∷◌, ◌++◌, ap, drop, map, refl, subst, sym}
-use Rattle.tap_views.specs.Encoding.{fields_of}
-use Rattle.tap_views.specs.Files.{IsFile, taps_of_batches}
-use Rattle.tap_views.specs.Layout.{Tap}
-use Rattle.tap_views.specs.declared.encoder.TapFields.{TapFields}
-use Rattle.tap_views.proofs.Reading.{one_batch}
-use Rattle.sorted_taps.specs.Reading.{AreBatches, AreTapsBetween}
 use Rattle.sorted_taps.proofs.Batches.{batches_of, none_taken, taps_append}
+use Rattle.sorted_taps.specs.Reading.{AreBatches, AreTapsBetween}
+use Rattle.tap_views.proofs.Reading.{one_batch}
+use Rattle.tap_views.specs.{Encoding.fields_of, Files.IsFile, Files.taps_of_batches, Layout.Tap}
+use Rattle.tap_views.specs.declared.encoder.TapFields.{TapFields}
 
 -- a file that begins with batches goes on with the others
 file_split : (bytes back : List ℕ) (some all : List (List Tap)) → AreBatches bytes some back

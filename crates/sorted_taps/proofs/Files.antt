@@ -1,11 +1,9 @@
 -- Files whose bytes are known.
 use Rattle.std.proofs.Common.{◌≡◌, ℕ, ◌<◌, ◌≤◌, ◌⊎◌, List, [], ◌∷◌, ◌++◌, length, map, get_or, sym}
 use Rattle.std.proofs.Common.{ap, subst, ◌∙◌, arith, inl, inr, None, Some, IfSome, length-append}
+use Rattle.std.proofs.Math.{ListN.get_or-append, Seq.get_or-append_seam}
+use Rattle.std.proofs.lemmas.{Bool.cases_lt, List.get_or-map, List.length-map}
 use Rattle.std.specs.Prelude.{Option}
-use Rattle.std.proofs.Math.ListN.{get_or-append}
-use Rattle.std.proofs.Math.Seq.{get_or-append_seam}
-use Rattle.std.proofs.lemmas.Bool.{cases_lt}
-use Rattle.std.proofs.lemmas.List.{get_or-map, length-map}
 
 -- as many files as are known
 pub known_number : {X : Type 0} (known : X → Option (List ℕ)) (files : List X)

@@ -1,25 +1,19 @@
 -- Taps up to a limit, which readers pass in a step of a merge.
 use Rattle.std.proofs.Common.{◌≡◌, ℕ, ◌+◌, ◌-◌, ◌<◌, List, [], ◌∷◌, ◌++◌, inl, inr, ap, arith}
-use Rattle.std.proofs.Common.{append-nil}
-use Rattle.std.proofs.Common.{get_or, length, length-take-le, refl, subst, sym, take, ◌∙◌}
-use Rattle.std.specs.Prelude.{Option}
-use Rattle.std.specs.List.Sorted.{IsSorted}
-use Rattle.std.specs.Ordering.{is_lt}
-use Rattle.std.proofs.lemmas.Bool.{cases_lt}
-use Rattle.std.proofs.lemmas.List.{get_or_append_left, get_or_at, take_more}
-use Rattle.std.proofs.lemmas.List.Elements.{All-more, All-nil}
-use Rattle.std.proofs.lemmas.List.Kept.{IsSortedBy-push}
-use Rattle.std.proofs.lemmas.List.Sorted.{All-permutation}
-use Rattle.tap_views.specs.declared.encoder.TapFields.{TapFields}
-use Rattle.tap_parts.specs.Canonical.{IsCanonical, tap_cmp}
-use Rattle.sorted_taps.specs.Merged.{BeginsNotBefore, IsNotBefore}
-use Rattle.sorted_taps.specs.Merges.{AreTaken}
-use Rattle.sorted_taps.specs.Readers.{IsPassed, ahead}
-use Rattle.sorted_taps.specs.declared.reader.TapReader.{TapReader}
-use Rattle.sorted_taps.specs.inside.Limits.{IsLimitOf, IsPassedUpTo, IsRunIn, IsRunUpTo}
-use Rattle.sorted_taps.specs.inside.Limits.{TakesTaps, no_tap}
+use Rattle.std.proofs.Common.{append-nil, get_or, length, length-take-le, refl, subst, sym, take}
+use Rattle.std.proofs.Common.{◌∙◌}
 use Rattle.sorted_taps.proofs.Joining.{last_taken, one_sorted, ranked}
 use Rattle.sorted_taps.proofs.Taking.{all_of, all_of_each, passed_none, some_of, taken_none}
+use Rattle.sorted_taps.specs.{Merged.BeginsNotBefore, Merged.IsNotBefore, Merges.AreTaken}
+use Rattle.sorted_taps.specs.Readers.{IsPassed, ahead}
+use Rattle.sorted_taps.specs.{declared.reader.TapReader.TapReader, inside.Limits.IsLimitOf}
+use Rattle.sorted_taps.specs.inside.Limits.{IsPassedUpTo, IsRunIn, IsRunUpTo, TakesTaps, no_tap}
+use Rattle.std.proofs.lemmas.Bool.{cases_lt}
+use Rattle.std.proofs.lemmas.List.{get_or_append_left, get_or_at, take_more, Elements.All-more}
+use Rattle.std.proofs.lemmas.List.{Elements.All-nil, Kept.IsSortedBy-push, Sorted.All-permutation}
+use Rattle.std.specs.{List.Sorted.IsSorted, Ordering.is_lt, Prelude.Option}
+use Rattle.tap_parts.specs.Canonical.{IsCanonical, tap_cmp}
+use Rattle.tap_views.specs.declared.encoder.TapFields.{TapFields}
 
 -- a list that begins with no tap before one begins with none before those that are not after it
 begins_far : (limit tap : TapFields) (list : List TapFields) → IsNotBefore limit tap

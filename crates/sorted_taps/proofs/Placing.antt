@@ -1,28 +1,22 @@
 -- Taps between places: what readers pass that begin at one place and come to another.
-use Rattle.std.proofs.Common.{◌≡◌, ℕ, suc, zero, ◌<◌, List, [], ◌∷◌, ◌++◌, length, map, take}
-use Rattle.std.proofs.Common.{drop, get_or, refl, sym, ap, subst, ◌∙◌, arith, None, Some}
-use Rattle.std.proofs.Common.{append_assoc, length-append}
-use Rattle.std.specs.Prelude.{Option, flat_map}
-use Rattle.std.specs.List.Sorted.{IsSorted}
-use Rattle.std.proofs.Math.Seq.{drop-append_seam, drop-length}
-use Rattle.tap_views.specs.Encoding.{fields_of}
-use Rattle.tap_views.specs.Files.{IsFile, taps_of_batches}
-use Rattle.tap_views.specs.Layout.{Tap}
-use Rattle.tap_views.specs.declared.encoder.TapFields.{TapFields}
-use Rattle.tap_views.proofs.ParseLemmas.{no_bytes}
-use Rattle.tap_parts.specs.Canonical.{tap_cmp, IsCanonical}
-use Rattle.sorted_taps.specs.Merges.{AreTaken}
-use Rattle.sorted_taps.specs.Positions.{ArePlaced, AreSpanned, DoSpan, IsAt, IsLeftAfter, IsPlaced}
-use Rattle.sorted_taps.specs.Positions.{IsSpanned, first_position}
-use Rattle.sorted_taps.specs.Readers.{IsPassed, ahead}
-use Rattle.sorted_taps.specs.Reading.{AreBatches, AreTapsBetween}
-use Rattle.sorted_taps.specs.declared.positions.FileSpan.{FileSpan}
-use Rattle.sorted_taps.specs.declared.positions.Position.{Position}
-use Rattle.sorted_taps.specs.declared.reader.TapReader.{TapReader}
+use Rattle.std.proofs.Common.{◌≡◌, ℕ, suc, zero, ◌<◌, List, [], ◌∷◌, ◌++◌, length, map, take, drop}
+use Rattle.std.proofs.Common.{get_or, refl, sym, ap, subst, ◌∙◌, arith, None, Some, append_assoc}
+use Rattle.std.proofs.Common.{length-append}
 use Rattle.sorted_taps.proofs.After.{after_read, none_of_nothing}
 use Rattle.sorted_taps.proofs.Batches.{batches_of, file_of, front_append}
-use Rattle.sorted_taps.proofs.Standing.{read_further}
-use Rattle.sorted_taps.proofs.Taking.{passed_lengths, some_of}
+use Rattle.sorted_taps.proofs.{Standing.read_further, Taking.passed_lengths, Taking.some_of}
+use Rattle.sorted_taps.specs.{Merges.AreTaken, Positions.ArePlaced}
+use Rattle.sorted_taps.specs.Positions.{AreSpanned, DoSpan, IsAt, IsLeftAfter, IsPlaced, IsSpanned}
+use Rattle.sorted_taps.specs.{Positions.first_position, Readers.IsPassed, Readers.ahead}
+use Rattle.sorted_taps.specs.Reading.{AreBatches, AreTapsBetween}
+use Rattle.sorted_taps.specs.declared.positions.{FileSpan.FileSpan, Position.Position}
+use Rattle.sorted_taps.specs.declared.reader.TapReader.{TapReader}
+use Rattle.std.proofs.Math.Seq.{drop-append_seam, drop-length}
+use Rattle.std.specs.{List.Sorted.IsSorted, Prelude.Option, Prelude.flat_map}
+use Rattle.tap_parts.specs.Canonical.{tap_cmp, IsCanonical}
+use Rattle.tap_views.proofs.ParseLemmas.{no_bytes}
+use Rattle.tap_views.specs.{Encoding.fields_of, Files.IsFile, Files.taps_of_batches, Layout.Tap}
+use Rattle.tap_views.specs.declared.encoder.TapFields.{TapFields}
 
 -- ---- up to a file's end
 -- taps up to the file's end are those of its batches

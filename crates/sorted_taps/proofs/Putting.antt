@@ -1,19 +1,15 @@
 -- Taps that are written in batches of 512.
-use Rattle.std.proofs.Common.{◌≡◌, ℕ, ◌+◌, ◌<◌, ◌≤◌, List, [], ◌∷◌, ◌++◌, flat_map}
-use Rattle.std.proofs.Common.{length, refl, sym, ap, subst, ◌∙◌, arith, append-nil, append_assoc}
-use Rattle.std.proofs.Common.{take, get_or, Ok, Err}
-use Rattle.std.specs.Prelude.{IfErr, Option, Result}
-use Rattle.std.proofs.lemmas.List.{flat_map_more, take_more}
-use Rattle.std.specs.List.{AllByRecursion}
-use Rattle.std.proofs.KnownBytes.{Appends-nil, Appends-trans}
-use Rattle.std.proofs.lemmas.List.Concat.{flat_map-append}
-use Rattle.tap_views.specs.Encoding.{Encodes}
-use Rattle.tap_views.specs.Files.{IsFileOf}
-use Rattle.tap_views.specs.declared.encoder.TapFields.{TapFields}
-use Rattle.tap_views.proofs.Texts.{more_text, no_text}
-use Rattle.tap_parts.proofs.FullBatches.{zip_more}
+use Rattle.std.proofs.Common.{◌≡◌, ℕ, ◌+◌, ◌<◌, ◌≤◌, List, [], ◌∷◌, ◌++◌, flat_map, length, refl}
+use Rattle.std.proofs.Common.{sym, ap, subst, ◌∙◌, arith, append-nil, append_assoc, take, get_or}
+use Rattle.std.proofs.Common.{Ok, Err}
 use Rattle.sorted_taps.specs.Written.{AreBatchesOf, AreFilled, IsWritten}
 use Rattle.sorted_taps.specs.inside.Waiting.{HasPut, IsBatchWritten, MayWait}
+use Rattle.std.proofs.KnownBytes.{Appends-nil, Appends-trans}
+use Rattle.std.proofs.lemmas.List.{flat_map_more, take_more, Concat.flat_map-append}
+use Rattle.std.specs.{List.AllByRecursion, Prelude.IfErr, Prelude.Option, Prelude.Result}
+use Rattle.tap_parts.proofs.FullBatches.{zip_more}
+use Rattle.tap_views.proofs.Texts.{more_text, no_text}
+use Rattle.tap_views.specs.{Encoding.Encodes, Files.IsFileOf, declared.encoder.TapFields.TapFields}
 
 abbrev IsFull : List TapFields → Type 0
 IsFull batch = length batch ≡ 512

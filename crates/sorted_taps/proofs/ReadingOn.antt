@@ -3,21 +3,17 @@ use Rattle.std.proofs.Common.{◌≡◌, ◌⊎◌, ◌∙◌, ℕ, ◌+◌, ◌
 use Rattle.std.proofs.Common.{arith, drop, drop_at, drop-drop, inl, inr, length, length-append}
 use Rattle.std.proofs.Common.{None, Some, subst, sym, take, take_all, take-append-drop}
 use Rattle.std.proofs.Common.{length-take-le, ◌*◌, codes, refl}
+use Rattle.sorted_taps.proofs.{Batches.front_cut, Batches.front_longer, Files.if_known}
+use Rattle.sorted_taps.specs.{Reading.AreBatches, declared.decoded_taps.Decoded.Decoded}
+use Rattle.sorted_taps.specs.inside.Decoding.{IsDecodedAt, IsReadOn}
 use Rattle.std.proofs.lemmas.Bool.{cases_lt}
 use Rattle.std.proofs.lemmas.List.{drop-take, nil_from_length, take-append-le, take-take}
-use Rattle.tap_views.specs.Faults.{IsFault, header, width, layout_in, count_in}
-use Rattle.tap_views.specs.Faults.{moment_in, Row, fault_order}
-use Rattle.tap_views.specs.Layout.{Tap, num, moment_limit, Layout, Tap1, Tap2}
-use Rattle.tap_views.specs.declared.encoder.TapFields.{TapFields}
-use Rattle.tap_views.specs.declared.fault.LayoutFault.{LayoutFault}
-use Rattle.sorted_taps.specs.declared.decoded_taps.Decoded.{Decoded}
-use Rattle.sorted_taps.specs.inside.Decoding.{IsDecodedAt, IsReadOn}
-use Rattle.sorted_taps.specs.Reading.{AreBatches}
-use Rattle.sorted_taps.proofs.Batches.{front_cut, front_longer}
-use Rattle.sorted_taps.proofs.Files.{if_known}
+use Rattle.std.specs.{Cmp.Lexicographic.pointwise, List.starts_with}
 use Rattle.std.specs.Prelude.{nat_eq, if◌then◌else◌}
-use Rattle.std.specs.Cmp.Lexicographic.{pointwise}
-use Rattle.std.specs.List.{starts_with}
+use Rattle.tap_views.specs.Faults.{IsFault, header, width, layout_in, count_in, moment_in, Row}
+use Rattle.tap_views.specs.Faults.{fault_order}
+use Rattle.tap_views.specs.Layout.{Tap, num, moment_limit, Layout, Tap1, Tap2}
+use Rattle.tap_views.specs.declared.{encoder.TapFields.TapFields, fault.LayoutFault.LayoutFault}
 use Rattle.tap_views.specs.declared.fault.LayoutFault.TheVariants.{Short, Magic, Flags, TooMany}
 use Rattle.tap_views.specs.declared.fault.LayoutFault.TheVariants.{Length, Moment}
 

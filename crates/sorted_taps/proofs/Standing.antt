@@ -2,28 +2,23 @@
 use Rattle.std.proofs.Common.{◌≡◌, ℕ, ◌+◌, ◌-◌, ◌<◌, ◌≤◌, List, [], ◌∷◌, ◌++◌, length, take, drop}
 use Rattle.std.proofs.Common.{refl, sym, ap, subst, ◌∙◌, arith, append-nil, append_assoc, get_or}
 use Rattle.std.proofs.Common.{length-append, length-take-le, suc, zero, take_all, take-append-drop}
-use Rattle.std.proofs.lemmas.List.{length-drop, drop-drop}
-use Rattle.std.specs.Prelude.{IfSome, None, Option, Some}
-use Rattle.std.specs.List.Sorted.{IsSorted}
-use Rattle.tap_views.specs.Faults.{IsFault}
-use Rattle.tap_views.specs.Files.{IsFileOf}
-use Rattle.tap_views.specs.declared.encoder.TapFields.{TapFields}
-use Rattle.tap_views.specs.declared.fault.LayoutFault.{LayoutFault}
-use Rattle.tap_views.proofs.Reading.{no_batch}
-use Rattle.tap_views.proofs.ParseLemmas.{no_bytes}
-use Rattle.tap_parts.specs.Canonical.{tap_cmp}
-use Rattle.sorted_taps.specs.Merged.{BeginsNotBefore}
-use Rattle.sorted_taps.specs.Reading.{AreBatches, AreTapsBetween}
-use Rattle.sorted_taps.specs.Readers.{AreRead, ahead, IsPositionedIn, IsPassed, IsStepFault}
-use Rattle.sorted_taps.specs.Readers.{IsAfterFault, IsNextBefore}
-use Rattle.sorted_taps.specs.Sorted.{IsSortedFile, IsDamagedAt, IsSortedFault}
-use Rattle.sorted_taps.specs.declared.fault.SortedFault.{SortedFault}
-use Rattle.sorted_taps.specs.declared.fault.SortedFault.TheVariants.{Layout, OutOfOrder, Unread}
-use Rattle.sorted_taps.specs.declared.fault.SortedFault.TheVariants.{NoMemory}
-use Rattle.sorted_taps.specs.declared.reader.TapReader.{TapReader}
 use Rattle.sorted_taps.proofs.Batches.{file_of, front_append, front_none}
 use Rattle.sorted_taps.proofs.Joining.{last_taken, sorted_more, sorted_then}
+use Rattle.sorted_taps.specs.{Merged.BeginsNotBefore, Readers.AreRead}
+use Rattle.sorted_taps.specs.Readers.{ahead, IsPositionedIn, IsPassed, IsStepFault, IsAfterFault}
+use Rattle.sorted_taps.specs.{Readers.IsNextBefore, Reading.AreBatches, Reading.AreTapsBetween}
+use Rattle.sorted_taps.specs.Sorted.{IsSortedFile, IsDamagedAt, IsSortedFault}
+use Rattle.sorted_taps.specs.declared.fault.SortedFault.{SortedFault, TheVariants.Layout}
+use Rattle.sorted_taps.specs.declared.fault.SortedFault.TheVariants.{OutOfOrder, Unread, NoMemory}
+use Rattle.sorted_taps.specs.declared.reader.TapReader.{TapReader}
 use Rattle.sorted_taps.specs.inside.Steps.{BeginsBefore, IsMovedOn, IsRefilled}
+use Rattle.std.proofs.lemmas.List.{length-drop, drop-drop}
+use Rattle.std.specs.List.Sorted.{IsSorted}
+use Rattle.std.specs.Prelude.{IfSome, None, Option, Some}
+use Rattle.tap_parts.specs.Canonical.{tap_cmp}
+use Rattle.tap_views.proofs.{ParseLemmas.no_bytes, Reading.no_batch}
+use Rattle.tap_views.specs.{Faults.IsFault, Files.IsFileOf}
+use Rattle.tap_views.specs.declared.{encoder.TapFields.TapFields, fault.LayoutFault.LayoutFault}
 
 -- what is in memory after a run that was passed
 pub read_further : (all : List ℕ) (from : ℕ) (passed run : List TapFields) (old new : TapReader)

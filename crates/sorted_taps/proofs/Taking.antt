@@ -1,25 +1,22 @@
 -- Taps that are taken of files, also from their begins to their ends.
-use Rattle.std.proofs.Common.{◌≡◌, ℕ, zero, suc, ◌<◌, List, [], ◌∷◌, ◌++◌, All, length}
-use Rattle.std.proofs.Common.{map, take, drop, refl, sym, ap, subst, ◌∙◌, arith, append_assoc}
-use Rattle.std.proofs.Common.{get_or, append-nil, length-append, replicate}
-use Rattle.std.specs.Prelude.{flat_map}
-use Rattle.std.specs.List.Sorted.{IsPermutation, IsSorted}
-use Rattle.std.proofs.lemmas.List.{get_or-replicate, length-replicate}
-use Rattle.std.proofs.lemmas.List.Elements.{All-append, All-head, All-nil}
-use Rattle.std.proofs.lemmas.List.Sorted.{All-permutation, IsPermutation-append}
-use Rattle.std.proofs.lemmas.List.Sorted.{IsPermutation-append_right, IsPermutation-refl}
-use Rattle.std.proofs.lemmas.List.Sorted.{IsPermutation-trans}
-use Rattle.tap_views.specs.declared.encoder.TapFields.{TapFields}
-use Rattle.tap_views.proofs.Lists.{All-back, All-front}
-use Rattle.tap_parts.specs.Canonical.{tap_cmp, IsCanonical}
-use Rattle.sorted_taps.specs.Merged.{BeginsNotBefore, IsNotBefore}
-use Rattle.sorted_taps.specs.Merges.{AreAtEnd, AreStarted, AreSortedFiles, AreTaken}
-use Rattle.sorted_taps.specs.Readers.{IsPassed, ahead}
-use Rattle.sorted_taps.specs.declared.reader.TapReader.{TapReader}
+use Rattle.std.proofs.Common.{◌≡◌, ℕ, zero, suc, ◌<◌, List, [], ◌∷◌, ◌++◌, All, length, map, take}
+use Rattle.std.proofs.Common.{drop, refl, sym, ap, subst, ◌∙◌, arith, append_assoc, get_or}
+use Rattle.std.proofs.Common.{append-nil, length-append, replicate}
 use Rattle.sorted_taps.proofs.Batches.{front_append, front_none}
 use Rattle.sorted_taps.proofs.Joining.{first_only, inner_swap, none_before, one_sorted}
 use Rattle.sorted_taps.proofs.Joining.{sorted_across, sorted_then}
 use Rattle.sorted_taps.proofs.Standing.{positioned_further, sorted_at_end}
+use Rattle.sorted_taps.specs.Merged.{BeginsNotBefore, IsNotBefore}
+use Rattle.sorted_taps.specs.Merges.{AreAtEnd, AreStarted, AreSortedFiles, AreTaken}
+use Rattle.sorted_taps.specs.{Readers.IsPassed, Readers.ahead, declared.reader.TapReader.TapReader}
+use Rattle.std.proofs.lemmas.List.{get_or-replicate, length-replicate, Elements.All-append}
+use Rattle.std.proofs.lemmas.List.{Elements.All-head, Elements.All-nil, Sorted.All-permutation}
+use Rattle.std.proofs.lemmas.List.Sorted.{IsPermutation-append, IsPermutation-append_right}
+use Rattle.std.proofs.lemmas.List.Sorted.{IsPermutation-refl, IsPermutation-trans}
+use Rattle.std.specs.{List.Sorted.IsPermutation, List.Sorted.IsSorted, Prelude.flat_map}
+use Rattle.tap_parts.specs.Canonical.{tap_cmp, IsCanonical}
+use Rattle.tap_views.proofs.Lists.{All-back, All-front}
+use Rattle.tap_views.specs.declared.encoder.TapFields.{TapFields}
 
 -- the taps of all lists
 abbrev pub all_of : List (List TapFields) → List TapFields

@@ -1,12 +1,9 @@
 -- Several files that are checked, one after the other.
+use Rattle.sorted_taps.specs.{Merges.AreSortedFiles, Sorted.IsSortedFile, Sorted.IsSortedFault}
+use Rattle.sorted_taps.specs.declared.fault.{FileFault.FileFault, MergeFault.MergeFault}
+use Rattle.sorted_taps.specs.declared.fault.{MergeFault.TheVariants.File, SortedFault.SortedFault}
 use Rattle.std.specs.Prelude.{◌≡◌, ℕ, ◌<◌, List, [], Option, Some, length, get_or, map, slice_get}
 use Rattle.tap_views.specs.declared.encoder.TapFields.{TapFields}
-use Rattle.sorted_taps.specs.Merges.{AreSortedFiles}
-use Rattle.sorted_taps.specs.Sorted.{IsSortedFile, IsSortedFault}
-use Rattle.sorted_taps.specs.declared.fault.FileFault.{FileFault}
-use Rattle.sorted_taps.specs.declared.fault.MergeFault.{MergeFault}
-use Rattle.sorted_taps.specs.declared.fault.MergeFault.TheVariants.{File}
-use Rattle.sorted_taps.specs.declared.fault.SortedFault.{SortedFault}
 
 -- each file is sorted, and the numbers are those of their taps
 pub record AreCountedFiles (files : List (List ℕ)) (numbers : List ℕ) : Type 0 where

@@ -1,11 +1,10 @@
 -- Readers of several files whose taps are merged.
-use Rattle.std.specs.Prelude.{◌≡◌, ℕ, ◌<◌, All, List, [], flat_map, get_or, length}
-use Rattle.tap_views.specs.declared.encoder.TapFields.{TapFields}
-use Rattle.tap_parts.specs.Canonical.{IsCanonical}
 use Rattle.sorted_taps.specs.Merged.{BeginsNotBefore}
 use Rattle.sorted_taps.specs.Readers.{ahead, IsPassed, IsPositionedIn}
-use Rattle.sorted_taps.specs.Sorted.{IsSortedFile}
-use Rattle.sorted_taps.specs.declared.reader.TapReader.{TapReader}
+use Rattle.sorted_taps.specs.{Sorted.IsSortedFile, declared.reader.TapReader.TapReader}
+use Rattle.std.specs.Prelude.{◌≡◌, ℕ, ◌<◌, All, List, [], flat_map, get_or, length}
+use Rattle.tap_parts.specs.Canonical.{IsCanonical}
+use Rattle.tap_views.specs.declared.encoder.TapFields.{TapFields}
 
 -- no reader is at a tap
 abbrev pub AreAtEnd : List TapReader → Type 0

@@ -1,15 +1,12 @@
 -- Readers of a file's taps: where one is, and how it goes on.
-use Rattle.std.specs.Prelude.{◌≡◌, ℕ, ◌+◌, ◌<◌, List, [], ◌∷◌, ◌++◌, length, take, drop, true}
-use Rattle.std.specs.List.Sorted.{IsSorted}
-use Rattle.std.specs.Ordering.{is_lt}
-use Rattle.tap_views.specs.Faults.{IsFault}
-use Rattle.tap_views.specs.declared.encoder.TapFields.{TapFields}
-use Rattle.tap_views.specs.declared.fault.LayoutFault.{LayoutFault}
-use Rattle.tap_parts.specs.Canonical.{tap_cmp}
-use Rattle.sorted_taps.specs.Reading.{AreTapsBetween}
-use Rattle.sorted_taps.specs.declared.fault.SortedFault.{SortedFault}
+use Rattle.sorted_taps.specs.{Reading.AreTapsBetween, declared.fault.SortedFault.SortedFault}
 use Rattle.sorted_taps.specs.declared.fault.SortedFault.TheVariants.{Layout, OutOfOrder}
 use Rattle.sorted_taps.specs.declared.reader.TapReader.{TapReader}
+use Rattle.std.specs.{List.Sorted.IsSorted, Ordering.is_lt}
+use Rattle.std.specs.Prelude.{◌≡◌, ℕ, ◌+◌, ◌<◌, List, [], ◌∷◌, ◌++◌, length, take, drop, true}
+use Rattle.tap_parts.specs.Canonical.{tap_cmp}
+use Rattle.tap_views.specs.Faults.{IsFault}
+use Rattle.tap_views.specs.declared.{encoder.TapFields.TapFields, fault.LayoutFault.LayoutFault}
 
 -- the taps in memory from the one on at which the reader is
 abbrev pub ahead : TapReader → List TapFields

@@ -1,9 +1,7 @@
 -- Taps at the front of some bytes, and between two offsets of a file.
 use Rattle.std.specs.Prelude.{◌≡◌, ℕ, List, [], ◌∷◌, ◌++◌, map, drop}
-use Rattle.tap_views.specs.Encoding.{fields_of}
-use Rattle.tap_views.specs.Layout.{Tap, IsBatch}
+use Rattle.tap_views.specs.{Encoding.fields_of, Files.taps_of_batches, Layout.Tap, Layout.IsBatch}
 use Rattle.tap_views.specs.declared.encoder.TapFields.{TapFields}
-use Rattle.tap_views.specs.Files.{taps_of_batches}
 
 -- the bytes of the longest batch: a header of 8, and 4,096 taps of 28
 abbrev pub window_bytes : ℕ

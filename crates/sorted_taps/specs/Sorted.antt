@@ -1,17 +1,12 @@
 -- Files whose taps are in canonical order.
-use Rattle.std.specs.Prelude.{◌≡◌, ℕ, ◌+◌, List, [], ◌∷◌, ◌++◌, length, map, true, Some}
-use Rattle.std.specs.List.Sorted.{IsSorted}
-use Rattle.std.specs.Ordering.{is_lt}
-use Rattle.tap_views.specs.Encoding.{fields_of}
-use Rattle.tap_views.specs.Layout.{Tap}
-use Rattle.tap_views.specs.declared.encoder.TapFields.{TapFields}
-use Rattle.tap_views.specs.declared.fault.LayoutFault.{LayoutFault}
-use Rattle.tap_views.specs.Files.{IsReadAs, taps_of_batches}
-use Rattle.tap_parts.specs.Canonical.{tap_cmp}
-use Rattle.tap_views.specs.Files.{IsFileOf}
-use Rattle.sorted_taps.specs.Reading.{AreTapsBetween}
-use Rattle.sorted_taps.specs.declared.fault.SortedFault.{SortedFault}
+use Rattle.sorted_taps.specs.{Reading.AreTapsBetween, declared.fault.SortedFault.SortedFault}
 use Rattle.sorted_taps.specs.declared.fault.SortedFault.TheVariants.{Layout, OutOfOrder}
+use Rattle.std.specs.{List.Sorted.IsSorted, Ordering.is_lt}
+use Rattle.std.specs.Prelude.{◌≡◌, ℕ, ◌+◌, List, [], ◌∷◌, ◌++◌, length, map, true, Some}
+use Rattle.tap_parts.specs.Canonical.{tap_cmp}
+use Rattle.tap_views.specs.{Encoding.fields_of, Files.IsReadAs, Files.taps_of_batches}
+use Rattle.tap_views.specs.{Files.IsFileOf, Layout.Tap}
+use Rattle.tap_views.specs.declared.{encoder.TapFields.TapFields, fault.LayoutFault.LayoutFault}
 
 -- the file is read as these taps with no layout fault, and they are in canonical order
 pub record IsSortedFile (all : List ℕ) (taps : List TapFields) : Type 0 where

@@ -1,12 +1,9 @@
 -- Files that are written of taps, and what is in the output meanwhile.
-use Rattle.std.specs.Prelude.{◌≡◌, ℕ, ◌<◌, ◌≤◌, List, [], ◌∷◌, length, map, flat_map, Option}
-use Rattle.std.specs.List.{AllByRecursion, AllZip}
-use Rattle.std.specs.Io.KnownBytes.{Appends}
-use Rattle.tap_views.specs.Encoding.{Encodes}
-use Rattle.tap_views.specs.Files.{IsFileOf}
-use Rattle.tap_views.specs.declared.encoder.TapFields.{TapFields}
-use Rattle.tap_parts.specs.Canonical.{IsCanonical}
 use Rattle.sorted_taps.specs.Merges.{AreSortedFiles}
+use Rattle.std.specs.{Io.KnownBytes.Appends, List.AllByRecursion, List.AllZip}
+use Rattle.std.specs.Prelude.{◌≡◌, ℕ, ◌<◌, ◌≤◌, List, [], ◌∷◌, length, map, flat_map, Option}
+use Rattle.tap_parts.specs.Canonical.{IsCanonical}
+use Rattle.tap_views.specs.{Encoding.Encodes, Files.IsFileOf, declared.encoder.TapFields.TapFields}
 
 -- the bytes are a `TAP1` batch of each list, one after the other
 pub record AreBatchesOf (bytes : List ℕ) (batches : List (List TapFields)) : Type 0 where

@@ -1,10 +1,9 @@
 //! Batches at an offset of a file.
 
-ghost use Rattle.std.specs.Prelude.{◌≡◌, ◌+◌, ◌<◌, ◌≤◌, ◌^◌, length, IfOk, IfErr, IfSome, OnOk};
 ghost use Rattle.placed_files.specs.Placed.{IsFilledFrom};
-ghost use Rattle.sorted_taps.specs.Reading.{window_bytes};
-ghost use Rattle.sorted_taps.specs.inside.Decoding.{IsDecodedAt, IsNoLayoutFault, IsReadOn};
-ghost use Rattle.sorted_taps.specs.inside.Decoding.{IsReadFault};
+ghost use Rattle.sorted_taps.specs.{Reading.window_bytes, inside.Decoding.IsDecodedAt};
+ghost use Rattle.sorted_taps.specs.inside.Decoding.{IsNoLayoutFault, IsReadOn, IsReadFault};
+ghost use Rattle.std.specs.Prelude.{◌≡◌, ◌+◌, ◌<◌, ◌≤◌, ◌^◌, length, IfOk, IfErr, IfSome, OnOk};
 
 use crate::decoded_taps::{Decoded, decode};
 use crate::fault::SortedFault;

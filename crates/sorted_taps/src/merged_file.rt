@@ -1,9 +1,8 @@
 //! Sorted files, merged to one.
 
-ghost use Rattle.std.specs.Prelude.{◌≡◌, ◌≢◌, ◌≤◌, List, ℕ, IfErr, IfOk, Some, length, map};
-ghost use Rattle.sorted_taps.specs.Checked.{IsMergeFault};
-ghost use Rattle.sorted_taps.specs.Reading.{window_bytes};
+ghost use Rattle.sorted_taps.specs.{Checked.IsMergeFault, Reading.window_bytes};
 ghost use Rattle.sorted_taps.specs.Written.{IsPartlyWritten, IsMergedFile};
+ghost use Rattle.std.specs.Prelude.{◌≡◌, ◌≢◌, ◌≤◌, List, ℕ, IfErr, IfOk, Some, length, map};
 
 use crate::check::check_files;
 use crate::fault::{MergeFault, SortedFault, WriteFault};

@@ -1,8 +1,7 @@
 //! Where a token begins in a sorted file, found at once in batches of 512 taps.
 
+ghost use Rattle.sorted_taps.specs.{Positions.IsPlacedAnew, Reading.window_bytes};
 ghost use Rattle.std.specs.Prelude.{◌≤◌, IfOk, IfSome, length};
-ghost use Rattle.sorted_taps.specs.Positions.{IsPlacedAnew};
-ghost use Rattle.sorted_taps.specs.Reading.{window_bytes};
 
 use crate::fault::SortedFault;
 use crate::file_batches::{FIRST_READ_BYTES, fill_at};

@@ -1,15 +1,14 @@
 //! A reader of a file's taps.
 
-ghost use Rattle.std.specs.Prelude.{◌≡◌, ◌-◌, ◌<◌, ◌≤◌, ◌∷◌, [], List, get_or, length, take};
-ghost use Rattle.std.specs.Prelude.{IfErr, IfOk, IfSome, IsTrue, MatchOption, OnOk, true, false};
-ghost use Rattle.std.specs.List.Sorted.{IsSorted};
-ghost use Rattle.tap_views.specs.declared.encoder.TapFields.{TapFields};
-ghost use Rattle.tap_parts.specs.Canonical.{tap_cmp};
+ghost use Rattle.sorted_taps.specs.{Merged.BeginsNotBefore, Readers.ahead};
+ghost use Rattle.sorted_taps.specs.Readers.{IsAfterFault, IsPassed, IsPositionedIn, IsStepFault};
 ghost use Rattle.sorted_taps.specs.Reading.{window_bytes};
-ghost use Rattle.sorted_taps.specs.Merged.{BeginsNotBefore};
-ghost use Rattle.sorted_taps.specs.Readers.{ahead, IsAfterFault, IsPassed, IsPositionedIn};
-ghost use Rattle.sorted_taps.specs.Readers.{IsStepFault};
 ghost use Rattle.sorted_taps.specs.inside.Steps.{BeginsBefore, IsAlike, IsMovedOn, IsRefilled};
+ghost use Rattle.std.specs.List.Sorted.{IsSorted};
+ghost use Rattle.std.specs.Prelude.{◌≡◌, ◌-◌, ◌<◌, ◌≤◌, ◌∷◌, [], List, get_or, length, take, IfErr};
+ghost use Rattle.std.specs.Prelude.{IfOk, IfSome, IsTrue, MatchOption, OnOk, true, false};
+ghost use Rattle.tap_parts.specs.Canonical.{tap_cmp};
+ghost use Rattle.tap_views.specs.declared.encoder.TapFields.{TapFields};
 
 use crate::fault::SortedFault;
 use crate::file_batches::read_batches;

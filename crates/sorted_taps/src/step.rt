@@ -1,11 +1,9 @@
 //! A step of a merge: taps up to a limit, of all readers.
 
+ghost use Rattle.sorted_taps.specs.{Reading.window_bytes, inside.Limits.IsRunUpTo};
+ghost use Rattle.sorted_taps.specs.inside.Limits.{IsSortedFrom, TakeUpTo, TakesTaps, TakesUpTo};
 ghost use Rattle.std.specs.Prelude.{◌≡◌, ◌≤◌, List, OnOk, drop, length, map, take};
-ghost use Rattle.tap_parts.specs.Canonical.{IsCanonical};
-ghost use Rattle.tap_parts.specs.Keys.{tap_of_key};
-ghost use Rattle.sorted_taps.specs.Reading.{window_bytes};
-ghost use Rattle.sorted_taps.specs.inside.Limits.{IsRunUpTo, IsSortedFrom, TakeUpTo, TakesTaps};
-ghost use Rattle.sorted_taps.specs.inside.Limits.{TakesUpTo};
+ghost use Rattle.tap_parts.specs.{Canonical.IsCanonical, Keys.tap_of_key};
 
 use crate::fault::SortedFault;
 use crate::limit::front_of;

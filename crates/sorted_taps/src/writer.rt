@@ -1,10 +1,9 @@
 //! Taps written in batches of 512.
 
-ghost use Rattle.std.specs.Prelude.{◌≡◌, ◌++◌, ◌∷◌, [], List, ℕ, Option, IfErr, OnOk};
-ghost use Rattle.std.specs.Prelude.{flat_map};
-ghost use Rattle.tap_views.specs.declared.encoder.TapFields.{TapFields};
 ghost use Rattle.sorted_taps.specs.Written.{IsPartlyWritten, IsWritten};
 ghost use Rattle.sorted_taps.specs.inside.Waiting.{HasPut, IsBatchWritten, MayWait};
+ghost use Rattle.std.specs.Prelude.{◌≡◌, ◌++◌, ◌∷◌, [], List, ℕ, Option, IfErr, OnOk, flat_map};
+ghost use Rattle.tap_views.specs.declared.encoder.TapFields.{TapFields};
 
 use crate::fault::WriteFault;
 use std::alloc::Global;

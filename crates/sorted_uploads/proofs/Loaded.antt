@@ -1,10 +1,9 @@
 -- Uploads that are loaded are read as what they are.
 use Rattle.std.proofs.Common.{◌≡◌, ℕ, List, [], Vec, Global, get_or, length, map, subst, sym}
-use Rattle.std.proofs.lemmas.List.{length-map}
-use Rattle.world.specs.Origins.{memory}
-use Rattle.world.specs.Run.{Run}
-use Rattle.settlement.specs.Reading.{AreRead}
 use Rattle.settlement.proofs.LoadedFiles.{loaded_files}
+use Rattle.settlement.specs.Reading.{AreRead}
+use Rattle.std.proofs.lemmas.List.{length-map}
+use Rattle.world.specs.{Origins.memory, Run.Run}
 
 -- the bytes of an upload
 abbrev pub bytes_in : Vec ℕ Global → List ℕ

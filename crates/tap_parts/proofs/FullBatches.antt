@@ -1,8 +1,7 @@
 -- Texts of batches, and one more.
 use Rattle.std.proofs.Common.{ℕ, List, [], ◌∷◌, ◌++◌}
 use Rattle.std.specs.List.{AllZip}
-use Rattle.tap_views.specs.Encoding.{Encodes}
-use Rattle.tap_views.specs.declared.encoder.TapFields.{TapFields}
+use Rattle.tap_views.specs.{Encoding.Encodes, declared.encoder.TapFields.TapFields}
 
 pub zip_more : (texts : List (List ℕ)) (batches : List (List TapFields)) (text : List ℕ)
     (batch : List TapFields) → AllZip Encodes texts batches → Encodes text batch

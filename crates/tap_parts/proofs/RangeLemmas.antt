@@ -2,19 +2,15 @@
 -- tokens.
 use Rattle.std.proofs.Common.{◌≡◌, ℕ, zero, suc, ◌-◌, ◌<◌, ◌≤◌, List, [], ◌∷◌, length, get_or}
 use Rattle.std.proofs.Common.{filter, Bool, false, ap, arith, inl, inr}
+use Rattle.std.proofs.lemmas.{Bool.cases_lt, Bool.le-leb, Bool.lt-leb, Cmp.nat_cmp_total}
+use Rattle.std.proofs.lemmas.List.{Sorted.ranks_by, Sorted.sorted_far, Sums.count_by-le-length}
+use Rattle.std.proofs.lemmas.{List.Sums.length-filter, Map.Keys.ge_from_not_lt}
+use Rattle.std.specs.{List.Sorted.IsSorted, Ordering.is_lt, Ordering.nat_cmp}
 use Rattle.std.specs.Prelude.{◌⊎◌, nat_le}
-use Rattle.std.specs.List.Sorted.{IsSorted}
-use Rattle.std.specs.Ordering.{is_lt, nat_cmp}
-use Rattle.std.proofs.lemmas.Bool.{cases_lt, le-leb, lt-leb}
-use Rattle.std.proofs.lemmas.Cmp.{nat_cmp_total}
-use Rattle.std.proofs.lemmas.List.Sorted.{ranks_by, sorted_far}
-use Rattle.std.proofs.lemmas.List.Sums.{count_by-le-length, length-filter}
-use Rattle.std.proofs.lemmas.Map.Keys.{ge_from_not_lt}
-use Rattle.tap_views.specs.Layout.{num}
-use Rattle.tap_parts.specs.Canonical.{tap_cmp}
-use Rattle.tap_parts.specs.Ranges.{range_of_token}
-use Rattle.tap_parts.specs.inside.Positions.{ArePositionsInOrder}
 use Rattle.tap_parts.proofs.TokenOrder.{lower_number}
+use Rattle.tap_parts.specs.{Canonical.tap_cmp, Ranges.range_of_token}
+use Rattle.tap_parts.specs.inside.Positions.{ArePositionsInOrder}
+use Rattle.tap_views.specs.Layout.{num}
 
 -- up to a place none is above the number, and all others are
 pub counted : (xs : List ℕ) (k n : ℕ) → k ≤ length xs

@@ -1,10 +1,8 @@
 -- Whole uploads whose taps are added to parts.
 use Rattle.std.specs.Prelude.{◌≡◌, ℕ, List, length}
-use Rattle.tap_views.specs.Layout.{Tap}
-use Rattle.tap_views.specs.declared.encoder.TapFields.{TapFields}
+use Rattle.tap_parts.specs.{Parts.AreAddedBy, declared.upload.UploadTaps.UploadTaps}
 use Rattle.tap_views.specs.Files.{IsReadAs, taps_of_batches}
-use Rattle.tap_parts.specs.Parts.{AreAddedBy}
-use Rattle.tap_parts.specs.declared.upload.UploadTaps.{UploadTaps}
+use Rattle.tap_views.specs.{Layout.Tap, declared.encoder.TapFields.TapFields}
 
 -- the upload's taps before its first layout fault were added, each at its place; the upload's end
 -- has their number, and the fault after them

@@ -1,25 +1,19 @@
 -- The rows of an agency's CSV, one after the other, and what is read of them.
 use Rattle.std.proofs.Common.{◌≡◌, ℕ, ◌+◌, ◌≤◌, ◌⊎◌, inl, inr, List, [], ◌∷◌, ◌++◌, length, None}
 use Rattle.std.proofs.Common.{Some, refl, sym, ap, subst, ◌∙◌, arith, append-nil, append_assoc}
-use Rattle.std.proofs.Common.{length-append}
-use Rattle.std.specs.Prelude.{Option, Contains, max, min, map, flat_map}
+use Rattle.std.proofs.{Common.length-append, lemmas.List.map-append}
+use Rattle.std.proofs.lemmas.List.{Concat.flat_map-append, Elements.Contains-append_left}
+use Rattle.std.proofs.lemmas.List.{Elements.Contains-append_right, Sums.sum_by-append}
 use Rattle.std.specs.List.{AllByRecursion, AllZip}
-use Rattle.std.proofs.lemmas.List.{map-append}
-use Rattle.std.proofs.lemmas.List.Concat.{flat_map-append}
-use Rattle.std.proofs.lemmas.List.Elements.{Contains-append_left, Contains-append_right}
-use Rattle.std.proofs.lemmas.List.Sums.{sum_by-append}
-use Rattle.tap_views.specs.Facts.{IsSpan, IsWithin}
-use Rattle.tap_views.specs.declared.span.MomentSpan.{MomentSpan}
+use Rattle.std.specs.Prelude.{Option, Contains, max, min, map, flat_map}
 use Rattle.tap_rows.specs.Agencies.{IsSummary, Refusal, first_refusal, left_out_in, left_out_of}
 use Rattle.tap_rows.specs.Agencies.{refusal_of, refusals, refusals_from, refusals_text}
 use Rattle.tap_rows.specs.Agencies.{refusal_text, refusals_head, tap_of, taps_in}
-use Rattle.tap_rows.specs.AgencyRows.{IsParseOf}
-use Rattle.tap_rows.specs.declared.agency.choice.Choice.{Choice}
-use Rattle.tap_rows.specs.declared.agency.choice.Separator.{Separator}
-use Rattle.tap_rows.specs.declared.agency.reading.Reading.{Reading}
+use Rattle.tap_rows.specs.{AgencyRows.IsParseOf, declared.agency.choice.Choice.Choice}
+use Rattle.tap_rows.specs.declared.agency.{choice.Separator.Separator, reading.Reading.Reading}
+use Rattle.tap_rows.specs.declared.agency.{reading.Reason.Reason, summary.Summary.Summary}
+use Rattle.tap_views.specs.{Facts.IsSpan, Facts.IsWithin, declared.span.MomentSpan.MomentSpan}
 use Rattle.tap_rows.specs.declared.agency.reading.Reading.TheVariants as read
-use Rattle.tap_rows.specs.declared.agency.reading.Reason.{Reason}
-use Rattle.tap_rows.specs.declared.agency.summary.Summary.{Summary}
 
 -- ---- faults
 

@@ -3,8 +3,7 @@ use Rattle.std.proofs.Common.{◌≡◌, ◌≢◌, ℕ, List, Some, ap, eqb-tru
 use Rattle.std.specs.Prelude.{◌==◌, Bool, Option, if◌then◌else◌}
 use Rattle.tap_rows.specs.AgencyMoments.{after_fraction, clock_moment, instant_in, moment_of}
 use Rattle.tap_rows.specs.AgencyMoments.{local_moment, offset_in, offset_moment}
-use Rattle.tap_rows.specs.declared.agency.choice.LocalClock.{LocalClock}
-use Rattle.tap_rows.specs.declared.agency.choice.Unit.{Unit}
+use Rattle.tap_rows.specs.declared.agency.choice.{LocalClock.LocalClock, Unit.Unit}
 
 pub with_offset : (unit : Unit) (local : Option LocalClock) (text offset : List ℕ)
     → length (after_fraction text) ≢ 0

@@ -1,25 +1,20 @@
 -- The columns of a head, and the values of a row in them.
-use Rattle.std.proofs.Common.{◌≡◌, ◌∙◌, ℕ, zero, suc, ◌+◌, ◌<◌, ◌≤◌, List, [], ◌∷◌, ◌++◌}
-use Rattle.std.proofs.Common.{Bor, None, Some, ap, arith, length, map, refl, subst, sym, true, false}
-use Rattle.std.specs.Prelude.{Bool, IsSomeAnd, MatchOption, Option, if◌then◌else◌, option_map}
-use Rattle.std.specs.Prelude.{slice_index_or, take}
-use Rattle.std.specs.List.{AllZip}
-use Rattle.std.specs.Str.{bytes_eq}
-use Rattle.std.proofs.lemmas.List.{take_more}
-use Rattle.std.proofs.lemmas.Slice.Eq.{bytes_eq-Decides}
+use Rattle.std.proofs.Common.{◌≡◌, ◌∙◌, ℕ, zero, suc, ◌+◌, ◌<◌, ◌≤◌, List, [], ◌∷◌, ◌++◌, Bor, None}
+use Rattle.std.proofs.Common.{Some, ap, arith, length, map, refl, subst, sym, true, false}
 use Rattle.csv.specs.Records.{field_at}
+use Rattle.std.proofs.lemmas.{List.take_more, Slice.Eq.bytes_eq-Decides}
+use Rattle.std.specs.{List.AllZip, Prelude.Bool, Prelude.IsSomeAnd}
+use Rattle.std.specs.Prelude.{MatchOption, Option, if◌then◌else◌, option_map, slice_index_or, take}
+use Rattle.std.specs.Str.{bytes_eq}
 use Rattle.tap_rows.specs.Agencies.{HasNoColumn, IsWanting, LacksColumnAt}
 use Rattle.tap_rows.specs.AgencyRows.{HeadLayout, IsColumn, layout_in, position_in, test_in}
-use Rattle.tap_rows.specs.declared.agency.choice.Choice.{Choice}
-use Rattle.tap_rows.specs.declared.agency.choice.Condition.{Condition}
-use Rattle.tap_rows.specs.declared.agency.fault.AgencyFault.{AgencyFault}
-use Rattle.tap_rows.specs.declared.agency.fault.AgencyFault.TheVariants as fault
-use Rattle.tap_rows.specs.declared.agency.fault.Wanted.{Wanted}
-use Rattle.tap_rows.specs.declared.agency.fault.Wanted.TheVariants as wanted
-use Rattle.tap_rows.specs.declared.agency.positions.Positions.{Positions}
-use Rattle.tap_rows.specs.declared.agency.positions.Test.{Test}
+use Rattle.tap_rows.specs.declared.agency.choice.{Choice.Choice, Condition.Condition}
+use Rattle.tap_rows.specs.declared.agency.fault.{AgencyFault.AgencyFault, Wanted.Wanted}
+use Rattle.tap_rows.specs.declared.agency.positions.{Positions.Positions, Test.Test}
 use Rattle.tap_rows.specs.inside.Positions.{ArePositions, IsHeadFault, IsPositionOf, IsTestOf}
 use Rattle.tap_rows.specs.inside.Positions.{IsTestsFault, layout_of, test_of, wanted_at}
+use Rattle.tap_rows.specs.declared.agency.fault.AgencyFault.TheVariants as fault
+use Rattle.tap_rows.specs.declared.agency.fault.Wanted.TheVariants as wanted
 
 -- a field that is there is within the fields
 pub field_within : (fields : List (List ℕ)) (position : ℕ) (value : List ℕ)

@@ -2,28 +2,21 @@
 use Rattle.std.proofs.Common.{◌≡◌, ℕ, ◌+◌, Bool, true, false, cond, List, [], ◌∷◌, ◌++◌, length}
 use Rattle.std.proofs.Common.{Bor, Option, None, Some, inl, refl, sym, ap, subst, ◌∙◌, arith}
 use Rattle.std.proofs.Common.{length-append, eqb-true}
-use Rattle.std.specs.Prelude.{map, codes, is_some, nat_eq, ◌||◌}
-use Rattle.std.specs.Cmp.Lexicographic.{nat_list_eq_equiv}
-use Rattle.std.specs.List.{IsDistinct, list_any}
-use Rattle.std.specs.Map.{keys_of, lookup}
-use Rattle.std.specs.Str.{bytes_eq}
-use Rattle.std.proofs.lemmas.List.{map-append}
-use Rattle.std.proofs.lemmas.Map.Keys.{IsDistinct-push}
-use Rattle.csv.specs.Machine.{next_record}
-use Rattle.csv.specs.Reading.{Reached, strip_bom}
-use Rattle.csv.specs.Records.{field_at}
-use Rattle.csv.specs.declared.parser.State.TheVariants.{StartRecord}
-use Rattle.csv.specs.declared.reader.Reader.{Reader}
+use Rattle.csv.specs.{Machine.next_record, Reading.Reached, Reading.strip_bom, Records.field_at}
+use Rattle.csv.specs.declared.{parser.State.TheVariants.StartRecord, reader.Reader.Reader}
+use Rattle.std.proofs.lemmas.{List.map-append, Map.Keys.IsDistinct-push}
+use Rattle.std.specs.{Cmp.Lexicographic.nat_list_eq_equiv, List.IsDistinct, List.list_any}
+use Rattle.std.specs.{Map.keys_of, Map.lookup, Prelude.map, Prelude.codes, Prelude.is_some}
+use Rattle.std.specs.{Prelude.nat_eq, Prelude.◌||◌, Str.bytes_eq}
+use Rattle.tap_rows.proofs.{AgencyRowLemmas.zip_more, GoingLemmas.head_is}
 use Rattle.tap_rows.specs.AgencyTexts.{HasRecords, config_of, fields_read, first_record}
 use Rattle.tap_rows.specs.Devices.{AreDevices, AreDevicesBy, Device, HasDeviceHead, IsDeviceRow}
 use Rattle.tap_rows.specs.Devices.{IsDevicesFault, device_head, validator_of}
 use Rattle.tap_rows.specs.declared.agency.choice.Separator.{Separator}
 use Rattle.tap_rows.specs.declared.devices.fault.DevicesFault.{DevicesFault}
-use Rattle.tap_rows.specs.declared.devices.fault.DevicesFault.TheVariants as fault
 use Rattle.tap_rows.specs.inside.DeviceRows.{HasDevices, IsFaultBy, IsHeadRow, IsRowFault}
 use Rattle.tap_rows.specs.inside.RecordReaders.{HasConsumed}
-use Rattle.tap_rows.proofs.AgencyRowLemmas.{zip_more}
-use Rattle.tap_rows.proofs.GoingLemmas.{head_is}
+use Rattle.tap_rows.specs.declared.devices.fault.DevicesFault.TheVariants as fault
 
 -- ---- the fields of a row
 -- a row of two fields is these two

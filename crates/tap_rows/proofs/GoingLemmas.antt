@@ -1,36 +1,24 @@
 -- The rows of an agency's CSV, as they are read and encoded.
-use Rattle.std.proofs.Common.{◌≡◌, ℕ, ◌+◌, List, [], ◌∷◌, ◌++◌, Bor, length, None, refl, sym}
-use Rattle.std.proofs.Common.{ap}
+use Rattle.std.proofs.Common.{◌≡◌, ℕ, ◌+◌, List, [], ◌∷◌, ◌++◌, Bor, length, None, refl, sym, ap}
 use Rattle.std.proofs.Common.{subst, ◌∙◌, arith, append-nil, length-append}
-use Rattle.std.specs.Prelude.{flat_map}
-use Rattle.std.proofs.lemmas.Slice.Zip.{AllZip-long}
-use Rattle.csv.specs.Machine.{next_record}
-use Rattle.csv.specs.Reading.{Reached, strip_bom}
-use Rattle.csv.specs.Records.{field_at}
-use Rattle.csv.specs.declared.parser.State.{State}
-use Rattle.csv.specs.declared.parser.State.TheVariants.{StartRecord}
+use Rattle.csv.specs.{Machine.next_record, Reading.Reached, Reading.strip_bom, Records.field_at}
+use Rattle.csv.specs.declared.parser.State.{State, TheVariants.StartRecord}
 use Rattle.csv.specs.declared.reader.Reader.{Reader}
-use Rattle.tap_views.specs.declared.encoder.TapFields.{TapFields}
-use Rattle.tap_rows.specs.Agencies.{HasNoColumn, IsAgencyFault, IsWanting, IsSummary}
-use Rattle.tap_rows.specs.Agencies.{refusal_of, refusal_text, refusals, refusals_head}
-use Rattle.tap_rows.specs.Agencies.{refusals_text}
-use Rattle.tap_rows.specs.Agencies.{tap_of, taps_in}
-use Rattle.tap_rows.specs.AgencyRows.{IsParseOf}
+use Rattle.std.proofs.lemmas.Slice.Zip.{AllZip-long}
+use Rattle.std.specs.Prelude.{flat_map}
+use Rattle.tap_rows.proofs.AgencyLemmas.{parses_more, refusals_more, refusals_text_more, taps_more}
+use Rattle.tap_rows.specs.Agencies.{HasNoColumn, IsAgencyFault, IsWanting, IsSummary, refusal_of}
+use Rattle.tap_rows.specs.Agencies.{refusal_text, refusals, refusals_head, refusals_text, tap_of}
+use Rattle.tap_rows.specs.{Agencies.taps_in, AgencyRows.IsParseOf}
 use Rattle.tap_rows.specs.AgencyTexts.{HasRecords, config_of, fields_read, first_record}
-use Rattle.tap_rows.specs.declared.agency.choice.Choice.{Choice}
-use Rattle.tap_rows.specs.declared.agency.choice.Separator.{Separator}
+use Rattle.tap_rows.specs.declared.agency.choice.{Choice.Choice, Separator.Separator}
 use Rattle.tap_rows.specs.declared.agency.fault.AgencyFault.{AgencyFault}
+use Rattle.tap_rows.specs.declared.agency.{positions.Positions.Positions, reading.Reading.Reading}
+use Rattle.tap_rows.specs.declared.{agency.summary.Summary.Summary, growing.Growing.Growing}
+use Rattle.tap_rows.specs.inside.{Goings.IsGoing, Growing.IsGrown, Positions.ArePositions}
+use Rattle.tap_rows.specs.inside.{Positions.IsHeadFault, RecordReaders.HasConsumed}
+use Rattle.tap_views.specs.declared.encoder.TapFields.{TapFields}
 use Rattle.tap_rows.specs.declared.agency.fault.AgencyFault.TheVariants as fault
-use Rattle.tap_rows.specs.declared.agency.positions.Positions.{Positions}
-use Rattle.tap_rows.specs.declared.agency.reading.Reading.{Reading}
-use Rattle.tap_rows.specs.declared.agency.summary.Summary.{Summary}
-use Rattle.tap_rows.specs.declared.growing.Growing.{Growing}
-use Rattle.tap_rows.specs.inside.Goings.{IsGoing}
-use Rattle.tap_rows.specs.inside.Growing.{IsGrown}
-use Rattle.tap_rows.specs.inside.Positions.{ArePositions, IsHeadFault}
-use Rattle.tap_rows.specs.inside.RecordReaders.{HasConsumed}
-use Rattle.tap_rows.proofs.AgencyLemmas.{parses_more, refusals_more, refusals_text_more}
-use Rattle.tap_rows.proofs.AgencyLemmas.{taps_more}
 
 -- ---- from row to row
 pub going_first : (choice : Choice) (positions : Positions) (text : List ℕ)

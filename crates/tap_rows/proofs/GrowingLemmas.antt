@@ -1,14 +1,11 @@
 -- An upload that grows by a batch at a time.
-use Rattle.std.proofs.Common.{◌≡◌, ◌∙◌, ◌<◌, ℕ, zero, suc, List, [], ◌∷◌, ◌++◌, All, ap}
-use Rattle.std.proofs.Common.{append-nil, append_assoc, arith, length, length-append, subst}
-use Rattle.std.proofs.Common.{sym}
+use Rattle.std.proofs.Common.{◌≡◌, ◌∙◌, ◌<◌, ℕ, zero, suc, List, [], ◌∷◌, ◌++◌, All, ap, append-nil}
+use Rattle.std.proofs.Common.{append_assoc, arith, length, length-append, subst, sym}
 use Rattle.std.specs.Prelude.{slice_index_or}
-use Rattle.tap_views.specs.Encoding.{AreEncodable, Encodes}
-use Rattle.tap_views.specs.Files.{IsFileOf}
-use Rattle.tap_views.specs.declared.encoder.TapFields.{TapFields}
+use Rattle.tap_rows.specs.{declared.growing.Growing.Growing, inside.Growing.IsGrown}
 use Rattle.tap_views.proofs.Texts.{more_text, no_text}
-use Rattle.tap_rows.specs.declared.growing.Growing.{Growing}
-use Rattle.tap_rows.specs.inside.Growing.{IsGrown}
+use Rattle.tap_views.specs.Encoding.{AreEncodable, Encodes}
+use Rattle.tap_views.specs.{Files.IsFileOf, declared.encoder.TapFields.TapFields}
 
 -- no tap waits, and there is room
 none_wait : (waiting : List TapFields) → waiting ≡ [] → AreEncodable (λ tap. tap.moment) waiting

@@ -1,23 +1,17 @@
 -- The offsets of a local time are those that its zone gives.
 use Rattle.std.proofs.Common.{◌≡◌, ◌-◌, None, Option, Some, ap, refl}
-use Rattle.std.specs.Prelude.{if◌then◌else◌}
 use Rattle.jiff_core.specs.DateTime.{civil_nanos, civil_seconds}
-use Rattle.jiff_core.specs.declared.Offset.{Offset}
-use Rattle.jiff_core.specs.declared.civil.datetime.DateTime.{DateTime}
-use Rattle.jiff_tz.specs.PosixRule.{ambiguous_at_by, match_some}
-use Rattle.jiff_tz.specs.PosixRule as Posix
-use Rattle.jiff_tz.specs.Tzif.{civil_count_at, is_inside, offsets_in, rule_after, transition_at}
-use Rattle.jiff_tz.specs.Tzif.{type_after}
-use Rattle.jiff_tz.specs.Zone.{ambiguous_at}
-use Rattle.jiff_tz.specs.declared.ambiguous.AmbiguousOffset.{AmbiguousOffset}
-use Rattle.jiff_tz.specs.declared.ambiguous.AmbiguousOffset.TheVariants.{Unambiguous}
-use Rattle.jiff_tz.specs.declared.posix.Dst.{Dst}
-use Rattle.jiff_tz.specs.declared.posix.TimeZone.{TimeZone as Rule}
-use Rattle.jiff_tz.specs.declared.timezone.TimeZone.{TimeZone}
-use Rattle.jiff_tz.specs.declared.timezone.TimeZone.TheVariants as zones
+use Rattle.jiff_core.specs.declared.{Offset.Offset, civil.datetime.DateTime.DateTime}
+use Rattle.jiff_tz.specs.{PosixRule.ambiguous_at_by, PosixRule.match_some, Tzif.civil_count_at}
+use Rattle.jiff_tz.specs.Tzif.{is_inside, offsets_in, rule_after, transition_at, type_after}
+use Rattle.jiff_tz.specs.{Zone.ambiguous_at, declared.ambiguous.AmbiguousOffset.AmbiguousOffset}
+use Rattle.jiff_tz.specs.declared.{ambiguous.AmbiguousOffset.TheVariants.Unambiguous, posix.Dst.Dst}
+use Rattle.jiff_tz.specs.declared.{posix.TimeZone.TimeZone as Rule, timezone.TimeZone.TimeZone}
+use Rattle.std.specs.Prelude.{if◌then◌else◌}
 use Rattle.tap_rows.specs.LocalTimes.{clock_nanos, clock_seconds, offsets_by, offsets_in_zone}
-use Rattle.tap_rows.specs.LocalTimes.{rule_offsets}
-use Rattle.tap_rows.specs.inside.WrittenTimes.{written_of}
+use Rattle.tap_rows.specs.{LocalTimes.rule_offsets, inside.WrittenTimes.written_of}
+use Rattle.jiff_tz.specs.PosixRule as Posix
+use Rattle.jiff_tz.specs.declared.timezone.TimeZone.TheVariants as zones
 
 by_rule : (standard : Offset) (dst : Option Dst) (time : DateTime)
     → ambiguous_at_by standard dst time ≡ offsets_by standard dst (written_of time)

@@ -1,12 +1,10 @@
 -- Decimal digits.
 use Rattle.std.proofs.Common.{◌≡◌, ℕ, zero, suc, ◌<◌, ◌≤◌, List, [], ◌∷◌, length, None, Some, refl}
-use Rattle.std.proofs.Common.{arith, true, false}
-use Rattle.std.specs.Prelude.{◌^◌, ◌&&◌, ◌==◌, Bool, if◌then◌else◌, nat_lt, slice_index}
+use Rattle.std.proofs.{Common.arith, Common.true, Common.false, lemmas.Str.digit_value_digit}
 use Rattle.std.specs.Char.{is_ascii_digit}
+use Rattle.std.specs.Prelude.{◌^◌, ◌&&◌, ◌==◌, Bool, if◌then◌else◌, nat_lt, slice_index}
 use Rattle.std.specs.Str.Parse.{AllDigits, digits_value}
-use Rattle.std.proofs.lemmas.Str.{digit_value_digit}
-use Rattle.tap_rows.specs.Moments.{IsDecimal}
-use Rattle.tap_rows.specs.Numbers.{decimal_in, digits_len}
+use Rattle.tap_rows.specs.{Moments.IsDecimal, Numbers.decimal_in, Numbers.digits_len}
 
 -- the first `end` bytes are digits, and no digit follows them
 pub digits_len_is : (text : List ℕ) (end : ℕ) → end ≤ length text

@@ -1,27 +1,20 @@
 -- The devices of rows, numbered from row to row.
 use Rattle.std.proofs.Common.{◌≡◌, ◌∙◌, ◌++◌, ◌∷◌, ◌+◌, ◌≤◌, Bor, List, [], None, Some, ap}
 use Rattle.std.proofs.Common.{append-nil, append_assoc, arith, get_or, inl, inr, length, refl, suc}
-use Rattle.std.proofs.Common.{sym, take, zero, ℕ}
-use Rattle.std.proofs.Common.{false, subst, true, ◌<◌}
-use Rattle.std.proofs.lemmas.Bool.{lt-ltb}
-use Rattle.std.specs.Prelude.{◌==◌, ◌^◌, codes, flat_map, max, nat_lt, slice_get}
-use Rattle.std.proofs.lemmas.List.{take_more}
-use Rattle.std.proofs.lemmas.Option.{slice_get-get_or, slice_get_cases, slice_get_within}
-use Rattle.std.proofs.lemmas.List.Sums.{fold-append}
-use Rattle.std.specs.List.{fold}
-use Rattle.std.proofs.lemmas.Grind.{flat_map-append}
+use Rattle.std.proofs.Common.{sym, take, zero, ℕ, false, subst, true, ◌<◌}
 use Rattle.csv.specs.declared.reader.Reader.{Reader}
-use Rattle.tap_rows.specs.AgencyRows.{HeadLayout}
-use Rattle.tap_rows.specs.AgencyTexts.{HasRecords}
-use Rattle.tap_rows.specs.Devices.{Device, validator_of}
-use Rattle.tap_rows.specs.Numbering.{IsNumbered, device_row, device_table_text, greatest}
-use Rattle.tap_rows.specs.Numbering.{with_name, with_row}
-use Rattle.tap_rows.specs.declared.agency.choice.Choice.{Choice}
-use Rattle.tap_rows.specs.declared.agency.positions.Positions.{Positions}
-use Rattle.tap_rows.specs.inside.Numbering.{IsNumbering}
-use Rattle.tap_rows.specs.inside.Positions.{layout_of}
-use Rattle.tap_rows.specs.inside.RecordReaders.{HasConsumed}
+use Rattle.std.proofs.lemmas.{Bool.lt-ltb, Grind.flat_map-append}
+use Rattle.std.proofs.lemmas.List.{take_more, Sums.fold-append}
+use Rattle.std.proofs.lemmas.Option.{slice_get-get_or, slice_get_cases, slice_get_within}
+use Rattle.std.specs.List.{fold}
+use Rattle.std.specs.Prelude.{◌==◌, ◌^◌, codes, flat_map, max, nat_lt, slice_get}
 use Rattle.tap_rows.proofs.AgencyRowLemmas.{layout_is, no_wanting}
+use Rattle.tap_rows.specs.{AgencyRows.HeadLayout, AgencyTexts.HasRecords, Devices.Device}
+use Rattle.tap_rows.specs.{Devices.validator_of, Numbering.IsNumbered}
+use Rattle.tap_rows.specs.Numbering.{device_row, device_table_text, greatest, with_name, with_row}
+use Rattle.tap_rows.specs.declared.agency.{choice.Choice.Choice, positions.Positions.Positions}
+use Rattle.tap_rows.specs.inside.{Numbering.IsNumbering, Positions.layout_of}
+use Rattle.tap_rows.specs.inside.RecordReaders.{HasConsumed}
 
 pub numbering_more : (choice : Choice) (positions : Positions) (text : List ℕ)
     (reader after : Reader (Bor (List ℕ))) (old now new : List Device) (row : List (List ℕ))

@@ -1,25 +1,20 @@
 -- A text is the device table of one list of devices at most, and then it has no fault.
 use Rattle.std.proofs.Common.{◌≡◌, ℕ, Bool, true, false, cond, List, [], ◌∷◌, ◌++◌, Some, length}
 use Rattle.std.proofs.Common.{inl, inr, refl, sym, ap, subst, ◌∙◌, append_assoc}
-use Rattle.std.specs.Cmp.Lexicographic.{bytes_decides}
-use Rattle.std.specs.List.{AllByRecursion, AllZip, IsDistinct}
-use Rattle.std.specs.Map.{keys_of}
-use Rattle.std.specs.Str.{bytes_eq}
-use Rattle.csv.specs.Machine.{next_record}
-use Rattle.csv.specs.Reading.{AreRecords, Reached}
-use Rattle.csv.specs.declared.parser.Config.{Config}
-use Rattle.csv.specs.declared.parser.State.{State}
-use Rattle.tap_rows.specs.Devices.{AreDevices, AreDevicesBy, Device, HasDeviceHead, IsDeviceRow}
-use Rattle.tap_rows.specs.Devices.{IsDevicesFault, IsItsSeparator, IsWrongDevice, device_head}
-use Rattle.tap_rows.specs.Devices.{validator_of}
-use Rattle.tap_rows.specs.Rows.{IsValidator}
-use Rattle.tap_rows.specs.declared.agency.choice.Separator.{Separator}
-use Rattle.tap_rows.specs.declared.devices.fault.DevicesFault.{DevicesFault}
-use Rattle.tap_rows.specs.declared.devices.fault.DevicesFault.TheVariants as fault
-use Rattle.tap_rows.specs.declared.devices.fault.WrongDevice.{WrongDevice}
-use Rattle.tap_rows.specs.declared.devices.fault.WrongDevice.TheVariants as wrong
+use Rattle.csv.specs.{Machine.next_record, Reading.AreRecords, Reading.Reached}
+use Rattle.csv.specs.declared.parser.{Config.Config, State.State}
+use Rattle.std.specs.{Cmp.Lexicographic.bytes_decides, List.AllByRecursion, List.AllZip}
+use Rattle.std.specs.{List.IsDistinct, Map.keys_of, Str.bytes_eq}
 use Rattle.tap_rows.proofs.DeviceLemmas.{has_head}
 use Rattle.tap_rows.proofs.UniqueParse.{head_same, one_list_of_records, one_read}
+use Rattle.tap_rows.specs.Devices.{AreDevices, AreDevicesBy, Device, HasDeviceHead, IsDeviceRow}
+use Rattle.tap_rows.specs.Devices.{IsDevicesFault, IsItsSeparator, IsWrongDevice, device_head}
+use Rattle.tap_rows.specs.{Devices.validator_of, Rows.IsValidator}
+use Rattle.tap_rows.specs.declared.agency.choice.Separator.{Separator}
+use Rattle.tap_rows.specs.declared.devices.fault.DevicesFault.{DevicesFault}
+use Rattle.tap_rows.specs.declared.devices.fault.WrongDevice.{WrongDevice}
+use Rattle.tap_rows.specs.declared.devices.fault.DevicesFault.TheVariants as fault
+use Rattle.tap_rows.specs.declared.devices.fault.WrongDevice.TheVariants as wrong
 
 -- ---- the separator
 one_separator : (separator : Separator) (text : List ℕ) (a b : Separator)

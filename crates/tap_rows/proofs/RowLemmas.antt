@@ -1,14 +1,12 @@
 -- A line is the row of at most one tap.
 use Rattle.std.proofs.Common.{◌≡◌, ℕ, List, [], ◌∷◌, ◌++◌, length, refl, sym, ap, subst, ◌∙◌, arith}
 use Rattle.std.proofs.Common.{append-nil, append_assoc, length-append, Ok}
-use Rattle.tap_views.specs.declared.encoder.TapFields.{TapFields}
-use Rattle.tap_rows.specs.Moments.{IsTime}
-use Rattle.tap_rows.proofs.FieldLemmas.{one_fields, one_value}
-use Rattle.tap_rows.proofs.MomentLemmas.{one_time}
-use Rattle.tap_rows.specs.Rows.{IsToken, IsTokenField, IsValidatorField, IsMomentField, IsTapRow}
-use Rattle.tap_rows.specs.Rows.{IsNoTapRow, row_text, rows_text}
+use Rattle.tap_rows.proofs.{FieldLemmas.one_fields, FieldLemmas.one_value, MomentLemmas.one_time}
+use Rattle.tap_rows.specs.{Moments.IsTime, Rows.IsToken, Rows.IsTokenField, Rows.IsValidatorField}
+use Rattle.tap_rows.specs.Rows.{IsMomentField, IsTapRow, IsNoTapRow, row_text, rows_text}
 use Rattle.tap_rows.specs.declared.column.Column.{Column}
 use Rattle.tap_rows.specs.declared.column.Column.TheVariants.{Fields, Token, Validator, Moment}
+use Rattle.tap_views.specs.declared.encoder.TapFields.{TapFields}
 
 -- what a field contains
 one_token : (text token other : List ℕ) → IsTokenField text token → IsTokenField text other

@@ -1,15 +1,13 @@
 -- A table, read row by row.
-use Rattle.std.proofs.Common.{◌≡◌, ◌∙◌, ◌+◌, ℕ, List, [], ◌∷◌, ◌++◌, ap, arith}
-use Rattle.std.proofs.Common.{length-append, refl, subst, sym}
+use Rattle.std.proofs.Common.{◌≡◌, ◌∙◌, ◌+◌, ℕ, List, [], ◌∷◌, ◌++◌, ap, arith, length-append, refl}
+use Rattle.std.proofs.Common.{subst, sym}
 use Rattle.std.specs.Io.BufRead.{first_line, drop_through}
-use Rattle.tap_views.specs.declared.encoder.TapFields.{TapFields}
+use Rattle.tap_rows.proofs.RowLemmas.{one_row, no_bad_row, not_empty}
 use Rattle.tap_rows.specs.Rows.{IsTapRow, IsNoTapRow}
 use Rattle.tap_rows.specs.TapTables.{BeginsWithRows, IsBadRow, IsHead, IsTapTable}
-use Rattle.tap_rows.specs.declared.column.Column.{Column}
-use Rattle.tap_rows.specs.declared.growing.Growing.{Growing}
-use Rattle.tap_rows.specs.inside.Growing.{IsGrown}
-use Rattle.tap_rows.specs.inside.TapTables.{HasEncoded}
-use Rattle.tap_rows.proofs.RowLemmas.{one_row, no_bad_row, not_empty}
+use Rattle.tap_rows.specs.declared.{column.Column.Column, growing.Growing.Growing}
+use Rattle.tap_rows.specs.inside.{Growing.IsGrown, TapTables.HasEncoded}
+use Rattle.tap_views.specs.declared.encoder.TapFields.{TapFields}
 
 -- ---- rows
 -- one row more

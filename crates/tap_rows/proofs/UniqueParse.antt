@@ -1,15 +1,10 @@
 -- An agency's CSV is read in one way at most.
 use Rattle.std.proofs.Common.{◌≡◌, ℕ, List, [], ◌∷◌, Some, refl, sym, ap, subst, ◌∙◌}
-use Rattle.std.specs.Prelude.{Option}
-use Rattle.std.specs.List.{AllZip}
-use Rattle.csv.specs.Machine.{Read, next_record}
-use Rattle.csv.specs.Reading.{AreRecords, Reached}
-use Rattle.csv.specs.declared.parser.Config.{Config}
-use Rattle.csv.specs.declared.parser.State.{State}
-use Rattle.tap_rows.specs.Agencies.{IsRead}
-use Rattle.tap_rows.specs.AgencyRows.{IsParseOf}
-use Rattle.tap_rows.specs.declared.agency.choice.Choice.{Choice}
-use Rattle.tap_rows.specs.declared.agency.reading.Reading.{Reading}
+use Rattle.csv.specs.{Machine.Read, Machine.next_record, Reading.AreRecords, Reading.Reached}
+use Rattle.csv.specs.declared.parser.{Config.Config, State.State}
+use Rattle.std.specs.{List.AllZip, Prelude.Option}
+use Rattle.tap_rows.specs.{Agencies.IsRead, AgencyRows.IsParseOf}
+use Rattle.tap_rows.specs.declared.agency.{choice.Choice.Choice, reading.Reading.Reading}
 
 -- ---- the records
 pub one_read : (p q : Read) (o : Option Read) → o ≡ Some p → o ≡ Some q → p ≡ q

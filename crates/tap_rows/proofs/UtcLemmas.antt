@@ -2,23 +2,22 @@
 use Rattle.std.proofs.Common.{◌≡◌, ◌-ℤ◌, ℕ, ℤ, pos, ◌+◌, ◌-◌, ◌*◌, ◌/◌, ◌%◌, ◌^◌, ◌<◌, ◌==◌, true}
 use Rattle.std.proofs.Common.{false, List, [], ◌∷◌, ◌++◌, Option, Some, None, Ok, refl, sym, subst}
 use Rattle.std.proofs.Common.{arith, inr}
-use Rattle.std.proofs.lemmas.Bool.Decides.{nat_tests}
-use Rattle.std.specs.Char.{is_ascii_digit}
-use Rattle.jiff_core.specs.declared.civil.date.Date.{Date}
-use Rattle.jiff_core.specs.declared.error.Syntax.TheVariants as Syntax
-use Rattle.jiff_core.specs.declared.error.Bound.TheVariants as Bd
-use Rattle.jiff_core.specs.Date.{epoch_day}
-use Rattle.jiff_core.specs.Timestamp.{IsTimestampNanos, nanos_of_seconds}
+use Rattle.fare_texts.proofs.Years.{year_of}
+use Rattle.fare_texts.specs.Moments.{IsCivilText, pad3}
 use Rattle.jiff_core.proofs.SignedLemmas.{signed_arith}
+use Rattle.jiff_core.specs.{Date.epoch_day, Timestamp.IsTimestampNanos, Timestamp.nanos_of_seconds}
+use Rattle.jiff_core.specs.declared.civil.date.Date.{Date}
+use Rattle.jiff_fmt.proofs.RoundTrip.{annotations-empty, date_spec-text, field-pad2, offset-zulu}
+use Rattle.jiff_fmt.proofs.TemporalLemmas.{instant-ok}
 use Rattle.jiff_fmt.specs.Reader.{nanoseconds, temporal_fraction, fraction_value}
 use Rattle.jiff_fmt.specs.Temporal.{date_parts, fraction_or_zero, parse_timestamp, parts_nanos}
 use Rattle.jiff_fmt.specs.Temporal.{temporal_datetime, time_spec, TimeParts}
 use Rattle.jiff_fmt.specs.Text.{date_text, pad2, year_text}
-use Rattle.jiff_fmt.proofs.RoundTrip.{annotations-empty, date_spec-text, field-pad2, offset-zulu}
-use Rattle.jiff_fmt.proofs.TemporalLemmas.{instant-ok}
-use Rattle.fare_texts.specs.Moments.{IsCivilText, pad3}
-use Rattle.fare_texts.proofs.Years.{year_of}
+use Rattle.std.proofs.lemmas.Bool.Decides.{nat_tests}
+use Rattle.std.specs.Char.{is_ascii_digit}
 use Rattle.tap_rows.specs.Moments.{HasUtcPunctuation, IsMoment, IsSecondText, IsUtc}
+use Rattle.jiff_core.specs.declared.error.Syntax.TheVariants as Syntax
+use Rattle.jiff_core.specs.declared.error.Bound.TheVariants as Bd
 
 -- ---- the time of day
 -- what a clock shows

@@ -1,26 +1,21 @@
 -- The table that is written is read as the taps that it was written for.
 use Rattle.std.proofs.Common.{All, inl, inr, ◌≡◌, ℕ, zero, suc, ◌+◌, ◌-◌, ◌<◌, ◌≤◌, ◌^◌, List, []}
-use Rattle.std.proofs.Common.{◌∷◌, ◌++◌}
-use Rattle.std.proofs.Common.{length, take, refl, sym, ap, subst, ◌∙◌, arith, append_assoc}
-use Rattle.std.proofs.Common.{length-append, true, false, Bool, ◌==◌, ◌&&◌}
-use Rattle.std.specs.Prelude.{codes, slice_index, slice_index_or, nat_lt, IsOk, if◌then◌else◌}
-use Rattle.std.specs.List.{AllByRecursion, AllPass}
-use Rattle.std.specs.Fmt.{decimal}
-use Rattle.std.specs.Str.Parse.{AllDigits}
-use Rattle.std.specs.Io.BufRead.{first_line, take_through, drop_through, ends_with_byte, strip_last}
-use Rattle.std.proofs.lemmas.Bool.{lt-ltb, ltb-true, and_parts}
-use Rattle.std.proofs.lemmas.Bool.Decides.{eqb_tells, nat_tests}
-use Rattle.std.proofs.lemmas.Fmt.{decimal_is_IsNumeral}
-use Rattle.std.proofs.lemmas.Str.Parse.{digit_from_value}
-use Rattle.std.proofs.Math.Seq.{get_or-append_seam}
-use Rattle.std.proofs.Math.Bool.{and-false}
-use Rattle.hex.specs.Hex.{encode_lower, decode_sized, is_hex_digit}
+use Rattle.std.proofs.Common.{◌∷◌, ◌++◌, length, take, refl, sym, ap, subst, ◌∙◌, arith}
+use Rattle.std.proofs.Common.{append_assoc, length-append, true, false, Bool, ◌==◌, ◌&&◌}
 use Rattle.hex.proofs.HexLemmas.{decode_sized-encode_lower, IsOk-decode_sized}
-use Rattle.tap_views.specs.declared.encoder.TapFields.{TapFields}
-use Rattle.tap_rows.specs.Fields.{AreFields, FieldRepresents}
-use Rattle.tap_rows.specs.Moments.{IsDecimal}
+use Rattle.hex.specs.Hex.{encode_lower, decode_sized, is_hex_digit}
+use Rattle.std.proofs.{Math.Bool.and-false, Math.Seq.get_or-append_seam, lemmas.Bool.lt-ltb}
+use Rattle.std.proofs.lemmas.Bool.{ltb-true, and_parts, Decides.eqb_tells, Decides.nat_tests}
+use Rattle.std.proofs.lemmas.{Fmt.decimal_is_IsNumeral, Str.Parse.digit_from_value}
+use Rattle.std.specs.Fmt.{decimal}
+use Rattle.std.specs.Io.BufRead.{first_line, take_through, drop_through, ends_with_byte, strip_last}
+use Rattle.std.specs.List.{AllByRecursion, AllPass}
+use Rattle.std.specs.Prelude.{codes, slice_index, slice_index_or, nat_lt, IsOk, if◌then◌else◌}
+use Rattle.std.specs.Str.Parse.{AllDigits}
+use Rattle.tap_rows.specs.{Fields.AreFields, Fields.FieldRepresents, Moments.IsDecimal}
 use Rattle.tap_rows.specs.Rows.{IsTapRow, IsTapFields, row_text, rows_text}
 use Rattle.tap_rows.specs.TapTables.{head, IsHead, BeginsWithRows, IsTapTable, tap_table_text}
+use Rattle.tap_views.specs.declared.encoder.TapFields.{TapFields}
 
 -- each byte is a digit or comes after them
 abbrev pub AreHigh : List ℕ → Type 0

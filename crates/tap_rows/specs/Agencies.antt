@@ -1,26 +1,20 @@
 -- An agency's CSV as a whole: what its rows are read as, the upload of their taps, the rows that
 -- are refused, and their summary.
-use Rattle.std.specs.Prelude.{◌≡◌, ℕ, ◌+◌, List, [], ◌∷◌, ◌++◌, Option, Some, None, length}
-use Rattle.std.specs.Prelude.{codes, slice_get, IsSomeAnd, flat_map, map}
-use Rattle.std.specs.Fmt.{decimal}
-use Rattle.std.specs.List.{AllZip, sum_by}
-use Rattle.tap_views.specs.declared.encoder.TapFields.{TapFields}
-use Rattle.tap_views.specs.Facts.{IsSpan}
-use Rattle.tap_views.specs.Files.{IsFileOf}
+use Rattle.std.specs.{Fmt.decimal, List.AllZip, List.sum_by}
+use Rattle.std.specs.Prelude.{◌≡◌, ℕ, ◌+◌, List, [], ◌∷◌, ◌++◌, Option, Some, None, length, codes}
+use Rattle.std.specs.Prelude.{slice_get, IsSomeAnd, flat_map, map}
 use Rattle.tap_rows.specs.AgencyRows.{IsColumn, IsParseOf}
 use Rattle.tap_rows.specs.AgencyTexts.{HasRecords, first_record, record_text, separator_byte}
-use Rattle.tap_rows.specs.declared.agency.choice.Choice.{Choice}
-use Rattle.tap_rows.specs.declared.agency.choice.Condition.{Condition}
+use Rattle.tap_rows.specs.declared.agency.choice.{Choice.Choice, Condition.Condition}
 use Rattle.tap_rows.specs.declared.agency.choice.Separator.{Separator}
-use Rattle.tap_rows.specs.declared.agency.fault.AgencyFault.{AgencyFault}
-use Rattle.tap_rows.specs.declared.agency.fault.AgencyFault.TheVariants as fault
-use Rattle.tap_rows.specs.declared.agency.fault.Wanted.{Wanted}
-use Rattle.tap_rows.specs.declared.agency.fault.Wanted.TheVariants as wanted
-use Rattle.tap_rows.specs.declared.agency.reading.Reading.{Reading}
-use Rattle.tap_rows.specs.declared.agency.reading.Reading.TheVariants as read
-use Rattle.tap_rows.specs.declared.agency.reading.Reason.{Reason}
-use Rattle.tap_rows.specs.declared.agency.reading.Reason.TheVariants as why
+use Rattle.tap_rows.specs.declared.agency.fault.{AgencyFault.AgencyFault, Wanted.Wanted}
+use Rattle.tap_rows.specs.declared.agency.reading.{Reading.Reading, Reason.Reason}
 use Rattle.tap_rows.specs.declared.agency.summary.Summary.{Summary}
+use Rattle.tap_views.specs.{Facts.IsSpan, Files.IsFileOf, declared.encoder.TapFields.TapFields}
+use Rattle.tap_rows.specs.declared.agency.fault.AgencyFault.TheVariants as fault
+use Rattle.tap_rows.specs.declared.agency.fault.Wanted.TheVariants as wanted
+use Rattle.tap_rows.specs.declared.agency.reading.Reading.TheVariants as read
+use Rattle.tap_rows.specs.declared.agency.reading.Reason.TheVariants as why
 
 -- the head has no column of this name, or more than one
 abbrev pub HasNoColumn : List (List ℕ) → List ℕ → Type 0

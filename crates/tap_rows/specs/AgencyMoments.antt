@@ -1,24 +1,20 @@
 -- The moment of a tap, as the field of an agency's row gives it: by a plain number, or by the date
 -- and the clock of RFC 3339, with an offset or of a zone. What is less than a millisecond is
 -- dropped.
-use Rattle.std.specs.Prelude.{◌==◌, ◌&&◌, ◌||◌, ◌+◌, ◌*◌, ◌/◌, ◌^◌, ◌++◌, ℕ, ℤ, pos, Bool, not}
-use Rattle.std.specs.Prelude.{[], ◌-ℤ◌, negsuc, Err, List, None, Ok, Option, Result, Some, codes}
-use Rattle.std.specs.Prelude.{drop}
-use Rattle.std.specs.Prelude.{if◌then◌else◌, length, min, nat_le, nat_lt, option_map, slice_index}
-use Rattle.std.specs.Prelude.{take}
-use Rattle.std.specs.Str.{bytes_eq}
 use Rattle.jiff_core.specs.Timestamp.{nanos_of_seconds}
-use Rattle.jiff_core.specs.declared.Offset.{Offset}
-use Rattle.jiff_core.specs.declared.error.Error.{Error}
+use Rattle.jiff_core.specs.declared.{Offset.Offset, error.Error.Error}
 use Rattle.jiff_fmt.specs.Temporal.{parse_datetime, parse_timestamp}
+use Rattle.std.specs.Prelude.{◌==◌, ◌&&◌, ◌||◌, ◌+◌, ◌*◌, ◌/◌, ◌^◌, ◌++◌, ℕ, ℤ, pos, Bool, not, []}
+use Rattle.std.specs.Prelude.{◌-ℤ◌, negsuc, Err, List, None, Ok, Option, Result, Some, codes, drop}
+use Rattle.std.specs.Prelude.{if◌then◌else◌, length, min, nat_le, nat_lt, option_map, slice_index}
+use Rattle.std.specs.{Prelude.take, Str.bytes_eq}
 use Rattle.tap_rows.specs.LocalTimes.{Written, clock_nanos, offset_at}
 use Rattle.tap_rows.specs.Numbers.{decimal_in, digits_len, fraction_len, thousandths_in}
-use Rattle.tap_rows.specs.declared.agency.choice.LocalClock.{LocalClock}
-use Rattle.tap_rows.specs.declared.agency.choice.Unit.{Unit}
-use Rattle.tap_rows.specs.declared.agency.choice.Unit.TheVariants as unit
+use Rattle.tap_rows.specs.declared.agency.choice.{LocalClock.LocalClock, Unit.Unit}
 use Rattle.tap_rows.specs.declared.agency.reading.Reason.{Reason}
-use Rattle.tap_rows.specs.declared.agency.reading.Reason.TheVariants as why
 use Rattle.tap_views.specs.Layout.{moment_limit}
+use Rattle.tap_rows.specs.declared.agency.choice.Unit.TheVariants as unit
+use Rattle.tap_rows.specs.declared.agency.reading.Reason.TheVariants as why
 
 -- at the positions at which `2024-03-08T17:00:00` has its dashes, its `T` and its colons, this text
 -- has them too, or a `t` or a blank for the `T`

@@ -1,26 +1,20 @@
 -- A row of an agency's CSV: its columns by the names of the head, whether it is kept, and the tap
 -- that it is.
-use Rattle.std.specs.Prelude.{◌≡◌, ◌==◌, ◌&&◌, ◌+◌, ◌^◌, ℕ, Bool, List, [], ◌∷◌, Option, None, Some}
-use Rattle.std.specs.Prelude.{Err, Ok, Result, if◌then◌else◌, length, map, nat_lt, not, option_map}
-use Rattle.std.specs.Prelude.{false, take, true, unwrap_or}
-use Rattle.std.specs.Borrow.{Bor}
-use Rattle.std.specs.List.{list_all, list_any}
-use Rattle.std.specs.Str.{bytes_eq}
 use Rattle.csv.specs.Records.{field_at}
 use Rattle.sha2.specs.Sha256.{sha256}
-use Rattle.uuid.specs.Text.{parsed}
+use Rattle.std.specs.{Borrow.Bor, List.list_all, List.list_any}
+use Rattle.std.specs.Prelude.{◌≡◌, ◌==◌, ◌&&◌, ◌+◌, ◌^◌, ℕ, Bool, List, [], ◌∷◌, Option, None, Some}
+use Rattle.std.specs.Prelude.{Err, Ok, Result, if◌then◌else◌, length, map, nat_lt, not, option_map}
+use Rattle.std.specs.{Prelude.false, Prelude.take, Prelude.true, Prelude.unwrap_or, Str.bytes_eq}
 use Rattle.tap_rows.specs.Devices.{devices_of, validator_of}
-use Rattle.tap_rows.specs.Formats.{moment_under}
-use Rattle.tap_rows.specs.Keys.{code_by}
-use Rattle.tap_rows.specs.Numbers.{whole_number_in}
-use Rattle.tap_rows.specs.declared.agency.choice.Choice.{Choice}
-use Rattle.tap_rows.specs.declared.agency.choice.Condition.{Condition}
+use Rattle.tap_rows.specs.{Formats.moment_under, Keys.code_by, Numbers.whole_number_in}
+use Rattle.tap_rows.specs.declared.agency.choice.{Choice.Choice, Condition.Condition}
 use Rattle.tap_rows.specs.declared.agency.key.TokenKey.{TokenKey}
-use Rattle.tap_rows.specs.declared.agency.reading.Reading.{Reading}
-use Rattle.tap_rows.specs.declared.agency.reading.Reading.TheVariants as read
-use Rattle.tap_rows.specs.declared.agency.reading.Reason.{Reason}
-use Rattle.tap_rows.specs.declared.agency.reading.Reason.TheVariants as why
+use Rattle.tap_rows.specs.declared.agency.reading.{Reading.Reading, Reason.Reason}
 use Rattle.tap_rows.specs.declared.devices.table.DeviceTable.{DeviceTable}
+use Rattle.uuid.specs.Text.{parsed}
+use Rattle.tap_rows.specs.declared.agency.reading.Reading.TheVariants as read
+use Rattle.tap_rows.specs.declared.agency.reading.Reason.TheVariants as why
 
 -- ---- the columns
 -- of the fields of the head this one, and no other, is the name

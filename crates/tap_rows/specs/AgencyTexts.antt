@@ -1,12 +1,10 @@
 -- A CSV text, as RFC 4180 has it: its records, by the definition of the kit's reader. A byte order
 -- mark before the first is none of them.
-use Rattle.std.specs.Prelude.{ℕ, List, [], Option, Some, None}
 use Rattle.csv.specs.Machine.{Read, next_record}
 use Rattle.csv.specs.Reading.{AreRecords, Reached, default_config, strip_bom}
 use Rattle.csv.specs.Writing.{default_writer, row_text}
-use Rattle.csv.specs.declared.parser.Config.{Config}
-use Rattle.csv.specs.declared.parser.State.{State}
-use Rattle.csv.specs.declared.parser.State.TheVariants.{StartRecord}
+use Rattle.csv.specs.declared.parser.{Config.Config, State.State, State.TheVariants.StartRecord}
+use Rattle.std.specs.Prelude.{ℕ, List, [], Option, Some, None}
 use Rattle.tap_rows.specs.declared.agency.choice.Separator.{Separator}
 
 -- the byte of a separator

@@ -1,11 +1,8 @@
 -- What is written of an upload.
 use Rattle.std.specs.Prelude.{◌≡◌, ℕ, List, map, Option}
-use Rattle.tap_views.specs.Encoding.{fields_of}
-use Rattle.tap_views.specs.Layout.{Tap}
-use Rattle.tap_views.specs.declared.fault.LayoutFault.{LayoutFault}
-use Rattle.tap_views.specs.declared.encoder.TapFields.{TapFields}
-use Rattle.tap_views.specs.Files.{IsReadAs, taps_of_batches}
 use Rattle.tap_rows.specs.Rows.{rows_text}
+use Rattle.tap_views.specs.{Encoding.fields_of, Files.IsReadAs, Files.taps_of_batches, Layout.Tap}
+use Rattle.tap_views.specs.declared.{encoder.TapFields.TapFields, fault.LayoutFault.LayoutFault}
 
 -- the fields of all taps of these batches, in their order
 abbrev pub fields_in : List (List Tap) → List TapFields

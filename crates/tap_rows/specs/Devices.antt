@@ -1,17 +1,15 @@
 -- A device table: a CSV that gives devices, by their names, the numbers of their validators.
-use Rattle.std.specs.Prelude.{◌≡◌, ◌⊎◌, ℕ, ◌+◌, List, [], ◌∷◌, ◌++◌, Option, Some, length, map}
-use Rattle.std.specs.Prelude.{codes}
-use Rattle.std.specs.List.{AllZip, IsDistinct}
-use Rattle.std.specs.Map.{keys_of, lookup}
+use Rattle.std.specs.{List.AllZip, List.IsDistinct, Map.keys_of, Map.lookup, Prelude.◌≡◌}
+use Rattle.std.specs.Prelude.{◌⊎◌, ℕ, ◌+◌, List, [], ◌∷◌, ◌++◌, Option, Some, length, map, codes}
 use Rattle.std.specs.Str.{bytes_eq}
 use Rattle.tap_rows.specs.AgencyTexts.{BeginsWith, HasRecords, comma, first_record}
 use Rattle.tap_rows.specs.Rows.{IsNoValidator, IsValidator}
 use Rattle.tap_rows.specs.declared.agency.choice.Separator.{Separator}
 use Rattle.tap_rows.specs.declared.devices.fault.DevicesFault.{DevicesFault}
-use Rattle.tap_rows.specs.declared.devices.fault.DevicesFault.TheVariants as fault
 use Rattle.tap_rows.specs.declared.devices.fault.WrongDevice.{WrongDevice}
-use Rattle.tap_rows.specs.declared.devices.fault.WrongDevice.TheVariants as wrong
 use Rattle.tap_rows.specs.declared.devices.table.DeviceTable.{DeviceTable}
+use Rattle.tap_rows.specs.declared.devices.fault.DevicesFault.TheVariants as fault
+use Rattle.tap_rows.specs.declared.devices.fault.WrongDevice.TheVariants as wrong
 
 -- a device: its name, and the number of its validator
 abbrev pub Device : Type 0

@@ -1,15 +1,12 @@
 -- The moment that a field gives by a format of `strptime`: by its instant, or by its date and its
 -- clock, which are read as RFC 3339 writes them.
-use Rattle.std.specs.Prelude.{◌==◌, ◌+◌, ◌/◌, ◌%◌, ◌++◌, ℕ, ℤ, pos, negsuc, List, [], ◌∷◌}
-use Rattle.std.specs.Prelude.{Err, None, Ok, Option, Result, Some, if◌then◌else◌, option_map}
-use Rattle.std.specs.Prelude.{unsigned_abs, unwrap_or}
-use Rattle.std.specs.Borrow.{Bor}
 use Rattle.jiff_core.specs.declared.error.Error.{Error}
-use Rattle.jiff_strtime.specs.Reader.{parse_text}
-use Rattle.jiff_strtime.specs.Text.{Parts}
+use Rattle.jiff_strtime.specs.{Reader.parse_text, Text.Parts}
+use Rattle.std.specs.{Borrow.Bor, Prelude.◌==◌, Prelude.◌+◌, Prelude.◌/◌}
+use Rattle.std.specs.Prelude.{◌%◌, ◌++◌, ℕ, ℤ, pos, negsuc, List, [], ◌∷◌, Err, None, Ok, Option}
+use Rattle.std.specs.Prelude.{Result, Some, if◌then◌else◌, option_map, unsigned_abs, unwrap_or}
 use Rattle.tap_rows.specs.AgencyMoments.{clock_moment, moment_in, moment_of, whole_ms}
-use Rattle.tap_rows.specs.declared.agency.choice.LocalClock.{LocalClock}
-use Rattle.tap_rows.specs.declared.agency.choice.Unit.{Unit}
+use Rattle.tap_rows.specs.declared.agency.choice.{LocalClock.LocalClock, Unit.Unit}
 use Rattle.tap_rows.specs.declared.agency.reading.Reason.{Reason}
 use Rattle.tap_rows.specs.declared.agency.reading.Reason.TheVariants as why
 

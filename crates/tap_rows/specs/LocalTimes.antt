@@ -1,24 +1,19 @@
 -- The offsets of a local time: a date and a clock without an offset, in a time zone.
-use Rattle.std.specs.Prelude.{◌+ℤ◌, ◌*ℤ◌, ◌+◌, ◌-◌, ◌*◌, ℕ, ℤ, Err, None, Ok, Option, Result, Some}
-use Rattle.std.specs.Prelude.{if◌then◌else◌, pos}
-use Rattle.jiff_core.specs.Calendar.{days_from_civil}
-use Rattle.jiff_core.specs.declared.Offset.{Offset}
+use Rattle.jiff_core.specs.{Calendar.days_from_civil, declared.Offset.Offset}
 use Rattle.jiff_fmt.specs.Temporal.{DateParts, TimeParts}
 use Rattle.jiff_tz.specs.PosixRule.{ambiguous_by, match_some, rule_nanos}
 use Rattle.jiff_tz.specs.Tzif.{civil_count_at, is_inside, offsets_in, rule_after, transition_at}
-use Rattle.jiff_tz.specs.Tzif.{type_after}
-use Rattle.jiff_tz.specs.Zone.{utc_offset}
+use Rattle.jiff_tz.specs.{Tzif.type_after, Zone.utc_offset}
 use Rattle.jiff_tz.specs.declared.ambiguous.AmbiguousOffset.{AmbiguousOffset}
 use Rattle.jiff_tz.specs.declared.ambiguous.AmbiguousOffset.TheVariants.{Fold, Gap, Unambiguous}
-use Rattle.jiff_tz.specs.declared.posix.Dst.{Dst}
-use Rattle.jiff_tz.specs.declared.posix.TimeZone.{TimeZone as Rule}
-use Rattle.jiff_tz.specs.declared.timezone.TimeZone.{TimeZone}
-use Rattle.jiff_tz.specs.declared.timezone.TimeZone.TheVariants as zones
-use Rattle.jiff_tz.specs.declared.tzif.Tzif.{Tzif}
-use Rattle.tap_rows.specs.declared.agency.choice.Fold.{Fold as Folds}
-use Rattle.tap_rows.specs.declared.agency.choice.Fold.TheVariants as folds
-use Rattle.tap_rows.specs.declared.agency.choice.LocalClock.{LocalClock}
+use Rattle.jiff_tz.specs.declared.posix.{Dst.Dst, TimeZone.TimeZone as Rule}
+use Rattle.jiff_tz.specs.declared.{timezone.TimeZone.TimeZone, tzif.Tzif.Tzif}
+use Rattle.std.specs.Prelude.{◌+ℤ◌, ◌*ℤ◌, ◌+◌, ◌-◌, ◌*◌, ℕ, ℤ, Err, None, Ok, Option, Result, Some}
+use Rattle.std.specs.Prelude.{if◌then◌else◌, pos}
+use Rattle.tap_rows.specs.declared.agency.choice.{Fold.Fold as Folds, LocalClock.LocalClock}
 use Rattle.tap_rows.specs.declared.agency.reading.Reason.{Reason}
+use Rattle.jiff_tz.specs.declared.timezone.TimeZone.TheVariants as zones
+use Rattle.tap_rows.specs.declared.agency.choice.Fold.TheVariants as folds
 use Rattle.tap_rows.specs.declared.agency.reading.Reason.TheVariants as why
 
 -- a date and a time of day, as a text writes them

@@ -1,11 +1,9 @@
 -- The moment of a tap, as the field of a row gives it: in milliseconds, or by RFC 3339 in UTC.
-use Rattle.std.specs.Prelude.{◌≡◌, ℕ, ◌-◌, ◌*◌, ◌/◌, ◌%◌, ◌<◌, ◌≤◌, ◌⊎◌, pos, List, ◌++◌}
-use Rattle.std.specs.Prelude.{codes, length, slice_index, Ok}
+use Rattle.jiff_core.specs.{Date.epoch_day, declared.civil.date.Date.Date}
+use Rattle.jiff_fmt.specs.{Temporal.parse_timestamp, Text.date_text, Text.pad2}
+use Rattle.std.specs.Prelude.{◌≡◌, ℕ, ◌-◌, ◌*◌, ◌/◌, ◌%◌, ◌<◌, ◌≤◌, ◌⊎◌, pos, List, ◌++◌, codes}
+use Rattle.std.specs.Prelude.{length, slice_index, Ok}
 use Rattle.std.specs.Str.Parse.{IsNumeral, digits_value}
-use Rattle.jiff_core.specs.declared.civil.date.Date.{Date}
-use Rattle.jiff_core.specs.Date.{epoch_day}
-use Rattle.jiff_fmt.specs.Temporal.{parse_timestamp}
-use Rattle.jiff_fmt.specs.Text.{date_text, pad2}
 use Rattle.tap_views.specs.Layout.{moment_limit}
 
 -- the text is one decimal digit or more, and they write this number

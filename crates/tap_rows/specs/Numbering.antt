@@ -1,13 +1,12 @@
 -- Devices that get the next numbers of validators, and the text of their device table.
+use Rattle.std.specs.List.{fold}
 use Rattle.std.specs.Prelude.{◌≡◌, ◌⊎◌, ◌==◌, ◌&&◌, ◌+◌, ◌^◌, ◌++◌, ◌∷◌, [], ℕ, List, None, Option}
 use Rattle.std.specs.Prelude.{Some, codes, decimal, flat_map, if◌then◌else◌, length, max, nat_lt}
-use Rattle.std.specs.List.{fold}
 use Rattle.tap_rows.specs.Agencies.{IsWanting}
 use Rattle.tap_rows.specs.AgencyRows.{HeadLayout, field, is_kept, layout_in}
 use Rattle.tap_rows.specs.AgencyTexts.{HasRecords, comma, first_record, record_text}
 use Rattle.tap_rows.specs.Devices.{Device, validator_of}
-use Rattle.tap_rows.specs.declared.agency.choice.Choice.{Choice}
-use Rattle.tap_rows.specs.declared.agency.fault.Wanted.{Wanted}
+use Rattle.tap_rows.specs.declared.agency.{choice.Choice.Choice, fault.Wanted.Wanted}
 
 -- the greatest number of the validators, or 0
 abbrev pub greatest : List Device → ℕ

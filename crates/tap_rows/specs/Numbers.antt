@@ -1,8 +1,7 @@
 -- Numbers, as the fields of an agency's rows write them.
+use Rattle.std.specs.{Char.is_ascii_digit, List.list_all, List.prefix_len}
 use Rattle.std.specs.Prelude.{◌==◌, ◌&&◌, ◌+◌, ◌-◌, ◌*◌, ◌^◌, ℕ, Bool, List, Option, None, Some}
 use Rattle.std.specs.Prelude.{drop, if◌then◌else◌, length, nat_lt, slice_index, take}
-use Rattle.std.specs.Char.{is_ascii_digit}
-use Rattle.std.specs.List.{list_all, prefix_len}
 use Rattle.std.specs.Str.Parse.{digits_value}
 
 -- how many digits the text begins with

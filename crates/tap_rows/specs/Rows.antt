@@ -1,13 +1,11 @@
 -- A tap as a row of CSV: three fields, each as it is or in quotes, with commas between them.
-use Rattle.std.specs.Prelude.{◌≡◌, ℕ, ◌<◌, ◌^◌, List, [], ◌∷◌, ◌++◌, length, Ok, flat_map}
-use Rattle.std.specs.Fmt.{decimal}
 use Rattle.hex.specs.Hex.{decode_sized, encode_lower, IsBytes}
-use Rattle.tap_views.specs.Layout.{moment_limit}
-use Rattle.tap_views.specs.declared.encoder.TapFields.{TapFields}
+use Rattle.std.specs.Fmt.{decimal}
+use Rattle.std.specs.Prelude.{◌≡◌, ℕ, ◌<◌, ◌^◌, List, [], ◌∷◌, ◌++◌, length, Ok, flat_map}
 use Rattle.tap_rows.specs.Fields.{AreFields, FieldRepresentsSome}
-use Rattle.tap_rows.specs.Moments.{IsDecimal, IsMoment}
-use Rattle.tap_rows.specs.declared.column.Column.{Column}
+use Rattle.tap_rows.specs.{Moments.IsDecimal, Moments.IsMoment, declared.column.Column.Column}
 use Rattle.tap_rows.specs.declared.column.Column.TheVariants.{Fields, Token, Validator, Moment}
+use Rattle.tap_views.specs.{Layout.moment_limit, declared.encoder.TapFields.TapFields}
 
 -- the text is 32 hexadecimal digits, of either case, and they spell these 16 bytes
 abbrev pub IsToken : List ℕ → List ℕ → Type 0

@@ -1,14 +1,12 @@
 -- A tap table as CSV: a header line, and then a line for each tap. A line ends with a line feed,
 -- or with carriage return and line feed; the last may lack its end.
-use Rattle.std.specs.Prelude.{◌≡◌, ℕ, ◌+◌, List, [], ◌∷◌, ◌++◌, length, codes}
 use Rattle.std.specs.Io.BufRead.{first_line, drop_through}
-use Rattle.tap_views.specs.declared.encoder.TapFields.{TapFields}
-use Rattle.tap_views.specs.Files.{IsFileOf}
+use Rattle.std.specs.Prelude.{◌≡◌, ℕ, ◌+◌, List, [], ◌∷◌, ◌++◌, length, codes}
 use Rattle.tap_rows.specs.Fields.{AreFields, FieldRepresents}
 use Rattle.tap_rows.specs.Rows.{IsTapRow, IsNoTapRow, rows_text}
-use Rattle.tap_rows.specs.declared.column.Column.{Column}
-use Rattle.tap_rows.specs.declared.fault.RowsFault.{RowsFault}
+use Rattle.tap_rows.specs.declared.{column.Column.Column, fault.RowsFault.RowsFault}
 use Rattle.tap_rows.specs.declared.fault.RowsFault.TheVariants.{Head, NoMemory, Row}
+use Rattle.tap_views.specs.{Files.IsFileOf, declared.encoder.TapFields.TapFields}
 
 -- the line is a header line: its three fields represent the names of the columns
 pub record IsHead (line : List ℕ) : Type 0 where

@@ -1,7 +1,6 @@
 //! The fields of a line, and the values that they represent.
 
-ghost use Rattle.std.specs.Prelude.{◌≡◌, ◌++◌, ◌∷◌, ◌↔◌, ℕ, List};
-ghost use Rattle.std.specs.Prelude.{All, IsTrue, MatchOption};
+ghost use Rattle.std.specs.Prelude.{◌≡◌, ◌++◌, ◌∷◌, ◌↔◌, ℕ, List, All, IsTrue, MatchOption};
 ghost use Rattle.tap_rows.specs.Fields.{AreFields, FieldRepresents};
 
 /// What is before the first such byte, and what is after it.

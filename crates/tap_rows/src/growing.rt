@@ -2,8 +2,7 @@
 
 ghost use Rattle.std.specs.Prelude.{◌≡◌, ◌<◌, ◌++◌, ◌∷◌, [], List, IfOk, OnOk, length};
 ghost use Rattle.tap_rows.specs.inside.Growing.{IsGrown};
-ghost use Rattle.tap_views.specs.Files.{IsFileOf};
-ghost use Rattle.tap_views.specs.Layout.{moment_limit};
+ghost use Rattle.tap_views.specs.{Files.IsFileOf, Layout.moment_limit};
 ghost use Rattle.tap_views.specs.declared.encoder.TapFields.{TapFields};
 
 use std::alloc::{AllocError, Global};

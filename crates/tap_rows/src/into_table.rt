@@ -1,9 +1,7 @@
 //! Uploads, written as rows of a table.
 
 ghost use Rattle.std.specs.Prelude.{◌≡◌, ◌++◌, ◌∷◌, [], ℕ, List, IfOk, OnErr, OnOk, Option, map};
-ghost use Rattle.tap_rows.specs.Decoded.{IsDecoded};
-ghost use Rattle.tap_rows.specs.Rows.{row_text, rows_text};
-ghost use Rattle.tap_rows.specs.TapTables.{head};
+ghost use Rattle.tap_rows.specs.{Decoded.IsDecoded, Rows.row_text, Rows.rows_text, TapTables.head};
 ghost use Rattle.tap_views.specs.Encoding.{fields_of};
 ghost use Rattle.tap_views.specs.declared.fault.LayoutFault.{LayoutFault as ALayoutFault};
 

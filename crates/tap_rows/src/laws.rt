@@ -1,21 +1,17 @@
 //! Theorems about tables and uploads, each the contract of a function that does nothing.
 
-ghost use Rattle.std.specs.Prelude.{◌≡◌, ◌<◌, ℕ, List, None, Option};
-ghost use Rattle.std.specs.List.{AllByRecursion};
 ghost use Rattle.fare_texts.specs.Moments.{IsCivilText};
-ghost use Rattle.tap_views.specs.Files.{IsFileOf, IsReadAs};
-ghost use Rattle.tap_rows.specs.Agencies.{IsRead};
-ghost use Rattle.tap_rows.specs.Decoded.{fields_in};
+ghost use Rattle.std.specs.List.{AllByRecursion};
+ghost use Rattle.std.specs.Prelude.{◌≡◌, ◌<◌, ℕ, List, None, Option};
+ghost use Rattle.tap_rows.specs.{Agencies.IsRead, Decoded.fields_in};
 ghost use Rattle.tap_rows.specs.Devices.{AreDevices, Device, IsDevicesFault};
 ghost use Rattle.tap_rows.specs.Moments.{IsMoment, IsSecondText};
 ghost use Rattle.tap_rows.specs.Rows.{IsNoTapRow, IsTapRow, IsTapFields};
 ghost use Rattle.tap_rows.specs.TapTables.{IsBadRow, IsTapTable, tap_table_text};
-ghost use Rattle.tap_rows.specs.declared.agency.choice.Choice.{Choice};
-ghost use Rattle.tap_rows.specs.declared.agency.choice.Separator.{Separator};
-ghost use Rattle.tap_rows.specs.declared.agency.reading.Reading.{Reading};
-ghost use Rattle.tap_rows.specs.declared.column.Column.{Column};
+ghost use Rattle.tap_rows.specs.declared.agency.choice.{Choice.Choice, Separator.Separator};
+ghost use Rattle.tap_rows.specs.declared.{agency.reading.Reading.Reading, column.Column.Column};
 ghost use Rattle.tap_rows.specs.declared.devices.fault.DevicesFault.{DevicesFault};
-ghost use Rattle.tap_views.specs.Layout.{Tap, moment_limit};
+ghost use Rattle.tap_views.specs.{Files.IsFileOf, Files.IsReadAs, Layout.Tap, Layout.moment_limit};
 ghost use Rattle.tap_views.specs.declared.encoder.TapFields.{TapFields};
 ghost use Rattle.tap_views.specs.declared.fault.LayoutFault.{LayoutFault};
 

@@ -1,8 +1,7 @@
 //! The moment that a field gives: in milliseconds, or by RFC 3339 in UTC.
 
-ghost use Rattle.std.specs.Prelude.{◌≡◌, ◌<◌, ◌^◌, ◌*◌, ◌↔◌, ℕ, Ok, pos};
-ghost use Rattle.std.specs.Prelude.{IsTrue, MatchOption};
 ghost use Rattle.jiff_fmt.specs.Temporal.{parse_timestamp};
+ghost use Rattle.std.specs.Prelude.{◌≡◌, ◌<◌, ◌^◌, ◌*◌, ◌↔◌, ℕ, Ok, pos, IsTrue, MatchOption};
 ghost use Rattle.tap_rows.specs.Moments.{HasUtcPunctuation, IsDecimal, IsMoment, IsTime};
 
 use jiff_fmt::temporal::parse_timestamp;

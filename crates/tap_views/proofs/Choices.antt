@@ -1,8 +1,7 @@
 -- Tests and choices in another order, and what is said of an `Option` or a `Result` by cases.
 use Rattle.std.proofs.Common.{◌≡◌, Bool, true, false, cond, ◌||◌, Option, None, Result, Ok, Err}
-use Rattle.std.proofs.Common.{refl, sym, subst}
+use Rattle.std.proofs.{Common.refl, Common.sym, Common.subst, lemmas.Bool.false≢true}
 use Rattle.std.specs.Prelude.{IfErr, IsErrAnd, MatchOption, OnErr, OnOk}
-use Rattle.std.proofs.lemmas.Bool.{false≢true}
 
 -- of two tests the order is free
 pub or_swap : (a b c : Bool) → (a || (b || c)) ≡ (b || (a || c))

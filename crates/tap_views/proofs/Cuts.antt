@@ -6,10 +6,9 @@ use Rattle.std.proofs.Math.Nat.{mul-suc, mul-le-mul_left}
 use Rattle.std.proofs.lemmas.List.{length-take-le, length-drop, take-append-le, drop-append-le}
 use Rattle.std.proofs.lemmas.List.{take-take, drop-drop, drop-take, take_all}
 use Rattle.std.specs.List.{AllByRecursion}
-use Rattle.tap_views.specs.Layout.{Tap, IsTap, Layout}
-use Rattle.tap_views.specs.Faults.{width}
-use Rattle.tap_views.specs.inside.Records.{first_records, taps_in, tap_at, AreRecords}
 use Rattle.tap_views.proofs.Lists.{each-back, each-front}
+use Rattle.tap_views.specs.{Faults.width, Layout.Tap, Layout.IsTap, Layout.Layout}
+use Rattle.tap_views.specs.inside.Records.{first_records, taps_in, tap_at, AreRecords}
 
 module _ (w : ℕ) (tap_of : List ℕ → Tap) where
   pub length-cut : (n : ℕ) (bytes : List ℕ) → length (first_records w tap_of n bytes) ≡ n

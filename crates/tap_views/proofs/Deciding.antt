@@ -1,19 +1,15 @@
 -- Bytes begin with a batch or have a fault, and not two faults.
 use Rattle.std.proofs.Common.{◌≡◌, ◌⊎◌, ℕ, zero, suc, ◌*◌, ◌<◌, ◌≤◌, Bool, true, false, List, ◌++◌}
 use Rattle.std.proofs.Common.{length, take, drop, codes, refl, sym, ap, ◌∙◌, inl, inr, arith}
-use Rattle.std.proofs.lemmas.Bool.{cases_lt}
-use Rattle.std.proofs.lemmas.Slice.Eq.{bytes_eq-Decides}
-use Rattle.std.specs.Bool.{Decides}
-use Rattle.std.specs.Str.{bytes_eq}
-use Rattle.tap_views.specs.Layout.{moment_limit, Tap, IsBatch}
+use Rattle.std.proofs.lemmas.{Bool.cases_lt, Slice.Eq.bytes_eq-Decides}
+use Rattle.std.specs.{Bool.Decides, Str.bytes_eq}
+use Rattle.tap_views.proofs.Grammar.{found}
 use Rattle.tap_views.specs.Faults.{header, width, layout_in, count_in, flags_in, size_in, moment_in}
-use Rattle.tap_views.specs.Faults.{Row, fault_order, IsFault}
-use Rattle.tap_views.specs.inside.Faults.{AllEarly, IsMeasured}
-use Rattle.tap_views.specs.declared.fault.LayoutFault.{LayoutFault}
+use Rattle.tap_views.specs.{Faults.Row, Faults.fault_order, Faults.IsFault, Layout.moment_limit}
+use Rattle.tap_views.specs.{Layout.Tap, Layout.IsBatch, declared.fault.LayoutFault.LayoutFault}
 use Rattle.tap_views.specs.declared.fault.LayoutFault.TheVariants.{Short, Magic, Flags, TooMany}
 use Rattle.tap_views.specs.declared.fault.LayoutFault.TheVariants.{Length, Moment}
-use Rattle.tap_views.specs.inside.Records.{taps_in}
-use Rattle.tap_views.proofs.Grammar.{found}
+use Rattle.tap_views.specs.inside.{Faults.AllEarly, Faults.IsMeasured, Records.taps_in}
 
 -- ---- one fault
 same_position : (bytes : List ℕ) (f g : LayoutFault) → fault_order f ≡ fault_order g → Row f bytes

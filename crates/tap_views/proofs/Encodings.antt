@@ -1,22 +1,17 @@
 -- What is written is a batch of the grammar, and reads as the fields that it was written from.
-use Rattle.std.proofs.Common.{◌≡◌, ℕ, ◌+◌, ◌^◌, ◌<◌, ◌≤◌, List, [], ◌∷◌, ◌++◌, length, get_or}
-use Rattle.std.proofs.Common.{take, map, flat_map, Result, Ok, Err, MatchResult, refl, sym, ap}
-use Rattle.std.proofs.Common.{subst, ◌∙◌, arith}
-use Rattle.std.specs.Prelude.{All}
-use Rattle.std.specs.List.{AllByRecursion}
+use Rattle.std.proofs.Common.{◌≡◌, ℕ, ◌+◌, ◌^◌, ◌<◌, ◌≤◌, List, [], ◌∷◌, ◌++◌, length, get_or, take}
+use Rattle.std.proofs.Common.{map, flat_map, Result, Ok, Err, MatchResult, refl, sym, ap, subst}
+use Rattle.std.proofs.Common.{◌∙◌, arith}
+use Rattle.byteorder.specs.{Endian.big_bytes, Endian.big_number, Numbers.big_number-reads_back}
 use Rattle.std.proofs.lemmas.List.{flat_map_more, length-map, take_more}
 use Rattle.std.proofs.lemmas.List.Elements.{All-head, All-tail}
-use Rattle.byteorder.specs.Endian.{big_bytes, big_number}
-use Rattle.byteorder.specs.Numbers.{big_number-reads_back}
-use Rattle.std.specs.Borrow.{Bor}
-use Rattle.tap_views.specs.Layout.{num, moment_limit, Tap, IsTap, Tap1, Tap2, IsTapOf, magic}
-use Rattle.tap_views.specs.Layout.{spelling}
-use Rattle.tap_views.specs.declared.fault.LayoutFault.{LayoutFault}
+use Rattle.std.specs.{Borrow.Bor, List.AllByRecursion, Prelude.All}
 use Rattle.tap_views.specs.Encoding.{fields_of, fields_2_of, with_validator, Encodes, Encodes2}
-use Rattle.tap_views.specs.Encoding.{AreEarly}
+use Rattle.tap_views.specs.{Encoding.AreEarly, Layout.num}
+use Rattle.tap_views.specs.Layout.{moment_limit, Tap, IsTap, Tap1, Tap2, IsTapOf, magic, spelling}
+use Rattle.tap_views.specs.declared.encoder.{Tap2Fields.Tap2Fields, TapFields.TapFields}
+use Rattle.tap_views.specs.declared.fault.LayoutFault.{LayoutFault}
 use Rattle.tap_views.specs.inside.Encoding.{written, written_2, IsFields, IsFields2}
-use Rattle.tap_views.specs.declared.encoder.TapFields.{TapFields}
-use Rattle.tap_views.specs.declared.encoder.Tap2Fields.{Tap2Fields}
 
 -- the bytes of a number are read as that number
 num-bytes_2 : (x : ℕ) → x < 65536 → num (big_bytes 2 x) ≡ x

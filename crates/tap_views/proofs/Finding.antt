@@ -2,20 +2,15 @@
 use Rattle.std.proofs.Common.{◌≡◌, ◌⊎◌, ℕ, zero, suc, ◌+◌, ◌<◌, ◌≤◌, not, ◌||◌, Bool, true, false}
 use Rattle.std.proofs.Common.{List, length, map, take, codes, Some, None, refl, sym, ap, ◌∙◌, inl}
 use Rattle.std.proofs.Common.{inr, arith}
-use Rattle.std.specs.Prelude.{find}
-use Rattle.std.specs.List.{range_with_len}
-use Rattle.std.specs.Str.{bytes_eq}
 use Rattle.std.proofs.lemmas.Bool.{eqb-true, eqb-false, ltb-true, lt-ltb, le-ltb, cases_lt}
-use Rattle.std.proofs.lemmas.Bool.{not-true, or_parts}
-use Rattle.std.proofs.lemmas.Slice.Eq.{bytes_eq-Decides}
-use Rattle.tap_views.specs.Layout.{moment_limit}
+use Rattle.std.proofs.lemmas.{Bool.not-true, Bool.or_parts, Slice.Eq.bytes_eq-Decides}
+use Rattle.std.specs.{List.range_with_len, Prelude.find, Str.bytes_eq}
 use Rattle.tap_views.specs.Faults.{header, layout_in, count_in, flags_in, size_in, moment_in, Row}
-use Rattle.tap_views.specs.Faults.{IsFault}
-use Rattle.tap_views.specs.inside.Faults.{AllEarly}
-use Rattle.tap_views.specs.inside.Readings.{is_row, found_fault}
+use Rattle.tap_views.specs.{Faults.IsFault, Layout.moment_limit}
 use Rattle.tap_views.specs.declared.fault.LayoutFault.{LayoutFault}
 use Rattle.tap_views.specs.declared.fault.LayoutFault.TheVariants.{Short, Magic, Flags, TooMany}
 use Rattle.tap_views.specs.declared.fault.LayoutFault.TheVariants.{Length, Moment}
+use Rattle.tap_views.specs.inside.{Faults.AllEarly, Readings.is_row, Readings.found_fault}
 
 -- a test for something false is false
 tests_false : {P : Type 0} (b : Bool) → (b ≡ true → P) → ¬ P → b ≡ false

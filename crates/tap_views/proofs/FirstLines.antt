@@ -1,8 +1,7 @@
 -- The first line of a text, and what is behind it.
-use Rattle.std.proofs.Common.{◌≡◌, ℕ, List, [], ◌∷◌, ◌++◌, Bool, true, false, refl, ap, arith}
-use Rattle.std.proofs.Common.{◌==◌, length}
-use Rattle.std.specs.Prelude.{if◌then◌else◌}
-use Rattle.std.specs.Io.BufRead.{drop_through, take_through}
+use Rattle.std.proofs.Common.{◌≡◌, ℕ, List, [], ◌∷◌, ◌++◌, Bool, true, false, refl, ap, arith, ◌==◌}
+use Rattle.std.proofs.Common.{length}
+use Rattle.std.specs.{Io.BufRead.drop_through, Io.BufRead.take_through, Prelude.if◌then◌else◌}
 
 both_parts : (b : Bool) (x : ℕ) (xs ys zs : List ℕ) → ys ++ zs ≡ xs
     → (if b then x ∷ [] else x ∷ ys) ++ (if b then xs else zs) ≡ x ∷ xs

@@ -1,11 +1,9 @@
 -- What stands before the rest of an upload.
-use Rattle.std.proofs.Common.{◌≡◌, ℕ, ◌+◌, List, [], ◌∷◌, ◌++◌, length, refl, sym, ap, subst}
-use Rattle.std.proofs.Common.{◌∙◌, arith, append-nil, append_assoc, length-append}
+use Rattle.std.proofs.Common.{◌≡◌, ℕ, ◌+◌, List, [], ◌∷◌, ◌++◌, length, refl, sym, ap, subst, ◌∙◌}
+use Rattle.std.proofs.Common.{arith, append-nil, append_assoc, length-append}
 use Rattle.std.specs.Prelude.{take}
-use Rattle.tap_views.specs.Layout.{Tap}
-use Rattle.tap_views.specs.Files.{IsFile}
-use Rattle.tap_views.specs.Facts.{IsValidPrefix}
 use Rattle.tap_views.proofs.ParseLemmas.{no_bytes}
+use Rattle.tap_views.specs.{Facts.IsValidPrefix, Files.IsFile, Layout.Tap}
 
 -- the front of an upload: its batches
 front_of : (upload : List ℕ) (batches : List (List Tap)) (rest : List ℕ)

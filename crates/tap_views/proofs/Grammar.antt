@@ -1,21 +1,20 @@
 -- What the grammar says of whole texts against what the table of faults says of places.
 use Rattle.std.proofs.Common.{◌≡◌, ◌⊎◌, ℕ, zero, suc, ◌+◌, ◌*◌, ◌<◌, ◌≤◌, List, [], ◌∷◌, ◌++◌}
 use Rattle.std.proofs.Common.{length, take, drop, codes, flat_map, refl, sym, ap, subst, ◌∙◌, inl}
-use Rattle.std.proofs.Common.{inr, arith}
-use Rattle.std.proofs.Math.Nat.{mul-suc, mul-zero, mul-le-mul_left}
-use Rattle.std.proofs.lemmas.List.{length-append, length-drop, length-take-le, take_at, drop_at}
-use Rattle.std.proofs.lemmas.List.{take-append-drop, take-take, take_all, drop-drop, drop-take}
-use Rattle.std.proofs.lemmas.List.{append_assoc}
+use Rattle.std.proofs.{Common.inr, Common.arith, Math.Nat.mul-suc, Math.Nat.mul-zero}
+use Rattle.std.proofs.{Math.Nat.mul-le-mul_left, lemmas.List.length-append}
+use Rattle.std.proofs.lemmas.List.{length-drop, length-take-le, take_at, drop_at, take-append-drop}
+use Rattle.std.proofs.lemmas.List.{take-take, take_all, drop-drop, drop-take, append_assoc}
 use Rattle.std.specs.List.{AllByRecursion}
+use Rattle.tap_views.proofs.Cuts.{length-cut, cut-append, all-cut}
+use Rattle.tap_views.specs.Faults.{header, width, layout_in, count_in, flags_in, size_in, Row}
 use Rattle.tap_views.specs.Layout.{num, moment_limit, Tap, IsTap, Layout, Tap1, Tap2, IsLayout}
 use Rattle.tap_views.specs.Layout.{IsTapOf, magic, shared, spelling, IsBatchIn, IsBatch}
-use Rattle.tap_views.specs.Faults.{header, width, layout_in, count_in, flags_in, size_in, Row}
-use Rattle.tap_views.specs.inside.Faults.{AllEarly, IsHeader, IsMeasured}
 use Rattle.tap_views.specs.declared.fault.LayoutFault.{LayoutFault}
 use Rattle.tap_views.specs.declared.fault.LayoutFault.TheVariants.{Short, Magic, Flags, TooMany}
 use Rattle.tap_views.specs.declared.fault.LayoutFault.TheVariants.{Length, Moment}
+use Rattle.tap_views.specs.inside.Faults.{AllEarly, IsHeader, IsMeasured}
 use Rattle.tap_views.specs.inside.Records.{taps_in, tap_at, AreRecords}
-use Rattle.tap_views.proofs.Cuts.{length-cut, cut-append, all-cut}
 
 -- ---- one record
 -- a tap written and read again

@@ -1,11 +1,10 @@
 -- What holds of each element of a list holds of its parts; and one filter after another.
 use Rattle.std.proofs.Common.{◌≡◌, ℕ, ◌==◌, Bool, true, false, List, [], ◌∷◌, ◌++◌, length, map}
 use Rattle.std.proofs.Common.{All, refl, sym, ap, ◌∙◌, append-nil, ◌+◌, Some, slice_get, take}
-use Rattle.std.specs.List.{AllByRecursion, filter, AllZip}
-use Rattle.std.proofs.lemmas.Bool.{eqb-true}
-use Rattle.std.proofs.lemmas.List.{nil_from_length, take_more}
+use Rattle.std.proofs.lemmas.{Bool.eqb-true, List.nil_from_length, List.take_more}
 use Rattle.std.proofs.lemmas.List.Elements.{All-cons, All-head, All-nil, All-tail}
 use Rattle.std.proofs.lemmas.Option.{get_or_from_slice_get, slice_get_within}
+use Rattle.std.specs.List.{AllByRecursion, filter, AllZip}
 
 -- ---- of two lists, one behind the other
 pub All-front : {X : Type 0} (P : X → Type 0) (xs ys : List X) → All P (xs ++ ys) → All P xs

@@ -1,9 +1,8 @@
 -- What `byteorder` reads is the number of the bytes.
 use Rattle.std.proofs.Common.{◌≡◌, ℕ, zero, ◌+◌, ◌-◌, ◌*◌, ◌^◌, List, [], ◌∷◌, length, take, drop}
 use Rattle.std.proofs.Common.{length-drop, refl, ap, ◌∙◌, arith}
+use Rattle.byteorder.specs.{Endian.big_number, Numbers.big_from-cons}
 use Rattle.std.proofs.lemmas.List.{take_rest}
-use Rattle.byteorder.specs.Endian.{big_number}
-use Rattle.byteorder.specs.Numbers.{big_from-cons}
 use Rattle.tap_views.specs.Layout.{num}
 
 all_read : (bytes : List ℕ) → big_number (length bytes) bytes ≡ num bytes

@@ -1,15 +1,13 @@
 -- A file, read batch by batch.
-use Rattle.std.proofs.Common.{◌≡◌, ℕ, ◌+◌, ◌*◌, ◌≤◌, List, [], ◌∷◌, ◌++◌, length}
-use Rattle.std.proofs.Common.{flat_map, None, Option, Some, refl, sym, ◌∙◌, ap, subst, append_assoc}
-use Rattle.std.proofs.Common.{append-nil, arith, length-append}
-use Rattle.std.proofs.lemmas.Grind.{flat_map-append}
+use Rattle.std.proofs.Common.{◌≡◌, ℕ, ◌+◌, ◌*◌, ◌≤◌, List, [], ◌∷◌, ◌++◌, length, flat_map, None}
+use Rattle.std.proofs.Common.{Option, Some, refl, sym, ◌∙◌, ap, subst, append_assoc, append-nil}
+use Rattle.std.proofs.{Common.arith, Common.length-append, lemmas.Grind.flat_map-append}
 use Rattle.std.proofs.lemmas.List.Elements.{All-head, All-tail}
-use Rattle.std.specs.Prelude.{All}
-use Rattle.tap_views.specs.Layout.{Tap, Layout, Tap1, Tap2, IsBatch, IsTapOf, spelling}
-use Rattle.std.specs.List.{AllByRecursion}
+use Rattle.std.specs.{List.AllByRecursion, Prelude.All}
 use Rattle.tap_views.specs.Files.{IsFile, taps_of_batches, AreValidTaps, AreValidTapsOfEach}
 use Rattle.tap_views.specs.Files.{HasNoBatch, HasUniqueParse, GivesBatch, ValidBatchesView}
 use Rattle.tap_views.specs.Files.{IsReadAs}
+use Rattle.tap_views.specs.Layout.{Tap, Layout, Tap1, Tap2, IsBatch, IsTapOf, spelling}
 use Rattle.tap_views.specs.declared.fault.LayoutFault.{LayoutFault}
 
 -- the rest of an upload is no longer than the upload

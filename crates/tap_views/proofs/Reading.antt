@@ -5,18 +5,16 @@ use Rattle.std.proofs.Common.{length, map, drop, Ok, Err, None, Some, refl, sym,
 use Rattle.std.proofs.Common.{inl, inr, append-nil, arith}
 use Rattle.std.proofs.lemmas.List.{length-append, length-drop, drop-drop, append_cancel_right}
 use Rattle.std.proofs.lemmas.List.{nil_from_length}
-use Rattle.tap_views.specs.Layout.{Tap, Layout, Tap1, Tap2, magic, IsBatch}
+use Rattle.tap_views.proofs.Deciding.{same_fault, decided, Found}
+use Rattle.tap_views.proofs.{Finding.first_fault-none, Finding.first_fault-some, Grammar.begins}
+use Rattle.tap_views.proofs.{Grammar.no_row, ParseLemmas.no_bytes, ParseLemmas.rest_short}
 use Rattle.tap_views.specs.Faults.{header, width, layout_in, count_in, size_in, IsFault}
-use Rattle.tap_views.specs.inside.Faults.{AllEarly}
-use Rattle.tap_views.specs.declared.fault.LayoutFault.{LayoutFault}
 use Rattle.tap_views.specs.Files.{HasNoBatch, IsFile, Item, IsEnd, IsParse, IsReadAs}
 use Rattle.tap_views.specs.Files.{IsEndAfterBatches}
-use Rattle.tap_views.proofs.ParseLemmas.{no_bytes, rest_short}
-use Rattle.tap_views.proofs.Grammar.{begins, no_row}
+use Rattle.tap_views.specs.Layout.{Tap, Layout, Tap1, Tap2, magic, IsBatch}
+use Rattle.tap_views.specs.{declared.fault.LayoutFault.LayoutFault, inside.Faults.AllEarly}
 use Rattle.tap_views.specs.inside.Readings.{found_fault, first_taps, items_within, items_from}
 use Rattle.tap_views.specs.inside.Readings.{batches_among, fault_among, valid_among, valid_from}
-use Rattle.tap_views.proofs.Finding.{first_fault-none, first_fault-some}
-use Rattle.tap_views.proofs.Deciding.{same_fault, decided, Found}
 
 -- ---- one batch
 length-magic : (layout : Layout) → length (magic layout) ≡ 4

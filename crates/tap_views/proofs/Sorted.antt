@@ -2,16 +2,11 @@
 use Rattle.std.proofs.Common.{◌≡◌, ◌≢◌, ◌∙◌, sym, refl, subst, ℕ, suc, ◌+◌, ◌==◌, ◌<◌, ◌≤◌, ◌++◌}
 use Rattle.std.proofs.Common.{List, [], ◌∷◌, length, set, get_or, Bool, true, false, cond, ap}
 use Rattle.std.proofs.Common.{arith, get_or-set_same, get_or-set_other}
-use Rattle.std.proofs.lemmas.List.{append-nil, length-append, append_assoc}
-use Rattle.std.proofs.lemmas.Option.{slice_get-get_or}
-use Rattle.std.proofs.Math.Seq.{get_or-append_seam}
-use Rattle.std.proofs.lemmas.Bool.{eqb-true}
-use Rattle.tap_views.specs.Layout.{Tap}
-use Rattle.tap_views.specs.Shards.{shard_of_token, run_of}
+use Rattle.std.proofs.{Math.Seq.get_or-append_seam, lemmas.Bool.eqb-true, lemmas.List.append-nil}
+use Rattle.std.proofs.lemmas.{List.length-append, List.append_assoc, Option.slice_get-get_or}
+use Rattle.std.specs.{Borrow.Bor, List.AllByRecursion}
 use Rattle.std.specs.Prelude.{slice_get, Option, Some, None, flat_map, option_to_list}
-use Rattle.std.specs.Borrow.{Bor}
-use Rattle.std.specs.List.{AllByRecursion}
-use Rattle.tap_views.specs.Runs.{positions_from}
+use Rattle.tap_views.specs.{Layout.Tap, Runs.positions_from, Shards.shard_of_token, Shards.run_of}
 use Rattle.tap_views.specs.inside.Runs.{ArePositionsKept, ArePositionsBelow, left_of}
 
 -- no more places than taps

@@ -1,11 +1,9 @@
 -- Spans of more moments.
-use Rattle.std.proofs.Common.{◌≡◌, ℕ, ◌≤◌, ◌⊎◌, inl, inr, List, [], ◌∷◌, ◌++◌}
-use Rattle.std.proofs.Common.{Some, refl, sym, subst, arith}
-use Rattle.std.specs.Prelude.{Contains, min, max}
-use Rattle.std.specs.List.{AllByRecursion}
+use Rattle.std.proofs.Common.{◌≡◌, ℕ, ◌≤◌, ◌⊎◌, inl, inr, List, [], ◌∷◌, ◌++◌, Some, refl, sym}
+use Rattle.std.proofs.Common.{subst, arith}
 use Rattle.std.proofs.lemmas.List.Elements.{Contains-append_left, Contains-append_right}
-use Rattle.tap_views.specs.Facts.{IsSpan, IsWithin}
-use Rattle.tap_views.specs.declared.span.MomentSpan.{MomentSpan}
+use Rattle.std.specs.{List.AllByRecursion, Prelude.Contains, Prelude.min, Prelude.max}
+use Rattle.tap_views.specs.{Facts.IsSpan, Facts.IsWithin, declared.span.MomentSpan.MomentSpan}
 
 last_one : (x : ℕ) → Contains (x ∷ []) x
 last_one x = (0, omega arith, refl)

@@ -1,13 +1,11 @@
 -- Files that grow by a batch.
-use Rattle.std.proofs.Common.{ℕ, List, [], ◌∷◌, ◌++◌, map, flat_map, refl, sym, ap, ◌∙◌}
-use Rattle.std.proofs.Common.{append-nil, append_assoc, ◌+◌}
-use Rattle.std.proofs.lemmas.List.{map-append}
-use Rattle.std.proofs.lemmas.List.Concat.{flat_map-append}
-use Rattle.tap_views.specs.Encoding.{fields_of, Encodes}
-use Rattle.tap_views.specs.Files.{IsFile, IsFileOf}
+use Rattle.std.proofs.Common.{ℕ, List, [], ◌∷◌, ◌++◌, map, flat_map, refl, sym, ap, ◌∙◌, append-nil}
+use Rattle.std.proofs.Common.{append_assoc, ◌+◌}
+use Rattle.std.proofs.lemmas.List.{map-append, Concat.flat_map-append}
+use Rattle.tap_views.proofs.ParseLemmas.{no_bytes}
+use Rattle.tap_views.specs.{Encoding.fields_of, Encoding.Encodes, Files.IsFile, Files.IsFileOf}
 use Rattle.tap_views.specs.Layout.{Tap, Tap1, IsBatch}
 use Rattle.tap_views.specs.declared.encoder.TapFields.{TapFields}
-use Rattle.tap_views.proofs.ParseLemmas.{no_bytes}
 
 file_more : (text more : List ℕ) (batches : List (List Tap)) (taps : List Tap)
     → IsFile text batches [] → IsBatch more taps → IsFile (text ++ more) (batches ++ taps ∷ []) []

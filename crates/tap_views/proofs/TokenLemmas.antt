@@ -1,18 +1,14 @@
 -- The order of tokens is total, and only equal tokens tie; `==` of tokens is an equivalence.
 use Rattle.std.proofs.Common.{◌≡◌, ℕ, true, false, List, take, drop, refl, sym, ap, ◌∙◌, arith, w64}
 use Rattle.std.proofs.Common.{Bool, [], ◌∷◌, ◌++◌, ◌||◌}
-use Rattle.std.specs.Int.{to_be_bytes, from_be_bytes}
-use Rattle.std.specs.Cmp.{IsEquivalence, IsTotalOrder}
-use Rattle.std.specs.declared.cmp.Ordering.TheVariants.{Less, Equal}
-use Rattle.std.proofs.lemmas.Bool.Decides.{nat_tests}
+use Rattle.std.proofs.{Math.Bool.or_assoc, lemmas.Bool.Decides.nat_tests}
 use Rattle.std.proofs.lemmas.Cmp.{then_total, on_total, nat_cmp_total}
-use Rattle.std.proofs.lemmas.List.{take_at, drop_at}
-use Rattle.std.proofs.lemmas.Nat.{from_be_bytes-to_be_bytes_8}
-use Rattle.std.proofs.Math.Bool.{or_assoc}
-use Rattle.std.specs.Set.{is_member}
-use Rattle.std.specs.Ordering.{eq_by_cmp}
-use Rattle.tap_views.specs.declared.token.Token.{Token}
+use Rattle.std.proofs.lemmas.{List.take_at, List.drop_at, Nat.from_be_bytes-to_be_bytes_8}
+use Rattle.std.specs.Cmp.{IsEquivalence, IsTotalOrder}
+use Rattle.std.specs.{Int.to_be_bytes, Int.from_be_bytes, Ordering.eq_by_cmp, Set.is_member}
+use Rattle.std.specs.declared.cmp.Ordering.TheVariants.{Less, Equal}
 use Rattle.tap_views.specs.Token.{Fits, bytes_of, token_cmp, token_eq}
+use Rattle.tap_views.specs.declared.token.Token.{Token}
 
 -- tokens that are equal by `==` are the same
 pub same_token : (a b : Token) → token_eq a b ≡ true → a ≡ b

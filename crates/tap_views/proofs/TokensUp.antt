@@ -1,16 +1,12 @@
 -- Tokens that are not above one another: chains of them, and those that are apart.
 use Rattle.std.proofs.Common.{◌≡◌, false, refl, sym, ap, ◌∙◌}
-use Rattle.std.specs.Cmp.{IsStrictWeakOrder}
-use Rattle.std.specs.Ordering.{is_lt, ordering_reverse}
+use Rattle.std.proofs.lemmas.{Bool.false≢true, Cmp.tied_itself, List.Sorted.ranks_by}
+use Rattle.std.specs.{Cmp.IsStrictWeakOrder, Ordering.is_lt, Ordering.ordering_reverse}
 use Rattle.std.specs.declared.cmp.Ordering.{Ordering}
 use Rattle.std.specs.declared.cmp.Ordering.TheVariants.{Less, Equal, Greater}
-use Rattle.std.proofs.lemmas.Bool.{false≢true}
-use Rattle.std.proofs.lemmas.Cmp.{tied_itself}
-use Rattle.std.proofs.lemmas.List.Sorted.{ranks_by}
-use Rattle.tap_views.specs.Token.{token_cmp, token_eq}
-use Rattle.tap_views.specs.TokenOrder.{IsUpTo}
-use Rattle.tap_views.specs.declared.token.Token.{Token}
 use Rattle.tap_views.proofs.TokenLemmas.{token_eq-refl, token_cmp-total, token_cmp-ties}
+use Rattle.tap_views.specs.Token.{token_cmp, token_eq}
+use Rattle.tap_views.specs.{TokenOrder.IsUpTo, declared.token.Token.Token}
 
 ranked : IsStrictWeakOrder (λ (a b : Token). is_lt (token_cmp a b))
 ranked = ranks_by token_cmp-total (λ (token : Token). token)

@@ -1,11 +1,9 @@
 -- What the encoders write, by what a reader gets back, and when they refuse.
-use Rattle.std.specs.Prelude.{◌≡◌, ℕ, ◌<◌, ◌≤◌, List, length, map, take, slice_get, All}
-use Rattle.std.specs.Prelude.{IsSomeAnd}
+use Rattle.std.specs.Prelude.{◌≡◌, ℕ, ◌<◌, ◌≤◌, List, length, map, take, slice_get, All, IsSomeAnd}
 use Rattle.tap_views.specs.Layout.{num, moment_limit, Tap, Tap1, Tap2, IsBatchIn}
-use Rattle.tap_views.specs.declared.encoder.TapFields.{TapFields}
-use Rattle.tap_views.specs.declared.encoder.Tap2Fields.{Tap2Fields}
 use Rattle.tap_views.specs.declared.encoder.EncodeFault.{EncodeFault}
 use Rattle.tap_views.specs.declared.encoder.EncodeFault.TheVariants.{TooMany, Moment, NoMemory}
+use Rattle.tap_views.specs.declared.encoder.{Tap2Fields.Tap2Fields, TapFields.TapFields}
 
 -- the fields that a reader of a tap gets
 abbrev pub fields_of : Tap → TapFields

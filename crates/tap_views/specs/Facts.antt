@@ -1,11 +1,9 @@
 -- What an upload has: its batches and taps, their moments, and its valid prefix.
-use Rattle.std.specs.Prelude.{◌≡◌, ℕ, ◌≤◌, List, [], ◌++◌, length, map, Contains}
-use Rattle.std.specs.Prelude.{Option, None, Some}
-use Rattle.std.specs.List.{AllByRecursion}
-use Rattle.tap_views.specs.Layout.{Tap, num}
+use Rattle.std.specs.{List.AllByRecursion, Prelude.◌≡◌}
+use Rattle.std.specs.Prelude.{ℕ, ◌≤◌, List, [], ◌++◌, length, map, Contains, Option, None, Some}
 use Rattle.tap_views.specs.Files.{IsFile, IsReadAs, taps_of_batches}
-use Rattle.tap_views.specs.declared.facts.Facts.{Facts}
-use Rattle.tap_views.specs.declared.span.MomentSpan.{MomentSpan}
+use Rattle.tap_views.specs.Layout.{Tap, num}
+use Rattle.tap_views.specs.declared.{facts.Facts.Facts, span.MomentSpan.MomentSpan}
 
 -- the moment of a tap in milliseconds
 abbrev pub moment_of : Tap → ℕ

@@ -1,8 +1,7 @@
 -- When bytes begin with no batch: the table of faults, and the first row of it that holds. The
 -- places are those of the two layouts.
-use Rattle.std.specs.Prelude.{◌≡◌, ℕ, ◌+◌, ◌*◌, ◌<◌, ◌≤◌, List, length, take, drop, codes, nat_eq}
-use Rattle.std.specs.Prelude.{if◌then◌else◌}
-use Rattle.std.specs.List.{starts_with}
+use Rattle.std.specs.{List.starts_with, Prelude.◌≡◌, Prelude.ℕ, Prelude.◌+◌}
+use Rattle.std.specs.Prelude.{◌*◌, ◌<◌, ◌≤◌, List, length, take, drop, codes, nat_eq, if◌then◌else◌}
 use Rattle.tap_views.specs.Layout.{num, moment_limit, Layout, Tap1, Tap2}
 use Rattle.tap_views.specs.declared.fault.LayoutFault.{LayoutFault}
 use Rattle.tap_views.specs.declared.fault.LayoutFault.TheVariants.{Short, Magic, Flags, TooMany}

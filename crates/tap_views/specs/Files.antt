@@ -1,13 +1,10 @@
 -- A file, as an upload is one: batches one after the other, and what is left, which begins with no
 -- batch. All that a file is read as is defined here.
-use Rattle.std.specs.Prelude.{◌≡◌, ℕ, ◌+◌, ◌-◌, ◌<◌, List, [], ◌∷◌, ◌++◌, length, map, Option}
-use Rattle.std.specs.Prelude.{None, Some, Result, Ok, Err}
 use Rattle.std.specs.List.{flat_map, AllZip}
-use Rattle.tap_views.specs.Encoding.{fields_of}
-use Rattle.tap_views.specs.Layout.{Tap, IsBatch}
-use Rattle.tap_views.specs.Faults.{IsFault}
-use Rattle.tap_views.specs.declared.encoder.TapFields.{TapFields}
-use Rattle.tap_views.specs.declared.fault.LayoutFault.{LayoutFault}
+use Rattle.std.specs.Prelude.{◌≡◌, ℕ, ◌+◌, ◌-◌, ◌<◌, List, [], ◌∷◌, ◌++◌, length, map, Option, None}
+use Rattle.std.specs.Prelude.{Some, Result, Ok, Err}
+use Rattle.tap_views.specs.{Encoding.fields_of, Faults.IsFault, Layout.Tap, Layout.IsBatch}
+use Rattle.tap_views.specs.declared.{encoder.TapFields.TapFields, fault.LayoutFault.LayoutFault}
 
 -- no beginning of the bytes is a batch
 abbrev pub HasNoBatch : List ℕ → Type 0

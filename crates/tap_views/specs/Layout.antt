@@ -1,8 +1,7 @@
 -- The batch grammar: which bytes are a batch, and of which taps. It speaks of whole texts: no
 -- offset is used here.
-use Rattle.std.specs.Prelude.{◌≡◌, ℕ, ◌+◌, ◌*◌, ◌^◌, ◌<◌, ◌≤◌, List, [], ◌∷◌, ◌++◌, length, codes}
-use Rattle.std.specs.Prelude.{flat_map}
-use Rattle.std.specs.List.{AllByRecursion}
+use Rattle.std.specs.{List.AllByRecursion, Prelude.◌≡◌, Prelude.ℕ}
+use Rattle.std.specs.Prelude.{◌+◌, ◌*◌, ◌^◌, ◌<◌, ◌≤◌, List, [], ◌∷◌, ◌++◌, length, codes, flat_map}
 
 -- the big-endian number of some bytes
 abbrev pub num : List ℕ → ℕ

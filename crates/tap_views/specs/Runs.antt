@@ -1,8 +1,7 @@
 -- The places of a batch's taps, shard by shard.
 use Rattle.std.specs.Prelude.{◌≡◌, ℕ, suc, ◌==◌, ◌<◌, List, [], ◌∷◌, length, slice_index_or}
 use Rattle.std.specs.Prelude.{if◌then◌else◌}
-use Rattle.tap_views.specs.Layout.{Tap}
-use Rattle.tap_views.specs.Shards.{shard_of_token}
+use Rattle.tap_views.specs.{Layout.Tap, Shards.shard_of_token}
 
 -- the places of the taps of a shard, if the first tap has the place `at`
 abbrev pub positions_from : ℕ → ℕ → ℕ → List Tap → List ℕ

@@ -1,7 +1,6 @@
 -- The 16 bytes of a token, kept as two numbers, and the order and equality of tokens.
+use Rattle.std.specs.{Int.to_be_bytes, Int.w64, Ordering.nat_cmp, Ordering.ordering_then}
 use Rattle.std.specs.Prelude.{ℕ, Bool, ◌^◌, ◌<◌, ◌==◌, ◌&&◌, List, ◌++◌}
-use Rattle.std.specs.Int.{to_be_bytes, w64}
-use Rattle.std.specs.Ordering.{nat_cmp, ordering_then}
 use Rattle.std.specs.declared.cmp.Ordering.{Ordering}
 use Rattle.tap_views.specs.declared.token.Token.{Token}
 

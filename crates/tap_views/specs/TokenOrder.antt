@@ -1,9 +1,7 @@
 -- The order of tokens.
-use Rattle.std.specs.Prelude.{◌≡◌, false, List, All}
-use Rattle.std.specs.Ordering.{is_lt}
+use Rattle.std.specs.{Ordering.is_lt, Prelude.◌≡◌, Prelude.false, Prelude.List, Prelude.All}
 use Rattle.std.specs.declared.cmp.Ordering.TheVariants.{Less}
-use Rattle.tap_views.specs.Token.{token_cmp}
-use Rattle.tap_views.specs.declared.token.Token.{Token}
+use Rattle.tap_views.specs.{Token.token_cmp, declared.token.Token.Token}
 
 -- the first token is not above the second
 abbrev pub IsUpTo : Token → Token → Type 0

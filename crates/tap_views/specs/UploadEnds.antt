@@ -1,14 +1,9 @@
 -- How uploads ended, the text of an end, and how those end whose batches before their first faults
 -- were all posted whole.
-use Rattle.std.specs.Prelude.{◌≡◌, ℕ, ◌++◌, Bool, true, false, List, length, Option, Some, None}
-use Rattle.std.specs.Prelude.{codes}
-use Rattle.std.specs.Fmt.{decimal}
-use Rattle.std.specs.List.{flat_map, list_all, AllZip}
-use Rattle.tap_views.specs.Files.{IsFile, IsEndAfterBatches}
-use Rattle.tap_views.specs.Layout.{Tap}
-use Rattle.tap_views.specs.Names.{fault_name}
-use Rattle.tap_views.specs.declared.fault.LayoutFault.{LayoutFault}
-use Rattle.tap_views.specs.declared.upload_end.UploadEnd.{UploadEnd}
+use Rattle.std.specs.{Fmt.decimal, List.flat_map, List.list_all, List.AllZip, Prelude.◌≡◌}
+use Rattle.std.specs.Prelude.{ℕ, ◌++◌, Bool, true, false, List, length, Option, Some, None, codes}
+use Rattle.tap_views.specs.{Files.IsFile, Files.IsEndAfterBatches, Layout.Tap, Names.fault_name}
+use Rattle.tap_views.specs.declared.{fault.LayoutFault.LayoutFault, upload_end.UploadEnd.UploadEnd}
 use Rattle.tap_views.specs.declared.upload_end.UploadEnd.TheVariants.{Posted, Refused, Cut, Undrawn}
 
 -- how many taps of an upload were posted, by its end

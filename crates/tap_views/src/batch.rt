@@ -2,13 +2,11 @@
 
 ghost use Rattle.std.specs.Prelude.{◌≡◌, ◌+◌, ◌*◌, ◌<◌, ◌≤◌, ◌++◌, ℕ, List, length, slice_get};
 ghost use Rattle.std.specs.Prelude.{Some, IfOk, IfErr, IsErrOf, MatchResult, MatchOption};
-ghost use Rattle.tap_views.specs.Layout.{num, moment_limit, Tap, IsBatch};
-ghost use Rattle.tap_views.specs.Runs.{positions_from};
-ghost use Rattle.tap_views.specs.inside.Records.{layout_of};
-ghost use Rattle.tap_views.specs.declared.fault.LayoutFault.{LayoutFault};
 ghost use Rattle.tap_views.specs.Faults.{header, width, layout_in, count_in, size_in, moment_in};
-ghost use Rattle.tap_views.specs.Faults.{IsFault};
-ghost use Rattle.tap_views.specs.inside.Faults.{IsHeader, IsMeasured, AllEarly};
+ghost use Rattle.tap_views.specs.{Faults.IsFault, Layout.num, Layout.moment_limit, Layout.Tap};
+ghost use Rattle.tap_views.specs.{Layout.IsBatch, Runs.positions_from};
+ghost use Rattle.tap_views.specs.{declared.fault.LayoutFault.LayoutFault, inside.Faults.IsHeader};
+ghost use Rattle.tap_views.specs.inside.{Faults.IsMeasured, Faults.AllEarly, Records.layout_of};
 
 use crate::fault::LayoutFault;
 use crate::layout::{

@@ -1,18 +1,13 @@
 //! What the grammar promises, and theorems about tokens, each the contract of a function that does
 //! nothing, but for `round_trip`. Call it if a proof needs its theorem.
 
+ghost use Rattle.std.specs.{Cmp.Lexicographic.slice_cmp, Ordering.nat_cmp};
 ghost use Rattle.std.specs.Prelude.{◌≡◌, ◌++◌, ℕ, List, map, All, MatchResult};
-ghost use Rattle.std.specs.Cmp.Lexicographic.{slice_cmp};
-ghost use Rattle.std.specs.Ordering.{nat_cmp};
-ghost use Rattle.tap_views.specs.Layout.{Tap, IsBatch};
-ghost use Rattle.tap_views.specs.Faults.{IsFault};
-ghost use Rattle.tap_views.specs.declared.fault.LayoutFault.{LayoutFault};
-ghost use Rattle.tap_views.specs.Files.{HasUniqueParse, IsFile};
 ghost use Rattle.tap_views.specs.Encoding.{Encodes, Encodes2, fields_of, with_validator};
-ghost use Rattle.tap_views.specs.declared.encoder.TapFields.{TapFields};
-ghost use Rattle.tap_views.specs.declared.encoder.Tap2Fields.{Tap2Fields};
-ghost use Rattle.tap_views.specs.Token.{Fits, bytes_of};
-ghost use Rattle.tap_views.specs.declared.token.Token.{Token};
+ghost use Rattle.tap_views.specs.{Faults.IsFault, Files.HasUniqueParse, Files.IsFile, Layout.Tap};
+ghost use Rattle.tap_views.specs.{Layout.IsBatch, Token.Fits, Token.bytes_of};
+ghost use Rattle.tap_views.specs.declared.encoder.{Tap2Fields.Tap2Fields, TapFields.TapFields};
+ghost use Rattle.tap_views.specs.declared.{fault.LayoutFault.LayoutFault, token.Token.Token};
 
 use crate::batch::Batch;
 use crate::fault::LayoutFault;

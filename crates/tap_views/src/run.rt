@@ -1,7 +1,6 @@
 //! The taps of one shard.
 
-ghost use Rattle.std.specs.Iterator.{YieldsFirst, item_count};
-ghost use Rattle.std.specs.List.{AllByRecursion};
+ghost use Rattle.std.specs.{Iterator.YieldsFirst, Iterator.item_count, List.AllByRecursion};
 ghost use Rattle.std.specs.Prelude.{◌≡◌, ◌<◌, ◌≤◌, ◌↔◌, [], length, IsTrue};
 ghost use Rattle.tap_views.specs.Shards.{run_of, run_taps, IsShardTap};
 

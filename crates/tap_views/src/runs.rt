@@ -2,8 +2,7 @@
 
 ghost use Rattle.std.specs.Prelude.{◌≡◌, ◌+◌, ◌<◌, ◌≤◌, ◌++◌, ◌∷◌, [], ℕ, length, slice_index_or};
 ghost use Rattle.std.specs.Prelude.{IfOk};
-ghost use Rattle.tap_views.specs.Runs.{AreRuns};
-ghost use Rattle.tap_views.specs.Shards.{run_of};
+ghost use Rattle.tap_views.specs.{Runs.AreRuns, Shards.run_of};
 
 use crate::batch::Batch;
 use crate::layout::MAX_TAPS;

@@ -1,8 +1,7 @@
 //! One tap, as three slices of the upload.
 
 ghost use Rattle.std.specs.Prelude.{◌≡◌, ◌<◌, length};
-ghost use Rattle.tap_views.specs.Layout.{num, moment_limit, IsTap};
-ghost use Rattle.tap_views.specs.Faults.{width};
+ghost use Rattle.tap_views.specs.{Faults.width, Layout.num, Layout.moment_limit, Layout.IsTap};
 ghost use Rattle.tap_views.specs.inside.Records.{layout_of, tap_at};
 
 use crate::layout::{TAP1_TAP_BYTES, TAP2_TAP_BYTES};

@@ -2,21 +2,17 @@
 use Rattle.std.proofs.Common.{◌≡◌, ◌⊎◌, ℕ, ◌+◌, ◌-◌, ◌/◌, ◌<◌, ◌≤◌, ◌&&◌, Bool, true, false, List}
 use Rattle.std.proofs.Common.{[], ◌∷◌, length, map, get_or, refl, sym, ◌∙◌, arith, zero, suc, take}
 use Rattle.std.proofs.Common.{Option, Some, None, cond, inl, inr, add-one, IfSome}
-use Rattle.std.proofs.lemmas.Bool.{and_parts, cases_Bool, false≢true, leb-true}
-use Rattle.std.proofs.lemmas.List.{get_or_default, get_or-map}
+use Rattle.std.proofs.Math.Bool.{and-false}
+use Rattle.std.proofs.lemmas.Bool.{and_parts, cases_Bool, false≢true, leb-true, Decides.leb_tells}
+use Rattle.std.proofs.lemmas.{Bool.Decides.nat_tests, List.get_or_default, List.get_or-map}
 use Rattle.std.proofs.lemmas.List.Sorted.{IsNonDecreasingBy-from_all_adjacent, IsPartitionedBy-leb}
 use Rattle.std.proofs.lemmas.Option.{slice_get-get_or}
-use Rattle.std.proofs.lemmas.Bool.Decides.{leb_tells, nat_tests}
-use Rattle.std.proofs.Math.Bool.{and-false}
-use Rattle.std.specs.List.{slice_get, AllWithin, find, list_all}
-use Rattle.std.specs.List.Sorted.{IsNonDecreasingBy, IsPartitionedBy}
-use Rattle.std.specs.Option.{option_or}
+use Rattle.std.specs.List.{slice_get, AllWithin, find, list_all, Sorted.IsNonDecreasingBy}
+use Rattle.std.specs.{List.Sorted.IsPartitionedBy, Option.option_or}
 use Rattle.std.specs.Prelude.{nat_le, nat_lt, if◌then◌else◌}
-use Rattle.tariffs.specs.Fares.{has_number}
-use Rattle.tariffs.specs.Validators.{are_disjoint}
-use Rattle.tariffs.specs.inside.Validators.{is_increasing, IsSplitAt}
-use Rattle.tariffs.specs.Validators.{last_started}
+use Rattle.tariffs.specs.{Fares.has_number, Validators.are_disjoint, Validators.last_started}
 use Rattle.tariffs.specs.declared.validators.RangeRest.{RangeRest}
+use Rattle.tariffs.specs.inside.Validators.{is_increasing, IsSplitAt}
 
 -- the range, if it reaches the number
 abbrev pub reaching : ℕ → Option (ℕ × RangeRest) → Option (ℕ × RangeRest)

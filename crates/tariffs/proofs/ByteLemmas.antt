@@ -1,9 +1,8 @@
 -- Texts of the same bytes.
 use Rattle.std.proofs.Common.{◌≡◌, ℕ, true, List}
 use Rattle.std.proofs.lemmas.Map.Lookups.{exact_bytes}
-use Rattle.std.specs.Cmp.{eq_by_cmp_equiv, Equal-is}
-use Rattle.std.specs.Cmp.Lexicographic.{nat_list_cmp_total, slice_cmp}
-use Rattle.std.specs.Ordering.{is_eq, nat_cmp}
+use Rattle.std.specs.Cmp.{eq_by_cmp_equiv, Equal-is, Lexicographic.nat_list_cmp_total}
+use Rattle.std.specs.{Cmp.Lexicographic.slice_cmp, Ordering.is_eq, Ordering.nat_cmp}
 
 pub is_itself : (key : List ℕ) → is_eq (slice_cmp nat_cmp key key) ≡ true
 is_itself key = (eq_by_cmp_equiv nat_list_cmp_total).refl key

@@ -2,17 +2,13 @@
 use Rattle.std.proofs.Common.{◌≡◌, ◌<◌, ◌≤◌, ℕ, zero, suc, Bool, true, false, cond, List, [], ◌∷◌}
 use Rattle.std.proofs.Common.{Option, Some, None, All, refl, sym, ap, ◌∙◌, arith, string_bytes, map}
 use Rattle.std.proofs.Common.{◌&&◌, String, Global, get_or, length}
-use Rattle.std.specs.Prelude.{nat_le, slice_get}
-use Rattle.std.specs.String.{string_eq}
-use Rattle.std.proofs.lemmas.Bool.{true≢false}
+use Rattle.std.proofs.lemmas.Bool.{true≢false, leb-true}
 use Rattle.std.specs.Cmp.Lexicographic.{bytes_decides, pointwise, pointwise_decides}
-use Rattle.std.proofs.lemmas.Bool.{leb-true}
+use Rattle.std.specs.{Prelude.nat_le, Prelude.slice_get, String.string_eq}
 use Rattle.tariffs.specs.Fares.{Fares, meaning_at, valid_at}
-use Rattle.tariffs.specs.Names.{same_name}
-use Rattle.tariffs.specs.TableMeaning.{TableMeaning}
-use Rattle.tariffs.specs.declared.table.DatedTariff.{DatedTariff}
-use Rattle.tariffs.specs.inside.Table.{HasModes, started, dated_meaning, first_from, same_names}
-use Rattle.tariffs.specs.inside.Table.{same_zone}
+use Rattle.tariffs.specs.{Names.same_name, TableMeaning.TableMeaning}
+use Rattle.tariffs.specs.{declared.table.DatedTariff.DatedTariff, inside.Table.HasModes}
+use Rattle.tariffs.specs.inside.Table.{started, dated_meaning, first_from, same_names, same_zone}
 
 -- before the first date the first table is valid
 pub valid-before : (meaning : TableMeaning) (later : List (ℕ × TableMeaning)) (moment : ℕ)

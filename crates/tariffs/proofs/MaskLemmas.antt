@@ -1,16 +1,13 @@
 -- The words of bits beside the pairs that they stand for.
-use Rattle.std.proofs.Common.{◌≡◌, ◌≢◌, ◌⊎◌, ℕ, ◌*◌, ◌%◌, ◌^◌, ◌<◌, ◌==◌, ◌||◌, true, false}
-use Rattle.std.proofs.Common.{List, [], ◌∷◌, ◌++◌, length, get_or, sym, ap, ◌∙◌, arith}
-use Rattle.std.proofs.Common.{bit_or, slice_set, w32, inl, inr}
-use Rattle.std.proofs.lemmas.Bool.Decides.{eqb_tells}
-use Rattle.std.proofs.lemmas.List.{get_or-set_same, get_or-set_other, get_or-replicate}
-use Rattle.std.proofs.lemmas.List.Folds.{list_any-append}
+use Rattle.std.proofs.Common.{◌≡◌, ◌≢◌, ◌⊎◌, ℕ, ◌*◌, ◌%◌, ◌^◌, ◌<◌, ◌==◌, ◌||◌, true, false, List}
+use Rattle.std.proofs.Common.{[], ◌∷◌, ◌++◌, length, get_or, sym, ap, ◌∙◌, arith, bit_or, slice_set}
+use Rattle.std.proofs.Common.{w32, inl, inr}
+use Rattle.std.proofs.Math.{Bool.or-false, Bool.or-true, ListN.replicate}
+use Rattle.std.proofs.lemmas.{Bool.Decides.eqb_tells, List.get_or-set_same}
+use Rattle.std.proofs.lemmas.List.{get_or-set_other, get_or-replicate, Folds.list_any-append}
 use Rattle.std.proofs.lemmas.Nat.Bits.{bit_at-zero, bit_at_set_same, bit_at_set_other}
-use Rattle.std.proofs.Math.Bool.{or-false, or-true}
-use Rattle.std.proofs.Math.ListN.{replicate}
 use Rattle.std.specs.Int.{bit_at}
-use Rattle.tariffs.specs.Transfers.{has_pair, joins}
-use Rattle.tariffs.specs.inside.Transfers.{AreMasksOf}
+use Rattle.tariffs.specs.{Transfers.has_pair, Transfers.joins, inside.Transfers.AreMasksOf}
 
 -- words without bits stand for no pairs
 pub masks-none : AreMasksOf (replicate 32 0) []

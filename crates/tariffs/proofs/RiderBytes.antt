@@ -1,15 +1,13 @@
 -- Riders by tokens, looked up and put at their places by numbers and by bytes.
 use Rattle.std.proofs.Common.{◌≡◌, ℕ, List, [], ◌∷◌, refl, ap, ◌∙◌, Ordering, Some, cond, All}
-use Rattle.std.specs.Ordering.{nat_cmp, is_eq, match_ordering}
-use Rattle.std.specs.Cmp.Lexicographic.{slice_cmp}
-use Rattle.std.specs.BTreeMap.{insert_entry, is_at}
-use Rattle.std.specs.Map.{keys_of, lookup}
-use Rattle.std.specs.declared.cmp.Ordering.TheVariants.{Less, Equal, Greater}
 use Rattle.std.proofs.lemmas.List.Elements.{All-head, All-tail}
-use Rattle.tariffs.specs.Riders.{by_bytes}
+use Rattle.std.specs.BTreeMap.{insert_entry, is_at}
+use Rattle.std.specs.{Cmp.Lexicographic.slice_cmp, Map.keys_of, Map.lookup}
+use Rattle.std.specs.Ordering.{nat_cmp, is_eq, match_ordering}
+use Rattle.std.specs.declared.cmp.Ordering.TheVariants.{Less, Equal, Greater}
 use Rattle.tap_views.proofs.TokenBytes.{token-order}
-use Rattle.tap_views.specs.Token.{Fits, bytes_of, token_cmp}
-use Rattle.tap_views.specs.declared.token.Token.{Token}
+use Rattle.tap_views.specs.{Token.Fits, Token.bytes_of, Token.token_cmp, declared.token.Token.Token}
+use Rattle.tariffs.specs.Riders.{by_bytes}
 
 -- a look-up by numbers finds what one by bytes finds
 lookup-by_bytes : (token : Token) (entries : List (Token × ℕ)) → Fits token

@@ -1,16 +1,12 @@
 -- Marks of tokens: what a further mark keeps, and what a mark that is missing says.
 use Rattle.std.proofs.Common.{◌≡◌, ℕ, ◌<◌, Bool, true, false, List, [], ◌∷◌, None, Some, All, cond}
 use Rattle.std.proofs.Common.{length, get_or, refl, sym, ◌∙◌, arith, ⊎_elim, slice_set}
-use Rattle.std.proofs.lemmas.Bool.{cases_eq}
-use Rattle.std.proofs.lemmas.Bool.Decides.{nat_tests}
+use Rattle.std.proofs.lemmas.Bool.{cases_eq, Decides.nat_tests}
 use Rattle.std.proofs.lemmas.List.{get_or-set_same, get_or-set_other, length-set}
 use Rattle.std.proofs.lemmas.List.Elements.{All-head, All-tail}
-use Rattle.std.specs.BTreeMap.{is_at}
-use Rattle.std.specs.Map.{keys_of, lookup}
-use Rattle.std.specs.Ordering.{is_eq}
+use Rattle.std.specs.{BTreeMap.is_at, Map.keys_of, Map.lookup, Ordering.is_eq}
+use Rattle.tap_views.specs.{Token.token_cmp, declared.token.Token.Token}
 use Rattle.tariffs.specs.RiderFilter.{may_contain, filter_bit}
-use Rattle.tap_views.specs.Token.{token_cmp}
-use Rattle.tap_views.specs.declared.token.Token.{Token}
 
 -- a further mark takes none away
 marked-kept : (marks : List Bool) (i j : ℕ) → i < length marks → get_or marks j false ≡ true

@@ -1,53 +1,39 @@
 -- The window end as a function, and that it is later than the start.
 use Rattle.std.proofs.Common.{◌≡◌, ◌∙◌, ℕ, zero, suc, ℤ, pos, ◌+◌, ◌-◌, ◌*◌, ◌<◌, ◌≤◌, ◌+ℤ◌, ◌-ℤ◌}
 use Rattle.std.proofs.Common.{◌*ℤ◌, ◌<ℤ◌, ◌≤ℤ◌, neg_ℤ, negsuc, ◌⊎◌, Bool, true, false, Option}
-use Rattle.std.proofs.Common.{IsSome, Some, None}
-use Rattle.std.proofs.Common.{refl, sym, ap, arith, inl, inr, w64, FitsSigned}
-use Rattle.std.specs.Int.{int_div_euclid, int_max}
-use Rattle.std.specs.Prelude.{int_div, int_lt, unsigned_abs}
-use Rattle.std.proofs.lemmas.Bool.{cases_lt, false≢true}
-use Rattle.std.proofs.lemmas.Int.{int_max_is, ints}
+use Rattle.std.proofs.Common.{IsSome, Some, None, refl, sym, ap, arith, inl, inr, w64, FitsSigned}
+use Rattle.jiff.proofs.Family.{civil_nanos-parts, time_nanos_bound, epoch_day-civil_nanos}
+use Rattle.jiff.proofs.SpanFacts.{signed_arith}
 use Rattle.jiff.specs.Types.{Date, DateTime, TimeZone, Fixed, Offset, Posix, Tzif, UTC, Unknown}
 use Rattle.jiff.specs.Words.{epoch_day, civil_nanos, time_nanos, month_length, nanos_of_seconds}
 use Rattle.jiff.specs.Words.{offset_at, ambiguous_at, compatible_offset, picked_instant}
 use Rattle.jiff.specs.Words.{IsTimestampNanos, IsYmd}
-use Rattle.jiff.proofs.SpanFacts.{signed_arith}
-use Rattle.jiff.proofs.Family.{civil_nanos-parts, time_nanos_bound, epoch_day-civil_nanos}
-use Rattle.jiff_core.specs.Calendar.{days_from_civil, IsCivilDate, weekday_number}
 use Rattle.jiff_core.proofs.CalendarLemmas.{day_count-day_of_year, day_count-later_year}
 use Rattle.jiff_core.proofs.CalendarLemmas.{day_count-lt_month, day_count-lt_year}
 use Rattle.jiff_core.proofs.CalendarLemmas.{days_from_civil-day_count, days_in_year_bounds}
-use Rattle.jiff_core.proofs.MarchLemmas.{day_count-early}
-use Rattle.jiff_core.specs.Calendar.{day_count}
 use Rattle.jiff_core.proofs.CalendarLemmas.{days_in_month_bounds, weekday_number-add}
 use Rattle.jiff_core.proofs.CalendarLemmas.{weekday_number_bound}
 use Rattle.jiff_core.proofs.DateLemmas.{civil, days_from_civil-day, days_from_civil-next_month}
-use Rattle.jiff_core.proofs.DateLemmas.{days_from_civil-next_year}
+use Rattle.jiff_core.proofs.{DateLemmas.days_from_civil-next_year, MarchLemmas.day_count-early}
+use Rattle.jiff_core.specs.Calendar.{days_from_civil, IsCivilDate, weekday_number, day_count}
 use Rattle.jiff_tz.proofs.YearLemmas.{year_of_day-date}
-use Rattle.jiff_tz.specs.PosixRule.{ambiguous_at_by, rule_nanos}
-use Rattle.jiff_tz.specs.PosixRule as rule
-use Rattle.jiff_tz.specs.Year.{year_of_day}
-use Rattle.jiff_tz.specs.declared.posix.Dst.{Dst}
-use Rattle.jiff_tz.specs.declared.posix.TimeZone.{TimeZone as PosixRule}
-use Rattle.tariffs.specs.ClockView.{ClockView}
+use Rattle.jiff_tz.specs.{PosixRule.ambiguous_at_by, Year.year_of_day}
+use Rattle.jiff_tz.specs.declared.posix.{Dst.Dst, TimeZone.TimeZone as PosixRule}
+use Rattle.std.proofs.lemmas.{Bool.cases_lt, Bool.false≢true, Int.int_max_is, Int.ints}
+use Rattle.std.specs.Int.{int_div_euclid, int_max}
+use Rattle.std.specs.Prelude.{int_div, int_lt, unsigned_abs}
+use Rattle.tariffs.specs.{ClockView.ClockView, Fares.Fares, Fares.meaning_at, PosixRule.posix_rule}
 use Rattle.tariffs.specs.Until.{IsCivilWindowEnd, IsDayAt, IsEndDate, IsPlainEndOf}
-use Rattle.tariffs.specs.Until.{IsPlainWindowEnd}
-use Rattle.tariffs.specs.inside.Midnight.{IsMidnight}
-use Rattle.tariffs.specs.Until.{IsWindowEnd}
-use Rattle.tariffs.specs.PosixRule.{posix_rule}
-use Rattle.tariffs.specs.Until.{IsWindowEndBy}
-use Rattle.tariffs.specs.Until.{civil_instant, civil_offset, civil_window_end, day_at}
-use Rattle.tariffs.specs.Until.{day_start_nanos, end_day, end_millis, next_month}
-use Rattle.tariffs.specs.Until.{midnight_by, midnight_nanos, moment_nanos}
+use Rattle.tariffs.specs.Until.{IsPlainWindowEnd, IsWindowEnd, IsWindowEndBy, civil_instant}
+use Rattle.tariffs.specs.Until.{civil_offset, civil_window_end, day_at, day_start_nanos, end_day}
+use Rattle.tariffs.specs.Until.{end_millis, next_month, midnight_by, midnight_nanos, moment_nanos}
 use Rattle.tariffs.specs.Until.{offsets_by, plain_end_of, plain_window_end, start_instant}
-use Rattle.tariffs.specs.Until.{start_nanos, until, utc_window_end}
-use Rattle.tariffs.specs.Until.{window_end_by, window_end_in}
-use Rattle.tariffs.specs.Fares.{Fares, meaning_at}
-use Rattle.tariffs.specs.declared.window_span.WindowSpan.{WindowSpan}
+use Rattle.tariffs.specs.Until.{start_nanos, until, utc_window_end, window_end_by, window_end_in}
 use Rattle.tariffs.specs.declared.window_span.WindowLength.{WindowLength}
 use Rattle.tariffs.specs.declared.window_span.WindowLength.TheVariants.{Days, CalendarDay}
-use Rattle.tariffs.specs.declared.window_span.WindowLength.TheVariants.{CalendarMonth}
-use Rattle.tariffs.specs.declared.window_span.WindowLength.TheVariants.{CalendarWeek}
+use Rattle.tariffs.specs.declared.window_span.WindowLength.TheVariants.{CalendarMonth, CalendarWeek}
+use Rattle.tariffs.specs.{declared.window_span.WindowSpan.WindowSpan, inside.Midnight.IsMidnight}
+use Rattle.jiff_tz.specs.PosixRule as rule
 
 -- ---- the midnight that a zone picks, and the date that its clocks show
 offsets-date : (std : Offset) (dst : Option Dst) (dt : DateTime)

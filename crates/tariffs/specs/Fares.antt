@@ -1,18 +1,11 @@
 -- A fare table, as contracts see it, and what is looked up in it.
+use Rattle.std.specs.{Cmp.Lexicographic.slice_cmp, List.find, List.list_any, Map.lookup}
+use Rattle.std.specs.Ordering.{nat_cmp, is_eq}
 use Rattle.std.specs.Prelude.{ℕ, ◌&&◌, ◌||◌, ◌==◌, Bool, not, if◌then◌else◌, List, [], ◌∷◌, length}
 use Rattle.std.specs.Prelude.{Option, option_map, unwrap_or, nat_le, slice_index, slice_index_or}
-use Rattle.std.specs.Cmp.Lexicographic.{slice_cmp}
-use Rattle.std.specs.List.{find, list_any}
-use Rattle.std.specs.Map.{lookup}
-use Rattle.std.specs.Ordering.{nat_cmp, is_eq}
-use Rattle.tariffs.specs.ClockView.{ClockView}
-use Rattle.tariffs.specs.Prices.{price_in}
-use Rattle.tariffs.specs.TableMeaning.{TableMeaning}
-use Rattle.tariffs.specs.Transfers.{has_pair}
-use Rattle.tariffs.specs.declared.class.Class.{Class}
-use Rattle.tariffs.specs.declared.price.Pays.{Pays}
-use Rattle.tariffs.specs.declared.terms.Terms.{Terms}
-use Rattle.tariffs.specs.declared.transfer_terms.TransferTerms.{TransferTerms}
+use Rattle.tariffs.specs.{ClockView.ClockView, Prices.price_in, TableMeaning.TableMeaning}
+use Rattle.tariffs.specs.{Transfers.has_pair, declared.class.Class.Class, declared.price.Pays.Pays}
+use Rattle.tariffs.specs.declared.{terms.Terms.Terms, transfer_terms.TransferTerms.TransferTerms}
 use Rattle.tariffs.specs.declared.validators.RangeRest.{RangeRest}
 
 -- what the table's text means, what the texts mean that follow it, each with the moment from which

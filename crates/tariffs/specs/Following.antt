@@ -1,10 +1,9 @@
 -- When one table can follow others from a moment on.
 use Rattle.std.specs.Prelude.{◌≡◌, ◌≢◌, ℕ, ◌<◌, ◌≤◌, List, [], ◌∷◌, ◌++◌}
-use Rattle.tariffs.specs.Fares.{Fares}
-use Rattle.tariffs.specs.TableMeaning.{TableMeaning}
+use Rattle.tariffs.specs.{Fares.Fares, TableMeaning.TableMeaning}
 use Rattle.tariffs.specs.declared.follow_fault.FollowFault.{FollowFault}
-use Rattle.tariffs.specs.declared.follow_fault.FollowFault.TheVariants.{Caps, Date, Followed}
-use Rattle.tariffs.specs.declared.follow_fault.FollowFault.TheVariants.{Modes, NoMemory, Zone}
+use Rattle.tariffs.specs.declared.follow_fault.FollowFault.TheVariants.{Caps, Date, Followed, Modes}
+use Rattle.tariffs.specs.declared.follow_fault.FollowFault.TheVariants.{NoMemory, Zone}
 
 -- the moment from which the last of these is valid, else the earlier one
 abbrev pub last_from : ℕ → List (ℕ × TableMeaning) → ℕ

@@ -1,8 +1,7 @@
 -- The prices of transfers.
-use Rattle.std.specs.Prelude.{ℕ, ◌&&◌, ◌==◌, ◌≤◌, Bool, List, Option, option_map}
 use Rattle.std.specs.List.{find}
-use Rattle.tariffs.specs.declared.price.Pays.{Pays}
-use Rattle.tariffs.specs.declared.price.Pays.TheVariants.{Difference, More}
+use Rattle.std.specs.Prelude.{ℕ, ◌&&◌, ◌==◌, ◌≤◌, Bool, List, Option, option_map}
+use Rattle.tariffs.specs.declared.price.Pays.{Pays, TheVariants.Difference, TheVariants.More}
 use Rattle.tariffs.specs.declared.price.Price.{Price}
 
 -- the price is that of a transfer from the one place to the other

@@ -1,9 +1,7 @@
 -- What a fare table means, whatever text it was read from.
 use Rattle.std.specs.Prelude.{ℕ, List, Option}
-use Rattle.tariffs.specs.declared.cap_terms.CapTerms.{CapTerms}
-use Rattle.tariffs.specs.declared.class.Class.{Class}
-use Rattle.tariffs.specs.declared.price.Price.{Price}
-use Rattle.tariffs.specs.declared.validators.RangeRest.{RangeRest}
+use Rattle.tariffs.specs.declared.{cap_terms.CapTerms.CapTerms, class.Class.Class}
+use Rattle.tariffs.specs.declared.{price.Price.Price, validators.RangeRest.RangeRest}
 use Rattle.tariffs.specs.declared.window_span.WindowSpan.{WindowSpan}
 
 -- the modes' names by their places, the pairs of places with a transfer, each once, the prices of

@@ -1,13 +1,10 @@
 -- What holds of the parts of every tariff, and what contracts see of them.
-use Rattle.std.specs.Prelude.{◌≡◌, ◌<◌, ◌≤◌, true, All, length, map, string_bytes}
 use Rattle.std.specs.Map.{values_of}
-use Rattle.tariffs.specs.Prices.{IsBoundedPrice}
-use Rattle.tariffs.specs.Terms.{IsBoundedClass}
-use Rattle.tariffs.specs.Zone.{zone_rule, zone_text}
-use Rattle.tariffs.specs.declared.tariff.TariffParts.{TariffParts}
-use Rattle.tariffs.specs.WindowSpan.{IsBoundedLength, IsBoundedSpan}
-use Rattle.tariffs.specs.TariffView.{TariffView}
+use Rattle.std.specs.Prelude.{◌≡◌, ◌<◌, ◌≤◌, true, All, length, map, string_bytes}
+use Rattle.tariffs.specs.{Prices.IsBoundedPrice, TariffView.TariffView, Terms.IsBoundedClass}
 use Rattle.tariffs.specs.Validators.{are_modes_below}
+use Rattle.tariffs.specs.WindowSpan.{IsBoundedLength, IsBoundedSpan}
+use Rattle.tariffs.specs.{Zone.zone_rule, Zone.zone_text, declared.tariff.TariffParts.TariffParts}
 
 -- what contracts see of the parts of a tariff
 abbrev pub view_of : TariffParts → TariffView

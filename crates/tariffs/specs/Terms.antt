@@ -1,7 +1,6 @@
 -- The bounds of what a rider class pays, and of what its rides give.
 use Rattle.std.specs.Prelude.{◌≡◌, ◌≤◌, All, length}
-use Rattle.tariffs.specs.declared.class.Class.{Class}
-use Rattle.tariffs.specs.declared.terms.Terms.{Terms}
+use Rattle.tariffs.specs.declared.{class.Class.Class, terms.Terms.Terms}
 
 -- the fare, which may be 0, the limit of rides and the ceiling are within their bounds
 pub record AreBoundedTerms (terms : Terms) : Type 0 where

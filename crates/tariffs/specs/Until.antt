@@ -1,25 +1,21 @@
 -- Where a window ends that starts at a moment.
-use Rattle.std.specs.Prelude.{◌≡◌, ℕ, zero, suc, ℤ, pos, ◌+◌, ◌-◌, ◌*◌, ◌+ℤ◌, ◌-ℤ◌, ◌*ℤ◌, ◌<ℤ◌}
-use Rattle.std.specs.Prelude.{◌≤ℤ◌, unsigned_abs, int_div, int_lt, max, Option, Some, None}
-use Rattle.std.specs.Prelude.{if◌then◌else◌}
-use Rattle.std.specs.Int.{int_div_euclid, int_max}
 use Rattle.jiff.specs.Types.{Date, DateTime, TimeZone, Posix, UTC, Offset, AmbiguousOffset}
 use Rattle.jiff.specs.Types.{Unambiguous}
 use Rattle.jiff.specs.Words.{epoch_day, civil_nanos, time_nanos, nanos_of_seconds, offset_at}
 use Rattle.jiff.specs.Words.{compatible_offset, month_length, picked_instant, weekday_of}
 use Rattle.jiff_core.specs.Calendar.{days_from_civil, weekday_number}
 use Rattle.jiff_tz.specs.PosixRule.{ambiguous_by, nanos_per_day, rule_nanos}
-use Rattle.jiff_tz.specs.PosixRule as rule
 use Rattle.jiff_tz.specs.Year.{year_of_day}
-use Rattle.jiff_tz.specs.declared.posix.Dst.{Dst}
-use Rattle.jiff_tz.specs.declared.posix.TimeZone.{TimeZone as PosixRule}
-use Rattle.tariffs.specs.ClockView.{ClockView}
-use Rattle.tariffs.specs.Fares.{Fares, meaning_at}
-use Rattle.tariffs.specs.declared.window_span.WindowSpan.{WindowSpan}
+use Rattle.jiff_tz.specs.declared.posix.{Dst.Dst, TimeZone.TimeZone as PosixRule}
+use Rattle.std.specs.{Int.int_div_euclid, Int.int_max, Prelude.◌≡◌}
+use Rattle.std.specs.Prelude.{ℕ, zero, suc, ℤ, pos, ◌+◌, ◌-◌, ◌*◌, ◌+ℤ◌, ◌-ℤ◌, ◌*ℤ◌, ◌<ℤ◌, ◌≤ℤ◌}
+use Rattle.std.specs.Prelude.{unsigned_abs, int_div, int_lt, max, Option, Some, None, if◌then◌else◌}
+use Rattle.tariffs.specs.{ClockView.ClockView, Fares.Fares, Fares.meaning_at}
 use Rattle.tariffs.specs.declared.window_span.WindowLength.{WindowLength}
 use Rattle.tariffs.specs.declared.window_span.WindowLength.TheVariants.{Days, CalendarDay}
-use Rattle.tariffs.specs.declared.window_span.WindowLength.TheVariants.{CalendarMonth}
-use Rattle.tariffs.specs.declared.window_span.WindowLength.TheVariants.{CalendarWeek}
+use Rattle.tariffs.specs.declared.window_span.WindowLength.TheVariants.{CalendarMonth, CalendarWeek}
+use Rattle.tariffs.specs.declared.window_span.WindowSpan.{WindowSpan}
+use Rattle.jiff_tz.specs.PosixRule as rule
 
 -- the moment in nanoseconds since 1970-01-01T00:00Z
 abbrev pub moment_nanos : ℕ → ℤ

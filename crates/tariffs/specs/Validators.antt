@@ -1,8 +1,7 @@
 -- Ranges of validators and their modes.
+use Rattle.std.specs.{List.list_all, Option.option_or}
 use Rattle.std.specs.Prelude.{ℕ, ◌&&◌, Bool, true, List, [], ◌∷◌, Option, Some, None, nat_le}
 use Rattle.std.specs.Prelude.{nat_lt, if◌then◌else◌}
-use Rattle.std.specs.List.{list_all}
-use Rattle.std.specs.Option.{option_or}
 use Rattle.tariffs.specs.declared.validators.RangeRest.{RangeRest}
 
 -- each range begins no later than it ends, and ends before the next one begins

@@ -1,14 +1,11 @@
 -- How long windows are and when a day starts, and the texts that name them.
-use Rattle.std.specs.Prelude.{ℕ, ◌+◌, ◌-◌, ◌*◌, ◌&&◌, ◌==◌, ◌≤◌, ◌<◌, List, [], ◌∷◌, Option, Some, None}
+use Rattle.std.specs.{Char.is_ascii_digit, Option.option_and_then, Prelude.ℕ, Prelude.◌+◌}
+use Rattle.std.specs.Prelude.{◌-◌, ◌*◌, ◌&&◌, ◌==◌, ◌≤◌, ◌<◌, List, [], ◌∷◌, Option, Some, None}
 use Rattle.std.specs.Prelude.{codes, if◌then◌else◌, nat_le, nat_lt, length, take, drop, option_map}
-use Rattle.std.specs.Char.{is_ascii_digit}
-use Rattle.std.specs.Option.{option_and_then}
-use Rattle.tariffs.specs.Names.{same_name}
-use Rattle.tariffs.specs.declared.window_span.WindowSpan.{WindowSpan}
-use Rattle.tariffs.specs.declared.window_span.WindowLength.{WindowLength}
+use Rattle.tariffs.specs.{Names.same_name, declared.window_span.WindowLength.WindowLength}
 use Rattle.tariffs.specs.declared.window_span.WindowLength.TheVariants.{Days, CalendarDay}
-use Rattle.tariffs.specs.declared.window_span.WindowLength.TheVariants.{CalendarMonth}
-use Rattle.tariffs.specs.declared.window_span.WindowLength.TheVariants.{CalendarWeek}
+use Rattle.tariffs.specs.declared.window_span.WindowLength.TheVariants.{CalendarMonth, CalendarWeek}
+use Rattle.tariffs.specs.declared.window_span.WindowSpan.{WindowSpan}
 
 -- a number of days is one from 1 to 31
 abbrev pub IsBoundedLength : WindowLength → Type 0

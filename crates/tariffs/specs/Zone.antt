@@ -1,10 +1,9 @@
 -- The zone of a tariff: its text, and the rule that it goes by.
-use Rattle.std.specs.Prelude.{ℕ, List, Option, option_map, string_bytes}
-use Rattle.std.specs.Option.{option_and_then}
 use Rattle.jiff.specs.ZoneView.{plain_zone}
 use Rattle.jiff_tz.specs.declared.posix.TimeZone.{TimeZone as PosixRule}
-use Rattle.tariffs.specs.PosixRule.{posix_rule}
-use Rattle.tariffs.specs.declared.zone.Zone.{Zone}
+use Rattle.std.specs.Option.{option_and_then}
+use Rattle.std.specs.Prelude.{ℕ, List, Option, option_map, string_bytes}
+use Rattle.tariffs.specs.{PosixRule.posix_rule, declared.zone.Zone.Zone}
 
 -- the text of a zone, if there is one
 abbrev pub zone_text : Option Zone → Option (List ℕ)

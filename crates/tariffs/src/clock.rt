@@ -1,13 +1,11 @@
 //! Where windows end.
-ghost use Rattle.std.specs.Prelude.{◌≡◌, ◌<◌, ◌+◌, pos, ◌+ℤ◌, ◌-ℤ◌, ◌*ℤ◌, ◌<ℤ◌, ◌≤ℤ◌, neg_ℤ};
+ghost use Rattle.jiff.specs.{Words.epoch_day, Words.time_nanos, ZoneView.plain_zone};
 ghost use Rattle.std.specs.Int.{int_max};
-ghost use Rattle.jiff.specs.Words.{epoch_day, time_nanos};
-ghost use Rattle.jiff.specs.ZoneView.{plain_zone};
-ghost use Rattle.tariffs.specs.WindowSpan.{IsBoundedLength, IsBoundedSpan};
+ghost use Rattle.std.specs.Prelude.{◌≡◌, ◌<◌, ◌+◌, pos, ◌+ℤ◌, ◌-ℤ◌, ◌*ℤ◌, ◌<ℤ◌, ◌≤ℤ◌, neg_ℤ};
 ghost use Rattle.tariffs.specs.Until.{IsCivilWindowEnd, IsDayAt, IsEndDate, IsPlainWindowEnd};
-ghost use Rattle.tariffs.specs.Until.{day_start_nanos};
+ghost use Rattle.tariffs.specs.Until.{day_start_nanos, moment_nanos};
+ghost use Rattle.tariffs.specs.WindowSpan.{IsBoundedLength, IsBoundedSpan};
 ghost use Rattle.tariffs.specs.inside.Midnight.{IsMidnight};
-ghost use Rattle.tariffs.specs.Until.{moment_nanos};
 
 use crate::window_span::{WindowLength, WindowSpan};
 use jiff::civil::{Date, DateTime};

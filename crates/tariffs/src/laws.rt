@@ -1,11 +1,10 @@
 //! Theorems about fare tables, each the contract of a function that does nothing.
+ghost use Rattle.jiff_tz.specs.declared.posix.TimeZone.{TimeZone as PosixRule};
 ghost use Rattle.std.specs.Prelude.{◌≡◌, ℕ, ◌<◌, ◌≤◌, ◌+ℤ◌, pos};
-ghost use Rattle.tariffs.specs.Fares.{Fares, meaning_at};
-ghost use Rattle.tariffs.specs.Until.{IsWindowEnd, civil_window_end, day_at, moment_nanos};
-ghost use Rattle.tariffs.specs.Until.{start_instant, until};
+ghost use Rattle.tariffs.specs.{Fares.Fares, Fares.meaning_at, Until.IsWindowEnd};
+ghost use Rattle.tariffs.specs.Until.{civil_window_end, day_at, moment_nanos, start_instant, until};
 ghost use Rattle.tariffs.specs.declared.window_span.WindowLength.TheVariants.{Days};
 ghost use Rattle.tariffs.specs.declared.window_span.WindowSpan.{WindowSpan};
-ghost use Rattle.jiff_tz.specs.declared.posix.TimeZone.{TimeZone as PosixRule};
 
 /// A window ends after it starts.
 pub fn windows_end_later()

@@ -1,6 +1,5 @@
 //! The classes of single riders by their tokens.
-ghost use Rattle.std.specs.Prelude.{◌≡◌, All, IfOk, length};
-ghost use Rattle.std.specs.Map.{keys_of};
+ghost use Rattle.std.specs.{Map.keys_of, Prelude.◌≡◌, Prelude.All, Prelude.IfOk, Prelude.length};
 ghost use Rattle.tap_views.specs.Token.{Fits};
 ghost use Rattle.tariffs.specs.Riders.{by_bytes};
 

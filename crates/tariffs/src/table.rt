@@ -1,16 +1,14 @@
 //! The fare table and its look-ups.
-ghost use Rattle.std.specs.Prelude.{◌≡◌, ℕ, ◌<◌, ◌≤◌, [], length, option_map, IfSome, IfErr};
-ghost use Rattle.std.specs.Prelude.{IfOk, IsTrue, IsOk, None, Some, All, map, slice_get};
-ghost use Rattle.std.specs.Prelude.{string_bytes};
+ghost use Rattle.std.specs.Arc.{arc_value};
+ghost use Rattle.std.specs.Prelude.{◌≡◌, ℕ, ◌<◌, ◌≤◌, [], length, option_map, IfSome, IfErr, IfOk};
+ghost use Rattle.std.specs.Prelude.{IsTrue, IsOk, None, Some, All, map, slice_get, string_bytes};
 ghost use Rattle.tariffs.specs.Fares.{has_caps_or_prices, meaning_at, mode_at, terms_at};
 ghost use Rattle.tariffs.specs.Following.{CanFollow, IsFollowFault, with_next};
-ghost use Rattle.tariffs.specs.Following as spec;
-ghost use Rattle.tariffs.specs.inside.Table.{started, dated_meaning, same_names, same_zone};
-ghost use Rattle.std.specs.Arc.{arc_value};
-ghost use Rattle.tariffs.specs.Prices.{IsBoundedPrice};
-ghost use Rattle.tariffs.specs.Riders.{by_bytes};
+ghost use Rattle.tariffs.specs.{Prices.IsBoundedPrice, Riders.by_bytes};
 ghost use Rattle.tariffs.specs.Terms.{AreBoundedTerms, IsBoundedClass};
 ghost use Rattle.tariffs.specs.WindowSpan.{IsBoundedLength, IsBoundedSpan};
+ghost use Rattle.tariffs.specs.inside.Table.{started, dated_meaning, same_names, same_zone};
+ghost use Rattle.tariffs.specs.Following as spec;
 
 use crate::cap_terms::CapTerms;
 use crate::class::Class;

@@ -1,15 +1,14 @@
 //! A tariff: what one text of a fare table says, and its look-ups.
-ghost use Rattle.std.specs.Prelude.{◌≡◌, ◌<◌, ◌≤◌, length, option_map, IfSome, Some, map};
-ghost use Rattle.std.specs.Prelude.{All, slice_get, string_bytes};
+ghost use Rattle.std.specs.Prelude.{◌≡◌, ◌<◌, ◌≤◌, length, option_map, IfSome, Some, map, All};
+ghost use Rattle.std.specs.Prelude.{slice_get, string_bytes};
 ghost use Rattle.tariffs.specs.Fares.{cap_ceiling, class_of, is_permitted, mode_in, price_of};
 ghost use Rattle.tariffs.specs.Fares.{ride_terms, terms_at, transfer_terms};
-ghost use Rattle.tariffs.specs.inside.PosixRule.{HasRule, rule_of};
 ghost use Rattle.tariffs.specs.Prices.{IsBoundedPays, IsBoundedPrice, price_in};
-ghost use Rattle.tariffs.specs.Riders.{by_bytes};
+ghost use Rattle.tariffs.specs.{Riders.by_bytes, TariffParts.AreSound, TariffParts.view_of};
+ghost use Rattle.tariffs.specs.Terms.{AreBoundedTerms, IsBoundedClass};
 ghost use Rattle.tariffs.specs.WindowSpan.{IsBoundedLength, IsBoundedSpan};
 ghost use Rattle.tariffs.specs.Zone.{zone_rule, zone_text};
-ghost use Rattle.tariffs.specs.TariffParts.{AreSound, view_of};
-ghost use Rattle.tariffs.specs.Terms.{AreBoundedTerms, IsBoundedClass};
+ghost use Rattle.tariffs.specs.inside.PosixRule.{HasRule, rule_of};
 
 use crate::cap_terms::{CapTerms, NO_CEILING};
 use crate::class::Class;

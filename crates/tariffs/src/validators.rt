@@ -1,11 +1,8 @@
 //! Ranges of validators and their modes, and the search for the range that has a number.
 ghost use Rattle.std.specs.Prelude.{◌≡◌, ◌<◌, ◌≤◌, true, if◌then◌else◌, IfOk, IfSome, IsTrue, None};
 ghost use Rattle.std.specs.Prelude.{length, nat_le, option_copied};
-ghost use Rattle.tariffs.specs.Fares.{range_at};
-ghost use Rattle.tariffs.specs.Validators.{are_disjoint};
-ghost use Rattle.tariffs.specs.inside.Validators.{is_increasing, AreSearchable};
-ghost use Rattle.tariffs.specs.Validators.{last_started};
-ghost use Rattle.tariffs.specs.inside.Validators.{IsSplitAt};
+ghost use Rattle.tariffs.specs.{Fares.range_at, Validators.are_disjoint, Validators.last_started};
+ghost use Rattle.tariffs.specs.inside.Validators.{is_increasing, AreSearchable, IsSplitAt};
 
 use crate::validators::hints::Hints;
 use std::alloc::Global;

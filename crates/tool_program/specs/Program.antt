@@ -1,21 +1,14 @@
 -- The whole program: how what is asked for ends.
-use Rattle.std.specs.Prelude.{◌≡◌, ◌⊎◌, ⊤, ℕ, MatchBool, List, Option, map}
 use Rattle.frame.specs.Outcome.{Ends}
-use Rattle.world.specs.Run.{Calls, Run, with_flushed, with_written}
-use Rattle.world.specs.Writes.{IsSaid}
-use Rattle.tool_tasks.specs.Corrections.{corrections_rule}
-use Rattle.tool_tasks.specs.Decode.{decode_rule}
-use Rattle.tool_tasks.specs.Encode.{encode_rule}
-use Rattle.tool_tasks.specs.EncodeRows.{EndsRows}
-use Rattle.tool_tasks.specs.Merge.{merge_rule}
-use Rattle.tool_tasks.specs.ValidPrefix.{valid_prefix_rule}
-use Rattle.tool_tasks.specs.MergeSorted.{merge_sorted_rule}
-use Rattle.tool_tasks.specs.Sort.{sort_rule}
+use Rattle.std.specs.Prelude.{◌≡◌, ◌⊎◌, ⊤, ℕ, MatchBool, List, Option, map}
+use Rattle.tool_tasks.specs.{Corrections.corrections_rule, Decode.decode_rule, Encode.encode_rule}
+use Rattle.tool_tasks.specs.{EncodeRows.EndsRows, Merge.merge_rule, MergeSorted.merge_sorted_rule}
+use Rattle.tool_tasks.specs.{Sort.sort_rule, ValidPrefix.valid_prefix_rule}
 use Rattle.tool_words.specs.Request.{Request, corrections, decode, encode, encode_rows, merge}
 use Rattle.tool_words.specs.Request.{misused, request_by, shows, sort, valid_prefix}
-use Rattle.tool_words.specs.Tasks.{rows_words_of}
-use Rattle.tool_words.specs.ToolLine.{AsksForText, Parses}
+use Rattle.tool_words.specs.{Tasks.rows_words_of, ToolLine.AsksForText, ToolLine.Parses}
 use Rattle.tool_words.specs.declared.task.RowsWords.{RowsWords}
+use Rattle.world.specs.{Run.Calls, Run.Run, Run.with_flushed, Run.with_written, Writes.IsSaid}
 
 -- a text was written and flushed, and nothing else was done
 abbrev pub IsPrinted : Run → Run → Type 0

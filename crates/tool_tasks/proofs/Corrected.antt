@@ -1,27 +1,25 @@
 -- Corrections that are written: what was written of them, and what is noted.
-use Rattle.std.proofs.Common.{◌≡◌, ◌∙◌, ◌⊎◌, ◌++◌, ◌∷◌, [], Bool, Err, None, Ok, Option, Result, Some, ℕ}
-use Rattle.std.proofs.Common.{List, ap, append-nil, append_assoc, arith, inl, inr, refl, subst, sym}
-use Rattle.std.specs.Prelude.{Contains}
+use Rattle.std.proofs.Common.{◌≡◌, ◌∙◌, ◌⊎◌, ◌++◌, ◌∷◌, [], Bool, Err, None, Ok, Option, Result}
+use Rattle.std.proofs.Common.{Some, ℕ, List, ap, append-nil, append_assoc, arith, inl, inr, refl}
+use Rattle.std.proofs.Common.{subst, sym}
 use Rattle.frame.specs.declared.outside.Outside.{Outside}
+use Rattle.ledger_changes.proofs.Walking.{started}
 use Rattle.ledger_changes.specs.Given.{HasStarted, HasGiven, IsAllGiven, IsStarted, IsFaultOf}
 use Rattle.ledger_changes.specs.Given.{IsGivenAfter, new_calls, old_calls}
 use Rattle.ledger_changes.specs.Tokens.{corrections_of, head_of}
-use Rattle.ledger_changes.specs.declared.changes.Corrections.{Corrections}
-use Rattle.ledger_changes.specs.declared.fault.Bill.{Bill}
+use Rattle.ledger_changes.specs.declared.{changes.Corrections.Corrections, fault.Bill.Bill}
 use Rattle.ledger_changes.specs.declared.fault.Bill.TheVariants.{New, Old}
 use Rattle.ledger_changes.specs.declared.fault.CorrectionsFault.TheVariants.{Line, Unread, NoMemory}
-use Rattle.ledger_changes.proofs.Walking.{started}
-use Rattle.world.specs.Run.{Calls, Run, with_written}
+use Rattle.std.specs.Prelude.{Contains}
 use Rattle.tool_tasks.proofs.Streaming.{all_read}
 use Rattle.tool_tasks.specs.Corrections.{AreRead, Corrects, IsPart, IsWrongLedger}
 use Rattle.tool_tasks.specs.Streams.{HasFailed, LeavesOf}
 use Rattle.tool_tasks.specs.declared.corrections.Stopped.{Stopped}
 use Rattle.tool_tasks.specs.declared.corrections.Stopped.TheVariants.{Fault, Write}
-use Rattle.tool_tasks.specs.declared.stops.Halt.{Halt}
-use Rattle.tool_tasks.specs.declared.streams.Noted.{Noted}
-use Rattle.tool_tasks.specs.inside.Corrections.{IsNoted, IsWritten}
-use Rattle.tool_tasks.specs.inside.Streams.{IsStreamed}
+use Rattle.tool_tasks.specs.declared.{stops.Halt.Halt, streams.Noted.Noted}
+use Rattle.tool_tasks.specs.inside.{Corrections.IsNoted, Corrections.IsWritten, Streams.IsStreamed}
 use Rattle.tool_words.specs.Request.{CorrectionsRequest}
+use Rattle.world.specs.Run.{Calls, Run, with_written}
 
 -- ---- what was started
 pub started_part : (by_token : Bool) (text piece front rest : List ℕ) (old new : Calls)

@@ -1,24 +1,19 @@
 -- One upload more is decoded.
-use Rattle.std.proofs.Common.{◌≡◌, ◌∙◌, ◌+◌, ◌<◌, ℕ, Bool, Bor, true, false, List, [], ◌∷◌, ◌++◌, Option}
-use Rattle.std.proofs.Common.{Some, ap, append-nil, append_assoc, drop, flat_map, get_or, length, map}
-use Rattle.std.proofs.Common.{inl, inr, refl, subst, sym, take, take-append-drop}
-use Rattle.std.specs.Prelude.{◌&&◌, None, is_none}
-use Rattle.std.proofs.lemmas.List.{map-append, take_more}
-use Rattle.std.proofs.lemmas.List.Concat.{flat_map-append}
-use Rattle.frame.specs.Given.{Adds, Given, gave, load_of, with_loads, with_note, with_text}
-use Rattle.frame.specs.Names.{file_named}
-use Rattle.frame.specs.Outcome.{IsHalted}
-use Rattle.frame.specs.Outsides.{IsStoppedIn, Leaves, StopsIn}
-use Rattle.frame.specs.declared.outside.Outside.{Outside}
-use Rattle.frame.specs.declared.outside.Outside.TheVariants.{NoMemory}
+use Rattle.std.proofs.Common.{◌≡◌, ◌∙◌, ◌+◌, ◌<◌, ℕ, Bool, Bor, true, false, List, [], ◌∷◌, ◌++◌}
+use Rattle.std.proofs.Common.{Option, Some, ap, append-nil, append_assoc, drop, flat_map, get_or}
+use Rattle.std.proofs.Common.{length, map, inl, inr, refl, subst, sym, take, take-append-drop}
 use Rattle.frame.proofs.Giving.{gave_load, gave_note, part_note, part_text, stopped_at}
 use Rattle.frame.proofs.Outcomes.{stopped_early}
-use Rattle.tap_rows.specs.Decoded.{IsDecoded}
-use Rattle.tap_rows.specs.TapTables.{head}
+use Rattle.frame.specs.Given.{Adds, Given, gave, load_of, with_loads, with_note, with_text}
+use Rattle.frame.specs.{Names.file_named, Outcome.IsHalted, Outsides.IsStoppedIn, Outsides.StopsIn}
+use Rattle.frame.specs.declared.outside.Outside.{Outside, TheVariants.NoMemory}
+use Rattle.std.proofs.lemmas.List.{map-append, take_more, Concat.flat_map-append}
+use Rattle.std.specs.Prelude.{◌&&◌, None, is_none}
+use Rattle.tap_rows.specs.{Decoded.IsDecoded, TapTables.head}
 use Rattle.tap_views.specs.declared.fault.LayoutFault.{LayoutFault}
-use Rattle.world.specs.Run.{Run, with_load, with_said}
 use Rattle.tool_tasks.specs.Decode.{Decoded, are_whole, decode_rule, decoding_of, words_of}
 use Rattle.tool_tasks.specs.inside.Decode.{StopsDecoding, with_decoded}
+use Rattle.world.specs.Run.{Run, with_load, with_said}
 
 -- ---- one more
 -- of the bytes that were loaded

@@ -1,47 +1,34 @@
 -- What `encode` of an agency's own CSVs has loaded, prepared and done.
-use Rattle.std.proofs.Common.{◌≡◌, ◌∙◌, ◌∷◌, ◌++◌, ◌<◌, ◌≤◌, ◌+◌, ℕ, Bool, Bor, List, [], None}
-use Rattle.std.proofs.Common.{Ok, Option, Some, ap, arith, drop, false, get_or, if◌then◌else◌, inl}
+use Rattle.std.proofs.Common.{◌≡◌, ◌∙◌, ◌∷◌, ◌++◌, ◌<◌, ◌≤◌, ◌+◌, ℕ, Bool, Bor, List, [], None, Ok}
+use Rattle.std.proofs.Common.{Option, Some, ap, arith, drop, false, get_or, if◌then◌else◌, inl}
 use Rattle.std.proofs.Common.{length, map, refl, subst, sym, take, true}
-use Rattle.jiff_tz.specs.PosixReader.{read_whole}
-use Rattle.jiff_tz.specs.Tzif.{tzif_view}
-use Rattle.jiff_tz.specs.TzifReader.{read_tzif}
-use Rattle.jiff_tz.specs.declared.timezone.TimeZone.{TimeZone}
-use Rattle.jiff_tz.specs.declared.timezone.TimeZone.TheVariants as zones
-use Rattle.jiff_tz.specs.declared.tzif.Tzif.{Tzif}
-use Rattle.tap_rows.specs.Agencies.{IsFirstRefused, IsRowsEncoded}
-use Rattle.tap_rows.specs.declared.agency.reading.Reason.{Reason}
-use Rattle.tap_rows.specs.declared.agency.summary.Summary.{Summary}
+use Rattle.frame.proofs.Outcomes.{halted_loading, stops_weaker}
+use Rattle.frame.specs.{Given.Given, Names.file_named, Outcome.IsHalted, Outcome.rule_of}
+use Rattle.frame.specs.{Outsides.Stops, declared.outside.Outside.Outside}
+use Rattle.jiff_tz.specs.{PosixReader.read_whole, Tzif.tzif_view, TzifReader.read_tzif}
+use Rattle.jiff_tz.specs.declared.{timezone.TimeZone.TimeZone, tzif.Tzif.Tzif}
 use Rattle.std.proofs.Math.ListN.{drop_of_length-le, get_or-map}
 use Rattle.std.proofs.lemmas.List.{drop_more, length-map, map-append, take_more}
 use Rattle.std.proofs.lemmas.List.Elements.{Contains-append_right}
 use Rattle.std.specs.Prelude.{Contains, Err, IsSome, Result, option_map, unwrap_or}
-use Rattle.frame.proofs.Outcomes.{halted_loading, stops_weaker}
-use Rattle.frame.specs.Given.{Given}
-use Rattle.frame.specs.Names.{file_named}
-use Rattle.frame.specs.Outcome.{IsHalted, rule_of}
-use Rattle.frame.specs.Outsides.{Stops}
-use Rattle.frame.specs.declared.outside.Outside.{Outside}
-use Rattle.world.proofs.Laws.{more_loads}
-use Rattle.world.specs.Origins.{with_loads}
-use Rattle.world.specs.Run.{Load, Run, with_load}
-use Rattle.tap_rows.specs.Devices.{Device, devices_of}
-use Rattle.tap_rows.specs.declared.agency.choice.Choice.{Choice}
-use Rattle.tap_rows.specs.declared.agency.choice.LocalClock.{LocalClock}
-use Rattle.tool_words.specs.declared.task.RowsWords.{RowsWords}
-use Rattle.tap_rows.specs.Numbering.{IsNumbered}
+use Rattle.tap_rows.specs.Agencies.{IsFirstRefused, IsRowsEncoded}
+use Rattle.tap_rows.specs.{Devices.Device, Numbering.IsNumbered}
+use Rattle.tap_rows.specs.declared.agency.choice.{Choice.Choice, LocalClock.LocalClock}
+use Rattle.tap_rows.specs.declared.agency.{reading.Reason.Reason, summary.Summary.Summary}
 use Rattle.tool_tasks.specs.EncodeRows.{AddsCsv, AddsCsvs, AreNumbered, Csv, Encoded, HasDevices}
-use Rattle.tool_tasks.specs.EncodeRows.{IsChoice, IsWrongCsv, Texts, devices_word}
-use Rattle.tool_tasks.specs.EncodeRows.{later_loads, load_csv, loads_in, loads_of, names_of, word_in}
+use Rattle.tool_tasks.specs.EncodeRows.{IsChoice, IsWrongCsv, Texts, devices_word, later_loads}
+use Rattle.tool_tasks.specs.EncodeRows.{load_csv, loads_in, loads_of, names_of, word_in}
 use Rattle.tool_tasks.specs.EncodeTables.{IsClock, IsKey, IsZone, is_zone_name, zone_file}
-use Rattle.tool_tasks.specs.EncodeTables.{zone_loaded}
-use Rattle.tool_tasks.specs.declared.encode_loads.Csv.{Csv as HeldCsv}
-use Rattle.tool_tasks.specs.declared.prepared.NewFile.{NewFile}
-use Rattle.tool_tasks.specs.declared.prepared.Prepared.{Prepared}
-use Rattle.tool_tasks.specs.declared.stops.Halt.{Halt}
-use Rattle.tool_tasks.specs.inside.EncodeRows.{AreLoaded, AreOf, HasLoaded, IsMade, IsOf, IsTable}
-use Rattle.tool_tasks.specs.inside.EncodeRows.{Prepares, PreparesCsvs, csv_of}
-use Rattle.tool_tasks.specs.inside.Loads.{IsNameIn, StopsLoading}
-use Rattle.tool_tasks.specs.inside.Prepared.{AreNamed, IsNamedIn}
+use Rattle.tool_tasks.specs.{EncodeTables.zone_loaded, declared.encode_loads.Csv.Csv as HeldCsv}
+use Rattle.tool_tasks.specs.declared.prepared.{NewFile.NewFile, Prepared.Prepared}
+use Rattle.tool_tasks.specs.{declared.stops.Halt.Halt, inside.EncodeRows.AreLoaded}
+use Rattle.tool_tasks.specs.inside.EncodeRows.{AreOf, HasLoaded, IsMade, IsOf, IsTable, Prepares}
+use Rattle.tool_tasks.specs.inside.{EncodeRows.PreparesCsvs, EncodeRows.csv_of, Loads.IsNameIn}
+use Rattle.tool_tasks.specs.inside.{Loads.StopsLoading, Prepared.AreNamed, Prepared.IsNamedIn}
+use Rattle.tool_words.specs.declared.task.RowsWords.{RowsWords}
+use Rattle.world.proofs.Laws.{more_loads}
+use Rattle.world.specs.{Origins.with_loads, Run.Load, Run.Run, Run.with_load}
+use Rattle.jiff_tz.specs.declared.timezone.TimeZone.TheVariants as zones
 
 -- ---- loads
 pub is_in : (names : List (List ℕ)) (o : Option (List ℕ)) → Contains names (unwrap_or o [])

@@ -1,7 +1,6 @@
 -- Files that are loaded by their words.
-use Rattle.std.proofs.Common.{◌≡◌, ◌<◌, ◌∷◌, [], Bor, ℕ, List, get_or, length, map, subst, sym, unwrap_or}
-use Rattle.std.proofs.Math.ListN.{get_or-map}
-use Rattle.std.proofs.lemmas.List.{length-map}
+use Rattle.std.proofs.Common.{◌≡◌, ◌<◌, ◌∷◌, [], Bor, ℕ, List, get_or, length, map, subst, sym}
+use Rattle.std.proofs.{Common.unwrap_or, Math.ListN.get_or-map, lemmas.List.length-map}
 use Rattle.std.proofs.lemmas.List.Elements.{Contains-append_right, Contains-get_or}
 use Rattle.std.specs.Prelude.{Contains}
 use Rattle.tool_tasks.specs.Sort.{names_of}

@@ -1,19 +1,15 @@
 -- Sorted uploads that are merged, and those that are refused.
-use Rattle.std.proofs.Common.{◌≡◌, ◌∙◌, ℕ, List, [], ◌∷◌, Option, Some, ap}
-use Rattle.std.proofs.Common.{length, map, refl, subst, sym}
-use Rattle.std.specs.Prelude.{slice_get}
-use Rattle.tap_views.specs.declared.upload_end.UploadEnd.{UploadEnd}
-use Rattle.tap_views.specs.declared.upload_end.UploadEnd.TheVariants.{Posted}
-use Rattle.sorted_taps.specs.Checked.{IsFirstFault}
-use Rattle.sorted_taps.specs.Written.{IsMergedFile}
-use Rattle.sorted_taps.specs.declared.fault.SortedFault.{SortedFault}
-use Rattle.sorted_taps.specs.declared.fault.SortedFault.TheVariants as sorted
-use Rattle.tap_views.specs.declared.encoder.TapFields.{TapFields}
+use Rattle.std.proofs.Common.{◌≡◌, ◌∙◌, ℕ, List, [], ◌∷◌, Option, Some, ap, length, map, refl}
+use Rattle.std.proofs.Common.{subst, sym}
 use Rattle.frame.proofs.Giving.{known_whole}
-use Rattle.frame.specs.Outsides.{Stops}
-use Rattle.frame.specs.declared.outside.Outside.{Outside}
-use Rattle.tool_tasks.specs.MergeSorted.{IsMergeOf, IsUnsorted}
-use Rattle.tool_tasks.specs.inside.Sort.{why_of}
+use Rattle.frame.specs.{Outsides.Stops, declared.outside.Outside.Outside}
+use Rattle.sorted_taps.specs.{Checked.IsFirstFault, Written.IsMergedFile}
+use Rattle.sorted_taps.specs.declared.fault.SortedFault.{SortedFault}
+use Rattle.std.specs.Prelude.{slice_get}
+use Rattle.tap_views.specs.declared.encoder.TapFields.{TapFields}
+use Rattle.tap_views.specs.declared.upload_end.UploadEnd.{UploadEnd, TheVariants.Posted}
+use Rattle.tool_tasks.specs.{MergeSorted.IsMergeOf, MergeSorted.IsUnsorted, inside.Sort.why_of}
+use Rattle.sorted_taps.specs.declared.fault.SortedFault.TheVariants as sorted
 
 -- the ends of uploads by the numbers of their taps
 posted_lists : (lists : List (List TapFields))

@@ -1,29 +1,22 @@
 -- Parts that are merged: what was read of them, and what is noted.
-use Rattle.std.proofs.Common.{◌≡◌, ◌∙◌, ◌⊎◌, ◌+◌, ◌<◌, ◌++◌, ◌∷◌, [], Bor, Err, List, Ok, Option, Result, Some}
-use Rattle.std.proofs.Common.{ap, append-nil, arith, get_or, inl, inr, length, map, refl, subst, suc, sym}
-use Rattle.std.proofs.Common.{take, zero, ℕ}
-use Rattle.std.specs.Prelude.{All, Contains, slice_get}
-use Rattle.std.specs.List.{AllZip}
-use Rattle.std.proofs.lemmas.List.{map_push, take_more}
-use Rattle.std.proofs.lemmas.List.Elements.{All-head, All-tail}
-use Rattle.frame.specs.Names.{file_named}
-use Rattle.frame.specs.declared.outside.Outside.{Outside}
-use Rattle.part_texts.specs.Merged.{merge_of}
-use Rattle.part_texts.specs.Reads.{HasStarted, MergesAs, read_by}
+use Rattle.std.proofs.Common.{◌≡◌, ◌∙◌, ◌⊎◌, ◌+◌, ◌<◌, ◌++◌, ◌∷◌, [], Bor, Err, List, Ok, Option}
+use Rattle.std.proofs.Common.{Result, Some, ap, append-nil, arith, get_or, inl, inr, length, map}
+use Rattle.std.proofs.Common.{refl, subst, suc, sym, take, zero, ℕ}
+use Rattle.frame.specs.{Names.file_named, declared.outside.Outside.Outside}
+use Rattle.part_texts.proofs.Parts.{can_be_read}
+use Rattle.part_texts.specs.{Merged.merge_of, Reads.HasStarted, Reads.MergesAs, Reads.read_by}
 use Rattle.part_texts.specs.declared.fault.MergeFault.{MergeFault}
 use Rattle.part_texts.specs.declared.fault.MergeFault.TheVariants.{Line, Unread, Write, NoMemory}
-use Rattle.part_texts.proofs.Parts.{can_be_read}
 use Rattle.recorded_lines.specs.Texts.{CanBe, Follows, calls_of}
 use Rattle.recorded_lines.specs.declared.text.Lines.{Lines}
-use Rattle.world.specs.Run.{Calls, Run, with_written}
-use Rattle.world.specs.Streams.{IsWhole}
+use Rattle.std.proofs.lemmas.List.{map_push, take_more, Elements.All-head, Elements.All-tail}
+use Rattle.std.specs.{List.AllZip, Prelude.All, Prelude.Contains, Prelude.slice_get}
 use Rattle.tool_tasks.proofs.Streaming.{all_read}
 use Rattle.tool_tasks.specs.Merge.{AreOf, IsPrefix, IsWrongPart, Merges}
 use Rattle.tool_tasks.specs.Streams.{LeavesOf}
-use Rattle.tool_tasks.specs.declared.stops.Halt.{Halt}
-use Rattle.tool_tasks.specs.declared.streams.Noted.{Noted}
-use Rattle.tool_tasks.specs.inside.Merge.{IsNoted, names_of}
-use Rattle.tool_tasks.specs.inside.Streams.{IsStreamed}
+use Rattle.tool_tasks.specs.declared.{stops.Halt.Halt, streams.Noted.Noted}
+use Rattle.tool_tasks.specs.inside.{Merge.IsNoted, Merge.names_of, Streams.IsStreamed}
+use Rattle.world.specs.{Run.Calls, Run.Run, Run.with_written, Streams.IsWhole}
 
 -- ---- names
 abbrev word_in : Bor (List ℕ) → List ℕ

@@ -4,10 +4,8 @@ use Rattle.frame.proofs.Giving.{part_files, part_text, stopped_at}
 use Rattle.frame.proofs.Outcomes.{halted_in, halted_loading, stopped_early}
 use Rattle.frame.specs.Given.{Given, gave, with_files, with_text}
 use Rattle.frame.specs.Outcome.{IsHalted, rule_of}
-use Rattle.frame.specs.Outsides.{IsStoppedIn, Leaves}
-use Rattle.frame.specs.declared.outside.Outside.{Outside}
-use Rattle.tool_tasks.specs.declared.prepared.Prepared.{Prepared}
-use Rattle.tool_tasks.specs.declared.stops.Halt.{Halt}
+use Rattle.frame.specs.{Outsides.IsStoppedIn, Outsides.Leaves, declared.outside.Outside.Outside}
+use Rattle.tool_tasks.specs.declared.{prepared.Prepared.Prepared, stops.Halt.Halt}
 use Rattle.tool_tasks.specs.inside.Does.{Does}
 use Rattle.tool_tasks.specs.inside.Prepared.{Carries, files_in, with_prepared}
 use Rattle.world.proofs.Laws.{no_loads}

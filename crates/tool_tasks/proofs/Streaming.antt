@@ -1,22 +1,19 @@
 -- How a run over files that are read in pieces ends.
-use Rattle.std.proofs.Common.{◌≡◌, ◌∙◌, ◌⊎◌, ◌++◌, ◌∷◌, [], Err, List, Ok, Result, ap, append-nil, arith}
-use Rattle.std.proofs.Common.{inl, inr, refl, subst, sym, ℕ}
-use Rattle.std.specs.Prelude.{Contains}
-use Rattle.std.proofs.lemmas.List.Elements.{Contains-append_left}
-use Rattle.frame.specs.Given.{gave}
-use Rattle.frame.specs.Outcome.{IsHalted}
-use Rattle.frame.specs.declared.outside.Outside.{Outside}
-use Rattle.frame.specs.declared.outside.Outside.TheVariants.{NoMemory, Unmade, Unread, Untraced}
-use Rattle.frame.specs.declared.outside.Outside.TheVariants.{Unwritten, Wrong}
+use Rattle.std.proofs.Common.{◌≡◌, ◌∙◌, ◌⊎◌, ◌++◌, ◌∷◌, [], Err, List, Ok, Result, ap, append-nil}
+use Rattle.std.proofs.Common.{arith, inl, inr, refl, subst, sym, ℕ}
+use Rattle.frame.specs.{Given.gave, Outcome.IsHalted}
+use Rattle.frame.specs.declared.outside.Outside.{Outside, TheVariants.NoMemory, TheVariants.Unmade}
+use Rattle.frame.specs.declared.outside.Outside.TheVariants.{Unread, Untraced, Unwritten, Wrong}
 use Rattle.part_texts.proofs.Written.{written_none}
 use Rattle.recorded_lines.specs.Texts.{CanBe}
-use Rattle.world.specs.Run.{Calls, Run, with_cut, with_flushed, with_said, with_written}
-use Rattle.world.specs.declared.faults.WriteFault.{WriteFault}
+use Rattle.std.proofs.lemmas.List.Elements.{Contains-append_left}
+use Rattle.std.specs.Prelude.{Contains}
 use Rattle.tool_tasks.specs.Streams.{IsKept, LeavesOf, stream_rule, written_of}
-use Rattle.tool_tasks.specs.declared.stops.Halt.{Halt}
-use Rattle.tool_tasks.specs.declared.streams.Noted.{Noted}
+use Rattle.tool_tasks.specs.declared.{stops.Halt.Halt, streams.Noted.Noted}
 use Rattle.tool_tasks.specs.inside.Does.{Does}
 use Rattle.tool_tasks.specs.inside.Streams.{IsFinished, IsStreamed, IsUnopened, IsUnopenedIn}
+use Rattle.world.specs.Run.{Calls, Run, with_cut, with_flushed, with_said, with_written}
+use Rattle.world.specs.declared.faults.WriteFault.{WriteFault}
 
 pub all_read : (calls : Calls) (whole : List ℕ) → calls.run.loads ≡ calls.reading ∷ []
     → CanBe calls whole → whole ≡ calls.reading.bytes

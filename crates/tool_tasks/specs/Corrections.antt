@@ -1,12 +1,10 @@
 -- What `corrections` does.
-use Rattle.std.specs.Prelude.{◌≡◌, ◌⊎◌, ℕ, List, [], ◌∷◌, ◌++◌, Err, codes, decimal}
-use Rattle.frame.specs.Names.{file_named}
-use Rattle.frame.specs.Outcome.{Rule}
+use Rattle.frame.specs.{Names.file_named, Outcome.Rule}
 use Rattle.ledger_changes.specs.Given.{HasStarted, IsAllGiven, calls_by}
 use Rattle.ledger_changes.specs.Ledgers.{rows_of}
-use Rattle.ledger_changes.specs.declared.fault.Bill.{Bill}
-use Rattle.ledger_changes.specs.declared.fault.WrongLine.{WrongLine}
+use Rattle.ledger_changes.specs.declared.fault.{Bill.Bill, WrongLine.WrongLine}
 use Rattle.recorded_lines.specs.Texts.{CanBe}
+use Rattle.std.specs.Prelude.{◌≡◌, ◌⊎◌, ℕ, List, [], ◌∷◌, ◌++◌, Err, codes, decimal}
 use Rattle.tool_tasks.specs.Streams.{stream_rule}
 use Rattle.tool_words.specs.Request.{CorrectionsRequest}
 use Rattle.world.specs.Run.{Calls}

@@ -1,11 +1,8 @@
 -- What `decode` does: of the words of its uploads.
-use Rattle.std.specs.Prelude.{◌≡◌, ℕ, Bool, true, List, [], ◌∷◌, ◌++◌, ◌&&◌, Option, None}
-use Rattle.std.specs.Prelude.{flat_map, if◌then◌else◌, is_none, map}
-use Rattle.frame.specs.Given.{Given, IsPart, load_of}
-use Rattle.frame.specs.Outcome.{Rule}
-use Rattle.frame.specs.Outsides.{Leaves}
-use Rattle.tap_rows.specs.Decoded.{IsDecoded}
-use Rattle.tap_rows.specs.TapTables.{head}
+use Rattle.frame.specs.{Given.Given, Given.IsPart, Given.load_of, Outcome.Rule, Outsides.Leaves}
+use Rattle.std.specs.Prelude.{◌≡◌, ℕ, Bool, true, List, [], ◌∷◌, ◌++◌, ◌&&◌, Option, None, flat_map}
+use Rattle.std.specs.Prelude.{if◌then◌else◌, is_none, map}
+use Rattle.tap_rows.specs.{Decoded.IsDecoded, TapTables.head}
 use Rattle.tap_views.specs.declared.fault.LayoutFault.{LayoutFault}
 
 -- An upload that was loaded, with the word that names it, and what it is decoded to: the rows of

@@ -1,10 +1,8 @@
 -- What `encode` does: of the word of its tap table.
+use Rattle.frame.specs.{Given.Given, Given.load_of, Outcome.Rule, Outcome.rule_of}
 use Rattle.std.specs.Prelude.{◌≡◌, ◌≢◌, ℕ, List, [], ◌∷◌}
-use Rattle.frame.specs.Given.{Given, load_of}
-use Rattle.frame.specs.Outcome.{Rule, rule_of}
 use Rattle.tap_rows.specs.TapTables.{IsEncoded, IsRowsFault}
-use Rattle.tap_rows.specs.declared.fault.RowsFault.{RowsFault}
-use Rattle.tap_rows.specs.declared.fault.RowsFault.TheVariants.{NoMemory}
+use Rattle.tap_rows.specs.declared.fault.RowsFault.{RowsFault, TheVariants.NoMemory}
 use Rattle.world.specs.Run.{Load}
 
 -- The file that the word names was read to its end. What is written is the upload of exactly the taps

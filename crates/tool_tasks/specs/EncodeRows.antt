@@ -1,30 +1,25 @@
 -- What `encode` of an agency's own CSVs does: of the words of their files, and of the words that say
 -- how they are read.
-use Rattle.std.specs.Prelude.{◌≡◌, ◌≢◌, ◌⊎◌, ◌+◌, ◌==◌, ◌||◌, ℕ, Bool, Contains, Err, List, []}
-use Rattle.std.specs.Prelude.{◌∷◌, ◌++◌, Option, None, Some, if◌then◌else◌, codes, decimal, false}
-use Rattle.std.specs.Prelude.{map, not, option_map, true, unwrap_or}
-use Rattle.std.specs.Borrow.{Bor}
-use Rattle.frame.specs.Given.{Given, file_of, load_of}
-use Rattle.frame.specs.Names.{file_named}
+use Rattle.frame.specs.{Given.Given, Given.file_of, Given.load_of, Names.file_named}
 use Rattle.frame.specs.Outcome.{Ends, Rule, rule_of}
+use Rattle.std.specs.Borrow.{Bor}
+use Rattle.std.specs.Prelude.{◌≡◌, ◌≢◌, ◌⊎◌, ◌+◌, ◌==◌, ◌||◌, ℕ, Bool, Contains, Err, List, [], ◌∷◌}
+use Rattle.std.specs.Prelude.{◌++◌, Option, None, Some, if◌then◌else◌, codes, decimal, false, map}
+use Rattle.std.specs.Prelude.{not, option_map, true, unwrap_or}
 use Rattle.tap_rows.specs.Agencies.{IsFirstRefused, IsRowsEncoded, IsWanting}
 use Rattle.tap_rows.specs.AgencyTexts.{first_record}
 use Rattle.tap_rows.specs.Devices.{AreDevices, Device, IsDevicesFault, devices_of}
-use Rattle.tap_rows.specs.Keys.{key_of}
-use Rattle.tap_rows.specs.Numbering.{IsNumbered, device_table_text}
-use Rattle.tap_rows.specs.declared.agency.choice.Choice.{Choice}
-use Rattle.tap_rows.specs.declared.agency.choice.Columns.{Columns}
-use Rattle.tap_rows.specs.declared.agency.choice.Separator.{Separator}
-use Rattle.tap_rows.specs.declared.agency.fault.Wanted.{Wanted}
-use Rattle.tap_rows.specs.declared.agency.key.WrongKey.{WrongKey}
-use Rattle.tap_rows.specs.declared.agency.reading.Reason.{Reason}
+use Rattle.tap_rows.specs.{Keys.key_of, Numbering.IsNumbered, Numbering.device_table_text}
+use Rattle.tap_rows.specs.declared.agency.choice.{Choice.Choice, Columns.Columns}
+use Rattle.tap_rows.specs.declared.agency.{choice.Separator.Separator, fault.Wanted.Wanted}
+use Rattle.tap_rows.specs.declared.agency.{key.WrongKey.WrongKey, reading.Reason.Reason}
 use Rattle.tap_rows.specs.declared.agency.summary.Summary.{Summary}
 use Rattle.tap_rows.specs.declared.devices.fault.DevicesFault.{DevicesFault}
-use Rattle.tap_rows.specs.declared.devices.fault.DevicesFault.TheVariants as devices
 use Rattle.tool_tasks.specs.EncodeTables.{IsClock, IsKey, IsNoZone, zone_file, zone_loaded}
 use Rattle.tool_tasks.specs.Uploads.{IsMomentOrDash}
 use Rattle.tool_words.specs.declared.task.RowsWords.{RowsWords}
 use Rattle.world.specs.Run.{Load, Named, Run, with_unread}
+use Rattle.tap_rows.specs.declared.devices.fault.DevicesFault.TheVariants as devices
 
 -- the word, if there is one
 abbrev pub word_in : Option (Bor (List ℕ)) → Option (List ℕ)

@@ -1,19 +1,13 @@
 -- What `encode` reads beside an agency's rows: the key of tokens, and the zone of local times.
-use Rattle.std.specs.Prelude.{◌≡◌, ◌⊎◌, ◌==◌, ◌||◌, ◌&&◌, ◌++◌, ℕ, Bool, List, None, Ok, Option, Some}
-use Rattle.std.specs.Prelude.{codes, false, if◌then◌else◌, is_none, true}
-use Rattle.std.specs.Char.{is_ascii_alphanumeric}
-use Rattle.std.specs.List.{list_all}
-use Rattle.jiff_core.specs.declared.error.Error.TheVariants.{Tzif as TzifError}
-use Rattle.jiff_core.specs.declared.error.TzifFault.{TzifFault}
-use Rattle.jiff_tz.specs.PosixReader.{read_whole}
-use Rattle.jiff_tz.specs.PosixText.{tz_view}
-use Rattle.jiff_tz.specs.Tzif.{IsParseFailure, tzif_view}
-use Rattle.jiff_tz.specs.TzifReader.{read_tzif}
-use Rattle.jiff_tz.specs.declared.timezone.TimeZone.{TimeZone}
-use Rattle.jiff_tz.specs.declared.timezone.TimeZone.TheVariants as zones
+use Rattle.jiff_core.specs.declared.error.{Error.TheVariants.Tzif as TzifError, TzifFault.TzifFault}
+use Rattle.jiff_tz.specs.{PosixReader.read_whole, PosixText.tz_view, Tzif.IsParseFailure}
+use Rattle.jiff_tz.specs.{Tzif.tzif_view, TzifReader.read_tzif, declared.timezone.TimeZone.TimeZone}
+use Rattle.std.specs.{Char.is_ascii_alphanumeric, List.list_all}
+use Rattle.std.specs.Prelude.{◌≡◌, ◌⊎◌, ◌==◌, ◌||◌, ◌&&◌, ◌++◌, ℕ, Bool, List, None, Ok, Option}
+use Rattle.std.specs.Prelude.{Some, codes, false, if◌then◌else◌, is_none, true}
 use Rattle.tap_rows.specs.Keys.{key_of}
-use Rattle.tap_rows.specs.declared.agency.choice.Fold.{Fold}
-use Rattle.tap_rows.specs.declared.agency.choice.LocalClock.{LocalClock}
+use Rattle.tap_rows.specs.declared.agency.choice.{Fold.Fold, LocalClock.LocalClock}
+use Rattle.jiff_tz.specs.declared.timezone.TimeZone.TheVariants as zones
 
 -- the key that the text of a file has, if it has a word, and its block
 abbrev pub IsKey : Option (List ℕ) → List ℕ → Option (List ℕ) → Type 0

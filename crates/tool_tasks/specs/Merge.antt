@@ -1,15 +1,12 @@
 -- What `merge` does: of the words of its parts.
-use Rattle.std.specs.Prelude.{◌≡◌, ℕ, List, [], Ok, Err, All, map}
-use Rattle.std.specs.List.{AllZip}
-use Rattle.frame.specs.Names.{file_named}
-use Rattle.frame.specs.Outcome.{Rule}
-use Rattle.part_texts.specs.Merged.{merge_of}
-use Rattle.part_texts.specs.Reads.{HasStarted, read_by}
+use Rattle.frame.specs.{Names.file_named, Outcome.Rule}
+use Rattle.part_texts.specs.{Merged.merge_of, Reads.HasStarted, Reads.read_by}
 use Rattle.recorded_lines.specs.Texts.{CanBe}
 use Rattle.report_texts.specs.declared.wrong.Wrong.{Wrong}
+use Rattle.std.specs.List.{AllZip}
+use Rattle.std.specs.Prelude.{◌≡◌, ℕ, List, [], Ok, Err, All, map}
 use Rattle.tool_tasks.specs.Streams.{stream_rule}
-use Rattle.world.specs.Run.{Calls}
-use Rattle.world.specs.Streams.{IsWhole}
+use Rattle.world.specs.{Run.Calls, Streams.IsWhole}
 
 -- these calls read what the words name, in their order
 abbrev pub AreOf : List (List ℕ) → List Calls → Type 0

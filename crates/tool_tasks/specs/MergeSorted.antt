@@ -1,20 +1,15 @@
 -- What `sort --merge` does, by what is known of the uploads' bytes.
-use Rattle.std.specs.Prelude.{◌≡◌, ⊤, ℕ, List, [], Option, Some}
-use Rattle.std.specs.Prelude.{flat_map, length, map}
-use Rattle.frame.specs.Given.{Given}
-use Rattle.frame.specs.Outcome.{Rule, rule_of}
+use Rattle.frame.specs.{Given.Given, Outcome.Rule, Outcome.rule_of}
 use Rattle.report_texts.specs.Report.{upload_lines}
-use Rattle.tap_views.specs.declared.upload_end.UploadEnd.{UploadEnd}
-use Rattle.tap_views.specs.declared.upload_end.UploadEnd.TheVariants.{Posted}
-use Rattle.sorted_taps.specs.Checked.{IsFirstUnsorted}
-use Rattle.sorted_taps.specs.Merges.{AreSortedFiles}
-use Rattle.sorted_taps.specs.Written.{IsInBatchesOf512}
-use Rattle.sorted_taps.specs.declared.fault.SortedFault.{SortedFault}
-use Rattle.sorted_taps.specs.declared.fault.SortedFault.TheVariants as sorted
+use Rattle.sorted_taps.specs.{Checked.IsFirstUnsorted, Merges.AreSortedFiles}
+use Rattle.sorted_taps.specs.{Written.IsInBatchesOf512, declared.fault.SortedFault.SortedFault}
+use Rattle.std.specs.Prelude.{◌≡◌, ⊤, ℕ, List, [], Option, Some, flat_map, length, map}
 use Rattle.tap_parts.specs.Canonical.{IsCanonical}
 use Rattle.tap_views.specs.declared.encoder.TapFields.{TapFields}
+use Rattle.tap_views.specs.declared.upload_end.UploadEnd.{UploadEnd, TheVariants.Posted}
 use Rattle.tool_tasks.specs.Sort.{files_of, names_of}
 use Rattle.tool_words.specs.Request.{SortRequest}
+use Rattle.sorted_taps.specs.declared.fault.SortedFault.TheVariants as sorted
 
 -- Each upload is sorted, and ended with all its taps. The file has exactly these, in canonical
 -- order and in batches of 512, the last of fewer if need be. None is empty.

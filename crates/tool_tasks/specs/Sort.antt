@@ -1,15 +1,12 @@
 -- What `sort` does.
-use Rattle.std.specs.Prelude.{◌≡◌, ℕ, List, [], ◌∷◌, ◌++◌, Option, None, Some}
-use Rattle.std.specs.Prelude.{if◌then◌else◌, map, true, unwrap_or}
-use Rattle.frame.specs.Given.{Given, file_of}
+use Rattle.frame.specs.{Given.Given, Given.file_of, Names.file_named, Outcome.Rule, Outcome.rule_of}
 use Rattle.report_texts.specs.Report.{upload_lines}
-use Rattle.tap_views.specs.UploadEnds.{ArePlainEnds, are_posted}
-use Rattle.tap_views.specs.declared.upload_end.UploadEnd.{UploadEnd}
 use Rattle.settlement.specs.SettledTaps.{AreSettledTaps}
 use Rattle.sorted_taps.specs.Written.{IsInBatchesOf512}
-use Rattle.tap_views.specs.declared.encoder.TapFields.{TapFields}
-use Rattle.frame.specs.Names.{file_named}
-use Rattle.frame.specs.Outcome.{Rule, rule_of}
+use Rattle.std.specs.Prelude.{◌≡◌, ℕ, List, [], ◌∷◌, ◌++◌, Option, None, Some, if◌then◌else◌, map}
+use Rattle.std.specs.Prelude.{true, unwrap_or}
+use Rattle.tap_views.specs.UploadEnds.{ArePlainEnds, are_posted}
+use Rattle.tap_views.specs.declared.{encoder.TapFields.TapFields, upload_end.UploadEnd.UploadEnd}
 use Rattle.tool_words.specs.Request.{SortRequest}
 use Rattle.world.specs.Run.{Named}
 

@@ -1,10 +1,8 @@
 -- Texts that are made of files which are read in pieces: how a run over them ends.
-use Rattle.std.specs.Prelude.{◌≡◌, ◌⊎◌, ℕ, Contains, List, [], ◌∷◌, ◌++◌}
-use Rattle.frame.specs.Given.{Given}
-use Rattle.frame.specs.Names.{file_named}
-use Rattle.frame.specs.Outcome.{Rule}
+use Rattle.frame.specs.{Given.Given, Names.file_named, Outcome.Rule}
 use Rattle.frame.specs.declared.outside.Outside.{Outside}
 use Rattle.frame.specs.declared.outside.Outside.TheVariants.{NoMemory, Unread, Unwritten, Wrong}
+use Rattle.std.specs.Prelude.{◌≡◌, ◌⊎◌, ℕ, Contains, List, [], ◌∷◌, ◌++◌}
 use Rattle.world.specs.Run.{Calls, Run, with_cut, with_flushed}
 
 -- no file was loaded or made

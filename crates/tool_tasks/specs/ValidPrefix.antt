@@ -1,9 +1,7 @@
 -- What `uploads --good-part` makes: of the words of its upload and of its file.
+use Rattle.frame.specs.{Given.Given, Given.file_of, Given.load_of, Outcome.Rule, Outcome.rule_of}
 use Rattle.std.specs.Prelude.{◌≡◌, ℕ, List, [], ◌∷◌, if◌then◌else◌, is_none}
-use Rattle.frame.specs.Given.{Given, file_of, load_of}
-use Rattle.frame.specs.Outcome.{Rule, rule_of}
-use Rattle.tap_views.specs.Facts.{AreFacts, IsValidPrefix}
-use Rattle.tap_views.specs.declared.facts.Facts.{Facts}
+use Rattle.tap_views.specs.{Facts.AreFacts, Facts.IsValidPrefix, declared.facts.Facts.Facts}
 use Rattle.tool_words.specs.Request.{ValidPrefixRequest}
 
 -- The upload was loaded, and the file was made of its batches before its first layout fault. Nothing

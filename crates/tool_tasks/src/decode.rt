@@ -1,11 +1,9 @@
 //! `decode`.
-ghost use Rattle.std.specs.Prelude.{◌≡◌, ◌&&◌, ℕ, Contains, IfErr, IfOk, List};
-ghost use Rattle.std.specs.Prelude.{if◌then◌else◌, is_none, map};
-ghost use Rattle.frame.specs.Given.{Adds};
-ghost use Rattle.frame.specs.Outcome.{Ends};
+ghost use Rattle.frame.specs.{Given.Adds, Outcome.Ends};
+ghost use Rattle.std.specs.Prelude.{◌≡◌, ◌&&◌, ℕ, Contains, IfErr, IfOk, List, if◌then◌else◌};
+ghost use Rattle.std.specs.Prelude.{is_none, map};
 ghost use Rattle.tool_tasks.specs.Decode.{Decoded, decode_rule};
-ghost use Rattle.tool_tasks.specs.inside.Decode.{StopsDecoding, with_decoded};
-ghost use Rattle.tool_tasks.specs.inside.Does.{Does};
+ghost use Rattle.tool_tasks.specs.inside.{Decode.StopsDecoding, Decode.with_decoded, Does.Does};
 
 use crate::counted::Counted;
 use crate::fault::Fault;

@@ -1,7 +1,6 @@
 //! `encode` of a tap table.
 ghost use Rattle.frame.specs.Outcome.{Ends};
-ghost use Rattle.tool_tasks.specs.Encode.{encode_rule};
-ghost use Rattle.tool_tasks.specs.inside.Does.{Does};
+ghost use Rattle.tool_tasks.specs.{Encode.encode_rule, inside.Does.Does};
 
 use crate::counted::Counted;
 use crate::fault::Fault;

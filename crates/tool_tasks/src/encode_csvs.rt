@@ -1,13 +1,12 @@
 //! What `encode` makes of an agency's own CSVs, once they are loaded and it is known how they are read.
+ghost use Rattle.frame.specs.Outsides.{Stops};
 ghost use Rattle.std.specs.Prelude.{◌≡◌, ◌++◌, [], ℕ, IfErr, IfOk, List, OnOk, map, option_map};
 ghost use Rattle.std.specs.Prelude.{string_bytes};
-ghost use Rattle.frame.specs.Outsides.{Stops};
 ghost use Rattle.tap_rows.specs.Devices.{devices_of};
 ghost use Rattle.tool_tasks.specs.EncodeRows.{AddsCsv, IsSummaryLine, IsWrongCsv, device_files};
-ghost use Rattle.tool_tasks.specs.EncodeRows.{files_made};
-ghost use Rattle.tool_tasks.specs.EncodeRows.{nothing_encoded};
-ghost use Rattle.tool_tasks.specs.EncodeRows.{refused_files, rows_status, upload_files};
-ghost use Rattle.tool_tasks.specs.EncodeRows.{upload_text, with_csv, word_in};
+ghost use Rattle.tool_tasks.specs.EncodeRows.{files_made, nothing_encoded, refused_files};
+ghost use Rattle.tool_tasks.specs.EncodeRows.{rows_status, upload_files, upload_text, with_csv};
+ghost use Rattle.tool_tasks.specs.EncodeRows.{word_in};
 ghost use Rattle.tool_tasks.specs.inside.EncodeRows.{AreOf, PreparesCsvs, csv_of, encoded_of};
 ghost use Rattle.tool_tasks.specs.inside.Prepared.{files_in, whole_of};
 

@@ -1,17 +1,13 @@
 //! What `encode` of an agency's own CSVs loads, in order: a device table, a key, a zone, the CSVs.
+ghost use Rattle.frame.specs.Outsides.{Leaves};
+ghost use Rattle.jiff_tz.specs.{PosixReader.read_whole, PosixText.tz_view};
 ghost use Rattle.std.specs.Prelude.{◌≡◌, ◌∷◌, ◌++◌, ℕ, Contains, IfErr, IfOk, List, OnOk, [], map};
 ghost use Rattle.std.specs.Prelude.{option_map, string_bytes};
-ghost use Rattle.frame.specs.Outsides.{Leaves};
-ghost use Rattle.jiff_tz.specs.PosixReader.{read_whole};
-ghost use Rattle.jiff_tz.specs.PosixText.{tz_view};
-ghost use Rattle.tool_tasks.specs.EncodeRows.{HasTried, devices_word};
-ghost use Rattle.tool_tasks.specs.EncodeRows.{loads_in, names_of, word_in};
-ghost use Rattle.tool_tasks.specs.EncodeTables.{is_name_byte, is_zone_name, zone_file};
-ghost use Rattle.tool_tasks.specs.EncodeTables.{zone_loaded};
+ghost use Rattle.tool_tasks.specs.EncodeRows.{HasTried, devices_word, loads_in, names_of, word_in};
+ghost use Rattle.tool_tasks.specs.EncodeTables.{is_name_byte, is_zone_name, zone_file, zone_loaded};
 ghost use Rattle.tool_tasks.specs.inside.EncodeRows.{AreLoaded, HasLoaded, csv_of, texts_in};
 ghost use Rattle.tool_tasks.specs.inside.Loads.{IsNameIn, StopsLoading};
-ghost use Rattle.world.specs.Origins.{with_loads};
-ghost use Rattle.world.specs.Run.{Run};
+ghost use Rattle.world.specs.{Origins.with_loads, Run.Run};
 
 use crate::counted::Counted;
 use crate::fault::Fault;

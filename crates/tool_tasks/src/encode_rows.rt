@@ -1,10 +1,9 @@
 //! `encode` of an agency's own CSVs.
-ghost use Rattle.std.specs.Prelude.{◌≡◌, map};
 ghost use Rattle.frame.specs.Outsides.{IsReported};
+ghost use Rattle.std.specs.Prelude.{◌≡◌, map};
 ghost use Rattle.tool_tasks.specs.EncodeRows.{EndsRows, devices_word, loads_in, rows_rule};
 ghost use Rattle.tool_tasks.specs.inside.Does.{Does};
-ghost use Rattle.world.specs.Origins.{with_loads};
-ghost use Rattle.world.specs.Run.{Run};
+ghost use Rattle.world.specs.{Origins.with_loads, Run.Run};
 
 use crate::counted::Counted;
 use crate::encode_loads::{load_devices, load_later};

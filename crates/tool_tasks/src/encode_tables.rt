@@ -1,12 +1,11 @@
 //! How `encode` reads an agency's own CSVs: the devices, the key and the zone of what it loaded.
-ghost use Rattle.std.specs.Prelude.{◌≡◌, None, OnOk, Some, map, option_map};
 ghost use Rattle.jiff_tz.specs.PosixReader.{read_whole};
+ghost use Rattle.std.specs.Prelude.{◌≡◌, None, OnOk, Some, map, option_map};
 ghost use Rattle.tap_rows.specs.Devices.{devices_of};
-ghost use Rattle.tool_tasks.specs.EncodeRows.{AreNumbered, AreOldDevices, AreUsedDevices, HasDevices};
-ghost use Rattle.tool_tasks.specs.EncodeRows.{word_in};
-ghost use Rattle.tool_tasks.specs.EncodeTables.{IsKey};
-ghost use Rattle.tool_tasks.specs.inside.EncodeRows.{IsMade, IsTableClock, Prepares, csv_of};
-ghost use Rattle.tool_tasks.specs.inside.EncodeRows.{texts_in};
+ghost use Rattle.tool_tasks.specs.EncodeRows.{AreNumbered, AreOldDevices, AreUsedDevices};
+ghost use Rattle.tool_tasks.specs.EncodeRows.{HasDevices, word_in};
+ghost use Rattle.tool_tasks.specs.{EncodeTables.IsKey, inside.EncodeRows.IsMade};
+ghost use Rattle.tool_tasks.specs.inside.EncodeRows.{IsTableClock, Prepares, csv_of, texts_in};
 
 use crate::encode_csvs::prepare_csvs;
 use crate::encode_loads::{Csv, Texts, is_zone_name, rule_of};

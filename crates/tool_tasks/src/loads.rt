@@ -1,9 +1,7 @@
 //! Files that a task loads, by their words.
+ghost use Rattle.frame.specs.{Names.file_named, Outsides.Leaves};
 ghost use Rattle.std.specs.Prelude.{◌≡◌, ℕ, Contains, IfErr, IfOk, List};
-ghost use Rattle.frame.specs.Names.{file_named};
-ghost use Rattle.frame.specs.Outsides.{Leaves};
-ghost use Rattle.world.specs.Loads.{IsRefused};
-ghost use Rattle.world.specs.Run.{with_load};
+ghost use Rattle.world.specs.{Loads.IsRefused, Run.with_load};
 
 use crate::counted::Counted;
 use crate::fault::Fault;

@@ -1,8 +1,7 @@
 //! `merge`.
-ghost use Rattle.std.specs.Prelude.{◌≡◌, ◌++◌, [], List, IfErr, OnOk, All, map};
-ghost use Rattle.frame.specs.Names.{file_named};
-ghost use Rattle.frame.specs.Outcome.{Ends};
+ghost use Rattle.frame.specs.{Names.file_named, Outcome.Ends};
 ghost use Rattle.recorded_lines.specs.Texts.{IsFresh, calls_of};
+ghost use Rattle.std.specs.Prelude.{◌≡◌, ◌++◌, [], List, IfErr, OnOk, All, map};
 ghost use Rattle.tool_tasks.specs.Merge.{IsPrefix, IsWrongPart, Merges, merge_rule};
 ghost use Rattle.tool_tasks.specs.inside.Merge.{IsNoted, names_of, why_of};
 ghost use Rattle.tool_tasks.specs.inside.Streams.{IsStreamed, IsUnopenedIn};

@@ -1,13 +1,10 @@
 //! `sort --merge`, of files that are in canonical order already.
+ghost use Rattle.frame.specs.{Outcome.Ends, Outsides.Stops};
+ghost use Rattle.sorted_taps.specs.{Checked.IsMergeFault, Written.IsMergedFile};
 ghost use Rattle.std.specs.Prelude.{◌≡◌, ℕ, List, IfErr, IfOk, IfSome, Option, Some, map};
-ghost use Rattle.frame.specs.Outcome.{Ends};
 ghost use Rattle.tap_views.specs.declared.upload_end.UploadEnd.TheVariants.{Posted as APosted};
-ghost use Rattle.sorted_taps.specs.Checked.{IsMergeFault};
-ghost use Rattle.sorted_taps.specs.Written.{IsMergedFile};
-ghost use Rattle.frame.specs.Outsides.{Stops};
 ghost use Rattle.tool_tasks.specs.MergeSorted.{IsUnsorted, merge_sorted_rule};
-ghost use Rattle.tool_tasks.specs.inside.Does.{Does};
-ghost use Rattle.tool_tasks.specs.inside.Sort.{why_of};
+ghost use Rattle.tool_tasks.specs.inside.{Does.Does, Sort.why_of};
 ghost use Rattle.tool_words.specs.Tasks.{sorting_of};
 
 use crate::fault::Fault;

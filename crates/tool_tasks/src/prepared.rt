@@ -1,11 +1,10 @@
 //! What a subcommand prepared, before any of it is done.
+ghost use Rattle.frame.specs.{Given.Adds, Given.with_files, Outsides.Leaves, Outsides.StopsIn};
 ghost use Rattle.std.specs.Prelude.{◌≡◌, ℕ, List, IfErr, OnOk};
-ghost use Rattle.frame.specs.Given.{Adds, with_files};
-ghost use Rattle.frame.specs.Outsides.{Leaves, StopsIn};
-ghost use Rattle.tool_tasks.specs.inside.Prepared.{AreNamed, Carries, IsPartialIn, IsKnown, IsNamedIn};
-ghost use Rattle.tool_tasks.specs.inside.Prepared.{partial_files, files_in, given_of, with_prepared};
-ghost use Rattle.world.specs.Origins.{with_loads};
-ghost use Rattle.world.specs.Run.{Load, Run};
+ghost use Rattle.tool_tasks.specs.inside.Prepared.{AreNamed, Carries, IsPartialIn, IsKnown};
+ghost use Rattle.tool_tasks.specs.inside.Prepared.{IsNamedIn, partial_files, files_in, given_of};
+ghost use Rattle.tool_tasks.specs.inside.Prepared.{with_prepared};
+ghost use Rattle.world.specs.{Origins.with_loads, Run.Load, Run.Run};
 
 use crate::fault::Fault;
 use crate::stops::{Halt, line_of};

@@ -1,18 +1,14 @@
 //! `sort` of uploads that are loaded.
+ghost use Rattle.frame.specs.{Outcome.Ends, Outsides.Leaves};
+ghost use Rattle.report_texts.specs.Report.{upload_lines};
 ghost use Rattle.std.specs.Prelude.{◌≡◌, ◌++◌, [], ℕ, Contains, IfErr, IfOk, List, OnOk, Some};
 ghost use Rattle.std.specs.Prelude.{if◌then◌else◌, map, option_map, string_bytes, true};
-ghost use Rattle.frame.specs.Outcome.{Ends};
-ghost use Rattle.frame.specs.Outsides.{Leaves};
-ghost use Rattle.report_texts.specs.Report.{upload_lines};
 ghost use Rattle.tap_views.specs.UploadEnds.{are_posted, is_posted};
-ghost use Rattle.world.specs.Origins.{with_loads};
-ghost use Rattle.world.specs.Run.{Load, Run};
 ghost use Rattle.tool_tasks.specs.Sort.{ends_files, names_of, sort_rule};
-ghost use Rattle.tool_tasks.specs.inside.Does.{Does};
-ghost use Rattle.tool_tasks.specs.inside.Loads.{StopsLoading};
-ghost use Rattle.tool_tasks.specs.inside.Prepared.{Carries, files_in};
-ghost use Rattle.tool_tasks.specs.inside.Sort.{LoadsAll, sorted_given};
+ghost use Rattle.tool_tasks.specs.inside.{Does.Does, Loads.StopsLoading, Prepared.Carries};
+ghost use Rattle.tool_tasks.specs.inside.{Prepared.files_in, Sort.LoadsAll, Sort.sorted_given};
 ghost use Rattle.tool_words.specs.Tasks.{sorting_of};
+ghost use Rattle.world.specs.{Origins.with_loads, Run.Load, Run.Run};
 
 use crate::counted::Counted;
 use crate::fault::Fault;

@@ -1,12 +1,9 @@
 //! `uploads --good-part`: lines of an upload, and a file of its batches before its layout fault.
-ghost use Rattle.std.specs.Prelude.{◌≡◌, ◌∷◌, [], IfOk};
-ghost use Rattle.std.specs.Prelude.{if◌then◌else◌, is_none};
-ghost use Rattle.frame.specs.Given.{load_of};
-ghost use Rattle.frame.specs.Outcome.{Ends};
-ghost use Rattle.tool_words.specs.Tasks.{valid_prefix_of};
+ghost use Rattle.frame.specs.{Given.load_of, Outcome.Ends};
+ghost use Rattle.std.specs.Prelude.{◌≡◌, ◌∷◌, [], IfOk, if◌then◌else◌, is_none};
 ghost use Rattle.tool_tasks.specs.ValidPrefix.{HasValidPrefix, valid_prefix_rule};
-ghost use Rattle.tool_tasks.specs.inside.Does.{Does};
-ghost use Rattle.tool_tasks.specs.inside.Prepared.{AreNamed, whole_of};
+ghost use Rattle.tool_tasks.specs.inside.{Does.Does, Prepared.AreNamed, Prepared.whole_of};
+ghost use Rattle.tool_words.specs.Tasks.{valid_prefix_of};
 
 use crate::fault::Fault;
 use crate::loads::load;

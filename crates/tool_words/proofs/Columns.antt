@@ -1,15 +1,13 @@
 -- The words of `--columns` and `--only`.
 use Rattle.std.proofs.Common.{◌≡◌, ◌∙◌, ◌<◌, ◌+◌, ◌++◌, Bor, List, [], ◌∷◌, ℕ, Option, None, Some}
-use Rattle.std.proofs.Common.{ap, arith, false, get_or, length, lt-ltb, map, refl, sym, take}
-use Rattle.std.proofs.Common.{true}
-use Rattle.std.specs.Prelude.{MatchOption, filter_map, is_some, nat_lt, option_map}
+use Rattle.std.proofs.Common.{ap, arith, false, get_or, length, lt-ltb, map, refl, sym, take, true}
+use Rattle.clap.specs.Words.{Text}
+use Rattle.std.proofs.lemmas.Bool.{le-ltb}
+use Rattle.std.proofs.lemmas.List.{length-map, map-append, take_more, Elements.filter_map-append}
+use Rattle.std.proofs.lemmas.List.Folds.{list_all-append, list_all-map, list_all_at}
 use Rattle.std.specs.List.{after_first, before_first, cons_option, position_or_len}
 use Rattle.std.specs.Option.{option_to_list}
-use Rattle.std.proofs.lemmas.Bool.{le-ltb}
-use Rattle.std.proofs.lemmas.List.{length-map, map-append, take_more}
-use Rattle.std.proofs.lemmas.List.Elements.{filter_map-append}
-use Rattle.std.proofs.lemmas.List.Folds.{list_all-append, list_all-map, list_all_at}
-use Rattle.clap.specs.Words.{Text}
+use Rattle.std.specs.Prelude.{MatchOption, filter_map, is_some, nat_lt, option_map}
 use Rattle.tap_rows.specs.declared.agency.choice.Condition.{Condition}
 use Rattle.tool_words.specs.Columns.{conditions_in, have_parts, is_equals, parts_of}
 use Rattle.tool_words.specs.Tasks.{condition_of, texts_of}

@@ -1,12 +1,9 @@
 -- The subcommand that a parse entered.
 use Rattle.std.proofs.Common.{◌≡◌, Bor, Option, None, Some, refl, sym}
-use Rattle.std.specs.Prelude.{Box, option_map}
-use Rattle.std.specs.Box.{box_value}
-use Rattle.clap.specs.Simple.{subcommand_rows}
-use Rattle.clap.specs.Words.{Text, found_of, rows_of}
-use Rattle.clap.specs.declared.parser.matches.ArgMatches.{ArgMatches}
-use Rattle.clap.specs.declared.parser.matches.ArgMatches.TheViews.{out-SubCommand}
+use Rattle.clap.specs.{Simple.subcommand_rows, Words.Text, Words.found_of, Words.rows_of}
+use Rattle.clap.specs.declared.parser.matches.ArgMatches.{ArgMatches, TheViews.out-SubCommand}
 use Rattle.clap.specs.declared.parser.matches.SubCommand.{SubCommand}
+use Rattle.std.specs.{Box.box_value, Prelude.Box, Prelude.option_map}
 
 none_some : {X : Type 0} (x : X) → None ≡ Some x → ⊥
 none_some x is = cc

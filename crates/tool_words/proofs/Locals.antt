@@ -1,10 +1,9 @@
 -- Commands that have no global argument.
 use Rattle.std.proofs.Common.{◌≡◌, Bool, true, false, refl, sym, true≢false}
-use Rattle.std.specs.Prelude.{not}
-use Rattle.clap.specs.Simple.{has_plain_fields}
-use Rattle.clap.specs.declared.builder.command.Command.{Command}
-use Rattle.clap.specs.declared.builder.command.Command.TheViews.{out-Command}
 use Rattle.clap.proofs.WalkLemmas.{both}
+use Rattle.clap.specs.Simple.{has_plain_fields}
+use Rattle.clap.specs.declared.builder.command.Command.{Command, TheViews.out-Command}
+use Rattle.std.specs.Prelude.{not}
 
 is_false : (b : Bool) → not b ≡ true → b ≡ false
 is_false true is = absurd (true≢false (sym is))

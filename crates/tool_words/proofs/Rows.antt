@@ -1,12 +1,11 @@
 -- Commands with one argument or one subcommand more.
-use Rattle.std.proofs.Common.{◌≡◌, ◌∙◌, ◌<◌, ◌+◌, ℕ, List, ap, length, map, slice_index_or, sym, take}
-use Rattle.std.specs.Prelude.{fold}
-use Rattle.std.proofs.lemmas.List.{map_more}
-use Rattle.std.proofs.lemmas.List.Sums.{fold_more}
+use Rattle.std.proofs.Common.{◌≡◌, ◌∙◌, ◌<◌, ◌+◌, ℕ, List, ap, length, map, slice_index_or, sym}
+use Rattle.std.proofs.Common.{take}
 use Rattle.clap.specs.Words.{App, Text, with_rule, with_subcommand}
+use Rattle.std.proofs.lemmas.List.{map_more, Sums.fold_more}
+use Rattle.std.specs.Prelude.{fold}
+use Rattle.tool_words.specs.declared.arguments.{Row.Row, Subcommand.Subcommand}
 use Rattle.tool_words.specs.inside.Rows.{leaf, rule_in, shape_of_table}
-use Rattle.tool_words.specs.declared.arguments.Row.{Row}
-use Rattle.tool_words.specs.declared.arguments.Subcommand.{Subcommand}
 
 -- the row at a place is added
 pub row_more : (name : Text) (rows : List Row) (i : ℕ) (d : Row) (before after : App)

@@ -1,16 +1,13 @@
 -- How an agency's CSV is read: what the values of `--columns`, `--from`, `--separator`, `--unit`,
 -- `--fold`, `--only` and `--drop` say.
-use Rattle.std.specs.Prelude.{◌==◌, ◌||◌, if◌then◌else◌, nat_lt, ℕ, Bool, List, [], ◌∷◌, Option}
-use Rattle.std.specs.Prelude.{None, Some, codes, false, filter_map, is_some, length, option_map}
-use Rattle.std.specs.Prelude.{true}
-use Rattle.std.specs.List.{after_first, before_first, find, list_all, position_or_len, slice_split}
-use Rattle.std.specs.Option.{option_and_then}
-use Rattle.std.specs.Str.{bytes_eq}
 use Rattle.clap.specs.Words.{Text}
-use Rattle.tap_rows.specs.declared.agency.choice.Fold.{Fold}
+use Rattle.std.specs.List.{after_first, before_first, find, list_all, position_or_len, slice_split}
+use Rattle.std.specs.{Option.option_and_then, Prelude.◌==◌}
+use Rattle.std.specs.Prelude.{◌||◌, if◌then◌else◌, nat_lt, ℕ, Bool, List, [], ◌∷◌, Option, None}
+use Rattle.std.specs.Prelude.{Some, codes, false, filter_map, is_some, length, option_map, true}
+use Rattle.std.specs.Str.{bytes_eq}
+use Rattle.tap_rows.specs.declared.agency.choice.{Fold.Fold, Separator.Separator, Unit.Unit}
 use Rattle.tap_rows.specs.declared.agency.choice.Fold.TheVariants as folds
-use Rattle.tap_rows.specs.declared.agency.choice.Separator.{Separator}
-use Rattle.tap_rows.specs.declared.agency.choice.Unit.{Unit}
 use Rattle.tap_rows.specs.declared.agency.choice.Unit.TheVariants as units
 
 -- how a kind of export is read: its columns of tokens, validators and moments, whether a token is

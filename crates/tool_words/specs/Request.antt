@@ -1,15 +1,11 @@
 -- What the words of the tools ask for.
-use Rattle.std.specs.Prelude.{ℕ, Bool, ◌&&◌, ◌||◌, if◌then◌else◌, nat_lt}
-use Rattle.std.specs.Prelude.{List, [], ◌∷◌, ◌++◌, Option, Some, None, codes, false}
-use Rattle.std.specs.Prelude.{length, unwrap_or}
-use Rattle.std.specs.List.{count_by, list_any}
-use Rattle.std.specs.Option.{option_map_or, option_or, option_to_list}
-use Rattle.std.specs.Str.{bytes_eq}
 use Rattle.clap.specs.Words.{Row, Text, all_of, first_of, subcommand_of}
 use Rattle.program_manners.specs.Words.{is_given}
-use Rattle.tap_rows.specs.declared.agency.choice.Fold.{Fold}
-use Rattle.tap_rows.specs.declared.agency.choice.Separator.{Separator}
-use Rattle.tap_rows.specs.declared.agency.choice.Unit.{Unit}
+use Rattle.std.specs.{List.count_by, List.list_any, Option.option_map_or, Option.option_or}
+use Rattle.std.specs.{Option.option_to_list, Prelude.ℕ, Prelude.Bool, Prelude.◌&&◌, Prelude.◌||◌}
+use Rattle.std.specs.Prelude.{if◌then◌else◌, nat_lt, List, [], ◌∷◌, ◌++◌, Option, Some, None, codes}
+use Rattle.std.specs.{Prelude.false, Prelude.length, Prelude.unwrap_or, Str.bytes_eq}
+use Rattle.tap_rows.specs.declared.agency.choice.{Fold.Fold, Separator.Separator, Unit.Unit}
 use Rattle.tool_words.specs.Columns.{Export, columns_in, conditions_in, export_named, fold_in}
 use Rattle.tool_words.specs.Columns.{separator_in, unit_in}
 use Rattle.tool_words.specs.ToolLine.{has_value, program}

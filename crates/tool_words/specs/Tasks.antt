@@ -1,16 +1,13 @@
 -- Tasks, as what is asked for.
-use Rattle.std.specs.Prelude.{List, Option, map, option_map}
-use Rattle.std.specs.Borrow.{Bor}
 use Rattle.clap.specs.Words.{Text}
+use Rattle.std.specs.{Borrow.Bor, Prelude.List, Prelude.Option, Prelude.map, Prelude.option_map}
 use Rattle.tap_rows.specs.declared.agency.choice.Condition.{Condition}
-use Rattle.tool_words.specs.Request.{Request, CorrectionsRequest, ValidPrefixRequest, RowsRequest, SortRequest}
-use Rattle.tool_words.specs.Request.{corrections, decode, encode, encode_rows, valid_prefix, merge}
-use Rattle.tool_words.specs.Request.{misused, shows, sort}
-use Rattle.tool_words.specs.declared.task.CorrectionsWords.{CorrectionsWords}
+use Rattle.tool_words.specs.Request.{Request, CorrectionsRequest, ValidPrefixRequest, RowsRequest}
+use Rattle.tool_words.specs.Request.{SortRequest, corrections, decode, encode, encode_rows}
+use Rattle.tool_words.specs.Request.{valid_prefix, merge, misused, shows, sort}
+use Rattle.tool_words.specs.declared.task.{CorrectionsWords.CorrectionsWords, RowsWords.RowsWords}
+use Rattle.tool_words.specs.declared.task.{SortingWords.SortingWords, Task.Task}
 use Rattle.tool_words.specs.declared.task.ValidPrefixWords.{ValidPrefixWords}
-use Rattle.tool_words.specs.declared.task.RowsWords.{RowsWords}
-use Rattle.tool_words.specs.declared.task.SortingWords.{SortingWords}
-use Rattle.tool_words.specs.declared.task.Task.{Task}
 use Rattle.tool_words.specs.declared.task.Task.TheVariants as task
 
 -- the texts after references

@@ -1,15 +1,14 @@
 -- The command line of the tools, as clap reads it: the subcommands, and what each takes.
-use Rattle.std.specs.Prelude.{◌≡◌, ◌⊎◌, ℤ, Bool, ◌&&◌, ◌||◌, if◌then◌else◌, not, true, false}
-use Rattle.std.specs.Prelude.{List, [], ◌∷◌, Option, Some, None, codes, is_some, pos}
-use Rattle.std.specs.Str.{bytes_eq}
-use Rattle.clap.specs.Simple.{new_shape}
-use Rattle.clap.specs.Words.{App, IsAmong, Row, Rule, Shape, Text, fault_of, first_of}
-use Rattle.clap.specs.Words.{subcommand_of}
+use Rattle.clap.specs.{Simple.new_shape, Words.App}
+use Rattle.clap.specs.Words.{IsAmong, Row, Rule, Shape, Text, fault_of, first_of, subcommand_of}
 use Rattle.clap.specs.declared.builder.action.ArgAction.TheVariants.{Append, Set}
 use Rattle.clap.specs.declared.builder.value_parser.ValueParser.TheVariants.{Signed}
 use Rattle.clap.specs.declared.error.kind.ErrorKind.TheVariants.{DisplayHelp, DisplayVersion}
-use Rattle.program_manners.specs.Words.{flag_rule, is_given, list_option, named_app}
-use Rattle.program_manners.specs.Words.{null_flag, option_rule, positional_rule, repeated_rule}
+use Rattle.program_manners.specs.Words.{flag_rule, is_given, list_option, named_app, null_flag}
+use Rattle.program_manners.specs.Words.{option_rule, positional_rule, repeated_rule}
+use Rattle.std.specs.Prelude.{◌≡◌, ◌⊎◌, ℤ, Bool, ◌&&◌, ◌||◌, if◌then◌else◌, not, true, false, List}
+use Rattle.std.specs.Prelude.{[], ◌∷◌, Option, Some, None, codes, is_some, pos}
+use Rattle.std.specs.Str.{bytes_eq}
 
 -- the argument must be there
 abbrev pub needed : Rule → Rule

@@ -1,15 +1,14 @@
 //! What `encode` with columns requests.
-ghost use Rattle.std.specs.Prelude.{◌≡◌, ◌++◌, IfOk, codes, map, nat_lt, option_map};
-ghost use Rattle.std.specs.Option.{option_or, option_to_list};
 ghost use Rattle.clap.specs.Words.{first_of, found_of, rows_of};
-ghost use Rattle.tool_words.specs.Request.{encoded_file, encoded_files, export_in, inputs_in};
-ghost use Rattle.tool_words.specs.Request.{read_files, rows_request};
+ghost use Rattle.std.specs.Option.{option_or, option_to_list};
+ghost use Rattle.std.specs.Prelude.{◌≡◌, ◌++◌, IfOk, codes, map, nat_lt, option_map};
 ghost use Rattle.tool_words.specs.Columns.{between_commas, columns_among, columns_in};
 ghost use Rattle.tool_words.specs.Columns.{conditions_in, export_named, export_of, fold_in};
-ghost use Rattle.tool_words.specs.Columns.{littlepay, parts_of, separator_in, separator_of};
-ghost use Rattle.tool_words.specs.Columns.{tides, unit_in, value_of};
-ghost use Rattle.tool_words.specs.Tasks.{request_of, condition_of, text_in, texts_of};
-ghost use Rattle.tool_words.specs.inside.Columns.{export_by};
+ghost use Rattle.tool_words.specs.Columns.{littlepay, parts_of, separator_in, separator_of, tides};
+ghost use Rattle.tool_words.specs.{Columns.unit_in, Columns.value_of, Request.encoded_file};
+ghost use Rattle.tool_words.specs.Request.{encoded_files, export_in, inputs_in, read_files};
+ghost use Rattle.tool_words.specs.{Request.rows_request, Tasks.request_of, Tasks.condition_of};
+ghost use Rattle.tool_words.specs.{Tasks.text_in, Tasks.texts_of, inside.Columns.export_by};
 
 use crate::reading::{INPUT_TWICE, has_value, inputs_in};
 use crate::task::{RowsWords, Task};

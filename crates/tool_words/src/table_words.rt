@@ -1,7 +1,6 @@
 //! What `table` requests.
 ghost use Rattle.std.specs.Prelude.{◌≡◌, IfOk};
-ghost use Rattle.tool_words.specs.Request.{shows};
-ghost use Rattle.tool_words.specs.Tasks.{request_of};
+ghost use Rattle.tool_words.specs.{Request.shows, Tasks.request_of};
 
 use crate::later_table::LaterTable;
 use crate::moments::{WRONG_FROM, moment_given};

@@ -1,12 +1,9 @@
 -- What reads, loads and writes after others leave.
-use Rattle.std.specs.Prelude.{◌≡◌, ◌⊎◌, ◌==◌, ℕ, true, false, ◌+◌, List, [], ◌++◌, take, drop}
 use Rattle.std.proofs.Common.{append-nil, sym, ◌∙◌, ap, inl, inr, refl}
-use Rattle.std.proofs.lemmas.Bool.Decides.{eqb_tells}
-use Rattle.std.proofs.lemmas.List.{append_assoc}
-use Rattle.std.proofs.Math.Seq.{take-add}
-use Rattle.world.specs.Origins.{with_loads}
-use Rattle.world.specs.Run.{Calls, Load, Run, after_read, nothing_yet}
-use Rattle.world.specs.Run.{with_all, with_said, with_written}
+use Rattle.std.proofs.{Math.Seq.take-add, lemmas.Bool.Decides.eqb_tells, lemmas.List.append_assoc}
+use Rattle.std.specs.Prelude.{◌≡◌, ◌⊎◌, ◌==◌, ℕ, true, false, ◌+◌, List, [], ◌++◌, take, drop}
+use Rattle.world.specs.{Origins.with_loads, Run.Calls}
+use Rattle.world.specs.Run.{Load, Run, after_read, nothing_yet, with_all, with_said, with_written}
 
 pub written_twice : (r : Run) (p : List ℕ) (i n : ℕ)
     → with_written (with_written r (take i p)) (take n (drop i p)) ≡ with_written r (take (i + n) p)

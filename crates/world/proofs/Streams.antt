@@ -4,8 +4,7 @@ use Rattle.std.proofs.Common.{sym}
 use Rattle.std.specs.Prelude.{is_some}
 use Rattle.world.specs.Run.{Load, Run, nothing_yet, with_load}
 use Rattle.world.specs.Streams.{HasRead, IsWhole}
-use Rattle.world.specs.declared.stream.Opened.{Opened}
-use Rattle.world.specs.declared.stream.Stream.{Stream}
+use Rattle.world.specs.declared.stream.{Opened.Opened, Stream.Stream}
 
 -- what was read of a stream of which nothing is left to be read is whole
 pub whole_at_end : (s : Stream) (name : Option (List ℕ)) (bytes : List ℕ)

@@ -1,10 +1,8 @@
 -- The fault lines, without their line feeds.
 use Rattle.std.specs.Prelude.{ℕ, List, ◌++◌, codes}
-use Rattle.world.specs.declared.faults.Fault.{Fault}
+use Rattle.world.specs.declared.faults.{Fault.Fault, LoadFault.LoadFault, MakeFault.MakeFault}
 use Rattle.world.specs.declared.faults.Fault.TheVariants as fault
-use Rattle.world.specs.declared.faults.LoadFault.{LoadFault}
 use Rattle.world.specs.declared.faults.LoadFault.TheVariants as load
-use Rattle.world.specs.declared.faults.MakeFault.{MakeFault}
 use Rattle.world.specs.declared.faults.MakeFault.TheVariants as make
 
 -- the file of this name that was not loaded

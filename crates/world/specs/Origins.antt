@@ -1,5 +1,5 @@
 -- Where bytes come from that are lent to a run, and what reading them leaves in its trace.
-use Rattle.std.specs.Prelude.{◌≡◌, ℕ, List, [], ◌∷◌, ◌++◌, Option, Some}
+use Rattle.std.specs.Prelude.{◌≡◌, ℕ, List, [], ◌∷◌, ◌++◌, Some}
 use Rattle.world.specs.Run.{Load, Run}
 
 pub data Origin : Type 0 where

@@ -1,7 +1,6 @@
 -- What is read in pieces.
 use Rattle.std.specs.Prelude.{◌≡◌, ℕ, List, [], ◌∷◌, Option, if◌then◌else◌, is_some}
-use Rattle.world.specs.Run.{Calls, nothing_yet, with_load}
-use Rattle.world.specs.declared.stream.Stream.{Stream}
+use Rattle.world.specs.{Run.Calls, Run.nothing_yet, Run.with_load, declared.stream.Stream.Stream}
 
 -- Reads under this name, or of standard input, gave these bytes, from the start on. If nothing is
 -- left to be read, they are all. Nothing else was done.

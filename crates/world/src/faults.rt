@@ -1,6 +1,5 @@
 //! Why a load, a write or a file failed, and the fault line.
-ghost use Rattle.std.specs.Prelude.{◌≡◌, ◌↔◌, Some};
-ghost use Rattle.std.specs.IoError.{error_kind};
+ghost use Rattle.std.specs.{IoError.error_kind, Prelude.◌≡◌, Prelude.◌↔◌, Prelude.Some};
 ghost use Rattle.world.specs.Faults.{fault_text};
 
 use std::alloc::AllocError;

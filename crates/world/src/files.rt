@@ -1,8 +1,7 @@
 //! Whole files and standard input, up to a limit, each read recorded.
 ghost use Rattle.std.specs.Prelude.{◌≡◌, ◌≢◌, ◌+◌, ◌≤◌, ◌<◌, Err, None, Some, IfErr, IfOk, OnOk};
 ghost use Rattle.std.specs.Prelude.{[], length, take, vec_len};
-ghost use Rattle.world.specs.Run.{Load, with_load};
-ghost use Rattle.world.specs.Loads.{IsRefused};
+ghost use Rattle.world.specs.{Loads.IsRefused, Run.Load, Run.with_load};
 
 use crate::faults::LoadFault;
 use crate::trace::Trace;

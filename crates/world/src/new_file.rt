@@ -1,7 +1,6 @@
 //! Files that are made: each is written under another name, and is given its own once it is whole.
 ghost use Rattle.std.specs.Prelude.{◌≡◌, [], IfErr, IfOk, OnOk};
-ghost use Rattle.world.specs.Run.{with_made};
-ghost use Rattle.world.specs.Writes.{IsUnmade};
+ghost use Rattle.world.specs.{Run.with_made, Writes.IsUnmade};
 
 use crate::faults::MakeFault;
 use crate::recorded::Recorded;

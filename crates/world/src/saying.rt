@@ -1,8 +1,7 @@
 //! Texts that are given to the standard error, each recorded.
 ghost use Rattle.std.specs.Prelude.{◌≡◌, ◌++◌, IfSome, OnOk, Some, codes};
-ghost use Rattle.world.specs.Run.{no_calls, nothing_yet, with_said};
-ghost use Rattle.world.specs.Writes.{IsSaid};
 ghost use Rattle.world.specs.Faults.{fault_text, input_text, load_text, make_text};
+ghost use Rattle.world.specs.{Run.no_calls, Run.nothing_yet, Run.with_said, Writes.IsSaid};
 
 use crate::faults::{Fault, LoadFault, MakeFault};
 use crate::trace::Trace;

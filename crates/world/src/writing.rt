@@ -1,7 +1,6 @@
 //! Pieces that are written to a stream, each write recorded.
 ghost use Rattle.std.specs.Prelude.{◌≡◌, ◌+◌, ◌≤◌, Err, IfErr, OnErr, OnOk, length, take};
-ghost use Rattle.world.specs.Run.{Run, with_written};
-ghost use Rattle.world.specs.Writes.{IsCut};
+ghost use Rattle.world.specs.{Run.Run, Run.with_written, Writes.IsCut};
 
 use crate::faults::WriteFault;
 use crate::trace::Trace;

@@ -1,25 +1,16 @@
 -- Kept: what private functions alone cite.
+use Rattle.account_rule.specs.{Kept.Kept, Kept.kept_trip, Replies.reply_with, Replies.ride_reply}
+use Rattle.account_rule.specs.{Taps.LiveTap, TokenRules.TransferRules, Trips.TripEnd}
+use Rattle.account_rule.specs.Windows.{charge, charged_by, is_paid, paid_by}
+use Rattle.account_rule.specs.declared.reason.Reason.{Reason, TheVariants.Ride}
+use Rattle.account_rule.specs.declared.reply.{Answer.TheVariants.Transfer, Reply.Reply}
+use Rattle.account_rule.specs.declared.tap.TapIn.{TapIn}
+use Rattle.account_rule.specs.declared.window.{Window.Window, WindowView.WindowView}
 use Rattle.std.specs.Prelude.{ℕ, ◌+◌, ◌-◌, Bool, false, ◌&&◌, if◌then◌else◌, min, nat_le, nat_lt}
 use Rattle.std.specs.Prelude.{Option, Some, None}
-use Rattle.tariffs.specs.ClockView.{ClockView}
-use Rattle.tariffs.specs.Fares.{is_permitted, ride_terms, transfer_terms}
-use Rattle.tariffs.specs.TableMeaning.{TableMeaning}
-use Rattle.tariffs.specs.Until.{window_end_in}
-use Rattle.tariffs.specs.declared.mode.Mode.{Mode}
-use Rattle.tariffs.specs.declared.terms.Terms.{Terms}
-use Rattle.account_rule.specs.declared.window.Window.{Window}
-use Rattle.account_rule.specs.declared.window.WindowView.{WindowView}
-use Rattle.account_rule.specs.declared.reason.Reason.{Reason}
-use Rattle.account_rule.specs.declared.reason.Reason.TheVariants.{Ride}
-use Rattle.account_rule.specs.declared.reply.Answer.TheVariants.{Transfer}
-use Rattle.account_rule.specs.declared.reply.Reply.{Reply}
-use Rattle.account_rule.specs.Kept.{Kept, kept_trip}
-use Rattle.account_rule.specs.Replies.{reply_with, ride_reply}
-use Rattle.account_rule.specs.declared.tap.TapIn.{TapIn}
-use Rattle.account_rule.specs.Taps.{LiveTap}
-use Rattle.account_rule.specs.TokenRules.{TransferRules}
-use Rattle.account_rule.specs.Trips.{TripEnd}
-use Rattle.account_rule.specs.Windows.{charge, charged_by, is_paid, paid_by}
+use Rattle.tariffs.specs.{ClockView.ClockView, Fares.is_permitted, Fares.ride_terms}
+use Rattle.tariffs.specs.{Fares.transfer_terms, TableMeaning.TableMeaning, Until.window_end_in}
+use Rattle.tariffs.specs.declared.{mode.Mode.Mode, terms.Terms.Terms}
 
 -- whether the trip, if there is one, gives a transfer to the tap
 unfoldable pub gives : TransferRules → Option TripEnd → LiveTap → Bool

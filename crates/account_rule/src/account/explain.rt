@@ -1,19 +1,15 @@
 //! Why an account answers a tap as it does.
 
-ghost use Rattle.std.specs.Prelude.{◌≡◌, ℕ, ◌<◌, ◌≤◌, ◌++◌, ◌∷◌, [], List, length, Some};
-ghost use Rattle.std.specs.Option.{ForSome};
-ghost use Rattle.tariffs.specs.Terms.{AreBoundedTerms};
-ghost use Rattle.tariffs.specs.Fares.{ride_terms};
-ghost use Rattle.tariffs.specs.Until.{window_end_in};
-ghost use Rattle.account_rule.specs.declared.tap.TapIn.{TapIn};
 ghost use Rattle.account_rule.specs.Kept.{IsRoomy, kept_numbers, kept_trip};
-ghost use Rattle.account_rule.specs.inside.Kept.{next_reason, transfers_in, window_at};
-ghost use Rattle.account_rule.specs.inside.Kept.{with_ride};
 ghost use Rattle.account_rule.specs.NoTransfers.{HasModesBelow, no_transfer, no_transfer_from};
 ghost use Rattle.account_rule.specs.Reasons.{given_by, reason, replied_by};
-ghost use Rattle.account_rule.specs.TokenRules.{TokenRules, rules_of};
 ghost use Rattle.account_rule.specs.Represents.{Represents, RepresentsSome};
-ghost use Rattle.account_rule.specs.Taps.{live_at};
+ghost use Rattle.account_rule.specs.{Taps.live_at, TokenRules.TokenRules, TokenRules.rules_of};
+ghost use Rattle.account_rule.specs.declared.tap.TapIn.{TapIn};
+ghost use Rattle.account_rule.specs.inside.Kept.{next_reason, transfers_in, window_at, with_ride};
+ghost use Rattle.std.specs.Option.{ForSome};
+ghost use Rattle.std.specs.Prelude.{◌≡◌, ℕ, ◌<◌, ◌≤◌, ◌++◌, ◌∷◌, [], List, length, Some};
+ghost use Rattle.tariffs.specs.{Fares.ride_terms, Terms.AreBoundedTerms, Until.window_end_in};
 
 use super::Account;
 use crate::no_transfer::NoTransfer;

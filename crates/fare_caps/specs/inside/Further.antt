@@ -1,28 +1,18 @@
 -- What private functions make of the numbers that are kept, by what the caps say of one ride.
-use Rattle.std.specs.Prelude.{ℕ, ◌+◌, ◌-◌, ◌==◌, ◌||◌, if◌then◌else◌, List, is_some, max, min}
-use Rattle.std.specs.Prelude.{◌≤◌, IfSome, nat_lt, Option, Some, None, option_map, slice_get}
-use Rattle.tariffs.specs.ClockView.{ClockView}
-use Rattle.tariffs.specs.Until.{window_end_in}
-use Rattle.tariffs.specs.WindowSpan.{IsBoundedSpan}
-use Rattle.tariffs.specs.declared.mode.Mode.{Mode}
-use Rattle.tariffs.specs.declared.price.Pays.{Pays}
-use Rattle.tariffs.specs.declared.terms.Terms.{Terms}
 use Rattle.account_rule.specs.Windows.{charge}
-use Rattle.tariffs.specs.TableMeaning.{TableMeaning}
-use Rattle.tariffs.specs.declared.cap_terms.CapTerms.{CapTerms}
-use Rattle.fare_caps.specs.CapMeanings.{said_of}
-use Rattle.fare_caps.specs.Caps.{opened_until}
-use Rattle.fare_caps.specs.CapStates.{extra_terms}
+use Rattle.fare_caps.specs.{CapMeanings.said_of, CapStates.extra_terms, Caps.opened_until}
 use Rattle.fare_caps.specs.Charges.{cap_cents, cap_paid, is_freed, lesser, lowered}
-use Rattle.fare_caps.specs.Prices.{wanted}
-use Rattle.fare_caps.specs.declared.ride_cap.RideCap.{RideCap}
-use Rattle.fare_caps.specs.declared.cap_charge.CapCharge.{CapCharge}
-use Rattle.fare_caps.specs.declared.cap_charge.CapLeft.{CapLeft}
-use Rattle.fare_caps.specs.declared.cap_window.CapWindow.{CapWindow}
+use Rattle.fare_caps.specs.{Prices.wanted, declared.cap_charge.CapCharge.CapCharge}
+use Rattle.fare_caps.specs.declared.{cap_charge.CapLeft.CapLeft, cap_window.CapWindow.CapWindow}
 use Rattle.fare_caps.specs.declared.capped_reason.CappedReason.{CappedReason}
 use Rattle.fare_caps.specs.declared.capped_reason.CappedReason.TheVariants.{PaidTransfer, Transfer}
-use Rattle.fare_caps.specs.declared.further.Further.{Further}
-use Rattle.fare_caps.specs.declared.further.RideCaps.{RideCaps}
+use Rattle.fare_caps.specs.declared.further.{Further.Further, RideCaps.RideCaps}
+use Rattle.fare_caps.specs.declared.ride_cap.RideCap.{RideCap}
+use Rattle.std.specs.Prelude.{ℕ, ◌+◌, ◌-◌, ◌==◌, ◌||◌, if◌then◌else◌, List, is_some, max, min, ◌≤◌}
+use Rattle.std.specs.Prelude.{IfSome, nat_lt, Option, Some, None, option_map, slice_get}
+use Rattle.tariffs.specs.{ClockView.ClockView, TableMeaning.TableMeaning, Until.window_end_in}
+use Rattle.tariffs.specs.{WindowSpan.IsBoundedSpan, declared.cap_terms.CapTerms.CapTerms}
+use Rattle.tariffs.specs.declared.{mode.Mode.Mode, price.Pays.Pays, terms.Terms.Terms}
 
 -- what the cap at the index says of the ride by what is valid, if there are so many caps
 abbrev pub said_at : List CapTerms → TableMeaning → ℕ → ℕ → ℕ → Option RideCap

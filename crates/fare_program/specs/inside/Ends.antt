@@ -1,14 +1,11 @@
 -- How the writing of a text ends: what private functions alone cite.
-use Rattle.std.specs.Prelude.{◌≡◌, ℕ, List, Bool, Option, Some, Result, Ok, Err, false, map, true}
-use Rattle.std.specs.Io.KnownBytes.{Appends, Keeps}
-use Rattle.tariffs.specs.Fares.{Fares}
-use Rattle.tap_views.specs.declared.token.Token.{Token}
+use Rattle.fare_program.specs.{Options.Request, Parts.IsPartText, Settling.ShowsSettled}
+use Rattle.fare_program.specs.declared.fault.Fault.{Fault, TheVariants.Late, TheVariants.Write}
 use Rattle.fare_texts.specs.WrittenOut.{Begins}
-use Rattle.fare_program.specs.Options.{Request}
-use Rattle.fare_program.specs.Parts.{IsPartText}
-use Rattle.fare_program.specs.Settling.{ShowsSettled}
-use Rattle.fare_program.specs.declared.fault.Fault.{Fault}
-use Rattle.fare_program.specs.declared.fault.Fault.TheVariants.{Late, Write}
+use Rattle.std.specs.Io.KnownBytes.{Appends, Keeps}
+use Rattle.std.specs.Prelude.{◌≡◌, ℕ, List, Bool, Option, Some, Result, Ok, Err, false, map, true}
+use Rattle.tap_views.specs.declared.token.Token.{Token}
+use Rattle.tariffs.specs.Fares.{Fares}
 
 -- the text of sorted files was broken off: one of them was refused after all were checked
 abbrev pub IsLate : Fault → Type 0

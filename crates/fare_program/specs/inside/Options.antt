@@ -1,8 +1,7 @@
 -- Options: what private functions alone cite.
-use Rattle.std.specs.Prelude.{map, option_map}
-use Rattle.fare_program.specs.declared.options.Options.{Options}
-use Rattle.fare_program.specs.Options.{Request}
+use Rattle.fare_program.specs.{Options.Request, declared.options.Options.Options}
 use Rattle.program_manners.specs.TableViews.{names_of}
+use Rattle.std.specs.Prelude.{map, option_map}
 
 -- what the options ask for
 abbrev pub request_of : Options → Request

@@ -1,13 +1,10 @@
 -- Files that are posted or settled: what private functions alone cite.
-use Rattle.std.specs.Prelude.{◌≡◌, ℕ, Bool, List, Option}
-use Rattle.tariffs.specs.Fares.{Fares}
-use Rattle.tap_views.specs.declared.token.Token.{Token}
+use Rattle.fare_program.specs.{Options.Request, Program.ShowsRequest, Settling.ShowsSettled}
+use Rattle.fare_service.specs.{Headline.AreLoaded, Lending.AreProvidedAs}
 use Rattle.settlement.specs.Reading.{AreRead}
-use Rattle.fare_service.specs.Lending.{AreProvidedAs}
-use Rattle.fare_program.specs.Options.{Request}
-use Rattle.fare_program.specs.Program.{ShowsRequest}
-use Rattle.fare_program.specs.Settling.{ShowsSettled}
-use Rattle.fare_service.specs.Headline.{AreLoaded}
+use Rattle.std.specs.Prelude.{◌≡◌, ℕ, Bool, List, Option}
+use Rattle.tap_views.specs.declared.token.Token.{Token}
+use Rattle.tariffs.specs.Fares.{Fares}
 use Rattle.world.specs.Origins.{Origin, anywhere, file, memory, nowhere}
 use Rattle.world.specs.Run.{Run, with_all}
 

@@ -1,20 +1,16 @@
 -- Closing: what private functions alone cite.
-use Rattle.std.specs.Prelude.{◌≡◌, ℕ, ◌<◌, ◌≤◌, List, [], ◌∷◌, ◌++◌, length, All, slice_get, Some}
-use Rattle.std.specs.Prelude.{Result, Ok, Err}
-use Rattle.std.specs.List.{flat_map}
-use Rattle.shard_book.specs.Book.{Book}
-use Rattle.histories.specs.History.{IsLegal}
-use Rattle.shared_books.specs.Passes.{SharedBookView, PassView, HasMadeAll, book_of}
-use Rattle.shared_books.specs.declared.turns.results.Missing.{Missing as LackingVisits}
+use Rattle.fare_service.specs.{Claims.claims_at, Closing.IsHistoryOf, Limits.BookKeepsLimits}
+use Rattle.fare_service.specs.{ShareView.ShareView, Shares.marks_at, Shares.made_visits_at}
 use Rattle.fare_service.specs.declared.faults.GatherFault.{GatherFault}
 use Rattle.fare_service.specs.declared.faults.GatherFault.TheVariants.{NoMemory, Missing, Drawn}
-use Rattle.shared_books.specs.Drawing.{AllBelow, NoneTwice, times}
+use Rattle.histories.specs.History.{IsLegal}
+use Rattle.shard_book.specs.Book.{Book}
 use Rattle.shared_books.specs.Claims.{all_claims}
-use Rattle.fare_service.specs.Claims.{claims_at}
-use Rattle.fare_service.specs.Limits.{BookKeepsLimits}
-use Rattle.fare_service.specs.ShareView.{ShareView}
-use Rattle.fare_service.specs.Shares.{marks_at, made_visits_at}
-use Rattle.fare_service.specs.Closing.{IsHistoryOf}
+use Rattle.shared_books.specs.Drawing.{AllBelow, NoneTwice, times}
+use Rattle.shared_books.specs.Passes.{SharedBookView, PassView, HasMadeAll, book_of}
+use Rattle.shared_books.specs.declared.turns.results.Missing.{Missing as LackingVisits}
+use Rattle.std.specs.{List.flat_map, Prelude.◌≡◌, Prelude.ℕ, Prelude.◌<◌, Prelude.◌≤◌}
+use Rattle.std.specs.Prelude.{List, [], ◌∷◌, ◌++◌, length, All, slice_get, Some, Result, Ok, Err}
 
 -- the book of a shard was closed by its pass, which had made all visits
 pub record IsClosedBy (passes : List PassView) (shard : ℕ) (book : Book) : Type 0 where

@@ -1,19 +1,15 @@
 -- Shares that are joined into one.
+use Rattle.fare_service.specs.{Claims.claims_at, Faults.visits_held, Headline.Signed}
+use Rattle.fare_service.specs.{Headline.by_worker, ShareView.ShareView}
+use Rattle.fare_service.specs.Shares.{books_of, made_visits, marks_at, made_visits_at}
+use Rattle.fare_service.specs.declared.service.share.Done.{Done}
+use Rattle.shared_books.specs.{Drawing.Drawing, Drawing.DrawerView, Marks.visits_of}
+use Rattle.shared_books.specs.{Marks.joined_marks, Marks.Apart, Marks.Begins, Passes.SharedBookView}
+use Rattle.shared_books.specs.{Passes.PassView, declared.turns.rule.Mark.Mark}
+use Rattle.std.specs.List.{flat_map, AllZip}
 use Rattle.std.specs.Prelude.{◌≡◌, ◌⊎◌, ℕ, ◌+◌, ◌≤◌, nat_lt, false, List, [], ◌∷◌, length, All}
 use Rattle.std.specs.Prelude.{slice_get, Some, slice_set, sum_by}
-use Rattle.std.specs.List.{flat_map}
-use Rattle.shared_books.specs.declared.turns.rule.Mark.{Mark}
-use Rattle.shared_books.specs.Drawing.{Drawing, DrawerView}
-use Rattle.shared_books.specs.Marks.{visits_of, joined_marks, Apart, Begins}
-use Rattle.shared_books.specs.Passes.{SharedBookView, PassView}
-use Rattle.fare_service.specs.declared.service.share.Done.{Done}
 use Rattle.tap_views.specs.declared.upload_end.UploadEnd.{UploadEnd}
-use Rattle.fare_service.specs.Claims.{claims_at}
-use Rattle.fare_service.specs.Faults.{visits_held}
-use Rattle.fare_service.specs.Headline.{Signed, by_worker}
-use Rattle.fare_service.specs.ShareView.{ShareView}
-use Rattle.fare_service.specs.Shares.{books_of, made_visits, marks_at, made_visits_at}
-use Rattle.std.specs.List.{AllZip}
 use Rattle.world.specs.Run.{Run, with_all}
 
 -- the ends with those of some uploads, of which the last counts

@@ -1,13 +1,9 @@
 -- Lending: what private functions alone cite.
+use Rattle.fare_service.specs.{Lending.IsUnavailable, ServiceView.ServiceView, ShareView.ShareView}
+use Rattle.fare_service.specs.{Shares.IsShareOf, declared.faults.RunFault.RunFault}
+use Rattle.fare_service.specs.{declared.lending.Unavailable.Unavailable, inside.Stopping.WorkedOn}
 use Rattle.std.specs.Prelude.{List, Result, Err, Contains, IfErr, IfOk}
-use Rattle.fare_service.specs.Lending.{IsUnavailable}
-use Rattle.fare_service.specs.ServiceView.{ServiceView}
-use Rattle.fare_service.specs.ShareView.{ShareView}
-use Rattle.fare_service.specs.Shares.{IsShareOf}
-use Rattle.fare_service.specs.declared.faults.RunFault.{RunFault}
 use Rattle.fare_service.specs.declared.faults.RunFault.TheVariants as run
-use Rattle.fare_service.specs.declared.lending.Unavailable.{Unavailable}
-use Rattle.fare_service.specs.inside.Stopping.{WorkedOn}
 
 -- what a worker answers: the share that it went on with, or an upload that was not lent
 pub record IsAnswer (service : ServiceView) (old : ShareView) (answer : Result ShareView Unavailable)

@@ -1,9 +1,8 @@
 -- Outcomes: what private functions alone cite.
-use Rattle.std.specs.Prelude.{◌≡◌, ℕ, ◌<◌, ◌≤◌, length, Some, slice_get}
-use Rattle.shard_book.specs.Book.{Book}
-use Rattle.shard_book.specs.Book.{all_entries}
-use Rattle.histories.specs.Sums.{sums}
 use Rattle.fare_service.specs.Outcomes.{OutcomeView}
+use Rattle.histories.specs.Sums.{sums}
+use Rattle.shard_book.specs.Book.{Book, all_entries}
+use Rattle.std.specs.Prelude.{◌≡◌, ℕ, ◌<◌, ◌≤◌, length, Some, slice_get}
 
 -- what always holds of an outcome
 pub record IsOutcome (outcome : OutcomeView) : Type 0 where

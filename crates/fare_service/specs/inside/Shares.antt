@@ -1,8 +1,7 @@
 -- Shares: what private functions alone cite.
+use Rattle.fare_service.specs.{Runs.RunVisit, Shares.Worked}
 use Rattle.std.specs.Prelude.{ℕ, List}
 use Rattle.tap_views.specs.declared.upload_end.UploadEnd.{UploadEnd}
-use Rattle.fare_service.specs.Runs.{RunVisit}
-use Rattle.fare_service.specs.Shares.{Worked}
 
 -- an upload with the bytes with which it was lent, its end and its visits
 abbrev pub worked : ℕ → List ℕ → UploadEnd → List RunVisit → Worked

@@ -1,10 +1,9 @@
 -- What is at the spots of several books. Private functions alone cite this.
-use Rattle.std.specs.Prelude.{ℕ, ◌/◌, ◌%◌, List, Option, map, option_and_then, slice_get}
-use Rattle.std.specs.Prelude.{unwrap_or}
 use Rattle.account_rule.specs.declared.reply.Answer.TheVariants.{Unknown}
-use Rattle.shard_book.specs.Book.{Book}
-use Rattle.histories.specs.declared.entry.Entry.{Entry}
 use Rattle.fare_service.specs.declared.spot.Spot.{Spot}
+use Rattle.histories.specs.declared.entry.Entry.{Entry}
+use Rattle.shard_book.specs.Book.{Book}
+use Rattle.std.specs.Prelude.{ℕ, ◌/◌, ◌%◌, List, Option, map, option_and_then, slice_get, unwrap_or}
 
 -- the place of the book among the books
 abbrev pub book_at : Spot → ℕ

@@ -1,13 +1,11 @@
 -- Stopping: what private functions alone cite.
-use Rattle.std.specs.Prelude.{◌≡◌, ◌⊎◌, ℕ, List, ◌++◌, ◌∷◌, [], Result, IsErrOf}
-use Rattle.histories.specs.declared.entry.Entry.{Entry}
-use Rattle.shared_books.specs.Passes.{PassView}
-use Rattle.fare_service.specs.ServiceView.{ServiceView}
-use Rattle.fare_service.specs.ShareView.{ShareView}
-use Rattle.fare_service.specs.Shares.{made_visits_at, WentOn}
+use Rattle.fare_service.specs.{ServiceView.ServiceView, ShareView.ShareView, Shares.made_visits_at}
+use Rattle.fare_service.specs.{Shares.WentOn, Stopping.SomeFull, Stopping.StoppedCleanly}
 use Rattle.fare_service.specs.declared.service.working.Stop.{Stop}
 use Rattle.fare_service.specs.declared.service.working.Stop.TheVariants.{Memory, Full}
-use Rattle.fare_service.specs.Stopping.{SomeFull, StoppedCleanly}
+use Rattle.histories.specs.declared.entry.Entry.{Entry}
+use Rattle.shared_books.specs.Passes.{PassView}
+use Rattle.std.specs.Prelude.{◌≡◌, ◌⊎◌, ℕ, List, ◌++◌, ◌∷◌, [], Result, IsErrOf}
 
 -- What was known of a full shard is still known. If a full shard stopped the work, it is known now.
 abbrev pub ReportsFull : {A : Type 0} → Result A Stop → List PassView → List PassView → Type 0

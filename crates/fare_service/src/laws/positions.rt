@@ -1,14 +1,12 @@
 //! Where taps are posted.
 
-ghost use Rattle.std.specs.Prelude.{◌≡◌, ℕ, ◌<◌, List, Some, slice_get};
-ghost use Rattle.tap_views.specs.Layout.{Tap};
-ghost use Rattle.tariffs.specs.Fares.{Fares};
-ghost use Rattle.tap_views.specs.declared.upload_end.UploadEnd.{UploadEnd};
-ghost use Rattle.fare_service.specs.Headline.{Headline};
-ghost use Rattle.fare_service.specs.Outcomes.{OutcomeView};
+ghost use Rattle.fare_service.specs.{Headline.Headline, Outcomes.OutcomeView};
 ghost use Rattle.fare_service.specs.Placing.{in_posting_order, in_file_order, posted_of};
 ghost use Rattle.fare_service.specs.Placing.{IsReordered, WerePostedOf};
 ghost use Rattle.fare_service.specs.Shares.{Worked, all_works, file_at};
+ghost use Rattle.std.specs.Prelude.{◌≡◌, ℕ, ◌<◌, List, Some, slice_get};
+ghost use Rattle.tap_views.specs.{Layout.Tap, declared.upload_end.UploadEnd.UploadEnd};
+ghost use Rattle.tariffs.specs.Fares.{Fares};
 
 /// In posting order (batch by batch, each by shard) an upload's taps are reordered and no more, and
 /// those of a shard keep their order: what holds of posted taps holds of the upload's.

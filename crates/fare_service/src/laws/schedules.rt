@@ -1,21 +1,15 @@
 //! Schedule independence: an outcome against the sequential history of the uploads.
 
+ghost use Rattle.fare_service.specs.{Headline.Headline, Plain.IsUncutGathering, Plain.WasNotCut};
+ghost use Rattle.fare_service.specs.{Printed.IsStatementOf, Printed.report_of, Shares.Worked};
+ghost use Rattle.histories.specs.{Entry.own, Plain.IsNamed, declared.entry.Entry.Entry};
+ghost use Rattle.report_texts.specs.OverHistory.{IsReportOver, IsStatementOver};
+ghost use Rattle.shard_book.specs.Book.{AreOfShard, Book};
 ghost use Rattle.std.specs.Prelude.{◌≡◌, ◌↔◌, ℕ, ◌<◌, List, All, Decides, Some, flat_map, map};
 ghost use Rattle.std.specs.Prelude.{length, slice_get};
-ghost use Rattle.tariffs.specs.Fares.{Fares};
-ghost use Rattle.tap_views.specs.Shards.{shard_of_token};
-ghost use Rattle.histories.specs.declared.entry.Entry.{Entry};
+ghost use Rattle.tap_views.specs.{Shards.shard_of_token, Token.bytes_of, UploadEnds.ArePlainEnds};
 ghost use Rattle.tap_views.specs.declared.token.Token.{Token};
-ghost use Rattle.shard_book.specs.Book.{AreOfShard, Book};
-ghost use Rattle.histories.specs.Entry.{own};
-ghost use Rattle.tap_views.specs.Token.{bytes_of};
-ghost use Rattle.fare_service.specs.Headline.{Headline};
-ghost use Rattle.tap_views.specs.UploadEnds.{ArePlainEnds};
-ghost use Rattle.histories.specs.Plain.{IsNamed};
-ghost use Rattle.report_texts.specs.OverHistory.{IsReportOver, IsStatementOver};
-ghost use Rattle.fare_service.specs.Plain.{IsUncutGathering, WasNotCut};
-ghost use Rattle.fare_service.specs.Printed.{IsStatementOf, report_of};
-ghost use Rattle.fare_service.specs.Shares.{Worked};
+ghost use Rattle.tariffs.specs.Fares.{Fares};
 
 use crate::outcome::Outcome;
 use histories::laws::plain_history;

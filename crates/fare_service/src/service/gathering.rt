@@ -1,20 +1,18 @@
 //! Gathering shares: what each worker did is joined, and the books are closed.
 
-ghost use Rattle.std.specs.Prelude.{◌≡◌, ℕ, ◌+◌, ◌<◌, ◌≤◌, List, All, IfOk, IfErr, OnOk, OnErr};
-ghost use Rattle.std.specs.Prelude.{length, map, slice_get, Some, [], ◌∷◌, replicate, vec_capacity};
-ghost use Rattle.std.specs.List.{flat_map};
-ghost use Rattle.histories.specs.Sums.{sums_of};
-ghost use Rattle.shared_books.specs.Passes.{PassView};
-ghost use Rattle.fare_service.specs.Claims.{claims_at, HaveAllClaims};
-ghost use Rattle.fare_service.specs.Closing.{ReportsFirst};
-ghost use Rattle.fare_service.specs.inside.Closing.{AreClosed, AreUnseen, IsClosedWork};
-ghost use Rattle.fare_service.specs.inside.Closing.{IsAppended, ReportsMissing};
-ghost use Rattle.fare_service.specs.inside.Closing.{IsFirstMissing, IsFirstUnseen, IsMissing};
-ghost use Rattle.fare_service.specs.inside.Closing.{LacksClaims, NoneMissing};
-ghost use Rattle.fare_service.specs.inside.Joining.{AreJoinedAt, Belongs, IsJoinedOf, with_done};
-ghost use Rattle.fare_service.specs.inside.Joining.{with_all_done, with_runs};
+ghost use Rattle.fare_service.specs.{Claims.claims_at, Claims.HaveAllClaims, Closing.ReportsFirst};
 ghost use Rattle.fare_service.specs.Faults.{IsForMemory, IsGatherFault};
 ghost use Rattle.fare_service.specs.Shares.{books_of, made_visits_at};
+ghost use Rattle.fare_service.specs.inside.Closing.{AreClosed, AreUnseen, IsClosedWork, IsAppended};
+ghost use Rattle.fare_service.specs.inside.Closing.{ReportsMissing, IsFirstMissing, IsFirstUnseen};
+ghost use Rattle.fare_service.specs.inside.Closing.{IsMissing, LacksClaims, NoneMissing};
+ghost use Rattle.fare_service.specs.inside.Joining.{AreJoinedAt, Belongs, IsJoinedOf, with_done};
+ghost use Rattle.fare_service.specs.inside.Joining.{with_all_done, with_runs};
+ghost use Rattle.histories.specs.Sums.{sums_of};
+ghost use Rattle.shared_books.specs.Passes.{PassView};
+ghost use Rattle.std.specs.List.{flat_map};
+ghost use Rattle.std.specs.Prelude.{◌≡◌, ℕ, ◌+◌, ◌<◌, ◌≤◌, List, All, IfOk, IfErr, OnOk, OnErr};
+ghost use Rattle.std.specs.Prelude.{length, map, slice_get, Some, [], ◌∷◌, replicate, vec_capacity};
 
 use crate::faults::GatherFault;
 use crate::lending::UploadSource;

@@ -1,16 +1,12 @@
 //! A run: a thread for each worker, and the joining of their shares.
 
-ghost use Rattle.std.specs.Prelude.{◌≡◌, ◌<◌, ◌≤◌, ◌++◌, ◌∷◌, [], All, IfOk, IfErr, Ok};
-ghost use Rattle.std.specs.Prelude.{OnOk, length, map};
-ghost use Rattle.std.specs.List.{AllZip};
 ghost use Rattle.fare_service.specs.Claims.{HasAllClaims, HaveAllClaims};
-ghost use Rattle.fare_service.specs.Faults.{IsRunFault, MissesNothing};
-ghost use Rattle.fare_service.specs.ServiceView.{shards_of};
-ghost use Rattle.fare_service.specs.Headline.{HasRunOver};
-ghost use Rattle.fare_service.specs.Refusals.{WasNotGathered};
-ghost use Rattle.fare_service.specs.Shares.{IsFresh, IsShareOf};
-ghost use Rattle.fare_service.specs.Stopping.{HaveStopped};
+ghost use Rattle.fare_service.specs.{Faults.IsRunFault, Faults.MissesNothing, Headline.HasRunOver};
+ghost use Rattle.fare_service.specs.{Refusals.WasNotGathered, ServiceView.shards_of};
+ghost use Rattle.fare_service.specs.{Shares.IsFresh, Shares.IsShareOf, Stopping.HaveStopped};
 ghost use Rattle.fare_service.specs.inside.Lending.{IsAnswer, IsFaultOf};
+ghost use Rattle.std.specs.{List.AllZip, Prelude.◌≡◌, Prelude.◌<◌};
+ghost use Rattle.std.specs.Prelude.{◌≤◌, ◌++◌, ◌∷◌, [], All, IfOk, IfErr, Ok, OnOk, length, map};
 
 use crate::faults::RunFault;
 use crate::lending::{Unavailable, UploadSource};

@@ -1,9 +1,8 @@
 //! The totals of the workers, added up.
 
-ghost use Rattle.std.specs.Prelude.{◌≡◌, ◌<◌, ◌≤◌, ◌^◌, length, map};
+ghost use Rattle.histories.specs.Sums.{sums_of, add_all};
 ghost use Rattle.shard_book.specs.Book.{all_entries};
-ghost use Rattle.histories.specs.Sums.{sums_of};
-ghost use Rattle.histories.specs.Sums.{add_all};
+ghost use Rattle.std.specs.Prelude.{◌≡◌, ◌<◌, ◌≤◌, ◌^◌, length, map};
 
 use shard_book::{ShardBook, Totals};
 

@@ -1,10 +1,9 @@
 //! The work of one thread: it draws uploads and posts their batches, run by run.
 
-ghost use Rattle.std.specs.Prelude.{◌≡◌, ◌⊎◌, ℕ, ◌+◌, ◌*◌, ◌^◌, ◌<◌, ◌≤◌, List, length, OnOk};
-ghost use Rattle.std.specs.Prelude.{IfErr, IfOk};
-ghost use Rattle.std.specs.Prelude.{IfNone, IfSome, is_ok, is_some, map, true, false, ◌++◌, ◌∷◌};
-ghost use Rattle.std.specs.Prelude.{[]};
 ghost use Rattle.histories.specs.Sums.{sums_of, sums_of_replies, add_sums};
+ghost use Rattle.std.specs.Prelude.{◌≡◌, ◌⊎◌, ℕ, ◌+◌, ◌*◌, ◌^◌, ◌<◌, ◌≤◌, List, length, OnOk};
+ghost use Rattle.std.specs.Prelude.{IfErr, IfOk, IfNone, IfSome, is_ok, is_some, map, true, false};
+ghost use Rattle.std.specs.Prelude.{◌++◌, ◌∷◌, []};
 
 use crate::lending::{Unavailable, UploadSource};
 use crate::service::Service;

@@ -1,7 +1,6 @@
 -- OrFault: what private functions alone cite.
+use Rattle.fare_table.specs.declared.fault.TableFault.{TableFault, TheVariants.NoMemory}
 use Rattle.std.specs.Prelude.{◌≡◌, ◌≢◌, Result, Ok, Err, MatchResult}
-use Rattle.fare_table.specs.declared.fault.TableFault.{TableFault}
-use Rattle.fare_table.specs.declared.fault.TableFault.TheVariants.{NoMemory}
 
 -- the result, with its value seen through f
 abbrev pub seen_through : {A B : Type 0} → (A → B) → Result A TableFault → Result B TableFault

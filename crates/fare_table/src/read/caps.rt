@@ -1,12 +1,11 @@
 //! The key `caps`: how long the windows of caps beside `window` are, and which modes these count.
-ghost use Rattle.std.specs.Prelude.{◌≡◌, ◌<◌, ◌≤◌, [], All, IfOk, false, length, map};
-ghost use Rattle.std.specs.Prelude.{IsTrue, nat_le, option_map, replicate, string_bytes, vec_len};
-ghost use Rattle.toml.specs.View.{array_view, view, table_view};
-ghost use Rattle.tariffs.specs.WindowSpan.{IsBoundedLength};
-ghost use Rattle.fare_table.specs.Caps as spec;
-ghost use Rattle.fare_table.specs.Caps.{text_caps};
-ghost use Rattle.fare_table.specs.Classes.{count_of};
+ghost use Rattle.fare_table.specs.{Caps.text_caps, Classes.count_of};
 ghost use Rattle.fare_table.specs.inside.OrFault.{Answers, seen_through};
+ghost use Rattle.std.specs.Prelude.{◌≡◌, ◌<◌, ◌≤◌, [], All, IfOk, false, length, map, IsTrue};
+ghost use Rattle.std.specs.Prelude.{nat_le, option_map, replicate, string_bytes, vec_len};
+ghost use Rattle.tariffs.specs.WindowSpan.{IsBoundedLength};
+ghost use Rattle.toml.specs.View.{array_view, view, table_view};
+ghost use Rattle.fare_table.specs.Caps as spec;
 
 use super::class_names::names_of;
 use super::members::{are_texts, hold_tables, of_kind, optional, text_at};

@@ -1,12 +1,10 @@
 //! The names of the classes by index.
+ghost use Rattle.fare_table.specs.{Classes.count_of, Members.names_in};
+ghost use Rattle.fare_table.specs.declared.fault.TableFault.{TableFault};
+ghost use Rattle.fare_table.specs.inside.{ByteOrder.in_byte_order, OrFault.Answers};
 ghost use Rattle.std.specs.Prelude.{◌≡◌, ◌<◌, true, IfErr, IfOk, map, string_bytes, vec_len};
 ghost use Rattle.toml.specs.View.{table_view};
-ghost use Rattle.fare_table.specs.inside.ByteOrder.{in_byte_order};
 ghost use Rattle.fare_table.specs.Classes as spec;
-ghost use Rattle.fare_table.specs.Classes.{count_of};
-ghost use Rattle.fare_table.specs.Members.{names_in};
-ghost use Rattle.fare_table.specs.inside.OrFault.{Answers};
-ghost use Rattle.fare_table.specs.declared.fault.TableFault.{TableFault};
 
 use super::classes::class_named;
 use crate::fault::TableFault;

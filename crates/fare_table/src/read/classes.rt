@@ -1,13 +1,12 @@
 //! The keys `classes` and `default_class`: what rider classes pay, and what their rides give.
-ghost use Rattle.std.specs.Prelude.{◌≡◌, ◌+◌, ◌<◌, ◌≤◌, [], All, IfErr, IfOk, length, map};
-ghost use Rattle.std.specs.Prelude.{option_map, replicate, string_bytes, vec_len};
-ghost use Rattle.toml.specs.View.{view, table_view};
-ghost use Rattle.fare_table.specs.Classes.{count_of};
-ghost use Rattle.fare_table.specs.Classes as spec;
-ghost use Rattle.fare_table.specs.Members.{number_or as number_or_spec};
+ghost use Rattle.fare_table.specs.{Classes.count_of, Members.number_or as number_or_spec};
 ghost use Rattle.fare_table.specs.declared.fault.TableFault.{TableFault};
 ghost use Rattle.fare_table.specs.inside.OrFault.{Answers, seen_through};
+ghost use Rattle.std.specs.Prelude.{◌≡◌, ◌+◌, ◌<◌, ◌≤◌, [], All, IfErr, IfOk, length, map};
+ghost use Rattle.std.specs.Prelude.{option_map, replicate, string_bytes, vec_len};
 ghost use Rattle.tariffs.specs.Terms.{AreBoundedTerms, IsBoundedClass};
+ghost use Rattle.toml.specs.View.{view, table_view};
+ghost use Rattle.fare_table.specs.Classes as spec;
 
 use super::caps::cap_named;
 use super::members::{

@@ -1,9 +1,8 @@
 //! The values at the keys of a TOML table.
-ghost use Rattle.std.specs.Prelude.{◌≡◌, ◌&&◌, ◌≤◌, pos, int_le, IfOk, option_map};
-ghost use Rattle.toml.specs.Data.{get_member};
-ghost use Rattle.toml.specs.View.{view, array_view, table_view};
-ghost use Rattle.fare_table.specs.Members as spec;
 ghost use Rattle.fare_table.specs.inside.OrFault.{seen_through};
+ghost use Rattle.std.specs.Prelude.{◌≡◌, ◌&&◌, ◌≤◌, pos, int_le, IfOk, option_map};
+ghost use Rattle.toml.specs.{Data.get_member, View.view, View.array_view, View.table_view};
+ghost use Rattle.fare_table.specs.Members as spec;
 
 use crate::fault::{Key, TableFault};
 use toml::value::Array;

@@ -1,12 +1,11 @@
 //! The key `modes`: the names of the modes by index.
+ghost use Rattle.fare_table.specs.inside.OrFault.{Answers};
+ghost use Rattle.std.specs.{Char.is_ascii_lowercase, List.list_all, List.list_any};
 ghost use Rattle.std.specs.Prelude.{◌≡◌, ◌<◌, ◌≤◌, ◌&&◌, [], IfOk, IsTrue, length, map, nat_le};
 ghost use Rattle.std.specs.Prelude.{string_bytes, vec_len};
-ghost use Rattle.std.specs.List.{list_all, list_any};
-ghost use Rattle.std.specs.Char.{is_ascii_lowercase};
+ghost use Rattle.tariffs.specs.Names.{same_name};
 ghost use Rattle.toml.specs.View.{array_view, table_view};
 ghost use Rattle.fare_table.specs.Modes as spec;
-ghost use Rattle.tariffs.specs.Names.{same_name};
-ghost use Rattle.fare_table.specs.inside.OrFault.{Answers};
 
 use super::members::{array_at, of_kind};
 use crate::bounds::MAX_MODE_NAME_BYTES;

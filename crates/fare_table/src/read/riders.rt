@@ -1,12 +1,11 @@
 //! The key `riders`: the classes of single riders by their tokens.
-ghost use Rattle.std.specs.Prelude.{◌≡◌, ◌<◌, [], All, IfOk};
+ghost use Rattle.fare_table.specs.{Classes.count_of, inside.OrFault.Answers};
 ghost use Rattle.std.specs.Map.{keys_of, values_of};
-ghost use Rattle.toml.specs.View.{view, table_view};
-ghost use Rattle.fare_table.specs.inside.OrFault.{Answers};
-ghost use Rattle.fare_table.specs.Riders as spec;
-ghost use Rattle.fare_table.specs.Classes.{count_of};
+ghost use Rattle.std.specs.Prelude.{◌≡◌, ◌<◌, [], All, IfOk};
 ghost use Rattle.tap_views.specs.Token.{Fits};
 ghost use Rattle.tariffs.specs.Riders.{by_bytes};
+ghost use Rattle.toml.specs.View.{view, table_view};
+ghost use Rattle.fare_table.specs.Riders as spec;
 
 use super::class_names::ClassNames;
 use super::members::{hold_strings, of_kind, optional};

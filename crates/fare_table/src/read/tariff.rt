@@ -1,9 +1,8 @@
 //! All keys of a text, in their order.
+ghost use Rattle.fare_table.specs.{Meaning.IsClockOf, TableMeaning.meaning_of_tree};
+ghost use Rattle.fare_table.specs.inside.OrFault.{Answers};
 ghost use Rattle.std.specs.Prelude.{IfOk};
 ghost use Rattle.toml.specs.View.{table_view};
-ghost use Rattle.fare_table.specs.inside.OrFault.{Answers};
-ghost use Rattle.fare_table.specs.TableMeaning.{meaning_of_tree};
-ghost use Rattle.fare_table.specs.Meaning.{IsClockOf};
 
 use super::caps::caps_of;
 use super::class_names::names_of;

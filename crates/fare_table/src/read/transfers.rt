@@ -1,14 +1,12 @@
 //! The key `transfers`: the pairs of modes between which a ride includes a transfer, and their
 //! prices.
-ghost use Rattle.std.specs.Prelude.{◌≡◌, ◌<◌, ◌≤◌, [], All, IfOk, IfSome, Ok, length, map};
-ghost use Rattle.std.specs.Prelude.{option_map, string_bytes};
-ghost use Rattle.std.specs.List.{find};
-ghost use Rattle.toml.specs.View.{view, array_view, table_view};
-ghost use Rattle.tariffs.specs.Prices.{IsBoundedPays, IsBoundedPrice};
-ghost use Rattle.fare_table.specs.inside.OrFault.{Answers};
-ghost use Rattle.fare_table.specs.inside.TextTransfers.{IsBoundedTransfer};
-ghost use Rattle.fare_table.specs.Transfers as spec;
 ghost use Rattle.fare_table.specs.Transfers.{named_pair, same_modes, text_transfers};
+ghost use Rattle.fare_table.specs.inside.{OrFault.Answers, TextTransfers.IsBoundedTransfer};
+ghost use Rattle.std.specs.{List.find, Prelude.◌≡◌, Prelude.◌<◌, Prelude.◌≤◌, Prelude.[]};
+ghost use Rattle.std.specs.Prelude.{All, IfOk, IfSome, Ok, length, map, option_map, string_bytes};
+ghost use Rattle.tariffs.specs.Prices.{IsBoundedPays, IsBoundedPrice};
+ghost use Rattle.toml.specs.View.{view, array_view, table_view};
+ghost use Rattle.fare_table.specs.Transfers as spec;
 
 use super::members::{array_at, needed, number_in, of_kind, text_at};
 use super::modes::mode_named;

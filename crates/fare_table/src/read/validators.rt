@@ -1,13 +1,10 @@
 //! The key `validators`: ranges of validators and their modes.
-ghost use Rattle.std.specs.Prelude.{◌≡◌, ◌<◌, ◌≤◌, [], true, IfOk, length, map, option_map};
-ghost use Rattle.std.specs.Prelude.{string_bytes};
-ghost use Rattle.std.specs.List.{list_any};
+ghost use Rattle.fare_table.specs.{Validators.share_number, inside.OrFault.Answers};
+ghost use Rattle.std.specs.{List.list_any, Prelude.◌≡◌, Prelude.◌<◌};
+ghost use Rattle.std.specs.Prelude.{◌≤◌, [], true, IfOk, length, map, option_map, string_bytes};
+ghost use Rattle.tariffs.specs.Validators.{are_disjoint, are_modes_below, last_started};
 ghost use Rattle.toml.specs.View.{view, array_view, table_view};
-ghost use Rattle.fare_table.specs.inside.OrFault.{Answers};
-ghost use Rattle.tariffs.specs.Validators.{are_disjoint, are_modes_below};
-ghost use Rattle.fare_table.specs.Validators.{share_number};
 ghost use Rattle.fare_table.specs.Validators as spec;
-ghost use Rattle.tariffs.specs.Validators.{last_started};
 
 use super::members::{are_tables, array_at, number_at, of_kind, text_at};
 use super::modes::mode_named;

@@ -1,11 +1,9 @@
 //! The key `zone`: a text, and the rule that it reads as.
-ghost use Rattle.std.specs.Prelude.{◌≡◌, IfOk, Some, string_bytes};
+ghost use Rattle.fare_table.specs.{Zone.IsZoneOf, inside.OrFault.Answers};
 ghost use Rattle.jiff.specs.ZoneView.{plain_zone};
+ghost use Rattle.std.specs.Prelude.{◌≡◌, IfOk, Some, string_bytes};
+ghost use Rattle.tariffs.specs.{PosixRule.posix_rule, Zone.zone_rule, Zone.zone_text};
 ghost use Rattle.toml.specs.View.{view, table_view};
-ghost use Rattle.fare_table.specs.inside.OrFault.{Answers};
-ghost use Rattle.tariffs.specs.PosixRule.{posix_rule};
-ghost use Rattle.fare_table.specs.Zone.{IsZoneOf};
-ghost use Rattle.tariffs.specs.Zone.{zone_rule, zone_text};
 ghost use Rattle.fare_table.specs.Zone as spec;
 
 use super::members::{of_kind, optional};

@@ -1,13 +1,12 @@
 //! The explained statement of a token as JSON.
 
-ghost use Rattle.std.specs.Prelude.{◌≡◌, ◌<◌, ◌++◌, [], IfOk, OnOk, codes, flat_map, length};
-ghost use Rattle.std.specs.Prelude.{string_bytes};
-ghost use Rattle.histories.specs.Sums.{sums_of};
 ghost use Rattle.fare_texts.specs.ExplainedJson.{break_json, dated_json, entries_json, fields_json};
 ghost use Rattle.fare_texts.specs.ExplainedJson.{first_json, first_sums_json, head_json, json_of};
 ghost use Rattle.fare_texts.specs.ExplainedJson.{last_sums_json, later_json, rest_json, start_json};
-ghost use Rattle.fare_texts.specs.ExplainedJson.{what_json, why_json};
-ghost use Rattle.fare_texts.specs.ExplainedJson.{window_json, windows_json};
+ghost use Rattle.fare_texts.specs.ExplainedJson.{what_json, why_json, window_json, windows_json};
+ghost use Rattle.histories.specs.Sums.{sums_of};
+ghost use Rattle.std.specs.Prelude.{◌≡◌, ◌<◌, ◌++◌, [], IfOk, OnOk, codes, flat_map, length};
+ghost use Rattle.std.specs.Prelude.{string_bytes};
 
 use super::json_parts::{At, Because, Lacking, Paying, Within};
 use super::windows::windows_of;

@@ -1,12 +1,11 @@
 //! The windows of a token.
 
-ghost use Rattle.std.specs.Prelude.{◌≡◌, ◌++◌, IfOk, OnOk, map};
 ghost use Rattle.account_rule.specs.Laws.{is_ride};
-ghost use Rattle.fare_caps.specs.CapMeanings.{capped_rules_of};
-ghost use Rattle.fare_caps.specs.CappedReplies.{capped_window};
-ghost use Rattle.histories.specs.Entry.{tap_of};
-ghost use Rattle.tap_views.specs.Token.{bytes_of};
+ghost use Rattle.fare_caps.specs.{CapMeanings.capped_rules_of, CappedReplies.capped_window};
 ghost use Rattle.fare_texts.specs.Explained.{earlier_windows, window_ended};
+ghost use Rattle.histories.specs.Entry.{tap_of};
+ghost use Rattle.std.specs.Prelude.{◌≡◌, ◌++◌, IfOk, OnOk, map};
+ghost use Rattle.tap_views.specs.Token.{bytes_of};
 
 use crate::Explainer;
 use account_rule::{Answer, Reply, WindowView};

@@ -1,11 +1,9 @@
 -- Shown: what private functions alone cite.
-use Rattle.std.specs.Prelude.{List, map}
-use Rattle.tap_views.specs.declared.token.Token.{Token}
+use Rattle.histories.specs.{Counts.token_counts, Shown.token_sum, Sums.Sums}
 use Rattle.histories.specs.declared.sums.token_sums.SumList.{SumList}
 use Rattle.histories.specs.declared.sums.token_sums.SumList.TheVariants.{Counted, Added}
-use Rattle.histories.specs.Counts.{token_counts}
-use Rattle.histories.specs.Sums.{Sums}
-use Rattle.histories.specs.Shown.{token_sum}
+use Rattle.std.specs.Prelude.{List, map}
+use Rattle.tap_views.specs.declared.token.Token.{Token}
 
 -- the tokens of a list with their sums, kept small or as totals
 abbrev pub sums_in : SumList → List (Token × Sums)

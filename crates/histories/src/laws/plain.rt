@@ -1,13 +1,10 @@
 //! The sequential history of uploads.
 
-ghost use Rattle.std.specs.Prelude.{◌≡◌, ◌<◌, ℕ, List, All, flat_map, map};
-ghost use Rattle.tariffs.specs.Fares.{Fares};
-ghost use Rattle.tap_views.specs.Layout.{Tap};
-ghost use Rattle.tap_views.specs.Files.{AreValidTaps};
+ghost use Rattle.histories.specs.{Entry.AreEntriesOf, History.IsLegal, Plain.IsPlain};
 ghost use Rattle.histories.specs.declared.entry.Entry.{Entry};
-ghost use Rattle.histories.specs.Entry.{AreEntriesOf};
-ghost use Rattle.histories.specs.History.{IsLegal};
-ghost use Rattle.histories.specs.Plain.{IsPlain};
+ghost use Rattle.std.specs.Prelude.{◌≡◌, ◌<◌, ℕ, List, All, flat_map, map};
+ghost use Rattle.tap_views.specs.{Files.AreValidTaps, Layout.Tap};
+ghost use Rattle.tariffs.specs.Fares.{Fares};
 
 use tap_views::laws::unique_parse_each;
 

@@ -1,15 +1,13 @@
 //! Sums of entries by a key, in one scan of the entries and a sort of the keys.
 
-ghost use Rattle.std.specs.Prelude.{◌≡◌, ◌+◌, ◌≤◌, ◌^◌, List, [], ◌∷◌, ◌++◌, map, cond};
-ghost use Rattle.std.specs.Prelude.{true, false, slice_get, IfOk, IsTrue, OnOk, Some};
-ghost use Rattle.histories.specs.declared.sums.tally.Tally.{Tally};
-ghost use Rattle.histories.specs.declared.entry.Entry.{Entry};
+ghost use Rattle.histories.specs.{Increasing.increasing, Sums.Sums, Sums.add_sums, Sums.sums_of};
 ghost use Rattle.histories.specs.SumsBy.{sums_by};
 ghost use Rattle.histories.specs.TalliesByKey.{AreByKey, HasRoom, HaveRoom, kept_sums};
-ghost use Rattle.histories.specs.Increasing.{increasing};
-ghost use Rattle.std.specs.HashMap.{get};
-ghost use Rattle.histories.specs.Sums.{Sums, add_sums, sums_of};
 ghost use Rattle.histories.specs.Tally.{sums_of_tally};
+ghost use Rattle.histories.specs.declared.{entry.Entry.Entry, sums.tally.Tally.Tally};
+ghost use Rattle.std.specs.HashMap.{get};
+ghost use Rattle.std.specs.Prelude.{◌≡◌, ◌+◌, ◌≤◌, ◌^◌, List, [], ◌∷◌, ◌++◌, map, cond, true};
+ghost use Rattle.std.specs.Prelude.{false, slice_get, IfOk, IsTrue, OnOk, Some};
 
 use crate::entry::Entry;
 use crate::sums::tally::Tally;

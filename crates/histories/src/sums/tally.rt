@@ -1,8 +1,7 @@
 //! Counts of replies, indexed by answer, so that counting takes no branch.
 
+ghost use Rattle.histories.specs.{Positions.count_position, inside.Positions.HasFewCents};
 ghost use Rattle.std.specs.Prelude.{◌≡◌, ◌<◌};
-ghost use Rattle.histories.specs.Positions.{count_position};
-ghost use Rattle.histories.specs.inside.Positions.{HasFewCents};
 
 use crate::sums::counts::Counts;
 use crate::sums::totals::Totals;

@@ -1,11 +1,9 @@
 //! The sums of the tokens of many books, in the little memory that the books have of each.
 
+ghost use Rattle.histories.specs.{Counts.token_counts, Shown.token_sum, Tally.sums_of_tally};
+ghost use Rattle.histories.specs.inside.Shown.{sums_in};
 ghost use Rattle.std.specs.Prelude.{◌≡◌, ◌<◌, ◌≤◌, ◌^◌, ◌++◌, ◌∷◌, [], length, map, slice_get};
 ghost use Rattle.std.specs.Prelude.{IfOk, OnOk, Some};
-ghost use Rattle.histories.specs.Counts.{token_counts};
-ghost use Rattle.histories.specs.Tally.{sums_of_tally};
-ghost use Rattle.histories.specs.inside.Shown.{sums_in};
-ghost use Rattle.histories.specs.Shown.{token_sum};
 
 use crate::sums::counts::TokenCounts;
 use crate::sums::tally::Tally;

@@ -1,18 +1,15 @@
 -- Ledgers that are read row by row.
-use Rattle.std.specs.Prelude.{◌≡◌, ◌+◌, ℕ, List, [], Option, None, Some, Result, Ok, Err}
-use Rattle.line_folds.specs.Folds.{lines_of}
-use Rattle.recorded_lines.specs.Texts.{IsEndAt, left}
-use Rattle.recorded_lines.specs.Unread.{IsUnread}
-use Rattle.world.specs.Run.{Calls}
-use Rattle.ledger_fields.specs.Rows.{Row}
 use Rattle.ledger_changes.specs.Ledgers.{cons_row, rows_from}
-use Rattle.ledger_changes.specs.declared.fault.Bill.{Bill}
-use Rattle.ledger_changes.specs.declared.fault.CorrectionsFault.{CorrectionsFault}
+use Rattle.ledger_changes.specs.declared.fault.{Bill.Bill, CorrectionsFault.CorrectionsFault}
 use Rattle.ledger_changes.specs.declared.fault.CorrectionsFault.TheVariants.{Line, Unread, NoMemory}
 use Rattle.ledger_changes.specs.declared.fault.WrongLine.{WrongLine}
 use Rattle.ledger_changes.specs.declared.ledger_rows.LedgerRows.{LedgerRows}
-use Rattle.ledger_changes.specs.declared.row.LedgerRow.{LedgerRow}
-use Rattle.ledger_changes.specs.inside.Views.{row_in}
+use Rattle.ledger_changes.specs.{declared.row.LedgerRow.LedgerRow, inside.Views.row_in}
+use Rattle.ledger_fields.specs.Rows.{Row}
+use Rattle.line_folds.specs.Folds.{lines_of}
+use Rattle.recorded_lines.specs.{Texts.IsEndAt, Texts.left, Unread.IsUnread}
+use Rattle.std.specs.Prelude.{◌≡◌, ◌+◌, ℕ, List, [], Option, None, Some, Result, Ok, Err}
+use Rattle.world.specs.Run.{Calls}
 
 -- the rows from this one on, of which the line has this number, with this text after it
 abbrev pub rows_with : Option Row → ℕ → List ℕ → Result (List Row) (ℕ × WrongLine)

@@ -1,13 +1,9 @@
 -- Lines of a ledger, pairs of them and their sums, as the code has them.
-use Rattle.std.specs.Prelude.{Option, option_map}
+use Rattle.ledger_changes.specs.{Changes.Pair, Tokens.TokenSum, declared.pairs.LinePair.LinePair}
+use Rattle.ledger_changes.specs.declared.row.{LedgerRow.LedgerRow, LineCharge.LineCharge}
+use Rattle.ledger_changes.specs.declared.{row.LineKey.LineKey, token_sums.TokenSums.TokenSums}
 use Rattle.ledger_fields.specs.Rows.{Charge, Key, Row}
-use Rattle.ledger_changes.specs.Changes.{Pair}
-use Rattle.ledger_changes.specs.Tokens.{TokenSum}
-use Rattle.ledger_changes.specs.declared.pairs.LinePair.{LinePair}
-use Rattle.ledger_changes.specs.declared.row.LedgerRow.{LedgerRow}
-use Rattle.ledger_changes.specs.declared.row.LineCharge.{LineCharge}
-use Rattle.ledger_changes.specs.declared.row.LineKey.{LineKey}
-use Rattle.ledger_changes.specs.declared.token_sums.TokenSums.{TokenSums}
+use Rattle.std.specs.Prelude.{Option, option_map}
 
 abbrev pub key_of : LineKey → Key
 key_of key = record {

@@ -1,10 +1,9 @@
 -- What the loop over two ledgers gives.
-use Rattle.std.specs.Prelude.{◌≡◌, ℕ, Bool, List, [], Option, None, Some, Ok}
-use Rattle.recorded_lines.specs.Texts.{CanBe, calls_of}
-use Rattle.ledger_changes.specs.Given.{IsWalked}
-use Rattle.ledger_changes.specs.Tokens.{TokenSum, corrections_of}
+use Rattle.ledger_changes.specs.{Given.IsWalked, Tokens.TokenSum, Tokens.corrections_of}
 use Rattle.ledger_changes.specs.declared.ledger_rows.LedgerRows.{LedgerRows}
 use Rattle.ledger_changes.specs.inside.Readings.{rows_at}
+use Rattle.recorded_lines.specs.Texts.{CanBe, calls_of}
+use Rattle.std.specs.Prelude.{◌≡◌, ℕ, Bool, List, [], Option, None, Some, Ok}
 
 -- The corrections go on after this text; or it is whole, and so many lines are removed: nothing is
 -- left of both ledgers.

@@ -1,7 +1,6 @@
 -- The first four columns of a line.
+use Rattle.ledger_check.specs.{FullChecks.front_columns, declared.exact.Front.Front}
 use Rattle.std.specs.Prelude.{◌≡◌, List, Some, ℕ}
-use Rattle.ledger_check.specs.FullChecks.{front_columns}
-use Rattle.ledger_check.specs.declared.exact.Front.{Front}
 
 -- these columns, whatever the second is
 abbrev pub IsFrontOf : List ℕ → Front → Type 0

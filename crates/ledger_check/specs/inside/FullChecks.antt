@@ -1,31 +1,26 @@
 -- Full checks: what private functions alone cite.
-use Rattle.std.specs.Prelude.{◌≡◌, ℕ, ◌≤◌, Bool, true, List, [], ◌∷◌, ◌++◌, length, IfSome, None, Some}
-use Rattle.std.specs.Prelude.{if◌then◌else◌, string_bytes}
-use Rattle.std.specs.Str.{bytes_eq}
-use Rattle.tariffs.specs.Fares.{Fares}
-use Rattle.histories.specs.Entry.{own}
-use Rattle.histories.specs.declared.entry.Entry.{Entry}
-use Rattle.ledger_check.specs.FullBalances.{IsFullBalance}
-use Rattle.ledger_check.specs.declared.full_balance.FullBalance.{FullBalance}
-use Rattle.tap_views.specs.declared.encoder.TapFields.{TapFields}
-use Rattle.fare_texts.specs.LedgerLines.{IsLedgerLineAfter, head_text}
 use Rattle.fare_texts.specs.Explainers.{next_entry}
-use Rattle.ledger_check.specs.FullChecks.{IsJudged, IsFullCheck, IsTaken, TakenLine, decreases_after}
-use Rattle.ledger_check.specs.FullChecks.{one_wrong, run_of, run_with, taps_from, remark_lines}
-use Rattle.ledger_check.specs.FullChecks.{wrong_count}
+use Rattle.fare_texts.specs.LedgerLines.{IsLedgerLineAfter, head_text}
+use Rattle.histories.specs.{Entry.own, declared.entry.Entry.Entry}
+use Rattle.ledger_check.specs.FullBalances.{IsFullBalance}
 use Rattle.ledger_check.specs.FullCheckStates.{AreSums, HasFed, HasRunExplainer}
+use Rattle.ledger_check.specs.FullChecks.{IsJudged, IsFullCheck, IsTaken, TakenLine}
+use Rattle.ledger_check.specs.FullChecks.{decreases_after, one_wrong, run_of, run_with, taps_from}
+use Rattle.ledger_check.specs.FullChecks.{remark_lines, wrong_count}
 use Rattle.ledger_check.specs.declared.checker.Verdict.{Verdict}
-use Rattle.ledger_check.specs.declared.checker.Verdict.TheVariants.{Legal, Wants as Asks, NoLine as Refuses}
+use Rattle.ledger_check.specs.declared.checker.Verdict.TheVariants.{Legal, Wants as Asks}
+use Rattle.ledger_check.specs.declared.checker.Verdict.TheVariants.{NoLine as Refuses}
+use Rattle.ledger_check.specs.declared.full_balance.FullBalance.{FullBalance}
 use Rattle.ledger_check.specs.declared.full_check_sums.FullCheckSums.{FullCheckSums}
-use Rattle.ledger_check.specs.declared.lines_fed.LinesFed.{LinesFed}
-use Rattle.ledger_check.specs.declared.lines_fed.LinesTaken.{LinesTaken}
-use Rattle.ledger_check.specs.declared.tap.Tap.{Tap}
-use Rattle.ledger_check.specs.declared.walk.CountedTap.{CountedTap}
-use Rattle.ledger_check.specs.declared.walk.LineFinding.{LineFinding}
-use Rattle.ledger_check.specs.declared.walk.NextTap.{NextTap}
-use Rattle.ledger_check.specs.declared.walk.Remark.{Remark}
-use Rattle.ledger_check.specs.declared.walk.Remark.TheVariants.{Nothing, NoLine, Wants}
-use Rattle.ledger_check.specs.declared.walk.Walk.{Walk}
+use Rattle.ledger_check.specs.declared.lines_fed.{LinesFed.LinesFed, LinesTaken.LinesTaken}
+use Rattle.ledger_check.specs.declared.{tap.Tap.Tap, walk.CountedTap.CountedTap}
+use Rattle.ledger_check.specs.declared.walk.{LineFinding.LineFinding, NextTap.NextTap}
+use Rattle.ledger_check.specs.declared.walk.Remark.{Remark, TheVariants.Nothing, TheVariants.NoLine}
+use Rattle.ledger_check.specs.declared.walk.{Remark.TheVariants.Wants, Walk.Walk}
+use Rattle.std.specs.Prelude.{◌≡◌, ℕ, ◌≤◌, Bool, true, List, [], ◌∷◌, ◌++◌, length, IfSome, None}
+use Rattle.std.specs.{Prelude.Some, Prelude.if◌then◌else◌, Prelude.string_bytes, Str.bytes_eq}
+use Rattle.tap_views.specs.declared.encoder.TapFields.{TapFields}
+use Rattle.tariffs.specs.Fares.{Fares}
 
 -- what the tap makes after the entries: its entry, whether its token falls, and its line
 pub record IsNextTap (fares : Fares) (run : List Entry) (tap : Tap) (wanted : List ℕ)

@@ -1,10 +1,9 @@
 -- What private functions alone say of sums to which entries are added.
-use Rattle.std.specs.Prelude.{◌<◌, ◌≤◌, ◌^◌, All, List, length}
-use Rattle.ledger_check.specs.Ledger.{token_number}
 use Rattle.histories.specs.declared.entry.Entry.{Entry}
-use Rattle.tap_views.specs.declared.token.Token.{Token}
-use Rattle.ledger_check.specs.OpenSums.{AreOpenSums}
+use Rattle.ledger_check.specs.{Ledger.token_number, OpenSums.AreOpenSums}
 use Rattle.ledger_check.specs.declared.open_sums.OpenSums.{OpenSums}
+use Rattle.std.specs.Prelude.{◌<◌, ◌≤◌, ◌^◌, All, List, length}
+use Rattle.tap_views.specs.declared.token.Token.{Token}
 
 -- no entry has a token above this one
 abbrev pub AreUpTo : Token → List Entry → Type 0

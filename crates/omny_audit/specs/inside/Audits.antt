@@ -1,19 +1,15 @@
 -- What an audit has read: what private functions alone cite.
-use Rattle.std.specs.Prelude.{◌≡◌, ◌++◌, ℕ, Bool, false, List, [], Option, None, Some, true}
-use Rattle.std.specs.Prelude.{if◌then◌else◌, option_map, Result, Ok, Err}
 use Rattle.frame.specs.Failing.{HasStarted}
-use Rattle.tap_views.specs.declared.encoder.TapFields.{TapFields}
-use Rattle.world.specs.Run.{Calls, Run, with_flushed, with_written}
-use Rattle.world.specs.Streams.{IsWhole}
-use Rattle.world.specs.declared.stream.Stream.{Stream}
 use Rattle.omny_audit.specs.Program.{HoldsOfRead}
 use Rattle.omny_audit.specs.Reports.{Given, IsAudit, IsAuditText}
-use Rattle.omny_audit.specs.declared.audit.Audit.{Audit}
-use Rattle.omny_audit.specs.declared.fault.Fault.{Fault}
-use Rattle.omny_audit.specs.inside.Checks.{HasChecked, is_all}
-use Rattle.omny_audit.specs.inside.Fault.{IsStreamFault}
-use Rattle.omny_audit.specs.inside.Reports.{text_of}
-use Rattle.omny_audit.specs.inside.Traced.{HasReadAs, wanted_by}
+use Rattle.omny_audit.specs.declared.{audit.Audit.Audit, fault.Fault.Fault}
+use Rattle.omny_audit.specs.inside.{Checks.HasChecked, Checks.is_all, Fault.IsStreamFault}
+use Rattle.omny_audit.specs.inside.{Reports.text_of, Traced.HasReadAs, Traced.wanted_by}
+use Rattle.std.specs.Prelude.{◌≡◌, ◌++◌, ℕ, Bool, false, List, [], Option, None, Some, true}
+use Rattle.std.specs.Prelude.{if◌then◌else◌, option_map, Result, Ok, Err}
+use Rattle.tap_views.specs.declared.encoder.TapFields.{TapFields}
+use Rattle.world.specs.Run.{Calls, Run, with_flushed, with_written}
+use Rattle.world.specs.{Streams.IsWhole, declared.stream.Stream.Stream}
 
 -- what the ledger is audited by, if these are the valid taps of the uploads
 abbrev pub given_in : Audit → List TapFields → Given

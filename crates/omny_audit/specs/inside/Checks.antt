@@ -1,22 +1,18 @@
 -- What a check of lines has read: what private functions alone cite.
-use Rattle.std.specs.Prelude.{◌≡◌, ◌++◌, ◌↔◌, ℕ, Bool, true, false, List, [], IfSome, None, Option}
-use Rattle.std.specs.Prelude.{Some, is_some, map}
-use Rattle.std.specs.List.Sorted.{IsPermutation}
-use Rattle.tariffs.specs.Fares.{Fares}
 use Rattle.histories.specs.declared.entry.Entry.{Entry}
 use Rattle.ledger_check.specs.Balances.{IsBalance, IsDifference}
-use Rattle.ledger_check.specs.Ledger.{IsLedger, IsLedgerOf}
-use Rattle.ledger_check.specs.Orders.{tap_of_entry}
-use Rattle.ledger_check.specs.Sums.{AreSumsOf}
 use Rattle.ledger_check.specs.FullCheckStates.{HasFullyChecked, IsFed}
-use Rattle.ledger_check.specs.declared.balance.Balance.{Balance}
-use Rattle.ledger_check.specs.declared.balance.Difference.{Difference}
-use Rattle.tap_views.specs.declared.encoder.TapFields.{TapFields}
+use Rattle.ledger_check.specs.Ledger.{IsLedger, IsLedgerOf}
+use Rattle.ledger_check.specs.{Orders.tap_of_entry, Sums.AreSumsOf}
+use Rattle.ledger_check.specs.declared.balance.{Balance.Balance, Difference.Difference}
 use Rattle.omny_audit.specs.Findings.{HasOrder, HasValidTaps, IsFindingOf}
 use Rattle.omny_audit.specs.Text.{IsDifferenceText}
+use Rattle.omny_audit.specs.declared.check.Check.{Check, TheVariants.First, TheVariants.All}
 use Rattle.omny_audit.specs.declared.check.Found.{Found}
-use Rattle.omny_audit.specs.declared.check.Check.{Check}
-use Rattle.omny_audit.specs.declared.check.Check.TheVariants.{First, All}
+use Rattle.std.specs.{List.Sorted.IsPermutation, Prelude.◌≡◌, Prelude.◌↔◌, Prelude.ℕ}
+use Rattle.std.specs.Prelude.{Bool, true, false, List, [], IfSome, Option, is_some, map}
+use Rattle.tap_views.specs.declared.encoder.TapFields.{TapFields}
+use Rattle.tariffs.specs.Fares.{Fares}
 
 -- whether all lines are checked
 abbrev pub is_all : Check → Bool

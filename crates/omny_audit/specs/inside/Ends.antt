@@ -1,8 +1,7 @@
 -- How an audit ends: what private functions alone cite.
-use Rattle.std.specs.Prelude.{◌≡◌, Bool, Result, Ok, Err}
 use Rattle.omny_audit.specs.Ends.{Did, HasFinished, HasStartedText, IsRightFault}
-use Rattle.omny_audit.specs.Options.{AuditRequest}
-use Rattle.omny_audit.specs.declared.fault.Fault.{Fault}
+use Rattle.omny_audit.specs.{Options.AuditRequest, declared.fault.Fault.Fault}
+use Rattle.std.specs.Prelude.{◌≡◌, Bool, Result, Ok, Err}
 
 -- the finding was written and flushed, and says that all is well, or not; or the run failed after a
 -- prefix of a right text; nothing was said

@@ -1,14 +1,13 @@
 -- Faults: what private functions alone cite.
-use Rattle.std.specs.Prelude.{◌≡◌, ⊤, ℕ, List, Option, Some, Contains, codes, unwrap_or}
-use Rattle.program_manners.specs.TableWords.{TableNames, table_files}
-use Rattle.program_manners.specs.Refusals.{HasRefused, IsShown, refusal_of}
-use Rattle.program_manners.specs.declared.recorded_loads.RecordedLoads.{RecordedLoads}
-use Rattle.world.specs.Run.{Calls, Run}
-use Rattle.world.specs.declared.faults.WriteFault.{WriteFault}
 use Rattle.omny_audit.specs.Ends.{LoadsGivenLedger, NamesUnplainClass}
 use Rattle.omny_audit.specs.declared.fault.Fault.{Fault}
 use Rattle.omny_audit.specs.declared.fault.Fault.TheVariants.{Class, File, GivenLedger, Ledger}
 use Rattle.omny_audit.specs.declared.fault.Fault.TheVariants.{NoMemory, Unwritten}
+use Rattle.program_manners.specs.Refusals.{HasRefused, IsShown, refusal_of}
+use Rattle.program_manners.specs.TableWords.{TableNames, table_files}
+use Rattle.program_manners.specs.declared.recorded_loads.RecordedLoads.{RecordedLoads}
+use Rattle.std.specs.Prelude.{◌≡◌, ⊤, ℕ, List, Option, Some, Contains, codes, unwrap_or}
+use Rattle.world.specs.{Run.Calls, Run.Run, declared.faults.WriteFault.WriteFault}
 
 -- the file of this name was refused last, or was loaded last and is a ledger, or an allocation
 -- failed

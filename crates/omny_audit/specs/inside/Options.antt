@@ -1,8 +1,7 @@
 -- Options: what private functions alone cite.
-use Rattle.std.specs.Prelude.{map, option_map}
+use Rattle.omny_audit.specs.{Options.AuditRequest, declared.options.Options.Options}
 use Rattle.program_manners.specs.TableViews.{names_of}
-use Rattle.omny_audit.specs.declared.options.Options.{Options}
-use Rattle.omny_audit.specs.Options.{AuditRequest}
+use Rattle.std.specs.Prelude.{map, option_map}
 
 -- what the options ask for
 abbrev pub audit_request_of : Options → AuditRequest

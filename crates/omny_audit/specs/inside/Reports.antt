@@ -1,8 +1,7 @@
 -- Reports: what private functions alone cite.
-use Rattle.std.specs.Prelude.{ℕ, Bool, true, false, List, Option, None, Some, option_map}
 use Rattle.omny_audit.specs.declared.report.HeldReport.{HeldReport}
-use Rattle.report_check.specs.Reports.{is_of_ledger}
-use Rattle.report_check.specs.declared.verdict.ReportVerdict.{ReportVerdict}
+use Rattle.report_check.specs.{Reports.is_of_ledger, declared.verdict.ReportVerdict.ReportVerdict}
+use Rattle.std.specs.Prelude.{ℕ, Bool, true, false, List, Option, None, Some, option_map}
 
 -- the text of the report, if there is one
 abbrev pub text_of : Option HeldReport → Option (List ℕ)

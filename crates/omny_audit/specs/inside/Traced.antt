@@ -1,18 +1,15 @@
 -- Traced ledgers: what private functions alone cite.
-use Rattle.std.specs.Prelude.{◌≡◌, ◌⊎◌, ℕ, ◌<◌, Bool, true, false, List, ◌++◌, length, option_map}
-use Rattle.std.specs.Prelude.{Option, None, Some}
 use Rattle.class_names.specs.Names.{class_by}
-use Rattle.tap_views.specs.declared.encoder.TapFields.{TapFields}
-use Rattle.ledger_check.specs.Columns.{cut_of, untraced_lines}
-use Rattle.ledger_check.specs.Lines.{Lacks, lines_of}
+use Rattle.ledger_check.specs.{Columns.cut_of, Columns.untraced_lines, Lines.Lacks, Lines.lines_of}
 use Rattle.ledger_check.specs.Positions.{is_named, uploads_of}
-use Rattle.ledger_check.specs.declared.columns.CutLine.{CutLine}
-use Rattle.ledger_check.specs.declared.positions.Positions.{Positions}
+use Rattle.ledger_check.specs.declared.{columns.CutLine.CutLine, positions.Positions.Positions}
 use Rattle.omny_audit.specs.Traced.{AreLinesOf, AreRead, ReadLine, TapWithColumns, Wanted}
 use Rattle.omny_audit.specs.Traced.{have_position, lines_read, wrong_class, wrong_position}
-use Rattle.omny_audit.specs.declared.traced.LinesRead.{LinesRead}
-use Rattle.omny_audit.specs.declared.traced.PositionFault.{PositionFault}
+use Rattle.omny_audit.specs.declared.traced.{LinesRead.LinesRead, PositionFault.PositionFault}
 use Rattle.omny_audit.specs.declared.traced.TracedPieces.{TracedPieces}
+use Rattle.std.specs.Prelude.{◌≡◌, ◌⊎◌, ℕ, ◌<◌, Bool, true, false, List, ◌++◌, length, option_map}
+use Rattle.std.specs.Prelude.{Option, None, Some}
+use Rattle.tap_views.specs.declared.encoder.TapFields.{TapFields}
 
 -- what a line names
 abbrev pub placed_of : TapFields × CutLine → TapWithColumns

@@ -1,11 +1,9 @@
 -- Uploads that were loaded: what private functions alone cite.
-use Rattle.std.specs.Prelude.{ℕ, List, []}
-use Rattle.ledger_check.specs.Balances.{IsBalance}
-use Rattle.ledger_check.specs.Positions.{HasUploads}
-use Rattle.tap_views.specs.UploadEnds.{ArePlainEnds}
-use Rattle.tap_views.specs.declared.encoder.TapFields.{TapFields}
+use Rattle.ledger_check.specs.{Balances.IsBalance, Positions.HasUploads}
 use Rattle.omny_audit.specs.Program.{AreValidFieldsOfAll, AreValidFieldsOfEach}
 use Rattle.omny_audit.specs.declared.program.Uploads.{Uploads}
+use Rattle.std.specs.Prelude.{ℕ, List, []}
+use Rattle.tap_views.specs.{UploadEnds.ArePlainEnds, declared.encoder.TapFields.TapFields}
 
 -- these are the valid taps of these files, together and of each, and their ends
 pub record AreUploads (files : List (List ℕ)) (valid : List TapFields)

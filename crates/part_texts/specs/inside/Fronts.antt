@@ -1,11 +1,10 @@
 -- What private functions say of parts.
-use Rattle.std.specs.Prelude.{◌≡◌, ⊤, ℕ, Bool, true, false, List, Result, Ok, Err, Some, None, map}
 use Rattle.histories.specs.Sums.{Sums, sums_of}
-use Rattle.report_texts.specs.declared.wrong.Wrong.{Wrong as AWrong}
-use Rattle.part_texts.specs.declared.fronts.Fronts.{Fronts}
-use Rattle.part_texts.specs.declared.fronts.Refusal.{Refusal}
-use Rattle.part_texts.specs.declared.fronts.Refusal.TheVariants.{NoMemory, Wrong}
 use Rattle.part_texts.specs.Fronts.{FrontsView, with_validator}
+use Rattle.part_texts.specs.declared.fronts.{Fronts.Fronts, Refusal.Refusal}
+use Rattle.part_texts.specs.declared.fronts.Refusal.TheVariants.{NoMemory, Wrong}
+use Rattle.report_texts.specs.declared.wrong.Wrong.{Wrong as AWrong}
+use Rattle.std.specs.Prelude.{◌≡◌, ⊤, ℕ, Bool, true, false, List, Result, Ok, Err, Some, None, map}
 
 -- what the parts say, as the program has it
 abbrev pub shown_sums : {K T : Type 0} → (T → Sums) → List (K × T) → List (K × Sums)

@@ -1,21 +1,17 @@
 -- Parts as they are read. Private functions alone cite this.
-use Rattle.std.specs.Prelude.{◌≡◌, ⊤, ℕ, Bool, true, cond, List, [], ◌∷◌, ◌++◌, Result, Ok, Err, All}
-use Rattle.std.specs.Prelude.{flat_map, map}
-use Rattle.std.specs.List.{AllZip}
 use Rattle.histories.specs.Sums.{sums_of}
 use Rattle.line_folds.specs.Folds.{lines_of}
-use Rattle.recorded_lines.specs.Texts.{CanBe, Follows, IsEndAt, calls_of, left}
-use Rattle.recorded_lines.specs.Unread.{IsUnread}
-use Rattle.recorded_lines.specs.declared.text.Lines.{Lines}
-use Rattle.world.specs.Run.{Calls, Run, with_written}
 use Rattle.part_texts.specs.Fronts.{FrontsView, no_fronts}
 use Rattle.part_texts.specs.Merged.{PartView, WrongLine, initial, lines_left, read_all, read_of}
-use Rattle.part_texts.specs.Reads.{IsFaultOf, Leaves}
-use Rattle.part_texts.specs.declared.fault.MergeFault.{MergeFault}
+use Rattle.part_texts.specs.{Reads.IsFaultOf, Reads.Leaves, declared.fault.MergeFault.MergeFault}
 use Rattle.part_texts.specs.declared.fault.MergeFault.TheVariants.{Line, Unread, Write, NoMemory}
-use Rattle.part_texts.specs.declared.fronts.Fronts.{Fronts}
-use Rattle.part_texts.specs.declared.fronts.Open.{Open}
+use Rattle.part_texts.specs.declared.fronts.{Fronts.Fronts, Open.Open}
 use Rattle.part_texts.specs.inside.Fronts.{fronts_view}
+use Rattle.recorded_lines.specs.Texts.{CanBe, Follows, IsEndAt, calls_of, left}
+use Rattle.recorded_lines.specs.{Unread.IsUnread, declared.text.Lines.Lines}
+use Rattle.std.specs.{List.AllZip, Prelude.◌≡◌, Prelude.⊤, Prelude.ℕ, Prelude.Bool}
+use Rattle.std.specs.Prelude.{true, cond, List, [], ◌∷◌, ◌++◌, Result, Ok, Err, All, flat_map, map}
+use Rattle.world.specs.Run.{Calls, Run, with_written}
 
 -- the lines that are left of a text, if it is this
 abbrev pub lines_at : Lines → List ℕ → List (List ℕ)

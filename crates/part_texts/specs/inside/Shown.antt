@@ -1,18 +1,15 @@
 -- Reports of parts as they follow one another: what proofs alone cite.
-use Rattle.std.specs.Prelude.{◌≡◌, ◌+◌, ◌<◌, ◌^◌, ◌||◌, ℕ, Bool, true, false, List, [], ◌∷◌, ◌++◌}
-use Rattle.std.specs.Prelude.{Option, Some, None, flat_map, length, map, nat_eq}
-use Rattle.std.specs.List.{AllByRecursion}
 use Rattle.histories.specs.Sums.{Sums}
-use Rattle.tap_views.specs.declared.token.Token.{Token}
-use Rattle.tap_views.specs.declared.upload_end.UploadEnd.TheVariants.{Posted}
+use Rattle.part_texts.specs.Fronts.{is_above, may_end, may_follow, no_sums, starts, sums_within}
+use Rattle.part_texts.specs.{Fronts.taps_before, Fronts.with_validator, Merged.is_none_left}
+use Rattle.part_texts.specs.Shown.{PartReport, SpanFits, sum_up}
 use Rattle.report_texts.specs.Numbers.{AreCounts, IsTokenSum, IsValidatorSum}
 use Rattle.report_texts.specs.Report.{report}
-use Rattle.part_texts.specs.Fronts.{is_above, may_end, may_follow, no_sums, starts}
-use Rattle.part_texts.specs.Fronts.{sums_within, taps_before, with_validator}
-use Rattle.part_texts.specs.Merged.{is_none_left}
-use Rattle.sorted_taps.specs.declared.positions.FileSpan.{FileSpan}
-use Rattle.sorted_taps.specs.declared.positions.Position.{Position}
-use Rattle.part_texts.specs.Shown.{PartReport, SpanFits, sum_up}
+use Rattle.sorted_taps.specs.declared.positions.{FileSpan.FileSpan, Position.Position}
+use Rattle.std.specs.List.{AllByRecursion}
+use Rattle.std.specs.Prelude.{◌≡◌, ◌+◌, ◌<◌, ◌^◌, ◌||◌, ℕ, Bool, true, false, List, [], ◌∷◌, ◌++◌}
+use Rattle.std.specs.Prelude.{Option, Some, None, flat_map, length, map, nat_eq}
+use Rattle.tap_views.specs.declared.{token.Token.Token, upload_end.UploadEnd.TheVariants.Posted}
 
 -- the spans, one after the other, join the ends of the parts before: these are the ends after them
 abbrev pub are_joined : Bool → Bool → List (Option Position) → List FileSpan → List (Option Position)

@@ -1,13 +1,9 @@
 -- Ledgers of parts as they are printed, and what they are merged into.
-use Rattle.std.specs.Prelude.{◌≡◌, ◌<◌, ◌^◌, ◌||◌, ℕ, Bool, true, List, ◌++◌, length}
-use Rattle.std.specs.Prelude.{Option, flat_map, nat_eq}
-use Rattle.std.specs.List.{AllByRecursion}
 use Rattle.fare_texts.specs.LedgerLines.{head_text}
-use Rattle.part_texts.specs.Heads.{part_head}
-use Rattle.part_texts.specs.Shown.{SpanFits}
-use Rattle.part_texts.specs.inside.Shown.{are_joined}
-use Rattle.sorted_taps.specs.declared.positions.Position.{Position}
-use Rattle.sorted_taps.specs.declared.positions.FileSpan.{FileSpan}
+use Rattle.part_texts.specs.{Heads.part_head, Shown.SpanFits, inside.Shown.are_joined}
+use Rattle.sorted_taps.specs.declared.positions.{FileSpan.FileSpan, Position.Position}
+use Rattle.std.specs.{List.AllByRecursion, Prelude.◌≡◌, Prelude.◌<◌, Prelude.◌^◌}
+use Rattle.std.specs.Prelude.{◌||◌, ℕ, Bool, true, List, ◌++◌, length, Option, flat_map, nat_eq}
 
 -- where a part lies in each file, and the lines of its ledger after the header line
 pub record PartLedger : Type 0 where

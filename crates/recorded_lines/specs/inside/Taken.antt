@@ -1,10 +1,9 @@
 -- What is at hand of the next line.
-use Rattle.std.specs.Prelude.{◌≡◌, ◌==◌, ⊤, ℕ, Bool, false, List, [], ◌∷◌, ◌++◌, IfErr, IfOk, Result}
-use Rattle.line_folds.specs.declared.reader.ReadFault.{ReadFault}
-use Rattle.line_folds.specs.declared.reader.ReadFault.TheVariants.{Unread}
+use Rattle.line_folds.specs.declared.reader.ReadFault.{ReadFault, TheVariants.Unread}
 use Rattle.recorded_lines.specs.Texts.{CanBe, Follows, IsEndAt, calls_of, left}
-use Rattle.recorded_lines.specs.Unread.{IsUnread}
-use Rattle.recorded_lines.specs.declared.text.Lines.{Lines}
+use Rattle.recorded_lines.specs.{Unread.IsUnread, declared.text.Lines.Lines}
+use Rattle.std.specs.Prelude.{◌≡◌, ◌==◌, ⊤, ℕ, Bool, false, List, [], ◌∷◌, ◌++◌, IfErr, IfOk}
+use Rattle.std.specs.Prelude.{Result}
 
 -- no byte but the last is a line feed
 abbrev pub IsLine : List ℕ → Type 0

@@ -1,11 +1,9 @@
 -- The line of an upload's end after the upload's number, and the numbers in it.
-use Rattle.std.specs.Prelude.{ℕ, List, ◌++◌, codes}
-use Rattle.std.specs.Fmt.{decimal}
-use Rattle.tap_views.specs.declared.fault.LayoutFault.{LayoutFault}
+use Rattle.fare_texts.specs.ReportLines.{number_line}
+use Rattle.std.specs.{Fmt.decimal, Prelude.ℕ, Prelude.List, Prelude.◌++◌, Prelude.codes}
+use Rattle.tap_views.specs.{UploadEnds.end_text, declared.fault.LayoutFault.LayoutFault}
 use Rattle.tap_views.specs.declared.fault.LayoutFault.TheVariants.{Short, Magic, Flags, TooMany}
 use Rattle.tap_views.specs.declared.fault.LayoutFault.TheVariants.{Length, Moment}
-use Rattle.fare_texts.specs.ReportLines.{number_line}
-use Rattle.tap_views.specs.UploadEnds.{end_text}
 use Rattle.tap_views.specs.declared.upload_end.UploadEnd.{UploadEnd}
 
 -- ` posted 4`, with the end of the line

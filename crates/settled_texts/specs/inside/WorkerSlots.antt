@@ -1,16 +1,12 @@
 -- What a thread makes of a list of taps. Private functions alone cite this.
-use Rattle.std.specs.Prelude.{◌≡◌, ◌≤◌, true, false, List, length, string_bytes}
-use Rattle.std.specs.List.{between}
-use Rattle.tariffs.specs.Fares.{Fares}
-use Rattle.tap_views.specs.declared.token.Token.{Token}
-use Rattle.tap_views.specs.Encoding.{AreEarly}
-use Rattle.tap_views.specs.Token.{token_eq}
-use Rattle.tap_views.specs.declared.encoder.TapFields.{TapFields}
-use Rattle.tap_views.specs.TokenOrder.{IsUpTo}
 use Rattle.fare_texts.specs.declared.explainer.Explainer.{Explainer}
-use Rattle.settled_texts.specs.declared.slot.WorkerSlot.{WorkerSlot}
-use Rattle.settled_texts.specs.ExplainedTaps.{Explains}
+use Rattle.settled_texts.specs.{ExplainedTaps.Explains, declared.slot.WorkerSlot.WorkerSlot}
 use Rattle.settlement.specs.Nondecreasing.{TapsNondecreasingFrom}
+use Rattle.std.specs.List.{between}
+use Rattle.std.specs.Prelude.{◌≡◌, ◌≤◌, true, false, List, length, string_bytes}
+use Rattle.tap_views.specs.{Encoding.AreEarly, Token.token_eq, TokenOrder.IsUpTo}
+use Rattle.tap_views.specs.declared.{encoder.TapFields.TapFields, token.Token.Token}
+use Rattle.tariffs.specs.Fares.{Fares}
 
 -- the taps' moments are before 2100, and their tokens never fall
 pub record IsSoundList (taps : List TapFields) : Type 0 where

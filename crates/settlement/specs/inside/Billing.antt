@@ -1,17 +1,12 @@
 -- What is known of parts and of their bill while more taps are posted.
+use Rattle.settlement.specs.{Bills.IsBillOf, Nondecreasing.last_token, OpenBills.IsOpenBill}
+use Rattle.settlement.specs.Posted.{posted}
+use Rattle.settlement.specs.declared.{bill.Bill.Bill, open_bill.OpenBill.OpenBill}
 use Rattle.std.specs.Prelude.{◌≡◌, ◌+◌, ◌<◌, ◌≤◌, ◌^◌, ℕ, List, All, length, slice_index_or, []}
 use Rattle.std.specs.Prelude.{flat_map}
+use Rattle.tap_parts.specs.{Canonical.HasTokenBytes, Canonical.IsCanonical, Ranges.range_of_token}
+use Rattle.tap_views.specs.{Layout.moment_limit, declared.encoder.TapFields.TapFields}
 use Rattle.tariffs.specs.Fares.{Fares}
-use Rattle.tap_views.specs.Layout.{moment_limit}
-use Rattle.tap_views.specs.declared.encoder.TapFields.{TapFields}
-use Rattle.tap_parts.specs.Canonical.{HasTokenBytes, IsCanonical}
-use Rattle.tap_parts.specs.Ranges.{range_of_token}
-use Rattle.settlement.specs.Bills.{IsBillOf}
-use Rattle.settlement.specs.Nondecreasing.{last_token}
-use Rattle.settlement.specs.OpenBills.{IsOpenBill}
-use Rattle.settlement.specs.Posted.{posted}
-use Rattle.settlement.specs.declared.bill.Bill.{Bill}
-use Rattle.settlement.specs.declared.open_bill.OpenBill.{OpenBill}
 
 -- the tap has a moment before 2100, and a token of 16 bytes in one of these ranges
 pub record IsSoundTap (bounds : List ℕ) (low high : ℕ) (tap : TapFields) : Type 0 where

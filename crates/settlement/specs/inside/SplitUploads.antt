@@ -1,14 +1,11 @@
 -- Uploads whose taps are split into parts: what private functions alone cite.
-use Rattle.std.specs.Prelude.{ℕ, List, flat_map, map}
-use Rattle.std.specs.List.Sorted.{IsPermutation}
-use Rattle.tap_views.specs.Encoding.{fields_of}
-use Rattle.tap_views.specs.Files.{AreValidTapsOfEach}
-use Rattle.tap_views.specs.Layout.{Tap}
-use Rattle.tap_views.specs.declared.encoder.TapFields.{TapFields}
-use Rattle.tap_parts.specs.Parts.{taps_of_uploads}
-use Rattle.tap_views.specs.UploadEnds.{ArePlainEnds}
-use Rattle.tap_views.specs.declared.upload_end.UploadEnd.{UploadEnd}
 use Rattle.settlement.specs.inside.Billing.{AreRangesFrom}
+use Rattle.std.specs.List.Sorted.{IsPermutation}
+use Rattle.std.specs.Prelude.{ℕ, List, flat_map, map}
+use Rattle.tap_parts.specs.Parts.{taps_of_uploads}
+use Rattle.tap_views.specs.{Encoding.fields_of, Files.AreValidTapsOfEach, Layout.Tap}
+use Rattle.tap_views.specs.UploadEnds.{ArePlainEnds}
+use Rattle.tap_views.specs.declared.{encoder.TapFields.TapFields, upload_end.UploadEnd.UploadEnd}
 
 -- Each upload ends as its bytes call for. The parts have the uploads' valid taps, and are ranges of
 -- tokens, one after the other.

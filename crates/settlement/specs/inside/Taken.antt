@@ -1,19 +1,13 @@
 -- What is kept of uploads that were read one after another. Private functions alone cite this.
-use Rattle.std.specs.Prelude.{◌≡◌, ◌+◌, ◌<◌, ◌++◌, ℕ, List, All, length, map, flat_map}
-use Rattle.std.specs.Prelude.{slice_index_or, []}
-use Rattle.std.specs.List.{AllZip}
-use Rattle.tap_views.specs.Encoding.{fields_of}
-use Rattle.tap_views.specs.Files.{AreValidTaps, AreValidTapsOfEach}
-use Rattle.tap_views.specs.Layout.{Tap}
-use Rattle.tap_views.specs.UploadEnds.{ArePlainEnds, IsPlainEnd}
-use Rattle.tap_views.specs.declared.encoder.TapFields.{TapFields}
-use Rattle.tap_views.specs.declared.upload_end.UploadEnd.{UploadEnd}
-use Rattle.tap_parts.specs.Canonical.{HasTokenBytes}
-use Rattle.tap_parts.specs.Parts.{taps_at, taps_of_uploads}
-use Rattle.tap_parts.specs.Ranges.{range_of_token}
-use Rattle.world.specs.Origins.{Origin}
-use Rattle.world.specs.Run.{Run}
 use Rattle.settlement.specs.Reading.{AreRead}
+use Rattle.std.specs.{List.AllZip, Prelude.◌≡◌, Prelude.◌+◌}
+use Rattle.std.specs.Prelude.{◌<◌, ◌++◌, ℕ, List, All, length, map, flat_map, slice_index_or, []}
+use Rattle.tap_parts.specs.{Canonical.HasTokenBytes, Parts.taps_at, Parts.taps_of_uploads}
+use Rattle.tap_parts.specs.Ranges.{range_of_token}
+use Rattle.tap_views.specs.{Encoding.fields_of, Files.AreValidTaps, Files.AreValidTapsOfEach}
+use Rattle.tap_views.specs.{Layout.Tap, UploadEnds.ArePlainEnds, UploadEnds.IsPlainEnd}
+use Rattle.tap_views.specs.declared.{encoder.TapFields.TapFields, upload_end.UploadEnd.UploadEnd}
+use Rattle.world.specs.{Origins.Origin, Run.Run}
 
 -- the tap's token has 16 bytes
 abbrev pub HasToken : Tap → Type 0

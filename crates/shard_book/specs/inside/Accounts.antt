@@ -1,22 +1,17 @@
 -- What a book's accounts know of a list of taps.
-use Rattle.std.specs.Prelude.{◌≡◌, ◌≤◌, ℕ, Bool, false, List, [], ◌∷◌, ◌++◌, Option, Some, None}
-use Rattle.std.specs.Prelude.{IsTrue, filter, map, slice_get, unwrap_or}
-use Rattle.indexmap.specs.IndexMap.{get}
-use Rattle.account_rule.specs.declared.tap.TapIn.{TapIn}
-use Rattle.account_rule.specs.declared.reply.Reply.{Reply}
-use Rattle.fare_caps.specs.CapMeanings.{capped_rules_of}
-use Rattle.fare_caps.specs.CappedReplies.{capped_reply}
-use Rattle.fare_caps.specs.Caps.{CappedRules}
-use Rattle.fare_caps.specs.Represents.{Represents, no_further}
+use Rattle.account_rule.specs.declared.{reply.Reply.Reply, tap.TapIn.TapIn}
+use Rattle.fare_caps.specs.{CapMeanings.capped_rules_of, CappedReplies.capped_reply}
+use Rattle.fare_caps.specs.{Caps.CappedRules, Represents.Represents, Represents.no_further}
 use Rattle.fare_caps.specs.declared.capped_account.CappedAccount.{CappedAccount}
 use Rattle.fare_caps.specs.declared.further.Further.{Further}
-use Rattle.tariffs.specs.Fares.{Fares}
-use Rattle.shard_book.specs.declared.accounts.Accounts.{Accounts}
-use Rattle.shard_book.specs.declared.accounts.KeptAccount.{KeptAccount}
-use Rattle.tap_views.specs.declared.token.Token.{Token}
 use Rattle.histories.specs.Counts.{sums_of_counts}
 use Rattle.histories.specs.Sums.{Sums, add_sums, has_taps, sums_of_replies}
-use Rattle.tap_views.specs.Token.{bytes_of, token_eq}
+use Rattle.indexmap.specs.IndexMap.{get}
+use Rattle.shard_book.specs.declared.accounts.{Accounts.Accounts, KeptAccount.KeptAccount}
+use Rattle.std.specs.Prelude.{◌≡◌, ◌≤◌, ℕ, Bool, false, List, [], ◌∷◌, ◌++◌, Option, Some, None}
+use Rattle.std.specs.Prelude.{IsTrue, filter, map, slice_get, unwrap_or}
+use Rattle.tap_views.specs.{Token.bytes_of, Token.token_eq, declared.token.Token.Token}
+use Rattle.tariffs.specs.Fares.{Fares}
 
 -- what is kept of the token
 unfoldable pub kept_at : Accounts → Token → Option KeptAccount

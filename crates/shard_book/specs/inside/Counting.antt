@@ -1,17 +1,12 @@
 -- What a book keeps of each token beside its account: the sums of its entries.
-use Rattle.std.specs.Prelude.{◌≡◌, ℕ, ◌<◌, List, ◌++◌, map, All}
-use Rattle.std.specs.List.{IsDistinct}
-use Rattle.std.specs.Map.{keys_of}
-use Rattle.std.specs.Set.{is_member}
-use Rattle.tap_views.specs.Shards.{shard_of_token}
-use Rattle.shard_book.specs.declared.accounts.Accounts.{Accounts}
+use Rattle.histories.specs.{Entry.own, Sums.Sums, Sums.sums, SumsByKey.token_of}
 use Rattle.histories.specs.declared.entry.Entry.{Entry}
-use Rattle.tap_views.specs.declared.token.Token.{Token}
+use Rattle.shard_book.specs.declared.accounts.Accounts.{Accounts}
 use Rattle.shard_book.specs.inside.Accounts.{kept_at, counted}
-use Rattle.histories.specs.Entry.{own}
-use Rattle.histories.specs.SumsByKey.{token_of}
-use Rattle.histories.specs.Sums.{Sums, sums}
-use Rattle.tap_views.specs.Token.{bytes_of, token_eq}
+use Rattle.std.specs.{List.IsDistinct, Map.keys_of, Prelude.◌≡◌, Prelude.ℕ, Prelude.◌<◌}
+use Rattle.std.specs.{Prelude.List, Prelude.◌++◌, Prelude.map, Prelude.All, Set.is_member}
+use Rattle.tap_views.specs.{Shards.shard_of_token, Token.bytes_of, Token.token_eq}
+use Rattle.tap_views.specs.declared.token.Token.{Token}
 
 -- for each token the sums of its own entries are kept, those of nothing if it has none
 pub record AreCounted (accounts : Accounts) (entries : List Entry) : Type 0 where

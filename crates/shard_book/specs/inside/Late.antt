@@ -1,9 +1,8 @@
 -- Sets of taps, by what equal taps share.
-use Rattle.std.specs.Prelude.{◌≡◌, ◌==◌, ◌&&◌, Bool, false, not, cond, List}
-use Rattle.std.specs.List.{list_any}
-use Rattle.histories.specs.declared.entry.Entry.{Entry}
-use Rattle.histories.specs.Sums.{is_stale}
+use Rattle.histories.specs.{Sums.is_stale, declared.entry.Entry.Entry}
 use Rattle.shard_book.specs.declared.late.TapKey.{TapKey}
+use Rattle.std.specs.List.{list_any}
+use Rattle.std.specs.Prelude.{◌≡◌, ◌==◌, ◌&&◌, Bool, false, not, cond, List}
 use Rattle.tap_views.specs.Token.{token_eq}
 
 -- what equal taps share

@@ -1,14 +1,11 @@
 -- What a book's entries of 16 bytes represent.
-use Rattle.std.specs.Prelude.{◌≡◌, ℕ, ◌/◌, ◌%◌, ◌^◌, ◌==◌, if◌then◌else◌, List, Some, map, All}
-use Rattle.std.specs.Prelude.{slice_get, unwrap_or}
-use Rattle.std.specs.Map.{keys_of}
-use Rattle.account_rule.specs.declared.reply.Answer.{Answer}
-use Rattle.account_rule.specs.declared.reply.Answer.TheVariants.{Paid, Transfer, Capped, Stale}
-use Rattle.account_rule.specs.declared.reply.Answer.TheVariants.{Unknown}
+use Rattle.account_rule.specs.declared.reply.Answer.{Answer, TheVariants.Paid}
+use Rattle.account_rule.specs.declared.reply.Answer.TheVariants.{Transfer, Capped, Stale, Unknown}
 use Rattle.account_rule.specs.declared.reply.Reply.{Reply}
-use Rattle.shard_book.specs.declared.accounts.Accounts.{Accounts}
 use Rattle.histories.specs.declared.entry.Entry.{Entry}
-use Rattle.shard_book.specs.declared.packed.PackedEntry.{PackedEntry}
+use Rattle.shard_book.specs.declared.{accounts.Accounts.Accounts, packed.PackedEntry.PackedEntry}
+use Rattle.std.specs.{Map.keys_of, Prelude.◌≡◌, Prelude.ℕ, Prelude.◌/◌, Prelude.◌%◌}
+use Rattle.std.specs.Prelude.{◌^◌, ◌==◌, if◌then◌else◌, List, Some, map, All, slice_get, unwrap_or}
 use Rattle.tap_views.specs.declared.token.Token.{Token}
 
 -- the answer with the number, which is the place of its count

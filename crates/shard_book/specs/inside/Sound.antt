@@ -1,16 +1,13 @@
 -- What always holds of a book's parts.
-use Rattle.std.specs.Prelude.{ℕ, ◌<◌, ◌≤◌, List}
-use Rattle.tariffs.specs.Fares.{Fares}
-use Rattle.shard_book.specs.declared.accounts.Accounts.{Accounts}
-use Rattle.histories.specs.declared.entry.Entry.{Entry}
-use Rattle.shard_book.specs.declared.packed.PackedEntry.{PackedEntry}
-use Rattle.tap_views.specs.declared.token.Token.{Token}
-use Rattle.shard_book.specs.inside.Accounts.{HasKept, IsCounting}
-use Rattle.shard_book.specs.Book.{AreOfShard}
-use Rattle.shard_book.specs.inside.Counting.{AreCounted}
 use Rattle.histories.specs.Entry.{TokensFit, taps_of}
-use Rattle.histories.specs.History.{IsLegal}
+use Rattle.histories.specs.{History.IsLegal, declared.entry.Entry.Entry}
+use Rattle.shard_book.specs.Book.{AreOfShard}
+use Rattle.shard_book.specs.declared.{accounts.Accounts.Accounts, packed.PackedEntry.PackedEntry}
+use Rattle.shard_book.specs.inside.{Accounts.HasKept, Accounts.IsCounting, Counting.AreCounted}
 use Rattle.shard_book.specs.inside.Packed.{ArePlaced, history_of, tokens_of}
+use Rattle.std.specs.Prelude.{ℕ, ◌<◌, ◌≤◌, List}
+use Rattle.tap_views.specs.declared.token.Token.{Token}
+use Rattle.tariffs.specs.Fares.{Fares}
 
 -- the accounts represent the taps of their tokens
 unfoldable pub AreKept : Fares → Accounts → List Entry → Type 0

@@ -1,11 +1,9 @@
 -- Visits: what private functions alone cite.
+use Rattle.histories.specs.Entry.{reply_of, AreEntriesOf}
+use Rattle.histories.specs.{Replies.RepliesView, declared.entry.Entry.Entry}
+use Rattle.shard_book.specs.Book.{Book, with_entries}
 use Rattle.std.specs.Prelude.{◌≡◌, ◌+◌, List, ◌++◌, length, map}
 use Rattle.tap_views.specs.Layout.{Tap}
-use Rattle.histories.specs.declared.entry.Entry.{Entry}
-use Rattle.shard_book.specs.Book.{Book, with_entries}
-use Rattle.histories.specs.Entry.{reply_of}
-use Rattle.histories.specs.Replies.{RepliesView}
-use Rattle.histories.specs.Entry.{AreEntriesOf}
 
 -- one entry for each of the taps was appended to the book, and its reply to the replies, in the
 -- room that was there

@@ -1,10 +1,9 @@
 //! Tallies of the entries of several books by their validators.
 
-ghost use Rattle.std.specs.Prelude.{◌==◌, ◌*◌, ◌<◌, ◌≤◌, ◌^◌, List, ◌++◌, length, IfOk, OnOk};
+ghost use Rattle.histories.specs.{SumsByKey.validator_of, TalliesByKey.AreByKey};
+ghost use Rattle.histories.specs.{TalliesByKey.HasRoom, declared.entry.Entry.Entry};
 ghost use Rattle.shard_book.specs.Book.{all_entries};
-ghost use Rattle.histories.specs.declared.entry.Entry.{Entry};
-ghost use Rattle.histories.specs.SumsByKey.{validator_of};
-ghost use Rattle.histories.specs.TalliesByKey.{AreByKey, HasRoom};
+ghost use Rattle.std.specs.Prelude.{◌==◌, ◌*◌, ◌<◌, ◌≤◌, ◌^◌, List, ◌++◌, length, IfOk, OnOk};
 
 use crate::book::ShardBook;
 use histories::{HashSeed, Tally, ValidatorTallies};

@@ -1,10 +1,9 @@
 //! Sums of books by a key of their entries, in one scan of the entries and a sort of the keys.
 
-ghost use Rattle.std.specs.Prelude.{◌≡◌, ◌*◌, ◌<◌, ◌≤◌, ◌^◌, List, ◌++◌, length, map, IfOk, OnOk};
-ghost use Rattle.shard_book.specs.Book.{all_entries};
+ghost use Rattle.histories.specs.{SumsBy.sums_by, TalliesByKey.AreByKey, TalliesByKey.HasRoom};
 ghost use Rattle.histories.specs.declared.entry.Entry.{Entry};
-ghost use Rattle.histories.specs.SumsBy.{sums_by};
-ghost use Rattle.histories.specs.TalliesByKey.{AreByKey, HasRoom};
+ghost use Rattle.shard_book.specs.Book.{all_entries};
+ghost use Rattle.std.specs.Prelude.{◌≡◌, ◌*◌, ◌<◌, ◌≤◌, ◌^◌, List, ◌++◌, length, map, IfOk, OnOk};
 
 use crate::book::ShardBook;
 use histories::{HashSeed, SumKey, Tally, add_entry, listed};

@@ -1,9 +1,8 @@
 //! Tallies of the entries of several books, which threads make side by side.
 
-ghost use Rattle.std.specs.Prelude.{◌*◌, ◌≤◌, ◌^◌, ◌==◌, length, IfOk, OnOk};
+ghost use Rattle.histories.specs.{SumsByKey.validator_of, TalliesByKey.AreByKey};
 ghost use Rattle.shard_book.specs.Book.{all_entries};
-ghost use Rattle.histories.specs.TalliesByKey.{AreByKey};
-ghost use Rattle.histories.specs.SumsByKey.{validator_of};
+ghost use Rattle.std.specs.Prelude.{◌*◌, ◌≤◌, ◌^◌, ◌==◌, length, IfOk, OnOk};
 
 use crate::book::ShardBook;
 use crate::sums::by_hints::tallies_by_hints;

@@ -1,12 +1,9 @@
 //! Counts by token, from what books store of their tokens.
 
+ghost use Rattle.histories.specs.{Counts.token_counts, SumsByKey.sums_by_token};
+ghost use Rattle.shard_book.specs.{Book.all_entries, inside.Counting.AreSummed};
+ghost use Rattle.std.specs.{List.Sorted.IsPermutation, List.Sorted.IsSorted, Map.keys_of};
 ghost use Rattle.std.specs.Prelude.{◌≡◌, length, map, IfOk, IfSome};
-ghost use Rattle.std.specs.List.Sorted.{IsPermutation, IsSorted};
-ghost use Rattle.std.specs.Map.{keys_of};
-ghost use Rattle.shard_book.specs.inside.Counting.{AreSummed};
-ghost use Rattle.histories.specs.Counts.{token_counts};
-ghost use Rattle.shard_book.specs.Book.{all_entries};
-ghost use Rattle.histories.specs.SumsByKey.{sums_by_token};
 ghost use Rattle.tap_views.specs.Token.{token_cmp};
 
 use crate::book::ShardBook;

@@ -1,10 +1,9 @@
 -- What the steps of drawing do to the states of the drawers.
+use Rattle.atomic_table.specs.Table.{Step, Me}
+use Rattle.shared_books.specs.{Claims.claims_given, Claims.claims_left, Drawing.NoneTwice}
+use Rattle.shared_books.specs.{Drawing.AllBelow, declared.drawing.rule.DrawerState.DrawerState}
 use Rattle.std.specs.Prelude.{◌≡◌, ◌≢◌, ℕ, ◌+◌, ◌^◌, ◌≤◌, ◌<◌, true, false, List, [], ◌∷◌, ◌++◌}
 use Rattle.std.specs.Prelude.{length, max}
-use Rattle.atomic_table.specs.Table.{Step, Me}
-use Rattle.shared_books.specs.declared.drawing.rule.DrawerState.{DrawerState}
-use Rattle.shared_books.specs.Claims.{claims_given, claims_left}
-use Rattle.shared_books.specs.Drawing.{NoneTwice, AllBelow}
 
 -- what a drawer knows until it is joined into another
 abbrev pub drawer_state : ℕ → ℕ → ℕ → List ℕ → DrawerState

@@ -1,11 +1,10 @@
 -- Drawing: the rule under which numbers are drawn. One number says how many are drawn.
-use Rattle.std.specs.Prelude.{◌≡◌, ℕ, ◌≤◌, ◌<◌, List, [], length, true, false, sum_by, slice_index}
-use mathlib.Core.Option.{some}
-use lib.ListN.{get_elem?}
 use Rattle.atomic_table.specs.Table.{State}
+use Rattle.shared_books.specs.{Claims.AreClaims, Drawing.times}
 use Rattle.shared_books.specs.declared.drawing.rule.DrawerState.{DrawerState}
-use Rattle.shared_books.specs.Claims.{AreClaims}
-use Rattle.shared_books.specs.Drawing.{times}
+use Rattle.std.specs.Prelude.{◌≡◌, ℕ, ◌≤◌, ◌<◌, List, [], length, true, false, sum_by, slice_index}
+use lib.ListN.{get_elem?}
+use mathlib.Core.Option.{some}
 
 -- how often a number was drawn, by all drawers together
 abbrev pub times_drawn : ℕ → List DrawerState → ℕ

@@ -1,9 +1,8 @@
 -- A book in place of none: what is left of a pass that was joined into another speaks of some
 -- book.
-use Rattle.std.specs.Prelude.{[], None}
-use Rattle.tariffs.specs.Fares.{Fares}
-use Rattle.tariffs.specs.declared.window_span.WindowLength.TheVariants.{CalendarDay}
 use Rattle.shard_book.specs.Book.{Book}
+use Rattle.std.specs.Prelude.{[], None}
+use Rattle.tariffs.specs.{Fares.Fares, declared.window_span.WindowLength.TheVariants.CalendarDay}
 
 -- a table without modes, ranges and riders
 abbrev pub no_fares : Fares

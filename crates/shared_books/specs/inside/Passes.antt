@@ -1,7 +1,6 @@
 -- Passes: what private functions alone cite.
 use Rattle.atomic_table.specs.Seated.{TableId}
-use Rattle.shared_books.specs.declared.turns.rule.Opening.{Opening}
-use Rattle.shared_books.specs.Passes.{SharedBookView}
+use Rattle.shared_books.specs.{Passes.SharedBookView, declared.turns.rule.Opening.Opening}
 
 -- what contracts see of a book that was opened so
 abbrev pub opened_of : TableId → Opening → SharedBookView

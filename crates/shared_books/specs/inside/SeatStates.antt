@@ -1,13 +1,10 @@
 -- The states of seats: what private functions alone cite.
+use Rattle.histories.specs.{History.IsLegal, declared.entry.Entry.Entry}
+use Rattle.shard_book.specs.Book.{Book}
+use Rattle.shared_books.specs.Marks.{others, visits_of, history_of_visits, made_from}
+use Rattle.shared_books.specs.{PassStates.pass_state, Turns.book_after, inside.Steps.Seat}
 use Rattle.std.specs.Prelude.{◌≡◌, ℕ, ◌+◌, ◌^◌, ◌<◌, ◌≤◌, true, false, List, [], ◌∷◌, ◌++◌, length}
 use Rattle.std.specs.Prelude.{None}
-use Rattle.histories.specs.declared.entry.Entry.{Entry}
-use Rattle.shard_book.specs.Book.{Book}
-use Rattle.histories.specs.History.{IsLegal}
-use Rattle.shared_books.specs.Marks.{others, visits_of, history_of_visits, made_from}
-use Rattle.shared_books.specs.Turns.{book_after}
-use Rattle.shared_books.specs.PassStates.{pass_state}
-use Rattle.shared_books.specs.inside.Steps.{Seat}
 
 -- a seat of a pass that does not have the turn
 pub record IsFree (me : Seat) : Type 0 where

@@ -1,18 +1,13 @@
 -- What the steps of a turn do to the views of the passes.
-use Rattle.std.specs.Prelude.{◌≡◌, ◌≢◌, ℕ, ◌+◌, ◌*◌, ◌^◌, ◌≤◌, true, false, List, [], ◌∷◌}
-use Rattle.std.specs.Prelude.{◌++◌, length, drop, ◌⊎◌, Option, Some, None}
 use Rattle.atomic_table.specs.Table.{Step, Me}
-use Rattle.histories.specs.declared.entry.Entry.{Entry}
-use Rattle.histories.specs.History.{IsLegal}
-use Rattle.shared_books.specs.declared.turns.rule.Opening.{Opening}
-use Rattle.shared_books.specs.declared.turns.rule.Mark.{Mark}
-use Rattle.shared_books.specs.declared.turns.rule.PassState.{PassState}
-use Rattle.shared_books.specs.Marks.{mark, others, visits_of, history_of_visits, joined_marks}
-use Rattle.shared_books.specs.Marks.{Apart, Begins}
-use Rattle.shared_books.specs.Claims.{claims_given, claims_left}
-use Rattle.shared_books.specs.Turns.{Boxed, book_after}
-use Rattle.shared_books.specs.PassStates.{pass_state}
+use Rattle.histories.specs.{History.IsLegal, declared.entry.Entry.Entry}
+use Rattle.shared_books.specs.{Claims.claims_given, Claims.claims_left, Marks.mark, Marks.others}
+use Rattle.shared_books.specs.Marks.{visits_of, history_of_visits, joined_marks, Apart, Begins}
+use Rattle.shared_books.specs.{PassStates.pass_state, Turns.Boxed, Turns.book_after}
+use Rattle.shared_books.specs.declared.turns.rule.{Mark.Mark, Opening.Opening, PassState.PassState}
 use Rattle.shared_books.specs.inside.NoBook.{no_book}
+use Rattle.std.specs.Prelude.{◌≡◌, ◌≢◌, ℕ, ◌+◌, ◌*◌, ◌^◌, ◌≤◌, true, false, List, [], ◌∷◌, ◌++◌}
+use Rattle.std.specs.Prelude.{length, drop, ◌⊎◌, Option, Some, None}
 
 -- a seat at the table of turns
 abbrev pub Seat : Type 0

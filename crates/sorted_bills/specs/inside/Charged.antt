@@ -1,21 +1,17 @@
 -- Bills of ranges of the taps: what private functions alone cite.
+use Rattle.settlement.specs.{Bills.IsBillOf, Nondecreasing.TapsNondecreasingFrom}
+use Rattle.settlement.specs.{Nondecreasing.last_token, OpenBills.IsOpenBill}
+use Rattle.settlement.specs.Posted.{HasName, posted, token_of_tap}
+use Rattle.settlement.specs.declared.open_bill.OpenBill.{OpenBill}
+use Rattle.sorted_bills.specs.{declared.part.Part.Part, inside.Taken.AreTapsTaken}
+use Rattle.sorted_taps.specs.Positions.{AreSpanned}
+use Rattle.sorted_taps.specs.declared.{positions.FileSpan.FileSpan, reader.TapReader.TapReader}
 use Rattle.std.specs.Prelude.{◌≡◌, ℕ, ◌^◌, ◌<◌, All, List, [], ◌∷◌, Option, Some, IfSome, flat_map}
 use Rattle.std.specs.Prelude.{length, map}
-use Rattle.tariffs.specs.Fares.{Fares}
-use Rattle.tap_views.specs.declared.encoder.TapFields.{TapFields}
-use Rattle.tap_views.specs.declared.token.Token.{Token}
-use Rattle.tap_views.specs.TokenOrder.{IsUpTo}
 use Rattle.tap_parts.specs.Canonical.{IsCanonical}
-use Rattle.settlement.specs.Bills.{IsBillOf}
-use Rattle.settlement.specs.Posted.{HasName, posted, token_of_tap}
-use Rattle.settlement.specs.Nondecreasing.{TapsNondecreasingFrom, last_token}
-use Rattle.sorted_taps.specs.Positions.{AreSpanned}
-use Rattle.sorted_taps.specs.declared.positions.FileSpan.{FileSpan}
-use Rattle.sorted_taps.specs.declared.reader.TapReader.{TapReader}
-use Rattle.settlement.specs.OpenBills.{IsOpenBill}
-use Rattle.sorted_bills.specs.inside.Taken.{AreTapsTaken}
-use Rattle.settlement.specs.declared.open_bill.OpenBill.{OpenBill}
-use Rattle.sorted_bills.specs.declared.part.Part.{Part}
+use Rattle.tap_views.specs.TokenOrder.{IsUpTo}
+use Rattle.tap_views.specs.declared.{encoder.TapFields.TapFields, token.Token.Token}
+use Rattle.tariffs.specs.Fares.{Fares}
 
 -- so many taps whose tokens do not fall from this one on were taken, and the bill is theirs
 pub record IsCharged (fares : Fares) (known : List (Option (List ℕ))) (old : List TapReader)

@@ -1,14 +1,11 @@
 -- Lines of taps of merged files: what private functions alone cite.
-use Rattle.std.specs.Prelude.{ℕ, List, Option, [], ◌++◌}
-use Rattle.tariffs.specs.Fares.{Fares}
-use Rattle.tap_views.specs.declared.encoder.TapFields.{TapFields}
-use Rattle.tap_views.specs.declared.token.Token.{Token}
-use Rattle.fare_texts.specs.LedgerLines.{head_text}
-use Rattle.fare_texts.specs.Lines.{AreLinesAlong}
-use Rattle.settlement.specs.Nondecreasing.{TapsNondecreasingFrom}
-use Rattle.settlement.specs.Posted.{posted}
-use Rattle.sorted_taps.specs.declared.reader.TapReader.{TapReader}
+use Rattle.fare_texts.specs.{LedgerLines.head_text, Lines.AreLinesAlong}
+use Rattle.settlement.specs.{Nondecreasing.TapsNondecreasingFrom, Posted.posted}
 use Rattle.sorted_bills.specs.inside.Taken.{AreTapsTaken}
+use Rattle.sorted_taps.specs.declared.reader.TapReader.{TapReader}
+use Rattle.std.specs.Prelude.{ℕ, List, Option, [], ◌++◌}
+use Rattle.tap_views.specs.declared.{encoder.TapFields.TapFields, token.Token.Token}
+use Rattle.tariffs.specs.Fares.{Fares}
 
 -- Taps were taken whose tokens do not fall from this one. What is said of a text holds of the header
 -- line and their lines.

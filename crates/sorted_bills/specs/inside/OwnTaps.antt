@@ -1,13 +1,11 @@
 -- The taps of one token, collected from sorted files: what private functions alone cite.
-use Rattle.std.specs.Prelude.{◌≡◌, ℕ, All, List, Option, None, Some, [], ◌∷◌, ◌++◌, IfErr, IfOk, IfSome}
-use Rattle.std.specs.Prelude.{Result, flat_map, length, map, slice_get}
-use Rattle.tap_views.specs.declared.encoder.TapFields.{TapFields}
-use Rattle.tap_views.specs.declared.token.Token.{Token}
 use Rattle.settlement.specs.Posted.{HasName, only}
-use Rattle.sorted_taps.specs.Merges.{AreSortedFiles}
-use Rattle.sorted_taps.specs.Sorted.{IsSortedFault, IsSortedFile}
-use Rattle.sorted_taps.specs.declared.fault.SortedFault.{SortedFault}
 use Rattle.sorted_bills.specs.declared.own_by_threads.OwnTaps.{OwnTaps}
+use Rattle.sorted_taps.specs.{Merges.AreSortedFiles, Sorted.IsSortedFault, Sorted.IsSortedFile}
+use Rattle.sorted_taps.specs.declared.fault.SortedFault.{SortedFault}
+use Rattle.std.specs.Prelude.{◌≡◌, ℕ, All, List, Option, None, Some, [], ◌∷◌, ◌++◌, IfErr, IfOk}
+use Rattle.std.specs.Prelude.{IfSome, Result, flat_map, length, map, slice_get}
+use Rattle.tap_views.specs.declared.{encoder.TapFields.TapFields, token.Token.Token}
 
 -- the taps of the token, and none without one
 abbrev pub own_of : Option Token → List TapFields → List TapFields

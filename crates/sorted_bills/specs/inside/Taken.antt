@@ -1,14 +1,12 @@
 -- Taps that are taken of merged files: what private functions alone cite.
+use Rattle.settlement.specs.Nondecreasing.{TapsNondecreasingFrom, last_token}
+use Rattle.settlement.specs.Posted.{HasName}
+use Rattle.sorted_bills.specs.declared.taker.Taker.{Taker}
+use Rattle.sorted_taps.specs.{Merges.AreTaken, Reading.window_bytes}
+use Rattle.sorted_taps.specs.declared.reader.TapReader.{TapReader}
 use Rattle.std.specs.Prelude.{◌≡◌, ◌≤◌, ℕ, All, List, Option, Some, length, map}
 use Rattle.tap_views.specs.Encoding.{AreEarly}
-use Rattle.tap_views.specs.declared.encoder.TapFields.{TapFields}
-use Rattle.tap_views.specs.declared.token.Token.{Token}
-use Rattle.settlement.specs.Posted.{HasName}
-use Rattle.settlement.specs.Nondecreasing.{TapsNondecreasingFrom, last_token}
-use Rattle.sorted_taps.specs.Merges.{AreTaken}
-use Rattle.sorted_taps.specs.Reading.{window_bytes}
-use Rattle.sorted_taps.specs.declared.reader.TapReader.{TapReader}
-use Rattle.sorted_bills.specs.declared.taker.Taker.{Taker}
+use Rattle.tap_views.specs.declared.{encoder.TapFields.TapFields, token.Token.Token}
 
 -- these taps were taken of files whose bytes are these if they are known;
 -- their moments are before 2100, and the 16 bytes of each token name it

@@ -1,11 +1,9 @@
 -- Batches that are decoded from the front of some bytes.
-use Rattle.std.specs.Prelude.{◌≡◌, ℕ, ◌+◌, ◌<◌, ◌≤◌, List, [], length, take, drop, None, IfSome}
-use Rattle.tap_views.specs.Faults.{IsFault}
-use Rattle.tap_views.specs.declared.encoder.TapFields.{TapFields}
 use Rattle.sorted_taps.specs.Reading.{AreFrontTaps, AreTapsBetween}
-use Rattle.sorted_taps.specs.declared.decoded_taps.Decoded.{Decoded}
-use Rattle.sorted_taps.specs.declared.fault.SortedFault.{SortedFault}
+use Rattle.sorted_taps.specs.declared.{decoded_taps.Decoded.Decoded, fault.SortedFault.SortedFault}
 use Rattle.sorted_taps.specs.declared.fault.SortedFault.TheVariants.{Layout, OutOfOrder}
+use Rattle.std.specs.Prelude.{◌≡◌, ℕ, ◌+◌, ◌<◌, ◌≤◌, List, [], length, take, drop, None, IfSome}
+use Rattle.tap_views.specs.{Faults.IsFault, declared.encoder.TapFields.TapFields}
 
 -- the bytes begin with batches of these taps; what follows has the fault; and without a batch or a
 -- fault there are no bytes

@@ -1,15 +1,12 @@
 -- Taps up to a limit, which readers pass in a step of a merge: what private functions alone cite.
+use Rattle.sorted_taps.specs.{Merged.BeginsNotBefore, Merged.IsNotBefore, Merges.AreTaken}
+use Rattle.sorted_taps.specs.Readers.{IsPassed, ahead}
+use Rattle.sorted_taps.specs.declared.{limit.Front.Front, reader.TapReader.TapReader}
+use Rattle.std.specs.List.Sorted.{IsSorted}
 use Rattle.std.specs.Prelude.{◌≡◌, ℕ, ◌-◌, ◌<◌, ◌≤◌, All, List, [], ◌++◌, flat_map, get_or, length}
 use Rattle.std.specs.Prelude.{map, IfSome, Option, None, Some, take, drop}
-use Rattle.std.specs.List.Sorted.{IsSorted}
+use Rattle.tap_parts.specs.{Canonical.IsCanonical, Canonical.tap_cmp, Keys.tap_of_key}
 use Rattle.tap_views.specs.declared.encoder.TapFields.{TapFields}
-use Rattle.tap_parts.specs.Canonical.{IsCanonical, tap_cmp}
-use Rattle.tap_parts.specs.Keys.{tap_of_key}
-use Rattle.sorted_taps.specs.Merged.{BeginsNotBefore, IsNotBefore}
-use Rattle.sorted_taps.specs.Merges.{AreTaken}
-use Rattle.sorted_taps.specs.Readers.{IsPassed, ahead}
-use Rattle.sorted_taps.specs.declared.limit.Front.{Front}
-use Rattle.sorted_taps.specs.declared.reader.TapReader.{TapReader}
 
 -- what a place past the end of a list is read as
 abbrev pub no_tap : TapFields

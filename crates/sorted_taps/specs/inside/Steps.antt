@@ -1,11 +1,10 @@
 -- Steps of a reader: what private functions alone cite.
-use Rattle.std.specs.Prelude.{◌≡◌, ℕ, List, [], ◌∷◌, ◌++◌, drop, take, true}
-use Rattle.std.specs.Ordering.{is_lt}
-use Rattle.tap_views.specs.declared.encoder.TapFields.{TapFields}
-use Rattle.tap_parts.specs.Canonical.{tap_cmp}
-use Rattle.sorted_taps.specs.Readers.{ahead}
-use Rattle.sorted_taps.specs.Reading.{AreTapsBetween}
+use Rattle.sorted_taps.specs.{Readers.ahead, Reading.AreTapsBetween}
 use Rattle.sorted_taps.specs.declared.reader.TapReader.{TapReader}
+use Rattle.std.specs.Ordering.{is_lt}
+use Rattle.std.specs.Prelude.{◌≡◌, ℕ, List, [], ◌∷◌, ◌++◌, drop, take, true}
+use Rattle.tap_parts.specs.Canonical.{tap_cmp}
+use Rattle.tap_views.specs.declared.encoder.TapFields.{TapFields}
 
 -- the list has a first tap, which is before this tap
 abbrev pub BeginsBefore : TapFields → List TapFields → Type 0

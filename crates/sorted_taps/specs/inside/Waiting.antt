@@ -1,10 +1,9 @@
 -- Taps that wait until they are a batch: what private functions alone cite.
-use Rattle.std.specs.Prelude.{◌≡◌, ℕ, ◌≤◌, List, ◌++◌, length, flat_map, Option}
-use Rattle.std.specs.Io.KnownBytes.{Appends}
-use Rattle.tap_views.specs.Encoding.{AreEarly, Encodes}
-use Rattle.tap_views.specs.Files.{IsFileOf}
-use Rattle.tap_views.specs.declared.encoder.TapFields.{TapFields}
 use Rattle.sorted_taps.specs.Written.{IsPartlyWritten}
+use Rattle.std.specs.Io.KnownBytes.{Appends}
+use Rattle.std.specs.Prelude.{◌≡◌, ℕ, ◌≤◌, List, ◌++◌, length, flat_map, Option}
+use Rattle.tap_views.specs.Encoding.{AreEarly, Encodes}
+use Rattle.tap_views.specs.{Files.IsFileOf, declared.encoder.TapFields.TapFields}
 
 -- the taps may wait: they are no more than a batch has, and their moments are before 2100
 pub record MayWait (waiting : List TapFields) : Type 0 where

@@ -1,12 +1,11 @@
 -- The uploads were read as what they are.
-use Rattle.std.proofs.Common.{◌≡◌, ℕ, List, [], flat_map, get_or, length, map, subst}
+use Rattle.std.proofs.Common.{ℕ, List, [], flat_map, get_or, length, map, subst}
+use Rattle.settlement.specs.{Reading.AreRead, SettledTaps.AreSettledTaps}
+use Rattle.settlement.specs.declared.settled.SettledTaps.{SettledTaps}
+use Rattle.sorted_uploads.proofs.Loaded.{bytes_in, same_files}
 use Rattle.std.proofs.lemmas.Result.{IfOk-weaker}
 use Rattle.tap_views.specs.UploadEnds.{ArePlainEnds}
 use Rattle.world.specs.Origins.{memory}
-use Rattle.settlement.specs.Reading.{AreRead}
-use Rattle.settlement.specs.SettledTaps.{AreSettledTaps}
-use Rattle.settlement.specs.declared.settled.SettledTaps.{SettledTaps}
-use Rattle.sorted_uploads.proofs.Loaded.{bytes_in, same_files}
 use Rattle.sorted_uploads.proofs.settled_loaded.Goals as goal
 
 pub returns-clause-ended : goal.returns-clause-ended

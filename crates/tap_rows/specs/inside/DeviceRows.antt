@@ -1,18 +1,14 @@
 -- How far a device table is read: what private functions alone cite.
+use Rattle.csv.specs.{Records.field_at, declared.reader.Reader.Reader}
+use Rattle.std.specs.{Borrow.Bor, List.AllZip, List.IsDistinct, Map.keys_of}
 use Rattle.std.specs.Prelude.{◌≡◌, ℕ, List, ◌∷◌, Some, codes, length}
-use Rattle.std.specs.Borrow.{Bor}
-use Rattle.std.specs.List.{AllZip, IsDistinct}
-use Rattle.std.specs.Map.{keys_of}
 use Rattle.std.specs.Str.{bytes_eq}
-use Rattle.csv.specs.Records.{field_at}
-use Rattle.csv.specs.declared.reader.Reader.{Reader}
 use Rattle.tap_rows.specs.Devices.{Device, HasDeviceHead, IsDeviceRow, IsFirstWrong, IsWrongDevice}
-use Rattle.tap_rows.specs.Devices.{device_head}
-use Rattle.tap_rows.specs.declared.agency.choice.Separator.{Separator}
+use Rattle.tap_rows.specs.{Devices.device_head, declared.agency.choice.Separator.Separator}
 use Rattle.tap_rows.specs.declared.devices.fault.DevicesFault.{DevicesFault}
-use Rattle.tap_rows.specs.declared.devices.fault.DevicesFault.TheVariants as fault
 use Rattle.tap_rows.specs.declared.devices.fault.WrongDevice.{WrongDevice}
 use Rattle.tap_rows.specs.inside.RecordReaders.{HasConsumed}
+use Rattle.tap_rows.specs.declared.devices.fault.DevicesFault.TheVariants as fault
 
 -- the row has the two names, as the head of a device table
 abbrev pub IsHeadRow : List (List ℕ) → Type 0

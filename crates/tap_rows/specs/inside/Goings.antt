@@ -1,18 +1,13 @@
 -- How far the rows of an agency's CSV are read and encoded: what private functions alone cite.
-use Rattle.std.specs.Prelude.{◌≡◌, ℕ, List, ◌∷◌, length}
-use Rattle.std.specs.Borrow.{Bor}
-use Rattle.std.specs.List.{AllZip}
 use Rattle.csv.specs.declared.reader.Reader.{Reader}
+use Rattle.std.specs.{Borrow.Bor, List.AllZip}
+use Rattle.std.specs.Prelude.{◌≡◌, ℕ, List, ◌∷◌, length}
 use Rattle.tap_rows.specs.Agencies.{IsSummary, refusals, refusals_text, taps_in}
 use Rattle.tap_rows.specs.AgencyRows.{IsParseOf}
-use Rattle.tap_rows.specs.declared.agency.choice.Choice.{Choice}
-use Rattle.tap_rows.specs.declared.agency.positions.Positions.{Positions}
-use Rattle.tap_rows.specs.declared.agency.reading.Reading.{Reading}
-use Rattle.tap_rows.specs.declared.agency.summary.Summary.{Summary}
-use Rattle.tap_rows.specs.declared.growing.Growing.{Growing}
-use Rattle.tap_rows.specs.inside.Growing.{IsGrown}
-use Rattle.tap_rows.specs.inside.Positions.{ArePositions}
-use Rattle.tap_rows.specs.inside.RecordReaders.{HasConsumed}
+use Rattle.tap_rows.specs.declared.agency.{choice.Choice.Choice, positions.Positions.Positions}
+use Rattle.tap_rows.specs.declared.agency.{reading.Reading.Reading, summary.Summary.Summary}
+use Rattle.tap_rows.specs.{declared.growing.Growing.Growing, inside.Growing.IsGrown}
+use Rattle.tap_rows.specs.inside.{Positions.ArePositions, RecordReaders.HasConsumed}
 
 -- `count` rows are read, their taps are in the upload, the refused ones are these bytes, and the
 -- summary is theirs

@@ -1,12 +1,8 @@
 -- How far the devices of a text are numbered: what private functions alone cite.
-use Rattle.std.specs.Prelude.{◌≡◌, ℕ, List, ◌∷◌}
-use Rattle.std.specs.Borrow.{Bor}
-use Rattle.std.specs.List.{fold}
 use Rattle.csv.specs.declared.reader.Reader.{Reader}
-use Rattle.tap_rows.specs.Devices.{Device}
-use Rattle.tap_rows.specs.Numbering.{with_row}
-use Rattle.tap_rows.specs.declared.agency.choice.Choice.{Choice}
-use Rattle.tap_rows.specs.declared.agency.positions.Positions.{Positions}
+use Rattle.std.specs.{Borrow.Bor, List.fold, Prelude.◌≡◌, Prelude.ℕ, Prelude.List, Prelude.◌∷◌}
+use Rattle.tap_rows.specs.{Devices.Device, Numbering.with_row}
+use Rattle.tap_rows.specs.declared.agency.{choice.Choice.Choice, positions.Positions.Positions}
 use Rattle.tap_rows.specs.inside.Positions.{ArePositions, layout_of}
 use Rattle.tap_rows.specs.inside.RecordReaders.{HasConsumed}
 

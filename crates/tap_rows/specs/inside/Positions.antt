@@ -1,17 +1,13 @@
 -- Where the columns of a choice are: what private functions alone cite.
+use Rattle.std.specs.{Borrow.Bor, List.AllZip}
 use Rattle.std.specs.Prelude.{◌≡◌, ℕ, Bool, List, Option, None, Some, false, length, map, true}
-use Rattle.std.specs.Borrow.{Bor}
-use Rattle.std.specs.List.{AllZip}
 use Rattle.tap_rows.specs.Agencies.{IsWanting, LacksColumnAt}
 use Rattle.tap_rows.specs.AgencyRows.{HeadLayout, IsColumn}
-use Rattle.tap_rows.specs.declared.agency.choice.Choice.{Choice}
-use Rattle.tap_rows.specs.declared.agency.choice.Condition.{Condition}
-use Rattle.tap_rows.specs.declared.agency.fault.AgencyFault.{AgencyFault}
+use Rattle.tap_rows.specs.declared.agency.choice.{Choice.Choice, Condition.Condition}
+use Rattle.tap_rows.specs.declared.agency.fault.{AgencyFault.AgencyFault, Wanted.Wanted}
+use Rattle.tap_rows.specs.declared.agency.positions.{Positions.Positions, Test.Test}
 use Rattle.tap_rows.specs.declared.agency.fault.AgencyFault.TheVariants as fault
-use Rattle.tap_rows.specs.declared.agency.fault.Wanted.{Wanted}
 use Rattle.tap_rows.specs.declared.agency.fault.Wanted.TheVariants as wanted
-use Rattle.tap_rows.specs.declared.agency.positions.Positions.{Positions}
-use Rattle.tap_rows.specs.declared.agency.positions.Test.{Test}
 
 -- the test is of the condition's column, and of its value
 abbrev pub IsTestOf : List (List ℕ) → Condition → Test → Type 0

@@ -1,12 +1,9 @@
 -- How far a reader of records has come: what private functions alone cite.
-use Rattle.std.specs.Prelude.{◌≡◌, ℕ, List, Some}
-use Rattle.std.specs.Borrow.{Bor}
 use Rattle.csv.specs.Reading.{Reached, Ready, source_of, strip_bom}
-use Rattle.csv.specs.declared.parser.State.TheVariants.{StartRecord}
-use Rattle.csv.specs.declared.reader.Reader.{Reader}
+use Rattle.csv.specs.declared.{parser.State.TheVariants.StartRecord, reader.Reader.Reader}
+use Rattle.std.specs.{Borrow.Bor, Prelude.◌≡◌, Prelude.ℕ, Prelude.List, Prelude.Some}
+use Rattle.tap_rows.specs.{AgencyTexts.config_of, declared.agency.choice.Separator.Separator}
 use Rattle.csv.specs.declared.reader.Trim.TheVariants as trim
-use Rattle.tap_rows.specs.AgencyTexts.{config_of}
-use Rattle.tap_rows.specs.declared.agency.choice.Separator.{Separator}
 
 -- the reader of this text has come over these records
 pub record HasConsumed (separator : Separator) (text : List ℕ) (rows : List (List (List ℕ)))

@@ -1,10 +1,9 @@
 -- How far a tap table is read: what private functions alone cite.
-use Rattle.std.specs.Prelude.{◌≡◌, ℕ, ◌+◌, List, length}
 use Rattle.std.specs.Io.BufRead.{drop_through}
-use Rattle.tap_views.specs.declared.encoder.TapFields.{TapFields}
-use Rattle.tap_rows.specs.TapTables.{BeginsWithRows}
-use Rattle.tap_rows.specs.declared.growing.Growing.{Growing}
+use Rattle.std.specs.Prelude.{◌≡◌, ℕ, ◌+◌, List, length}
+use Rattle.tap_rows.specs.{TapTables.BeginsWithRows, declared.growing.Growing.Growing}
 use Rattle.tap_rows.specs.inside.Growing.{IsGrown}
+use Rattle.tap_views.specs.declared.encoder.TapFields.{TapFields}
 
 -- the rows before the line of this number are read, and their taps are in the upload
 pub record HasEncoded (text left : List ℕ) (number : ℕ) (growing : Growing) : Type 0 where

@@ -1,16 +1,14 @@
 //! The moment that a field of an agency's row gives: a number, or RFC 3339, also of a zone.
 
+ghost use Rattle.jiff_core.specs.{DateTime.civil_nanos, Timestamp.nanos_of_seconds};
+ghost use Rattle.jiff_fmt.specs.Temporal.{parse_datetime, parse_timestamp};
 ghost use Rattle.std.specs.Prelude.{◌≡◌, ◌<◌, ◌≤◌, ◌+◌, ◌++◌, ◌^◌, Bool, IfOk, IfSome, length};
 ghost use Rattle.std.specs.Prelude.{◌-ℤ◌, [], option_map};
-ghost use Rattle.jiff_core.specs.DateTime.{civil_nanos};
-ghost use Rattle.jiff_core.specs.Timestamp.{nanos_of_seconds};
-ghost use Rattle.jiff_fmt.specs.Temporal.{parse_datetime, parse_timestamp};
 ghost use Rattle.tap_rows.specs.AgencyMoments.{clock_moment, earliest_ms, has_clock, has_shift};
 ghost use Rattle.tap_rows.specs.AgencyMoments.{instant_in, instant_ms, instant_text, is_fraction};
-ghost use Rattle.tap_rows.specs.AgencyMoments.{local_moment};
-ghost use Rattle.tap_rows.specs.AgencyMoments.{moment_by, moment_in, moment_of, offset_in};
-ghost use Rattle.tap_rows.specs.AgencyMoments.{plain_ms, scaled, whole_ms, written_moment};
-ghost use Rattle.tap_rows.specs.inside.WrittenTimes.{written_of};
+ghost use Rattle.tap_rows.specs.AgencyMoments.{local_moment, moment_by, moment_in, moment_of};
+ghost use Rattle.tap_rows.specs.AgencyMoments.{offset_in, plain_ms, scaled, whole_ms};
+ghost use Rattle.tap_rows.specs.{AgencyMoments.written_moment, inside.WrittenTimes.written_of};
 ghost use Rattle.tap_views.specs.Layout.{moment_limit};
 
 use crate::agency::choice::{LocalClock, Unit};

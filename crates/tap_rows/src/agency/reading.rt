@@ -1,19 +1,18 @@
 //! What a row of an agency's CSV is read as.
 
-ghost use Rattle.std.specs.Prelude.{◌≡◌, ◌<◌, List, ℕ, All, IfOk, Some, length, map, take};
-ghost use Rattle.std.specs.List.{list_all, list_any};
 ghost use Rattle.csv.specs.Records.{field_at, fields_of};
 ghost use Rattle.sha2.specs.Sha256.{sha256};
-ghost use Rattle.uuid.specs.Text.{parsed};
-ghost use Rattle.tap_rows.specs.Agencies as Spec;
+ghost use Rattle.std.specs.List.{list_all, list_any};
+ghost use Rattle.std.specs.Prelude.{◌≡◌, ◌<◌, List, ℕ, All, IfOk, Some, length, map, take};
 ghost use Rattle.tap_rows.specs.AgencyRows.{IsParseOf, device_named, field, is_kept, is_one_rider};
 ghost use Rattle.tap_rows.specs.AgencyRows.{hashed, kept_reading, keyed, passes, passes_one};
 ghost use Rattle.tap_rows.specs.AgencyRows.{reading_by, tap_from, token_in, validator_in};
-ghost use Rattle.tap_rows.specs.AgencyRows.{validator_numbered};
+ghost use Rattle.tap_rows.specs.{AgencyRows.validator_numbered, Devices.devices_of};
 ghost use Rattle.tap_rows.specs.Numbers.{whole_number_in};
-ghost use Rattle.tap_rows.specs.Devices.{devices_of};
 ghost use Rattle.tap_rows.specs.inside.Positions.{ArePositions, layout_of, test_of};
 ghost use Rattle.tap_views.specs.Layout.{moment_limit};
+ghost use Rattle.uuid.specs.Text.{parsed};
+ghost use Rattle.tap_rows.specs.Agencies as Spec;
 
 use crate::agency::choice::Choice;
 use crate::agency::formatted::moment_under;

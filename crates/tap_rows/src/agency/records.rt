@@ -1,9 +1,8 @@
 //! The records of a CSV text, one after the other.
 
-ghost use Rattle.std.specs.Prelude.{◌≡◌, ◌∷◌, ◌++◌, [], ℕ, List, true, false, IfOk};
 ghost use Rattle.csv.specs.Records.{fields_of};
-ghost use Rattle.tap_rows.specs.AgencyTexts.{HasRecords};
-ghost use Rattle.tap_rows.specs.inside.RecordReaders.{HasConsumed};
+ghost use Rattle.std.specs.Prelude.{◌≡◌, ◌∷◌, ◌++◌, [], ℕ, List, true, false, IfOk};
+ghost use Rattle.tap_rows.specs.{AgencyTexts.HasRecords, inside.RecordReaders.HasConsumed};
 
 use crate::agency::choice::Separator;
 use csv::{ByteRecord, Reader, ReaderBuilder};

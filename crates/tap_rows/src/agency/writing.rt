@@ -1,13 +1,11 @@
 //! The rows of an agency's CSV, as an upload.
 
-ghost use Rattle.std.specs.Prelude.{◌≡◌, ◌<◌, ◌++◌, List, All, IfErr, IfOk, OnOk, flat_map};
 ghost use Rattle.csv.specs.Records.{fields_of};
+ghost use Rattle.std.specs.Prelude.{◌≡◌, ◌<◌, ◌++◌, List, All, IfErr, IfOk, OnOk, flat_map};
 ghost use Rattle.tap_rows.specs.Agencies.{IsAgencyFault, IsRowsEncoded, refusal_of, refusal_text};
-ghost use Rattle.tap_rows.specs.Agencies.{tap_of};
-ghost use Rattle.tap_rows.specs.inside.Growing.{IsGrown};
+ghost use Rattle.tap_rows.specs.{Agencies.tap_of, inside.Growing.IsGrown};
 ghost use Rattle.tap_rows.specs.inside.Positions.{ArePositions, IsHeadFault};
-ghost use Rattle.tap_views.specs.Layout.{moment_limit};
-ghost use Rattle.tap_views.specs.declared.encoder.TapFields.{TapFields};
+ghost use Rattle.tap_views.specs.{Layout.moment_limit, declared.encoder.TapFields.TapFields};
 
 use crate::agency::choice::{Choice, Separator};
 use crate::agency::fault::{AgencyFault, Wanted};

@@ -1,9 +1,8 @@
 //! The devices of rows, each with the next number.
 
-ghost use Rattle.std.specs.Prelude.{◌≡◌, OnOk};
 ghost use Rattle.csv.specs.Records.{fields_of};
-ghost use Rattle.tap_rows.specs.Devices.{devices_of};
-ghost use Rattle.tap_rows.specs.Numbering.{IsNumbered, with_row};
+ghost use Rattle.std.specs.Prelude.{◌≡◌, OnOk};
+ghost use Rattle.tap_rows.specs.{Devices.devices_of, Numbering.IsNumbered, Numbering.with_row};
 ghost use Rattle.tap_rows.specs.inside.Positions.{layout_of};
 
 use crate::agency::{

@@ -1,11 +1,10 @@
 //! Devices, and the validator of each.
 
+ghost use Rattle.csv.specs.Records.{fields_of};
 ghost use Rattle.std.specs.Prelude.{◌≡◌, ◌∷◌, ◌++◌, [], None, IfErr, IfOk, OnOk, option_map};
 ghost use Rattle.std.specs.Prelude.{slice_get};
-ghost use Rattle.csv.specs.Records.{fields_of};
-ghost use Rattle.tap_rows.specs.Numbering.{device_row, device_table_text, greatest};
-ghost use Rattle.tap_rows.specs.Numbering.{with_name};
 ghost use Rattle.tap_rows.specs.Devices.{Device, IsDeviceRow, devices_of, validator_of};
+ghost use Rattle.tap_rows.specs.Numbering.{device_row, device_table_text, greatest, with_name};
 ghost use Rattle.tap_rows.specs.inside.DeviceRows.{IsRowFault, IsRowOfNone};
 
 use crate::agency::{Separator, field_in, text_of};

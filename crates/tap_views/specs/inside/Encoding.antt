@@ -1,9 +1,8 @@
 -- Encoding: what private functions alone cite.
-use Rattle.std.specs.Prelude.{◌≡◌, ℕ, ◌^◌, ◌<◌, length}
 use Rattle.byteorder.specs.Endian.{big_bytes}
+use Rattle.std.specs.Prelude.{◌≡◌, ℕ, ◌^◌, ◌<◌, length}
 use Rattle.tap_views.specs.Layout.{Tap}
-use Rattle.tap_views.specs.declared.encoder.TapFields.{TapFields}
-use Rattle.tap_views.specs.declared.encoder.Tap2Fields.{Tap2Fields}
+use Rattle.tap_views.specs.declared.encoder.{Tap2Fields.Tap2Fields, TapFields.TapFields}
 
 -- the tap that is written for these fields
 abbrev pub written : TapFields → Tap

@@ -1,16 +1,14 @@
 -- What is left to give of a file, as a function of its bytes: the view of the iterator, and of
 -- nothing else. Contracts say it by `IsParse`.
+use Rattle.std.specs.List.{range_with_len}
 use Rattle.std.specs.Prelude.{ℕ, zero, suc, ◌+◌, ◌==◌, nat_lt, not, ◌||◌, Bool, List, [], ◌∷◌}
 use Rattle.std.specs.Prelude.{length, map, take, drop, find, codes, Option, Some, None, Ok, Err}
-use Rattle.std.specs.List.{range_with_len}
 use Rattle.std.specs.Str.{bytes_eq}
-use Rattle.tap_views.specs.Layout.{moment_limit, Tap}
 use Rattle.tap_views.specs.Faults.{header, layout_in, count_in, flags_in, size_in, moment_in}
-use Rattle.tap_views.specs.Files.{ValidBatchesView, Item}
-use Rattle.tap_views.specs.inside.Records.{taps_in}
-use Rattle.tap_views.specs.declared.fault.LayoutFault.{LayoutFault}
-use Rattle.tap_views.specs.declared.fault.LayoutFault.TheVariants.{Short, Magic, Flags, TooMany}
-use Rattle.tap_views.specs.declared.fault.LayoutFault.TheVariants.{Length, Moment}
+use Rattle.tap_views.specs.{Files.ValidBatchesView, Files.Item, Layout.moment_limit, Layout.Tap}
+use Rattle.tap_views.specs.declared.fault.LayoutFault.{LayoutFault, TheVariants.Short}
+use Rattle.tap_views.specs.declared.fault.LayoutFault.TheVariants.{Magic, Flags, TooMany, Length}
+use Rattle.tap_views.specs.{declared.fault.LayoutFault.TheVariants.Moment, inside.Records.taps_in}
 
 -- the table's rows, with the fields that these bytes give them
 abbrev pub rows_of : List ℕ → List LayoutFault

@@ -1,11 +1,9 @@
 -- How the views see their bytes: a run of records of one width, each a tap. No contract that other
 -- crates read names these words.
-use Rattle.std.specs.Prelude.{◌≡◌, ℕ, zero, suc, ◌*◌, ◌≤◌, List, [], ◌∷◌, length, take, drop}
-use Rattle.std.specs.Prelude.{Option, Some, None}
-use Rattle.std.specs.List.{AllByRecursion}
-use Rattle.std.specs.Borrow.{Bor}
-use Rattle.tap_views.specs.Layout.{Tap, IsTap, Layout, Tap1, Tap2, IsLayout}
+use Rattle.std.specs.{Borrow.Bor, List.AllByRecursion, Prelude.◌≡◌, Prelude.ℕ, Prelude.zero}
+use Rattle.std.specs.Prelude.{suc, ◌*◌, ◌≤◌, List, [], ◌∷◌, length, take, drop, Option, Some, None}
 use Rattle.tap_views.specs.Faults.{width}
+use Rattle.tap_views.specs.Layout.{Tap, IsTap, Layout, Tap1, Tap2, IsLayout}
 
 -- the layout, by the validator that all taps of a batch share
 abbrev pub layout_of : Option (Bor (List ℕ)) → Layout

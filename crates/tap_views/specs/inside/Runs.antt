@@ -1,10 +1,7 @@
 -- Runs: what private functions alone cite.
-use Rattle.std.specs.Prelude.{◌≡◌, ℕ, ◌<◌, List, slice_get, Option, Some, None, flat_map}
-use Rattle.std.specs.Prelude.{option_to_list}
-use Rattle.std.specs.List.{AllByRecursion}
-use Rattle.std.specs.Borrow.{Bor}
-use Rattle.tap_views.specs.Layout.{Tap}
-use Rattle.tap_views.specs.Shards.{run_of}
+use Rattle.std.specs.{Borrow.Bor, List.AllByRecursion, Prelude.◌≡◌}
+use Rattle.std.specs.Prelude.{ℕ, ◌<◌, List, slice_get, Option, Some, None, flat_map, option_to_list}
+use Rattle.tap_views.specs.{Layout.Tap, Shards.run_of}
 
 -- if a run keeps its places, they are these
 abbrev pub ArePositionsKept : Option (Bor (List ℕ)) → List ℕ → Type 0

@@ -1,9 +1,8 @@
 -- PosixRule: what private functions alone cite.
-use Rattle.std.specs.Prelude.{IsSome, Option, Some, None}
-use Rattle.std.specs.Option.{option_and_then}
-use Rattle.jiff.specs.ZoneView.{plain_zone}
-use Rattle.jiff.specs.declared.tz.timezone.TimeZone.{TimeZone as Zone}
+use Rattle.jiff.specs.{ZoneView.plain_zone, declared.tz.timezone.TimeZone.TimeZone as Zone}
 use Rattle.jiff_tz.specs.declared.posix.TimeZone.{TimeZone as PosixRule}
+use Rattle.std.specs.Option.{option_and_then}
+use Rattle.std.specs.Prelude.{IsSome, Option, Some, None}
 use Rattle.tariffs.specs.PosixRule.{posix_rule}
 
 -- the rule of a zone, if there is one

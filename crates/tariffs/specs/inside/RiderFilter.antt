@@ -1,8 +1,7 @@
 -- Marks: what private functions alone cite.
-use Rattle.std.specs.Prelude.{◌≡◌, ℕ, Bool, true, All, List}
 use Rattle.std.specs.Map.{keys_of}
-use Rattle.tap_views.specs.Token.{Fits}
-use Rattle.tap_views.specs.declared.token.Token.{Token}
+use Rattle.std.specs.Prelude.{◌≡◌, ℕ, Bool, true, All, List}
+use Rattle.tap_views.specs.{Token.Fits, declared.token.Token.Token}
 use Rattle.tariffs.specs.RiderFilter.{may_contain}
 
 -- tokens of two numbers of eight bytes each, all of them marked

@@ -1,14 +1,9 @@
 -- What holds of the tariffs of every fare table, and what contracts see of them.
+use Rattle.std.specs.{Arc.arc_value, Cmp.Lexicographic.pointwise, List.list_any}
 use Rattle.std.specs.Prelude.{◌≡◌, ℕ, ◌<◌, ◌≤◌, suc, if◌then◌else◌, nat_le, List, [], ◌∷◌, All}
-use Rattle.std.specs.Prelude.{◌==◌, ◌||◌, not}
-use Rattle.std.specs.Prelude.{Bool, true, false, length, map, Option, Some, None}
-use Rattle.std.specs.Arc.{arc_value}
-use Rattle.std.specs.Cmp.Lexicographic.{pointwise}
-use Rattle.std.specs.List.{list_any}
-use Rattle.tariffs.specs.Names.{same_name}
+use Rattle.std.specs.Prelude.{◌==◌, ◌||◌, not, Bool, true, false, length, map, Option, Some, None}
 use Rattle.tariffs.specs.Fares.{Fares, names_price}
-use Rattle.tariffs.specs.TableMeaning.{TableMeaning}
-use Rattle.tariffs.specs.TariffView.{TariffView}
+use Rattle.tariffs.specs.{Names.same_name, TableMeaning.TableMeaning, TariffView.TariffView}
 use Rattle.tariffs.specs.declared.table.DatedTariff.{DatedTariff}
 
 -- the moment from which a tariff is valid that follows others, and what its text means

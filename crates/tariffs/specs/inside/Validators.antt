@@ -1,9 +1,7 @@
 -- Validators: what private functions alone cite.
-use Rattle.std.specs.Prelude.{◌≡◌, ℕ, ◌+◌, ◌&&◌, Bool, true, false, List, [], ◌∷◌}
-use Rattle.std.specs.Prelude.{length, map, nat_le, nat_lt}
-use Rattle.std.specs.List.{AllWithin}
-use Rattle.tariffs.specs.declared.validators.RangeRest.{RangeRest}
-use Rattle.tariffs.specs.Validators.{are_disjoint}
+use Rattle.std.specs.{List.AllWithin, Prelude.◌≡◌, Prelude.ℕ, Prelude.◌+◌}
+use Rattle.std.specs.Prelude.{◌&&◌, Bool, true, false, List, [], ◌∷◌, length, map, nat_le, nat_lt}
+use Rattle.tariffs.specs.{Validators.are_disjoint, declared.validators.RangeRest.RangeRest}
 
 -- each number is below the next one
 abbrev pub is_increasing : List ℕ → Bool

@@ -1,7 +1,6 @@
 -- Texts in JSON and in CSV.
-use Rattle.std.specs.Prelude.{ℕ, ◌+◌, ◌%◌, ◌/◌, Bool, List, [], ◌∷◌, ◌++◌}
-use Rattle.std.specs.Prelude.{flat_map, if◌then◌else◌, ◌||◌, ◌==◌, nat_lt}
-use Rattle.std.specs.List.{list_any}
+use Rattle.std.specs.{List.list_any, Prelude.ℕ, Prelude.◌+◌, Prelude.◌%◌, Prelude.◌/◌, Prelude.Bool}
+use Rattle.std.specs.Prelude.{List, [], ◌∷◌, ◌++◌, flat_map, if◌then◌else◌, ◌||◌, ◌==◌, nat_lt}
 
 -- the hexadecimal digit of a number below 16
 abbrev pub hex_digit : ℕ → ℕ

@@ -1,15 +1,13 @@
 -- What private functions of `corrections` say.
-use Rattle.std.specs.Prelude.{◌≡◌, ◌⊎◌, ℕ, Bool, List, [], Result, Ok, Err}
 use Rattle.frame.specs.declared.outside.Outside.{Outside}
-use Rattle.frame.specs.declared.outside.Outside.TheVariants as outside
 use Rattle.ledger_changes.specs.Given.{HasStarted, IsAllGiven, IsFaultOf}
 use Rattle.ledger_changes.specs.declared.fault.CorrectionsFault.TheVariants.{Line, Unread, NoMemory}
-use Rattle.tool_tasks.specs.Corrections.{IsRemovedNote}
-use Rattle.tool_tasks.specs.declared.corrections.Stopped.{Stopped}
+use Rattle.std.specs.Prelude.{◌≡◌, ◌⊎◌, ℕ, Bool, List, [], Result, Ok, Err}
+use Rattle.tool_tasks.specs.{Corrections.IsRemovedNote, declared.corrections.Stopped.Stopped}
 use Rattle.tool_tasks.specs.declared.corrections.Stopped.TheVariants.{Fault, Write}
-use Rattle.tool_tasks.specs.declared.stops.Halt.{Halt}
-use Rattle.tool_tasks.specs.declared.streams.Noted.{Noted}
+use Rattle.tool_tasks.specs.declared.{stops.Halt.Halt, streams.Noted.Noted}
 use Rattle.world.specs.Run.{Calls, Run, with_cut, with_written}
+use Rattle.frame.specs.declared.outside.Outside.TheVariants as outside
 use Rattle.world.specs.declared.faults.LoadFault.TheVariants as load
 
 abbrev pub IsStoppedBy : Stopped → Calls → Calls → Run → Run → Type 0

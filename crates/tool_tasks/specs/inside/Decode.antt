@@ -1,8 +1,7 @@
 -- What one more upload adds: what private functions alone cite.
-use Rattle.std.specs.Prelude.{◌≡◌, ◌⊎◌, ℕ, List, [], ◌∷◌}
 use Rattle.frame.specs.Given.{Given, load_of, with_loads, with_note, with_text}
-use Rattle.frame.specs.Outsides.{Leaves, StopsIn}
-use Rattle.frame.specs.declared.outside.Outside.{Outside}
+use Rattle.frame.specs.{Outsides.Leaves, Outsides.StopsIn, declared.outside.Outside.Outside}
+use Rattle.std.specs.Prelude.{◌≡◌, ◌⊎◌, ℕ, List, [], ◌∷◌}
 use Rattle.tool_tasks.specs.Decode.{Decoded}
 use Rattle.world.specs.Run.{Run}
 

@@ -1,26 +1,19 @@
 -- What an encoding of CSVs has loaded and made so far: what private functions alone cite.
-use Rattle.std.specs.Prelude.{◌≡◌, ⊤, ℕ, Bool, Contains, Err, List, [], None, Ok, Option, Result, Some}
-use Rattle.std.specs.Prelude.{map, option_map, string_bytes}
-use Rattle.jiff_tz.specs.declared.timezone.TimeZone.{TimeZone}
-use Rattle.jiff_tz.specs.declared.timezone.TimeZone.TheVariants as zones
-use Rattle.jiff_tz.specs.declared.tzif.Tzif.{Tzif}
-use Rattle.tap_rows.specs.Devices.{Device, devices_of}
-use Rattle.tap_rows.specs.declared.agency.choice.Choice.{Choice}
-use Rattle.tap_rows.specs.declared.agency.choice.Fold.{Fold}
-use Rattle.tap_rows.specs.declared.agency.choice.LocalClock.{LocalClock}
 use Rattle.frame.specs.Outsides.{Stops}
-use Rattle.tool_tasks.specs.EncodeRows.{Csv, Encoded, IsChoice, IsRowsUpload, IsWrongCsv, IsWrongText}
-use Rattle.tool_tasks.specs.EncodeRows.{Texts, later_loads, load_csv, word_in}
+use Rattle.jiff_tz.specs.declared.{timezone.TimeZone.TimeZone, tzif.Tzif.Tzif}
+use Rattle.std.specs.Prelude.{◌≡◌, ⊤, ℕ, Bool, Contains, Err, List, [], None, Ok, Option, Result}
+use Rattle.std.specs.Prelude.{Some, map, option_map, string_bytes}
+use Rattle.tap_rows.specs.Devices.{Device, devices_of}
+use Rattle.tap_rows.specs.declared.agency.choice.{Choice.Choice, Fold.Fold, LocalClock.LocalClock}
+use Rattle.tool_tasks.specs.EncodeRows.{Csv, Encoded, IsChoice, IsRowsUpload, IsWrongCsv}
+use Rattle.tool_tasks.specs.EncodeRows.{IsWrongText, Texts, later_loads, load_csv, word_in}
 use Rattle.tool_tasks.specs.declared.encode_csvs.Encoded.{Encoded as Held}
-use Rattle.tool_tasks.specs.declared.encode_loads.Csv.{Csv as HeldCsv}
-use Rattle.tool_tasks.specs.declared.encode_loads.Texts.{Texts as HeldTexts}
-use Rattle.tool_tasks.specs.declared.prepared.NewFile.{NewFile}
-use Rattle.tool_tasks.specs.declared.prepared.Prepared.{Prepared}
-use Rattle.tool_tasks.specs.declared.stops.Halt.{Halt}
-use Rattle.tool_tasks.specs.inside.Prepared.{whole_of}
+use Rattle.tool_tasks.specs.declared.encode_loads.{Csv.Csv as HeldCsv, Texts.Texts as HeldTexts}
+use Rattle.tool_tasks.specs.declared.prepared.{NewFile.NewFile, Prepared.Prepared}
+use Rattle.tool_tasks.specs.{declared.stops.Halt.Halt, inside.Prepared.whole_of}
 use Rattle.tool_words.specs.declared.task.RowsWords.{RowsWords}
-use Rattle.world.specs.Origins.{with_loads}
-use Rattle.world.specs.Run.{Run}
+use Rattle.world.specs.{Origins.with_loads, Run.Run}
+use Rattle.jiff_tz.specs.declared.timezone.TimeZone.TheVariants as zones
 
 -- ---- values, as contracts see them
 abbrev pub csv_of : HeldCsv → Csv

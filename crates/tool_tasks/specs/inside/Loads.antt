@@ -1,9 +1,7 @@
 -- Files that are loaded by their words.
+use Rattle.frame.specs.{Outsides.Leaves, declared.outside.Outside.Outside}
 use Rattle.std.specs.Prelude.{⊤, ℕ, Contains, List, None, Option, Some}
-use Rattle.frame.specs.Outsides.{Leaves}
-use Rattle.frame.specs.declared.outside.Outside.{Outside}
-use Rattle.world.specs.Origins.{with_loads}
-use Rattle.world.specs.Run.{Load, Run}
+use Rattle.world.specs.{Origins.with_loads, Run.Load, Run.Run}
 
 -- one of the words is the name, if there is one
 abbrev pub IsNameIn : List (List ℕ) → Option (List ℕ) → Type 0

@@ -1,12 +1,11 @@
 -- What private functions of `merge` say.
-use Rattle.std.specs.Prelude.{◌≡◌, ℕ, List, [], Option, Result, Ok, Err, map}
 use Rattle.frame.specs.declared.outside.Outside.{Outside}
-use Rattle.frame.specs.declared.outside.Outside.TheVariants as outside
 use Rattle.part_texts.specs.declared.fault.MergeFault.{MergeFault}
 use Rattle.part_texts.specs.declared.fault.MergeFault.TheVariants.{Line, Unread, Write, NoMemory}
-use Rattle.tool_tasks.specs.declared.stops.Halt.{Halt}
-use Rattle.tool_tasks.specs.declared.streams.Noted.{Noted}
+use Rattle.std.specs.Prelude.{◌≡◌, ℕ, List, [], Option, Result, Ok, Err, map}
+use Rattle.tool_tasks.specs.declared.{stops.Halt.Halt, streams.Noted.Noted}
 use Rattle.world.specs.Run.{Calls}
+use Rattle.frame.specs.declared.outside.Outside.TheVariants as outside
 use Rattle.world.specs.declared.faults.LoadFault.TheVariants as load
 
 abbrev pub names_of : List Calls → List (Option (List ℕ))

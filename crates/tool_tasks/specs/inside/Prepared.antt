@@ -1,11 +1,9 @@
 -- What is done of what was prepared: what private functions alone cite.
-use Rattle.std.specs.Prelude.{◌≡◌, ⊤, ℕ, Contains, List, [], ◌∷◌, None, Option, Some, Result, Ok, Err}
-use Rattle.std.specs.Prelude.{string_bytes}
 use Rattle.frame.specs.Given.{Given, file_of, gave, with_files, with_note, with_text}
 use Rattle.frame.specs.Outsides.{IsStoppedIn}
-use Rattle.tool_tasks.specs.declared.prepared.Partial.{Partial}
-use Rattle.tool_tasks.specs.declared.prepared.NewFile.{NewFile}
-use Rattle.tool_tasks.specs.declared.prepared.Prepared.{Prepared}
+use Rattle.std.specs.Prelude.{◌≡◌, ⊤, ℕ, Contains, List, [], ◌∷◌, None, Option, Some, Result, Ok}
+use Rattle.std.specs.Prelude.{Err, string_bytes}
+use Rattle.tool_tasks.specs.declared.prepared.{NewFile.NewFile, Partial.Partial, Prepared.Prepared}
 use Rattle.tool_tasks.specs.declared.stops.Halt.{Halt}
 use Rattle.world.specs.Run.{Load, Named, Run, with_flushed}
 

@@ -1,11 +1,9 @@
 -- What a run over files that are read in pieces did, before the output is flushed.
-use Rattle.std.specs.Prelude.{◌≡◌, ◌⊎◌, ⊤, ℕ, List, [], ◌∷◌, ◌++◌, Result, Ok, Err}
-use Rattle.frame.specs.Names.{file_named}
-use Rattle.frame.specs.declared.outside.Outside.{Outside}
+use Rattle.frame.specs.{Names.file_named, declared.outside.Outside.Outside}
 use Rattle.frame.specs.declared.outside.Outside.TheVariants.{NoMemory, Unread, Unwritten}
+use Rattle.std.specs.Prelude.{◌≡◌, ◌⊎◌, ⊤, ℕ, List, [], ◌∷◌, Result, Ok, Err}
 use Rattle.tool_tasks.specs.Streams.{HasFailed, IsKept, LeavesOf}
-use Rattle.tool_tasks.specs.declared.stops.Halt.{Halt}
-use Rattle.tool_tasks.specs.declared.streams.Noted.{Noted}
+use Rattle.tool_tasks.specs.declared.{stops.Halt.Halt, streams.Noted.Noted}
 use Rattle.world.specs.Run.{Calls, Run, with_cut, with_flushed, with_said, with_written}
 use Rattle.world.specs.declared.faults.WriteFault.{WriteFault}
 

@@ -1,7 +1,6 @@
 -- How a kind of export is read, as contracts see it.
 use Rattle.std.specs.Prelude.{option_map}
-use Rattle.tool_words.specs.Columns.{Export}
-use Rattle.tool_words.specs.Tasks.{condition_of, text_in}
+use Rattle.tool_words.specs.{Columns.Export, Tasks.condition_of, Tasks.text_in}
 use Rattle.tool_words.specs.declared.encode_words.Export.{Export as Words}
 
 abbrev pub export_by : Words → Export

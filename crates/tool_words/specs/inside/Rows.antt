@@ -1,14 +1,11 @@
 -- The table of a subcommand's arguments, as clap's rules.
-use Rattle.std.specs.Prelude.{List, [], ◌∷◌, ◌++◌, map}
 use Rattle.clap.specs.Words.{App, Rule, Shape, Text, new_app}
 use Rattle.program_manners.specs.Words.{flag_rule, list_option, null_flag, option_rule}
 use Rattle.program_manners.specs.Words.{repeated_rule}
+use Rattle.std.specs.Prelude.{List, [], ◌∷◌, ◌++◌, map}
 use Rattle.tool_words.specs.ToolLine.{needed, range_rule, subcommand, word_rule, words_rule}
-use Rattle.tool_words.specs.declared.arguments.Files.{Files}
-use Rattle.tool_words.specs.declared.arguments.Files.TheVariants.{Unlisted}
-use Rattle.tool_words.specs.declared.arguments.Row.{Row}
-use Rattle.tool_words.specs.declared.arguments.Subcommand.{Subcommand}
-use Rattle.tool_words.specs.declared.arguments.Takes.{Takes}
+use Rattle.tool_words.specs.declared.arguments.Files.{Files, TheVariants.Unlisted}
+use Rattle.tool_words.specs.declared.arguments.{Row.Row, Subcommand.Subcommand, Takes.Takes}
 use Rattle.tool_words.specs.declared.arguments.Takes.TheVariants as takes
 
 -- the rule of an argument of this name

@@ -1,7 +1,6 @@
 -- What one more byte adds to a ghost copy.
 use Rattle.world.specs.GhostBytes.{BytesView, no_bytes, with_byte}
-use Rattle.world.specs.declared.ghost_bytes.Copying.{Copying}
-use Rattle.world.specs.declared.ghost_bytes.Copying.TheVariants.{Start, Byte}
+use Rattle.world.specs.declared.ghost_bytes.Copying.{Copying, TheVariants.Start, TheVariants.Byte}
 
 abbrev pub after_byte : Copying → BytesView
 after_byte Start = no_bytes

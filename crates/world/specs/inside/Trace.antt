@@ -1,13 +1,12 @@
 -- What a system call adds to those before it.
 use Rattle.std.specs.Prelude.{None, Some, drop}
 use Rattle.world.specs.Run.{Calls, no_calls, one_more, after_joined, after_made, after_opened}
-use Rattle.world.specs.Run.{after_read}
-use Rattle.world.specs.Run.{with_cut, with_flushed, with_said, with_too_long}
+use Rattle.world.specs.Run.{after_read, with_cut, with_flushed, with_said, with_too_long}
 use Rattle.world.specs.Run.{with_unmade, with_unread, with_written}
 use Rattle.world.specs.declared.trace.Call.{Call}
 use Rattle.world.specs.declared.trace.Call.TheVariants.{Start, Opened, Input, Read, Stopped, Unread}
-use Rattle.world.specs.declared.trace.Call.TheVariants.{Unopened, Wrote, Cut, Flushed, Said}
-use Rattle.world.specs.declared.trace.Call.TheVariants.{Made, Unmade, Joined}
+use Rattle.world.specs.declared.trace.Call.TheVariants.{Unopened, Wrote, Cut, Flushed, Said, Made}
+use Rattle.world.specs.declared.trace.Call.TheVariants.{Unmade, Joined}
 
 abbrev pub after_call : Call → Calls
 after_call Start = no_calls

@@ -1,7 +1,6 @@
 -- Both are the one division of a list by a test.
-use Rattle.account_rule.specs.Trips.{trips}
-use Rattle.account_rule.specs.Windows.{windows}
 use Rattle.account_rule.proofs.BlocksUnique.{cut_iff}
+use Rattle.account_rule.specs.{Trips.trips, Windows.windows}
 use Rattle.account_rule.proofs.laws.only_blocks.Goals as goal
 
 pub returns-clause-trips : goal.returns-clause-trips

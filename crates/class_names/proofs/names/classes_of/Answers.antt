@@ -1,11 +1,10 @@
 -- Each key adds its class to those that are kept.
 use Rattle.std.proofs.Common.{◌∙◌, ℕ, List, Bool, Option, String, Global, ap, sym, string_bytes}
-use Rattle.std.specs.Prelude.{◌&&◌}
-use Rattle.toml.specs.View.{members_view, view}
-use Rattle.toml.specs.declared.value.Value.{Value}
+use Rattle.class_names.proofs.Classes.{first_first, first_none}
 use Rattle.class_names.specs.Classes.{are_plain, class_among, class_at, first_class}
 use Rattle.class_names.specs.Names.{rider_by}
-use Rattle.class_names.proofs.Classes.{first_first, first_none}
+use Rattle.std.specs.Prelude.{◌&&◌}
+use Rattle.toml.specs.{View.members_view, View.view, declared.value.Value.Value}
 use Rattle.class_names.proofs.names.classes_of.Goals as goal
 
 pub loop-key-preserved : goal.loop-key-preserved

@@ -1,6 +1,5 @@
+use Rattle.fare_caps.proofs.{BillLemmas.rides-bill, CeilingLemmas.windows-sum}
 use Rattle.fare_caps.specs.CapWindows.{charged}
-use Rattle.fare_caps.proofs.BillLemmas.{rides-bill}
-use Rattle.fare_caps.proofs.CeilingLemmas.{windows-sum}
 use Rattle.fare_caps.proofs.laws.windows_add_up.Goals as goal
 
 pub returns-clause-windows : goal.returns-clause-windows

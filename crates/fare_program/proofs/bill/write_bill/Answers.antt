@@ -1,6 +1,5 @@
+use Rattle.fare_program.proofs.{Billed.shows_bill, Ends.gives_by}
 use Rattle.fare_program.specs.inside.Options.{request_of}
-use Rattle.fare_program.proofs.Ends.{gives_by}
-use Rattle.fare_program.proofs.Billed.{shows_bill}
 use Rattle.fare_program.proofs.bill.write_bill.Goals as goal
 
 pub write_billed-requires : goal.write_billed-requires

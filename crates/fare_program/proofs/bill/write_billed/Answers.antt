@@ -1,14 +1,12 @@
 use Rattle.std.proofs.Common.{◌≡◌, ◌∙◌, ap, arith, map, refl}
-use Rattle.std.proofs.lemmas.Result.{IfErr-weaker, on_ok_weaker}
-use Rattle.histories.specs.Sums.{Sums, sums, sums_of}
-use Rattle.histories.specs.Shown.{validator_sum}
-use Rattle.histories.specs.SumsByKey.{sums_by_validator}
-use Rattle.histories.specs.TalliesByKey.{HasRoom}
-use Rattle.histories.proofs.SumsLemmas.{sums-taps}
-use Rattle.report_texts.specs.Report.{report}
-use Rattle.tap_views.specs.UploadEnds.{are_posted}
-use Rattle.fare_program.specs.inside.Fault.{ended_as}
 use Rattle.fare_program.proofs.Ends.{gives_by, gives_printed}
+use Rattle.fare_program.specs.inside.Fault.{ended_as}
+use Rattle.histories.proofs.SumsLemmas.{sums-taps}
+use Rattle.histories.specs.{Shown.validator_sum, Sums.Sums, Sums.sums, Sums.sums_of}
+use Rattle.histories.specs.{SumsByKey.sums_by_validator, TalliesByKey.HasRoom}
+use Rattle.report_texts.specs.Report.{report}
+use Rattle.std.proofs.lemmas.Result.{IfErr-weaker, on_ok_weaker}
+use Rattle.tap_views.specs.UploadEnds.{are_posted}
 use Rattle.fare_program.proofs.bill.write_billed.Goals as goal
 
 pub totals-totals-requires : goal.totals-totals-requires

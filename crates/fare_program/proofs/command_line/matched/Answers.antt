@@ -1,10 +1,9 @@
-use Rattle.std.proofs.Common.{◌≡◌, ◌∙◌, true, refl}
-use Rattle.std.proofs.Common.{ap, subst, map, string_bytes}
-use Rattle.std.proofs.lemmas.Result.{IfOk-weaker}
-use Rattle.clap.specs.Words.{App, FailsBy, app_of, fault_of, is_simple}
-use Rattle.clap.specs.Words.{is_simple_and_free, found_of, matches_of, rows_of}
+use Rattle.std.proofs.Common.{◌≡◌, ◌∙◌, true, refl, ap, subst, map, string_bytes}
 use Rattle.clap.proofs.OnLiterals.{clap_on_literals}
+use Rattle.clap.specs.Words.{App, FailsBy, app_of, fault_of, is_simple, is_simple_and_free}
+use Rattle.clap.specs.Words.{found_of, matches_of, rows_of}
 use Rattle.fare_program.specs.Options.{program}
+use Rattle.std.proofs.lemmas.Result.{IfOk-weaker}
 use Rattle.fare_program.proofs.command_line.matched.Goals as goal
 
 program_is_simple : is_simple program ≡ true

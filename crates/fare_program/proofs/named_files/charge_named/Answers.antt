@@ -1,11 +1,8 @@
 use Rattle.std.proofs.Common.{◌<◌, [], arith, ap, inl, inr, length}
-use Rattle.std.proofs.lemmas.Result.{IfErr-weaker}
-use Rattle.fare_program.specs.inside.Fault.{IsOfOutput, IsRightOfUploads}
-use Rattle.fare_program.specs.inside.Options.{request_of}
-use Rattle.fare_program.proofs.Causes.{early}
-use Rattle.fare_program.proofs.Ends.{gives_by}
-use Rattle.fare_program.proofs.PostedTexts.{settled_request}
+use Rattle.fare_program.proofs.{Causes.early, Ends.gives_by, PostedTexts.settled_request}
 use Rattle.fare_program.proofs.Prefetched.{drawn_files, read_files}
+use Rattle.fare_program.specs.inside.{Fault.IsOfOutput, Fault.IsRightOfUploads, Options.request_of}
+use Rattle.std.proofs.lemmas.Result.{IfErr-weaker}
 use Rattle.fare_program.proofs.named_files.charge_named.Goals as goal
 
 pub returns-then-options-clause-ends : goal.returns-then-options-clause-ends

@@ -1,5 +1,4 @@
-use Rattle.fare_program.proofs.Ends.{started_of}
-use Rattle.fare_program.proofs.Prefetched.{charged_joined}
+use Rattle.fare_program.proofs.{Ends.started_of, Prefetched.charged_joined}
 use Rattle.fare_program.proofs.named_files.charge_prefetched.Goals as goal
 
 pub returns-in-Ok-clause-ends : goal.returns-in-Ok-clause-ends

@@ -1,8 +1,7 @@
 use Rattle.std.proofs.Common.{ap, map}
-use Rattle.std.proofs.lemmas.Result.{IfErr-weaker}
-use Rattle.fare_program.specs.inside.Options.{request_of}
-use Rattle.fare_program.specs.Parts.{report_over}
 use Rattle.fare_program.proofs.Ends.{gives_by, unwritten}
+use Rattle.fare_program.specs.{Parts.report_over, inside.Options.request_of}
+use Rattle.std.proofs.lemmas.Result.{IfErr-weaker}
 use Rattle.fare_program.proofs.part.write_report.Goals as goal
 
 pub returns-in-Ok-part_bill-clause-ends : goal.returns-in-Ok-part_bill-clause-ends

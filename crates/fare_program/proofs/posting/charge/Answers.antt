@@ -1,14 +1,12 @@
 use Rattle.std.proofs.Common.{◌≡◌, ◌∙◌, ℕ, List, [], Vec, Global, ap, length, map}
-use Rattle.std.specs.Prelude.{slice_index_or}
-use Rattle.std.proofs.lemmas.List.{length-map}
-use Rattle.world.specs.Origins.{memory}
-use Rattle.world.specs.Run.{Run}
+use Rattle.fare_program.proofs.{Ends.gives_by, PostedTexts.settled_request}
 use Rattle.fare_program.specs.inside.Options.{request_of}
 use Rattle.fare_service.proofs.UploadFileSource.{known_files}
-use Rattle.settlement.specs.Reading.{AreRead}
 use Rattle.settlement.proofs.LoadedFiles.{loaded_files}
-use Rattle.fare_program.proofs.Ends.{gives_by}
-use Rattle.fare_program.proofs.PostedTexts.{settled_request}
+use Rattle.settlement.specs.Reading.{AreRead}
+use Rattle.std.proofs.lemmas.List.{length-map}
+use Rattle.std.specs.Prelude.{slice_index_or}
+use Rattle.world.specs.{Origins.memory, Run.Run}
 use Rattle.fare_program.proofs.posting.charge.Goals as goal
 
 abbrev bytes_in : Vec ℕ Global → List ℕ

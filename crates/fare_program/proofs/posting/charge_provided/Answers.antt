@@ -1,13 +1,11 @@
 use Rattle.std.proofs.Common.{◌∙◌, ap}
-use Rattle.std.proofs.lemmas.Result.{IfErr-weaker}
+use Rattle.fare_program.proofs.{Causes.of_output, Ends.gives_by, Ends.gives_printed, Ends.unwritten}
+use Rattle.fare_program.proofs.PostedTexts.{live_request}
+use Rattle.fare_program.specs.inside.{Fault.IsRightOfUploads, Fault.ended_as, Options.request_of}
 use Rattle.fare_service.specs.Headline.{drawn_by}
-use Rattle.fare_program.specs.inside.Fault.{IsRightOfUploads, ended_as}
-use Rattle.fare_program.specs.inside.Options.{request_of}
+use Rattle.std.proofs.lemmas.Result.{IfErr-weaker}
 use Rattle.tap_views.specs.UploadEnds.{are_posted}
 use Rattle.world.specs.Run.{Calls, Run, with_all}
-use Rattle.fare_program.proofs.Causes.{of_output}
-use Rattle.fare_program.proofs.Ends.{gives_by, gives_printed, unwritten}
-use Rattle.fare_program.proofs.PostedTexts.{live_request}
 use Rattle.fare_program.proofs.posting.charge_provided.Goals as goal
 
 pub returns-clause-ends : goal.returns-clause-ends

@@ -1,9 +1,7 @@
 use Rattle.std.proofs.Common.{arith, inl, length, map}
-use Rattle.std.proofs.lemmas.List.{length-map}
-use Rattle.std.proofs.lemmas.Result.{IfErr-weaker}
+use Rattle.fare_program.proofs.{Causes.many_named, Causes.right_uploads, Ends.gives_by}
 use Rattle.fare_program.specs.inside.Options.{request_of}
-use Rattle.fare_program.proofs.Causes.{many_named, right_uploads}
-use Rattle.fare_program.proofs.Ends.{gives_by}
+use Rattle.std.proofs.lemmas.{List.length-map, Result.IfErr-weaker}
 use Rattle.fare_program.proofs.program.charge_loaded.Goals as goal
 
 pub returns-in-Ok-clause-ends : goal.returns-in-Ok-clause-ends

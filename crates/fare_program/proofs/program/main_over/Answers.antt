@@ -1,24 +1,18 @@
-use Rattle.std.proofs.Common.{◌≡◌, ◌≤◌, ℕ, suc, zero, Bool, List, None, Option, Some, arith}
-use Rattle.std.proofs.Common.{inl, inr, map, refl, subst}
-use Rattle.std.specs.Prelude.{◌≢◌, ◌⊎◌, string_bytes}
-use Rattle.std.proofs.KnownBytes.{Appends-kept, Keeps-refl}
+use Rattle.std.proofs.Common.{◌≡◌, ◌≤◌, ℕ, suc, zero, Bool, List, None, Option, Some, arith, inl}
+use Rattle.std.proofs.Common.{inr, map, refl, subst}
 use Rattle.clap.specs.Words.{IsAmong, Text, fault_of, kind_of}
-use Rattle.clap.specs.declared.error.kind.ErrorKind.{ErrorKind}
-use Rattle.clap.specs.declared.error.kind.ErrorKind.TheVariants.{OutOfMemory}
-use Rattle.fare_program.specs.Causes.{IsRightFault}
-use Rattle.fare_program.specs.Ends.{Did, Ends, EndsAnswer, EndsCommand, IsPartLedger, Leaves}
-use Rattle.fare_program.specs.Ends.{did_over}
-use Rattle.fare_program.specs.inside.Options.{request_of}
-use Rattle.fare_texts.proofs.Beginnings.{begins_whole}
-use Rattle.fare_program.specs.Options.{AsksForText, Parses, Request, program, request_by}
-use Rattle.fare_program.specs.Program.{Does}
-use Rattle.fare_program.specs.declared.fault.Fault.{Fault}
-use Rattle.fare_program.specs.declared.fault.Fault.TheVariants.{Late, NoMemory, Write}
-use Rattle.fare_program.specs.inside.Ends.{Stops}
-use Rattle.fare_program.specs.inside.Fault.{as_remembered}
-use Rattle.program_manners.specs.Words.{IsRequest}
-use Rattle.program_manners.specs.declared.output.WriteEnd.{WriteEnd}
+use Rattle.clap.specs.declared.error.kind.ErrorKind.{ErrorKind, TheVariants.OutOfMemory}
 use Rattle.fare_program.proofs.Usable.{words_read}
+use Rattle.fare_program.specs.{Causes.IsRightFault, Ends.Did}
+use Rattle.fare_program.specs.Ends.{Ends, EndsAnswer, EndsCommand, IsPartLedger, Leaves, did_over}
+use Rattle.fare_program.specs.Options.{AsksForText, Parses, Request, program, request_by}
+use Rattle.fare_program.specs.{Program.Does, declared.fault.Fault.Fault}
+use Rattle.fare_program.specs.declared.fault.Fault.TheVariants.{Late, NoMemory, Write}
+use Rattle.fare_program.specs.inside.{Ends.Stops, Fault.as_remembered, Options.request_of}
+use Rattle.fare_texts.proofs.Beginnings.{begins_whole}
+use Rattle.program_manners.specs.{Words.IsRequest, declared.output.WriteEnd.WriteEnd}
+use Rattle.std.proofs.KnownBytes.{Appends-kept, Keeps-refl}
+use Rattle.std.specs.Prelude.{◌≢◌, ◌⊎◌, string_bytes}
 use Rattle.fare_program.proofs.program.main_over.Goals as goal
 
 -- what follows of the kind of an error of words

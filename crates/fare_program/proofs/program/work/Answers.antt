@@ -1,9 +1,8 @@
 use Rattle.std.proofs.Common.{None, Some, ap, option_map}
-use Rattle.std.proofs.lemmas.Result.{IfErr-weaker}
-use Rattle.program_manners.specs.TableViews.{names_of}
+use Rattle.fare_program.proofs.{Ends.gives_by, Works.does_of}
 use Rattle.fare_program.specs.inside.Options.{request_of}
-use Rattle.fare_program.proofs.Ends.{gives_by}
-use Rattle.fare_program.proofs.Works.{does_of}
+use Rattle.program_manners.specs.TableViews.{names_of}
+use Rattle.std.proofs.lemmas.Result.{IfErr-weaker}
 use Rattle.fare_program.proofs.program.work.Goals as goal
 
 pub load_tables-requires : goal.load_tables-requires

@@ -1,9 +1,7 @@
 use Rattle.std.proofs.Common.{false, refl, true}
-use Rattle.std.proofs.lemmas.Result.{IfErr-weaker}
+use Rattle.fare_program.proofs.{Causes.right_sorted, Ends.gives_by, Ends.gives_kept, Works.does_by}
 use Rattle.fare_program.specs.inside.Options.{request_of}
-use Rattle.fare_program.proofs.Causes.{right_sorted}
-use Rattle.fare_program.proofs.Ends.{gives_by, gives_kept}
-use Rattle.fare_program.proofs.Works.{does_by}
+use Rattle.std.proofs.lemmas.Result.{IfErr-weaker}
 use Rattle.fare_program.proofs.program.work_by.Goals as goal
 
 pub returns-then-options-clause-ends : goal.returns-then-options-clause-ends

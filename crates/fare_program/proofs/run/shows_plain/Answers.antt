@@ -1,32 +1,24 @@
 use Rattle.std.proofs.Common.{◌≡◌, ◌<◌, ℕ, length, arith, List, [], ◌∷◌, Bool, true, false, Option}
 use Rattle.std.proofs.Common.{None, Some, All}
-use Rattle.std.proofs.lemmas.List.Elements.{All-nil, All-cons}
-use Rattle.tariffs.specs.Fares.{Fares}
-use Rattle.histories.specs.declared.entry.Entry.{Entry}
-use Rattle.tap_views.specs.declared.token.Token.{Token}
-use Rattle.fare_service.specs.Outcomes.{OutcomeView}
-use Rattle.report_texts.specs.OverHistory.{IsReportOver, IsStatementOver}
-use Rattle.fare_service.specs.Plain.{IsUncutGathering, WasNotCut}
-use Rattle.fare_service.specs.Printed.{IsStatementOf, report_of}
-use Rattle.tap_views.specs.declared.upload_end.UploadEnd.{UploadEnd}
-use Rattle.tap_views.specs.declared.upload_end.UploadEnd.TheVariants.{Posted, Refused, Cut, Undrawn}
-use Rattle.std.specs.Prelude.{MatchBool, slice_get}
-use Rattle.shard_book.specs.Book.{Book}
-use Rattle.fare_service.proofs.GatheredWork.{Given}
-use Rattle.fare_service.proofs.PlainSums.{own_all, same_report}
-use Rattle.fare_service.proofs.PlainUploads.{same_statement}
-use Rattle.tap_views.specs.Files.{HasUniqueParse}
-use Rattle.tap_views.proofs.Reading.{one_list_of_batches}
-use Rattle.fare_service.specs.Explained.{IsExplainedOf}
-use Rattle.fare_texts.specs.ExplainedForms.{IsExplainedOver}
-use Rattle.fare_texts.specs.declared.form.Form.{Form}
-use Rattle.tap_views.specs.UploadEnds.{are_posted}
-use Rattle.fare_service.specs.Ledger.{IsLedgerOfBooks}
-use Rattle.fare_texts.specs.Ledger.{IsLedgerOver}
-use Rattle.fare_program.specs.Options.{form_of}
-use Rattle.fare_program.specs.Program.{ShowsWith}
 use Rattle.fare_program.proofs.Ledgers.{ledger_same}
-use Rattle.fare_program.specs.Settling.{IsTextOver}
+use Rattle.fare_program.specs.{Options.form_of, Program.ShowsWith, Settling.IsTextOver}
+use Rattle.fare_service.proofs.{GatheredWork.Given, PlainSums.own_all, PlainSums.same_report}
+use Rattle.fare_service.proofs.PlainUploads.{same_statement}
+use Rattle.fare_service.specs.{Explained.IsExplainedOf, Ledger.IsLedgerOfBooks}
+use Rattle.fare_service.specs.{Outcomes.OutcomeView, Plain.IsUncutGathering, Plain.WasNotCut}
+use Rattle.fare_service.specs.Printed.{IsStatementOf, report_of}
+use Rattle.fare_texts.specs.{ExplainedForms.IsExplainedOver, Ledger.IsLedgerOver}
+use Rattle.fare_texts.specs.declared.form.Form.{Form}
+use Rattle.histories.specs.declared.entry.Entry.{Entry}
+use Rattle.report_texts.specs.OverHistory.{IsReportOver, IsStatementOver}
+use Rattle.shard_book.specs.Book.{Book}
+use Rattle.std.proofs.lemmas.List.Elements.{All-nil, All-cons}
+use Rattle.std.specs.Prelude.{MatchBool, slice_get}
+use Rattle.tap_views.proofs.Reading.{one_list_of_batches}
+use Rattle.tap_views.specs.{Files.HasUniqueParse, UploadEnds.are_posted}
+use Rattle.tap_views.specs.declared.{token.Token.Token, upload_end.UploadEnd.UploadEnd}
+use Rattle.tap_views.specs.declared.upload_end.UploadEnd.TheVariants.{Posted, Refused, Cut, Undrawn}
+use Rattle.tariffs.specs.Fares.{Fares}
 use Rattle.fare_program.proofs.run.shows_plain.Goals as goal
 
 -- what was posted was whole

@@ -1,9 +1,7 @@
 use Rattle.std.proofs.Common.{◌∙◌, ap}
+use Rattle.fare_program.proofs.{Billed.shows_ledger, Ends.gives_by, Ends.gives_printed}
+use Rattle.fare_program.specs.inside.{Fault.ended_as, Options.request_of}
 use Rattle.tap_views.specs.UploadEnds.{are_posted}
-use Rattle.fare_program.specs.inside.Options.{request_of}
-use Rattle.fare_program.specs.inside.Fault.{ended_as}
-use Rattle.fare_program.proofs.Billed.{shows_ledger}
-use Rattle.fare_program.proofs.Ends.{gives_by, gives_printed}
 use Rattle.fare_program.proofs.settle.write_ledger.Goals as goal
 
 pub write_settled_ledger-written-requires-clause-sorted : goal.write_settled_ledger-written-requires-clause-sorted

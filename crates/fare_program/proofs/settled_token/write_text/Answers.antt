@@ -1,12 +1,11 @@
 use Rattle.std.proofs.Common.{◌≡◌, ◌∙◌, ℕ, List, None, Some, false, sym}
-use Rattle.std.proofs.lemmas.Result.{on_ok_weaker}
-use Rattle.tariffs.specs.Fares.{Fares}
-use Rattle.histories.specs.declared.entry.Entry.{Entry}
-use Rattle.tap_views.specs.declared.token.Token.{Token}
-use Rattle.report_texts.specs.OverHistory.{IsStatementOver}
 use Rattle.fare_program.specs.Options.{Request, form_of}
-use Rattle.fare_program.specs.Settling.{ShowsOver}
-use Rattle.fare_program.specs.inside.Options.{request_of}
+use Rattle.fare_program.specs.{Settling.ShowsOver, inside.Options.request_of}
+use Rattle.histories.specs.declared.entry.Entry.{Entry}
+use Rattle.report_texts.specs.OverHistory.{IsStatementOver}
+use Rattle.std.proofs.lemmas.Result.{on_ok_weaker}
+use Rattle.tap_views.specs.declared.token.Token.{Token}
+use Rattle.tariffs.specs.Fares.{Fares}
 use Rattle.fare_program.proofs.settled_token.write_text.Goals as goal
 
 stated : (request : Request) (token : Token) (fares : Fares) (files : List (List ℕ))

@@ -1,10 +1,8 @@
-use Rattle.std.proofs.Common.{◌≡◌, ◌∙◌, Bool, Bor, List, Option, None, Some, ap, false, map}
+use Rattle.std.proofs.Common.{◌≡◌, ◌∙◌, Bool, Bor, List, Option, ap, false, map}
 use Rattle.std.proofs.Common.{option_map, refl, subst, sym, true, ℕ}
-use Rattle.std.specs.Prelude.{MatchOption, is_some}
-use Rattle.fare_program.specs.Parts.{IsPartText}
-use Rattle.fare_program.specs.Settling.{ShowsSettled}
-use Rattle.fare_program.specs.inside.Options.{request_of}
 use Rattle.fare_program.proofs.Ends.{gives_by}
+use Rattle.fare_program.specs.{Parts.IsPartText, Settling.ShowsSettled, inside.Options.request_of}
+use Rattle.std.specs.Prelude.{MatchOption, is_some}
 use Rattle.fare_program.proofs.sorted.work_sorted.Goals as goal
 
 abbrev name_in : Bor (List ℕ) → List ℕ

@@ -1,8 +1,7 @@
 use Rattle.std.proofs.Common.{refl, sym, true}
-use Rattle.std.proofs.KnownBytes.{Keeps-refl}
+use Rattle.fare_program.proofs.{Billed.shows_ledger, Ends.stopped}
 use Rattle.fare_program.specs.inside.Options.{request_of}
-use Rattle.fare_program.proofs.Billed.{shows_ledger}
-use Rattle.fare_program.proofs.Ends.{stopped}
+use Rattle.std.proofs.KnownBytes.{Keeps-refl}
 use Rattle.fare_program.proofs.sorted.write_ledger.Goals as goal
 
 pub returns-in-Ok-clause-ends : goal.returns-in-Ok-clause-ends

@@ -1,10 +1,7 @@
 use Rattle.std.proofs.Common.{◌∙◌, sym, true}
+use Rattle.fare_program.proofs.{Billed.shows_bill, Causes.of_output, Ends.gives_by, Ends.unwritten}
+use Rattle.fare_program.specs.{Causes.IsRightOfSorted, inside.Options.request_of}
 use Rattle.std.proofs.lemmas.Result.{IfErr-weaker}
-use Rattle.fare_program.specs.Causes.{IsRightOfSorted}
-use Rattle.fare_program.specs.inside.Options.{request_of}
-use Rattle.fare_program.proofs.Billed.{shows_bill}
-use Rattle.fare_program.proofs.Causes.{of_output}
-use Rattle.fare_program.proofs.Ends.{gives_by, unwritten}
 use Rattle.fare_program.proofs.sorted.write_report.Goals as goal
 
 pub write_billed-requires : goal.write_billed-requires

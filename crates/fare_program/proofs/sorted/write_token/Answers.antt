@@ -1,10 +1,8 @@
 use Rattle.std.proofs.Common.{◌∙◌, ap, sym, true}
-use Rattle.std.proofs.lemmas.Result.{IfErr-weaker}
+use Rattle.fare_program.proofs.{Causes.of_output, Ends.gives_by, Ends.gives_printed, Ends.unwritten}
+use Rattle.fare_program.specs.{Causes.IsRightOfSorted, inside.Fault.ended_as}
 use Rattle.settlement.specs.Posted.{posted}
-use Rattle.fare_program.specs.Causes.{IsRightOfSorted}
-use Rattle.fare_program.specs.inside.Fault.{ended_as}
-use Rattle.fare_program.proofs.Causes.{of_output}
-use Rattle.fare_program.proofs.Ends.{gives_by, gives_printed, unwritten}
+use Rattle.std.proofs.lemmas.Result.{IfErr-weaker}
 use Rattle.fare_program.proofs.sorted.write_token.Goals as goal
 
 pub returns-in-Ok-clause-ends : goal.returns-in-Ok-clause-ends

@@ -1,8 +1,6 @@
-use Rattle.std.proofs.Common.{◌≡◌, ◌∷◌, ◌∙◌, [], ℕ, List, None, refl, sym, ap₂}
-use Rattle.std.proofs.Common.{inl, inr, lit<}
-use Rattle.std.proofs.lemmas.Bool.Decides.{eqb_tells}
-use Rattle.std.proofs.lemmas.Str.Pattern.{strip_prefix_char}
+use Rattle.std.proofs.Common.{◌≡◌, ◌∷◌, ◌∙◌, [], ℕ, List, None, refl, sym, ap₂, inl, inr, lit<}
 use Rattle.fare_program.specs.TokenRanges.{around_dots}
+use Rattle.std.proofs.lemmas.{Bool.Decides.eqb_tells, Str.Pattern.strip_prefix_char}
 use Rattle.fare_program.proofs.token_range.sides_of.Goals as goal
 
 -- what does not begin with a dot has no second one

@@ -1,11 +1,9 @@
 use Rattle.std.proofs.Common.{◌∙◌, ap, arith, length, map, sym}
-use Rattle.std.proofs.lemmas.List.{length-map}
-use Rattle.std.proofs.lemmas.Option.{slice_get_within}
 use Rattle.class_names.proofs.Classes.{class_kept}
-use Rattle.class_names.specs.ClassFaults.{IsWrongAt}
-use Rattle.class_names.specs.Names.{class_by}
-use Rattle.program_manners.proofs.NextTables.{tables_counted}
+use Rattle.class_names.specs.{ClassFaults.IsWrongAt, Names.class_by}
 use Rattle.fare_program.proofs.Ends.{gives_by}
+use Rattle.program_manners.proofs.NextTables.{tables_counted}
+use Rattle.std.proofs.lemmas.{List.length-map, Option.slice_get_within}
 use Rattle.fare_program.proofs.traced.write_traced.Goals as goal
 
 -- there is a text for each table

@@ -1,9 +1,8 @@
-use Rattle.std.proofs.Common.{[], ◌∷◌, ◌+◌, ◌++◌, ◌∙◌, ap, sym, arith, append_assoc}
-use Rattle.std.proofs.Common.{length-append}
+use Rattle.std.proofs.Common.{[], ◌∷◌, ◌+◌, ◌++◌, ◌∙◌, ap, sym, arith, append_assoc, length-append}
+use Rattle.fare_program.proofs.Going.{lists_on}
+use Rattle.fare_program.specs.Uploads.{listed}
 use Rattle.std.proofs.lemmas.List.{length-map, map-append}
 use Rattle.std.specs.Option.{option_copied}
-use Rattle.fare_program.specs.Uploads.{listed}
-use Rattle.fare_program.proofs.Going.{lists_on}
 use Rattle.fare_program.proofs.uploads.list_batch.Goals as goal
 
 pub loop-tap-preserved : goal.loop-tap-preserved

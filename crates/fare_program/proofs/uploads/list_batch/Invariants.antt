@@ -1,7 +1,6 @@
 use Rattle.std.proofs.Common.{◌≡◌, ◌+◌, ◌++◌, length, map, string_bytes}
+use Rattle.fare_program.specs.{Uploads.listed, inside.Uploads.Lists}
 use Rattle.std.specs.Option.{option_copied}
-use Rattle.fare_program.specs.Uploads.{listed}
-use Rattle.fare_program.specs.inside.Uploads.{Lists}
 use Rattle.fare_program.proofs.uploads.list_batch.Given as goal
 
 abbrev pub invariant-loop-tap : goal.invariant-loop-tap

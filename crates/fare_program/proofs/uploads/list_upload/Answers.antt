@@ -1,12 +1,11 @@
 use Rattle.std.proofs.Common.{◌++◌, ◌∙◌, ap, sym, refl, arith, length, map, None, Some}
 use Rattle.std.proofs.Common.{append_assoc, append-nil, length-append, string_bytes}
+use Rattle.fare_program.proofs.Going.{lists_nothing, lists_on}
+use Rattle.fare_program.specs.{Lines.refused_line, Uploads.listed, Uploads.tap_lines}
 use Rattle.std.proofs.lemmas.List.{length-map, map-append}
 use Rattle.std.specs.Option.{option_copied}
-use Rattle.tap_views.specs.Files.{IsReadAs, taps_of_batches}
 use Rattle.tap_views.proofs.ParseLemmas.{few, read_end, read_on, room_on, taps_more}
-use Rattle.fare_program.specs.Lines.{refused_line}
-use Rattle.fare_program.specs.Uploads.{listed, tap_lines}
-use Rattle.fare_program.proofs.Going.{lists_nothing, lists_on}
+use Rattle.tap_views.specs.Files.{IsReadAs, taps_of_batches}
 use Rattle.fare_program.proofs.uploads.list_upload.Goals as goal
 
 pub list_batch-requires-clause-numbers : goal.list_batch-requires-clause-numbers

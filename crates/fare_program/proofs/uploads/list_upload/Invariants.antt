@@ -1,8 +1,7 @@
 use Rattle.std.proofs.Common.{◌≡◌, ◌+◌, ◌++◌, length, map, string_bytes}
+use Rattle.fare_program.specs.{Uploads.listed, inside.Uploads.Lists}
 use Rattle.std.specs.Option.{option_copied}
 use Rattle.tap_views.specs.Files.{IsReadAs, taps_of_batches}
-use Rattle.fare_program.specs.Uploads.{listed}
-use Rattle.fare_program.specs.inside.Uploads.{Lists}
 use Rattle.fare_program.proofs.uploads.list_upload.Given as goal
 
 abbrev pub invariant-loop-batch : goal.invariant-loop-batch

@@ -1,11 +1,9 @@
 use Rattle.std.proofs.Common.{◌≡◌, ◌∙◌, ◌==◌, Bor, List, None, Option, Some, ap, length, not}
 use Rattle.std.proofs.Common.{option_map, refl, sym, ℕ}
-use Rattle.std.specs.Prelude.{is_some}
-use Rattle.std.specs.List.{list_all}
-use Rattle.std.proofs.lemmas.List.{length-map}
+use Rattle.fare_program.specs.{Usage.rules_by, inside.Options.request_of}
 use Rattle.program_manners.specs.TableViews.{names_of}
-use Rattle.fare_program.specs.Usage.{rules_by}
-use Rattle.fare_program.specs.inside.Options.{request_of}
+use Rattle.std.proofs.lemmas.List.{length-map}
+use Rattle.std.specs.{List.list_all, Prelude.is_some}
 use Rattle.fare_program.proofs.usage.broken_rule.Goals as goal
 
 mapped : {A B : Type 0} (f : A → B) (x : Option A) → is_some x ≡ is_some (option_map f x)

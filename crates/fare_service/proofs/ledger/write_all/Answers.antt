@@ -1,9 +1,8 @@
 use Rattle.std.proofs.Common.{List, [], ◌++◌, subst, string_bytes}
-use Rattle.std.proofs.lemmas.Result.{err_from_is_err_and}
-use Rattle.fare_texts.specs.Lines.{AreLinesAlong}
-use Rattle.fare_service.specs.inside.Spots.{entries_at_spots}
-use Rattle.fare_service.specs.declared.spot.Spot.{Spot}
 use Rattle.fare_service.proofs.Whole.{ledger_of_all}
+use Rattle.fare_service.specs.{declared.spot.Spot.Spot, inside.Spots.entries_at_spots}
+use Rattle.fare_texts.specs.Lines.{AreLinesAlong}
+use Rattle.std.proofs.lemmas.Result.{err_from_is_err_and}
 use Rattle.fare_service.proofs.ledger.write_all.Goals as goal
 
 pub returns-clause-ok : goal.returns-clause-ok

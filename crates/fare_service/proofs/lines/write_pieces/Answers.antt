@@ -1,16 +1,14 @@
 use Rattle.std.proofs.Common.{◌+◌, List, [], ◌∷◌, ◌++◌, drop, take, string_bytes, refl, sym, ap}
 use Rattle.std.proofs.Common.{subst, ◌∙◌, arith}
-use Rattle.std.proofs.lemmas.Result.{err_from_is_err_and}
-use Rattle.histories.specs.Entry.{own}
-use Rattle.histories.specs.declared.entry.Entry.{Entry}
-use Rattle.tap_views.specs.declared.token.Token.{Token}
-use Rattle.fare_texts.specs.LedgerLines.{IsLedgerLineAfter}
-use Rattle.fare_texts.specs.Lines.{AreLinesAlong, HasConsumed, IsLineAfter, NondecreasingFrom}
-use Rattle.tap_views.specs.TokenOrder.{IsUpTo}
+use Rattle.fare_service.proofs.SpotLines.{ascend_here, ascend_on, seen_taken}
 use Rattle.fare_service.specs.inside.Spots.{entries_at_spots}
 use Rattle.fare_texts.proofs.Beginnings.{begins_nothing, goes_grown, goes_nothing, goes_passed}
 use Rattle.fare_texts.proofs.PieceWriting.{along_push, consumed_first, consumed_next, lines_started}
-use Rattle.fare_service.proofs.SpotLines.{ascend_here, ascend_on, seen_taken}
+use Rattle.fare_texts.specs.LedgerLines.{IsLedgerLineAfter}
+use Rattle.fare_texts.specs.Lines.{AreLinesAlong, HasConsumed, IsLineAfter, NondecreasingFrom}
+use Rattle.histories.specs.{Entry.own, declared.entry.Entry.Entry}
+use Rattle.std.proofs.lemmas.Result.{err_from_is_err_and}
+use Rattle.tap_views.specs.{TokenOrder.IsUpTo, declared.token.Token.Token}
 use Rattle.fare_service.proofs.lines.write_pieces.Goals as goal
 
 pub loop-spot-init : goal.loop-spot-init

@@ -1,13 +1,12 @@
 use Rattle.std.proofs.Common.{◌≡◌, List, [], ◌∷◌, None, refl, string_bytes, sym, subst}
+use Rattle.fare_service.proofs.SpotLines.{ascend_first}
+use Rattle.fare_service.specs.{declared.spot.Spot.Spot, inside.Spots.entries_at_spots}
+use Rattle.fare_texts.proofs.Beginnings.{goes_nothing}
+use Rattle.fare_texts.specs.Lines.{AreLinesAlong, NondecreasingFrom}
+use Rattle.histories.specs.declared.entry.Entry.{Entry}
+use Rattle.shard_book.specs.Book.{Book}
 use Rattle.std.specs.Prelude.{slice_get}
 use Rattle.tariffs.specs.Fares.{Fares}
-use Rattle.shard_book.specs.Book.{Book}
-use Rattle.histories.specs.declared.entry.Entry.{Entry}
-use Rattle.fare_texts.specs.Lines.{AreLinesAlong, NondecreasingFrom}
-use Rattle.fare_service.specs.declared.spot.Spot.{Spot}
-use Rattle.fare_texts.proofs.Beginnings.{goes_nothing}
-use Rattle.fare_service.specs.inside.Spots.{entries_at_spots}
-use Rattle.fare_service.proofs.SpotLines.{ascend_first}
 use Rattle.fare_service.proofs.lines.write_some.Goals as goal
 
 pub write_pieces-requires-clause-nondecreasing : goal.write_pieces-requires-clause-nondecreasing

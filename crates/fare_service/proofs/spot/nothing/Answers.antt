@@ -1,8 +1,7 @@
 use Rattle.std.proofs.Common.{ap, arith}
 use Rattle.account_rule.specs.declared.reply.Answer.TheVariants.{Unknown}
-use Rattle.tap_views.specs.Token.{bytes_of}
 use Rattle.histories.specs.declared.entry.Entry.{Entry}
-use Rattle.tap_views.specs.declared.token.Token.{Token}
+use Rattle.tap_views.specs.{Token.bytes_of, declared.token.Token.Token}
 use Rattle.fare_service.proofs.spot.nothing.Goals as goal
 
 abbrev zero : Token

@@ -1,5 +1,4 @@
-use Rattle.fare_table.proofs.PairLemmas.{permitted-listed}
-use Rattle.fare_table.proofs.PriceLemmas.{listed-price}
+use Rattle.fare_table.proofs.{PairLemmas.permitted-listed, PriceLemmas.listed-price}
 use Rattle.fare_table.proofs.laws.permitted_pairs_are_listed.Goals as goal
 
 pub returns-clause-pairs : goal.returns-clause-pairs

@@ -1,6 +1,5 @@
 use Rattle.std.proofs.Common.{◌≡◌, ℕ, List, ◌++◌, string_bytes, take}
-use Rattle.fare_texts.specs.LedgerLines.{AreLedgerLines}
-use Rattle.fare_texts.specs.Explainers.{HasExplained}
+use Rattle.fare_texts.specs.{Explainers.HasExplained, LedgerLines.AreLedgerLines}
 use Rattle.fare_texts.proofs.ledger_lines.write_token_lines.Given as goal
 
 -- the token's entries so far were explained, and their lines were written

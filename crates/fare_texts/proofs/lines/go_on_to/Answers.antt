@@ -1,9 +1,7 @@
 use Rattle.std.proofs.Common.{◌≡◌, false, sym, subst, ◌∙◌}
-use Rattle.std.proofs.lemmas.Bool.{not-true}
-use Rattle.tap_views.specs.Token.{token_eq}
-use Rattle.tap_views.specs.declared.token.Token.{Token}
-use Rattle.tap_views.specs.TokenOrder.{IsUpTo}
 use Rattle.fare_texts.proofs.PieceWriting.{consumed_on}
+use Rattle.std.proofs.lemmas.Bool.{not-true}
+use Rattle.tap_views.specs.{Token.token_eq, TokenOrder.IsUpTo, declared.token.Token.Token}
 use Rattle.fare_texts.proofs.lines.go_on_to.Goals as goal
 
 -- another token is gone_on to

@@ -1,6 +1,5 @@
 use Rattle.std.proofs.Common.{◌++◌, string_bytes}
-use Rattle.fare_texts.proofs.Parts.{in_parts}
-use Rattle.fare_texts.proofs.StatementLines.{next_line}
+use Rattle.fare_texts.proofs.{Parts.in_parts, StatementLines.next_line}
 use Rattle.fare_texts.proofs.statement.write_lines.Goals as goal
 
 pub loop-position-preserved : goal.loop-position-preserved

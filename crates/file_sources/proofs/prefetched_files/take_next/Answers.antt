@@ -1,9 +1,7 @@
 use Rattle.std.proofs.Common.{◌≡◌, ◌∙◌, ◌<◌, ◌-◌, ◌∷◌, [], length, arith, Bool, true, false, not}
 use Rattle.std.proofs.Common.{ap, ap₂, sym, refl, List, string_bytes, slice_index_or, unwrap_or}
-use Rattle.std.proofs.Common.{vec_len, length-append}
-use Rattle.std.proofs.lemmas.Bool.Decides.{Decides-eqb}
-use Rattle.std.proofs.lemmas.Slice.Eq.{slice_eq-Decides}
-use Rattle.std.proofs.Math.Seq.{get_or-append_seam}
+use Rattle.std.proofs.{Common.vec_len, Common.length-append, Math.Seq.get_or-append_seam}
+use Rattle.std.proofs.lemmas.{Bool.Decides.Decides-eqb, Slice.Eq.slice_eq-Decides}
 use Rattle.world.specs.declared.loaded.Loaded.{Loaded}
 use Rattle.file_sources.proofs.prefetched_files.take_next.Goals as goal
 

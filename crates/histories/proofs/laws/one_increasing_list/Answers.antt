@@ -1,12 +1,10 @@
 use Rattle.std.proofs.Common.{subst, sym, List, ℕ}
-use Rattle.std.specs.Ordering.{nat_cmp}
-use Rattle.std.specs.FinMap.{nat_cmp-IsAntisymmetric}
-use Rattle.std.proofs.lemmas.Cmp.{nat_cmp_total}
-use Rattle.histories.specs.Increasing.{IsIncreasing}
-use Rattle.tap_views.specs.Token.{token_cmp}
-use Rattle.tap_views.specs.declared.token.Token.{Token}
 use Rattle.histories.proofs.IncreasingLemmas.{increasing-is, increasing-only}
+use Rattle.histories.specs.Increasing.{IsIncreasing}
+use Rattle.std.proofs.lemmas.Cmp.{nat_cmp_total}
+use Rattle.std.specs.{FinMap.nat_cmp-IsAntisymmetric, Ordering.nat_cmp}
 use Rattle.tap_views.proofs.TokenLemmas.{token_cmp-total, token_cmp-ties}
+use Rattle.tap_views.specs.{Token.token_cmp, declared.token.Token.Token}
 use Rattle.histories.proofs.laws.one_increasing_list.Goals as goal
 
 pub returns-clause-numbers : goal.returns-clause-numbers

@@ -1,8 +1,7 @@
 use Rattle.std.proofs.Common.{◌≡◌, length, take, ap, ◌∙◌, arith}
-use Rattle.std.proofs.lemmas.List.{length-take-le}
-use Rattle.histories.specs.Sums.{Sums}
-use Rattle.histories.specs.Tally.{sums_of_tally}
 use Rattle.histories.proofs.SumsLemmas.{sums-taps, sums-more}
+use Rattle.histories.specs.{Sums.Sums, Tally.sums_of_tally}
+use Rattle.std.proofs.lemmas.List.{length-take-le}
 use Rattle.histories.proofs.sums.totals_of_entries.Goals as goal
 
 pub add-requires : goal.add-requires

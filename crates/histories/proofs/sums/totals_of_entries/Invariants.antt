@@ -1,6 +1,5 @@
 use Rattle.std.proofs.Common.{◌≡◌, take}
-use Rattle.histories.specs.Sums.{sums}
-use Rattle.histories.specs.Tally.{sums_of_tally}
+use Rattle.histories.specs.{Sums.sums, Tally.sums_of_tally}
 use Rattle.histories.proofs.sums.totals_of_entries.Given as goal
 
 abbrev pub invariant-loop-entry : goal.invariant-loop-entry

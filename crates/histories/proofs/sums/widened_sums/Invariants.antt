@@ -1,6 +1,5 @@
 use Rattle.std.proofs.Common.{◌≡◌, map, take, length, vec_len, vec_capacity}
-use Rattle.histories.specs.Counts.{token_counts}
-use Rattle.histories.specs.Shown.{token_sum}
+use Rattle.histories.specs.{Counts.token_counts, Shown.token_sum}
 use Rattle.histories.proofs.sums.widened_sums.Given as goal
 
 abbrev pub invariant-loop-counts : goal.invariant-loop-counts

@@ -1,18 +1,15 @@
 use Rattle.std.proofs.Common.{◌≡◌, ℕ, Bool, true, false, List, Option, Some, None, Vec, Global, map}
 use Rattle.std.proofs.Common.{refl, sym, subst, ◌∙◌}
-use Rattle.std.specs.Prelude.{MatchBool}
-use Rattle.tariffs.specs.Fares.{Fares}
-use Rattle.tap_views.specs.declared.token.Token.{Token}
-use Rattle.histories.specs.Entry.{own}
-use Rattle.histories.specs.declared.entry.Entry.{Entry}
-use Rattle.fare_texts.specs.declared.form.Form.{Form}
-use Rattle.fare_texts.specs.declared.form.Form.TheVariants.{Text, Json}
+use Rattle.fare_program.specs.{Options.form_of, Settling.IsStatementIn, Settling.IsTextOver}
 use Rattle.fare_texts.specs.Ledger.{IsLedgerOver}
-use Rattle.fare_program.specs.Options.{form_of}
-use Rattle.fare_program.specs.Settling.{IsStatementIn, IsTextOver}
-use Rattle.settlement.specs.Settled.{IsSettledHistory}
-use Rattle.laws.specs.Agree.{TextsAgree, DifferInUploads}
+use Rattle.fare_texts.specs.declared.form.Form.{Form, TheVariants.Text, TheVariants.Json}
+use Rattle.histories.specs.{Entry.own, declared.entry.Entry.Entry}
 use Rattle.laws.proofs.OneText.{one_explained, one_ledger, one_statement}
+use Rattle.laws.specs.Agree.{TextsAgree, DifferInUploads}
+use Rattle.settlement.specs.Settled.{IsSettledHistory}
+use Rattle.std.specs.Prelude.{MatchBool}
+use Rattle.tap_views.specs.declared.token.Token.{Token}
+use Rattle.tariffs.specs.Fares.{Fares}
 use Rattle.laws.proofs.texts.settled_texts_agree.Goals as goal
 
 abbrev bytes_in : Vec ℕ Global → List ℕ

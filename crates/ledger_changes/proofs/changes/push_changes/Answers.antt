@@ -1,17 +1,14 @@
 use Rattle.std.proofs.Common.{◌∙◌, ◌∷◌, ◌++◌, [], ap, append_assoc, append-nil, filter, refl, subst}
 use Rattle.std.proofs.Common.{sym, Option, List, ℕ, option_map}
-use Rattle.std.specs.Prelude.{option_to_list}
-use Rattle.std.proofs.lemmas.Result.{err_from_is_err_and}
-use Rattle.recorded_lines.specs.Texts.{calls_of}
-use Rattle.recorded_lines.proofs.Reading.{follows_on, follows_self}
-use Rattle.ledger_changes.specs.Changes.{is_changed}
-use Rattle.ledger_changes.specs.Given.{IsWalked}
-use Rattle.ledger_changes.specs.Tokens.{lines_of_changes, sums_line}
-use Rattle.ledger_changes.specs.declared.pairs.LinePair.{LinePair}
-use Rattle.ledger_changes.specs.inside.Readings.{rows_at}
-use Rattle.ledger_changes.specs.inside.Views.{pair_of, sum_in}
-use Rattle.ledger_changes.specs.declared.fault.Bill.TheVariants.{New, Old}
 use Rattle.ledger_changes.proofs.Walking.{can_be_read, moved, moved_end, moved_next, stops}
+use Rattle.ledger_changes.specs.{Changes.is_changed, Given.IsWalked, Tokens.lines_of_changes}
+use Rattle.ledger_changes.specs.{Tokens.sums_line, declared.fault.Bill.TheVariants.New}
+use Rattle.ledger_changes.specs.declared.{fault.Bill.TheVariants.Old, pairs.LinePair.LinePair}
+use Rattle.ledger_changes.specs.inside.{Readings.rows_at, Views.pair_of, Views.sum_in}
+use Rattle.recorded_lines.proofs.Reading.{follows_on, follows_self}
+use Rattle.recorded_lines.specs.Texts.{calls_of}
+use Rattle.std.proofs.lemmas.Result.{err_from_is_err_and}
+use Rattle.std.specs.Prelude.{option_to_list}
 use Rattle.ledger_changes.proofs.changes.push_changes.Goals as goal
 
 pub loop-init : goal.loop-init

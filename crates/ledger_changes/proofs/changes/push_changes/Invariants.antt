@@ -1,8 +1,6 @@
 use Rattle.std.proofs.Common.{◌≡◌, ◌++◌, ℕ, List}
+use Rattle.ledger_changes.specs.{Given.IsWalked, inside.Readings.HasEnded, inside.Views.sum_in}
 use Rattle.recorded_lines.specs.Texts.{Follows}
-use Rattle.ledger_changes.specs.Given.{IsWalked}
-use Rattle.ledger_changes.specs.inside.Readings.{HasEnded}
-use Rattle.ledger_changes.specs.inside.Views.{sum_in}
 use Rattle.ledger_changes.proofs.changes.push_changes.Given as goal
 
 abbrev pub invariant-loop : goal.invariant-loop

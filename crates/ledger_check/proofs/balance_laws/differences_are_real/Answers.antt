@@ -1,11 +1,9 @@
 use Rattle.std.proofs.Common.{List, Some, arith}
+use Rattle.ledger_check.proofs.{SameTaps.same_exact, SameTaps.same_of, Times.times_permutation}
+use Rattle.ledger_check.specs.{Balances.IsDifference, declared.balance.Difference.Difference}
+use Rattle.ledger_check.specs.declared.balance.Difference.TheVariants.{Missing, Surplus}
 use Rattle.std.specs.List.Sorted.{IsPermutation}
 use Rattle.tap_views.specs.declared.encoder.TapFields.{TapFields}
-use Rattle.ledger_check.specs.Balances.{IsDifference}
-use Rattle.ledger_check.specs.declared.balance.Difference.{Difference}
-use Rattle.ledger_check.specs.declared.balance.Difference.TheVariants.{Missing, Surplus}
-use Rattle.ledger_check.proofs.SameTaps.{same_exact, same_of}
-use Rattle.ledger_check.proofs.Times.{times_permutation}
 use Rattle.ledger_check.proofs.balance_laws.differences_are_real.Goals as goal
 
 pub returns-clause-same : goal.returns-clause-same

@@ -1,9 +1,7 @@
-use Rattle.std.proofs.Common.{◌∙◌, ℕ, List}
-use Rattle.std.proofs.Common.{take, drop, Some, sym, ap}
-use Rattle.std.proofs.Common.{arith, eq-eqb, eqb-true, suc}
-use Rattle.ledger_check.specs.Columns.{last_field}
-use Rattle.ledger_check.proofs.LineLemmas.{cut_at, lacks-reads, rest_is}
+use Rattle.std.proofs.Common.{◌∙◌, ℕ, List, take, drop, Some, sym, ap, arith, eq-eqb, eqb-true, suc}
 use Rattle.ledger_check.proofs.ColumnLemmas.{after_lacks, last_is, last_none}
+use Rattle.ledger_check.proofs.LineLemmas.{cut_at, lacks-reads, rest_is}
+use Rattle.ledger_check.specs.Columns.{last_field}
 use Rattle.ledger_check.proofs.columns.last_field.Goals as goal
 
 pub returns-in-Some : goal.returns-in-Some

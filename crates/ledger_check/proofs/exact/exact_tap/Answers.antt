@@ -1,11 +1,10 @@
 -- A line names a tap exactly if each of its columns is read.
-use Rattle.std.proofs.Common.{◌≡◌, ◌∙◌, ◌^◌, ℕ, Some, None, true, false, sym, subst, arith}
-use Rattle.std.proofs.Common.{rules, tests}
-use Rattle.std.proofs.lemmas.Bool.{false≢true}
-use Rattle.std.proofs.lemmas.Option.{same_Some}
+use Rattle.std.proofs.Common.{◌≡◌, ◌∙◌, ◌^◌, ℕ, Some, None, true, false, sym, subst, arith, rules}
+use Rattle.std.proofs.Common.{tests}
 use Rattle.fare_texts.specs.Moments.{IsMomentText}
-use Rattle.line_forms.specs.FormLaws.{number_is, number_sound}
 use Rattle.ledger_check.proofs.FrontLemmas.{columns_same}
+use Rattle.line_forms.specs.FormLaws.{number_is, number_sound}
+use Rattle.std.proofs.lemmas.{Bool.false≢true, Option.same_Some}
 use Rattle.ledger_check.proofs.exact.exact_tap.Goals as goal
 
 pub returns-in_default : goal.returns-in_default

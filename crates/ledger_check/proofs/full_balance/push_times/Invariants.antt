@@ -1,5 +1,4 @@
-use Rattle.std.proofs.Common.{◌≡◌, ◌++◌}
-use Rattle.std.proofs.Math.ListN.{replicate}
+use Rattle.std.proofs.{Common.◌≡◌, Common.◌++◌, Math.ListN.replicate}
 use Rattle.ledger_check.proofs.full_balance.push_times.Given as goal
 
 -- as many as there were rounds were appended

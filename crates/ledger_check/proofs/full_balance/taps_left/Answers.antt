@@ -1,12 +1,10 @@
-use Rattle.std.proofs.Common.{◌≡◌, ◌++◌, ◌∷◌, [], ℕ, List}
-use Rattle.std.proofs.Common.{ap, sym, ◌∙◌, append_assoc, append-nil, rules}
-use Rattle.std.proofs.Math.ListN.{replicate}
-use Rattle.std.specs.BTreeMap.{IsOrdered}
-use Rattle.std.proofs.lemmas.List.{flat_map_more}
-use Rattle.tap_views.specs.declared.encoder.TapFields.{TapFields}
-use Rattle.tap_views.specs.TapOrder.{tap_cmp}
-use Rattle.ledger_check.specs.Balances.{copies_among}
+use Rattle.std.proofs.Common.{◌≡◌, ◌++◌, ◌∷◌, [], ℕ, List, ap, sym, ◌∙◌, append_assoc, append-nil}
+use Rattle.std.proofs.Common.{rules}
 use Rattle.ledger_check.proofs.Spread.{copies-spread, spread, times}
+use Rattle.ledger_check.specs.Balances.{copies_among}
+use Rattle.std.proofs.{Math.ListN.replicate, lemmas.List.flat_map_more}
+use Rattle.std.specs.BTreeMap.{IsOrdered}
+use Rattle.tap_views.specs.{TapOrder.tap_cmp, declared.encoder.TapFields.TapFields}
 use Rattle.ledger_check.proofs.full_balance.taps_left.Goals as goal
 
 pub loop-tap-preserved : goal.loop-tap-preserved

@@ -1,7 +1,6 @@
 use Rattle.std.proofs.Common.{◌≡◌, ◌++◌, map}
-use Rattle.tap_views.specs.Encoding.{fields_of}
-use Rattle.tap_views.specs.Files.{IsReadAs, taps_of_batches}
 use Rattle.ledger_check.specs.inside.Positions.{unnamed}
+use Rattle.tap_views.specs.{Encoding.fields_of, Files.IsReadAs, Files.taps_of_batches}
 use Rattle.ledger_check.proofs.positions.placed_taps.Given as goal
 
 abbrev pub invariant-loop-batch : goal.invariant-loop-batch

@@ -1,10 +1,9 @@
 use Rattle.std.proofs.Common.{◌≡◌, ◌∙◌, ap, List, ℕ, Some, Ok}
-use Rattle.hex.specs.Hex.{decode_sized, encode_lower}
 use Rattle.hex.proofs.HexLemmas.{decode_sized-encode_lower}
-use Rattle.tap_views.specs.Token.{bytes_of}
-use Rattle.tap_views.specs.declared.token.Token.{Token}
-use Rattle.tap_views.proofs.TokenLemmas.{bytes_of-injective}
+use Rattle.hex.specs.Hex.{decode_sized, encode_lower}
 use Rattle.tap_views.proofs.TokenBytes.{token_bytes, token_length}
+use Rattle.tap_views.proofs.TokenLemmas.{bytes_of-injective}
+use Rattle.tap_views.specs.{Token.bytes_of, declared.token.Token.Token}
 use Rattle.ledger_check.proofs.tap.read_token.Goals as goal
 
 decoded : (token : Token) (digits : List ℕ) → digits ≡ encode_lower (bytes_of token)

@@ -1,12 +1,10 @@
 use Rattle.std.proofs.Common.{List, Option, sym, ap, subst, ◌∙◌}
+use Rattle.fare_texts.specs.{Explainers.HasExplained, declared.explainer.Explainer.Explainer}
 use Rattle.histories.specs.declared.entry.Entry.{Entry}
-use Rattle.fare_texts.specs.Explainers.{HasExplained}
-use Rattle.fare_texts.specs.declared.explainer.Explainer.{Explainer}
-use Rattle.tap_views.proofs.TokenLemmas.{token_cmp-ties}
-use Rattle.ledger_check.specs.FullChecks.{decreases_after}
-use Rattle.ledger_check.specs.FullCheckStates.{HasRunExplainer}
 use Rattle.ledger_check.proofs.TokenOrder.{greater_number, less_number}
 use Rattle.ledger_check.proofs.WalkLemmas.{run_equal, run_greater, run_less, run_none}
+use Rattle.ledger_check.specs.{FullCheckStates.HasRunExplainer, FullChecks.decreases_after}
+use Rattle.tap_views.proofs.TokenLemmas.{token_cmp-ties}
 use Rattle.ledger_check.proofs.walk.explainer_after.Goals as goal
 
 pub returns-in_default-clause-explained : goal.returns-in_default-clause-explained

@@ -1,13 +1,10 @@
-use Rattle.std.proofs.Common.{◌≡◌, ℕ, ◌+◌, ◌++◌, List, length, sym, ap}
-use Rattle.std.proofs.Common.{subst, ◌∙◌, arith}
+use Rattle.std.proofs.Common.{◌≡◌, ℕ, ◌+◌, ◌++◌, List, length, sym, ap, subst, ◌∙◌, arith}
 use Rattle.fare_caps.specs.declared.capped_reason.CappedReason.{CappedReason}
-use Rattle.histories.specs.Entry.{own}
-use Rattle.histories.specs.declared.entry.Entry.{Entry}
-use Rattle.tap_views.specs.declared.token.Token.{Token}
-use Rattle.fare_texts.specs.LedgerLines.{IsLedgerLine, reason_after}
 use Rattle.fare_texts.specs.Explainers.{next_entry}
-use Rattle.ledger_check.proofs.TokenOrder.{own-few}
-use Rattle.ledger_check.proofs.WalkLemmas.{holds_more}
+use Rattle.fare_texts.specs.LedgerLines.{IsLedgerLine, reason_after}
+use Rattle.histories.specs.{Entry.own, declared.entry.Entry.Entry}
+use Rattle.ledger_check.proofs.{TokenOrder.own-few, WalkLemmas.holds_more}
+use Rattle.tap_views.specs.declared.token.Token.{Token}
 use Rattle.ledger_check.proofs.walk.write_next_tap.Goals as goal
 
 pub post_next-reason-requires-clause-explained : goal.post_next-reason-requires-clause-explained

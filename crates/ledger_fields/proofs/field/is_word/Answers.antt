@@ -1,8 +1,7 @@
 use Rattle.std.proofs.Common.{◌≡◌, rules, tests}
-use Rattle.std.specs.List.{list_all}
-use Rattle.std.proofs.lemmas.Iterator.{YieldsList-from_slice}
-use Rattle.std.proofs.lemmas.Iterator.Search.{all_from_yields_List}
 use Rattle.ledger_fields.specs.Fields.{is_word_byte}
+use Rattle.std.proofs.lemmas.Iterator.{YieldsList-from_slice, Search.all_from_yields_List}
+use Rattle.std.specs.List.{list_all}
 use Rattle.ledger_fields.proofs.field.is_word.Goals as goal
 
 pub returns-then-text-most : goal.returns-then-text-most

@@ -1,9 +1,7 @@
 use Rattle.std.proofs.Common.{ℕ, List, Vec, Global, subst}
-use Rattle.world.specs.Origins.{Origin}
-use Rattle.fare_service.specs.ServiceView.{shards_of}
-use Rattle.fare_service.specs.Headline.{Headline}
-use Rattle.fare_service.specs.Lending.{AreProvidedAs}
 use Rattle.fare_service.proofs.UploadFileSource.{known_files}
+use Rattle.fare_service.specs.{Headline.Headline, Lending.AreProvidedAs, ServiceView.shards_of}
+use Rattle.world.specs.Origins.{Origin}
 use Rattle.library_tests.proofs.callers.run.Goals as goal
 
 pub returns : goal.returns

@@ -1,7 +1,6 @@
 use Rattle.std.proofs.Common.{arith, sym}
-use Rattle.std.proofs.lemmas.Bool.{false_from_ne_true}
-use Rattle.std.proofs.lemmas.List.Sums.{position_or_len_is}
 use Rattle.line_forms.specs.Columns.{ends_column}
+use Rattle.std.proofs.lemmas.{Bool.false_from_ne_true, List.Sums.position_or_len_is}
 use Rattle.line_forms.proofs.column.column_before.Goals as goal
 
 pub returns-in-Some-clause-value : goal.returns-in-Some-clause-value

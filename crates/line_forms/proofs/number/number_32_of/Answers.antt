@@ -1,6 +1,5 @@
 use Rattle.std.proofs.Common.{◌^◌, ◌∙◌, ap}
-use Rattle.line_forms.specs.FormLaws.{number_narrow}
-use Rattle.line_forms.specs.inside.Narrow.{below}
+use Rattle.line_forms.specs.{FormLaws.number_narrow, inside.Narrow.below}
 use Rattle.line_forms.proofs.number.number_32_of.Goals as goal
 
 pub returns : goal.returns

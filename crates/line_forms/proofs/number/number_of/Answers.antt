@@ -1,14 +1,11 @@
-use Rattle.std.proofs.Common.{◌≡◌, ◌≤◌, ◌<◌, ◌^◌, ℕ, length, List, [], ◌∷◌, true}
-use Rattle.std.proofs.Common.{MatchOption, Option, Some, None, get_or, sym, ap, ◌∙◌, arith}
-use Rattle.std.specs.Char.{is_ascii_digit}
-use Rattle.std.specs.Fmt.{decimal}
-use Rattle.std.specs.Str.{all_ascii_digits}
-use Rattle.std.specs.Str.Parse.{digits_value}
-use Rattle.std.proofs.lemmas.Bool.{and_parts}
-use Rattle.std.proofs.lemmas.Fmt.{decimal-digits_value, decimal_is_IsNumeral, length-decimal-le_wide}
-use Rattle.std.proofs.lemmas.Int.Digits.{digits_value-lt}
+use Rattle.std.proofs.Common.{◌≡◌, ◌≤◌, ◌<◌, ◌^◌, ℕ, length, List, [], ◌∷◌, true, MatchOption}
+use Rattle.std.proofs.Common.{Option, Some, None, get_or, sym, ap, ◌∙◌, arith}
 use Rattle.line_forms.specs.FormLaws.{decimal_digits, number_by, own, wide_64}
 use Rattle.line_forms.specs.Numbers.{IsNumber}
+use Rattle.std.proofs.lemmas.{Bool.and_parts, Fmt.decimal-digits_value, Fmt.decimal_is_IsNumeral}
+use Rattle.std.proofs.lemmas.{Fmt.length-decimal-le_wide, Int.Digits.digits_value-lt}
+use Rattle.std.specs.{Char.is_ascii_digit, Fmt.decimal}
+use Rattle.std.specs.Str.{all_ascii_digits, Parse.digits_value}
 use Rattle.line_forms.proofs.number.number_of.Goals as goal
 
 abbrev IsNone : List ℕ → Type 0

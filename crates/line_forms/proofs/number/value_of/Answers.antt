@@ -1,7 +1,6 @@
-use Rattle.std.proofs.Common.{◌≡◌, ◌≤◌, ◌<◌, ◌+◌, ◌*◌, ℕ, List, [], ◌∷◌, arith, drop, get_or, length}
-use Rattle.std.proofs.lemmas.List.{at_drop_more}
-use Rattle.std.specs.Char.{digit_value}
-use Rattle.std.specs.Str.Parse.{digits_value, digits_value_after}
+use Rattle.std.proofs.Common.{◌≡◌, ◌≤◌, ◌<◌, ◌+◌, ◌*◌, ℕ, List, [], ◌∷◌, arith, drop, get_or}
+use Rattle.std.proofs.{Common.length, lemmas.List.at_drop_more}
+use Rattle.std.specs.{Char.digit_value, Str.Parse.digits_value, Str.Parse.digits_value_after}
 use Rattle.line_forms.proofs.number.value_of.Goals as goal
 
 -- a value does not fall as digits follow

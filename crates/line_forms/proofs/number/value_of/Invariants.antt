@@ -1,6 +1,5 @@
 use Rattle.std.proofs.Common.{◌≡◌, ◌<◌, ◌^◌, drop}
-use Rattle.std.specs.Str.{all_ascii_digits}
-use Rattle.std.specs.Str.Parse.{digits_value, digits_value_after}
+use Rattle.std.specs.Str.{all_ascii_digits, Parse.digits_value, Parse.digits_value_after}
 use Rattle.line_forms.proofs.number.value_of.Given as goal
 
 abbrev pub invariant-loop-byte : goal.invariant-loop-byte

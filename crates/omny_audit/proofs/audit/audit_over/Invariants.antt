@@ -1,8 +1,7 @@
 use Rattle.std.proofs.Common.{◌≡◌, ◌++◌, [], None, false, List, ℕ}
-use Rattle.world.specs.Streams.{HasRead}
-use Rattle.omny_audit.specs.Reports.{Given}
-use Rattle.omny_audit.specs.inside.Audits.{GoesOn, HasAudited}
 use Rattle.omny_audit.proofs.Audits.{SoFar}
+use Rattle.omny_audit.specs.{Reports.Given, inside.Audits.GoesOn, inside.Audits.HasAudited}
+use Rattle.world.specs.Streams.{HasRead}
 use Rattle.omny_audit.proofs.audit.audit_over.Given as goal
 
 -- all but the piece was audited, and what was reported of it was written

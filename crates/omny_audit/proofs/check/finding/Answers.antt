@@ -1,13 +1,9 @@
 use Rattle.std.proofs.Common.{◌≡◌, ◌∙◌, ◌++◌, Bool, List, ap, append_assoc, map, refl, string_bytes}
 use Rattle.std.proofs.Common.{None, Some, if◌then◌else◌, subst, sym, true, ℕ}
-use Rattle.std.specs.Prelude.{◌&&◌, ◌↔◌, is_some, not}
-use Rattle.ledger_check.specs.Ledger.{IsLedger}
-use Rattle.ledger_check.specs.Orders.{tap_of_entry}
-use Rattle.ledger_check.specs.Verdicts.{is_legal}
-use Rattle.omny_audit.specs.Findings.{IsDifferenceLine}
-use Rattle.omny_audit.specs.Text.{verdict_text}
-use Rattle.omny_audit.specs.inside.Checks.{IsCompared}
+use Rattle.ledger_check.specs.{Ledger.IsLedger, Orders.tap_of_entry, Verdicts.is_legal}
 use Rattle.omny_audit.proofs.FindingLemmas.{early_is, even_taps, second_line, sound_is}
+use Rattle.omny_audit.specs.{Findings.IsDifferenceLine, Text.verdict_text, inside.Checks.IsCompared}
+use Rattle.std.specs.Prelude.{◌&&◌, ◌↔◌, is_some, not}
 use Rattle.omny_audit.proofs.check.finding.Goals as goal
 
 pub returns-clause-found : goal.returns-clause-found

@@ -1,15 +1,12 @@
 use Rattle.std.proofs.Common.{◌≡◌, ◌∙◌, ◌++◌, ℕ, Bool, List, ap, append_assoc, string_bytes, subst}
 use Rattle.std.proofs.Common.{None, Some, eqb-true, if◌then◌else◌, sym, true}
-use Rattle.std.specs.Prelude.{◌&&◌, ◌↔◌, IfSome}
 use Rattle.histories.specs.declared.entry.Entry.{Entry}
-use Rattle.ledger_check.specs.Ledger.{IsLedger}
-use Rattle.ledger_check.specs.Orders.{are_settled}
-use Rattle.ledger_check.specs.Sums.{AreSumsOf}
 use Rattle.ledger_check.specs.FullChecks.{taps_from, wrong_count}
-use Rattle.tap_views.specs.declared.encoder.TapFields.{TapFields}
+use Rattle.ledger_check.specs.{Ledger.IsLedger, Orders.are_settled, Sums.AreSumsOf}
+use Rattle.omny_audit.proofs.{FindingLemmas.sound_is, FullFindingLemmas.full_check_legal}
 use Rattle.omny_audit.specs.Findings.{HasValidTaps}
-use Rattle.omny_audit.proofs.FindingLemmas.{sound_is}
-use Rattle.omny_audit.proofs.FullFindingLemmas.{full_check_legal}
+use Rattle.std.specs.Prelude.{◌&&◌, ◌↔◌, IfSome}
+use Rattle.tap_views.specs.declared.encoder.TapFields.{TapFields}
 use Rattle.omny_audit.proofs.check.full_finding.Goals as goal
 
 pub returns : goal.returns

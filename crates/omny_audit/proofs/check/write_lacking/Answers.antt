@@ -1,4 +1,4 @@
-use Rattle.std.proofs.Common.{◌≡◌, List, [], true, false, refl, sym, append-nil, rules, tests}
+use Rattle.std.proofs.Common.{◌≡◌, [], true, false, refl, sym, append-nil, rules, tests}
 use Rattle.std.proofs.Common.{string_bytes}
 use Rattle.omny_audit.proofs.FullFindingLemmas.{none_is}
 use Rattle.omny_audit.proofs.check.write_lacking.Goals as goal

@@ -1,8 +1,7 @@
-use Rattle.program_manners.specs.Refusals.{IsShown}
 use Rattle.std.proofs.Common.{◌∙◌, ◌++◌, List, Option, ap, subst, sym, ℕ}
-use Rattle.world.specs.Run.{Load}
-use Rattle.world.specs.Streams.{HasRead}
 use Rattle.program_manners.proofs.Shown.{is_shown}
+use Rattle.program_manners.specs.Refusals.{IsShown}
+use Rattle.world.specs.{Run.Load, Streams.HasRead}
 use Rattle.omny_audit.proofs.ledger.read_head.Goals as goal
 
 pub loop-piece-init : goal.loop-piece-init

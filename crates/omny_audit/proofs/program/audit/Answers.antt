@@ -1,20 +1,16 @@
-use Rattle.std.proofs.Common.{◌∙◌, ℕ, Bor, List, None, Option, Some, [], ap, if◌then◌else◌}
-use Rattle.std.proofs.Common.{map, not, option_map, refl, subst}
-use Rattle.std.specs.Prelude.{Contains}
-use Rattle.ledger_check.specs.Columns.{has_traced_head}
-use Rattle.ledger_check.specs.Positions.{uploads_of}
-use Rattle.tap_views.specs.declared.encoder.TapFields.{TapFields}
-use Rattle.tap_views.specs.declared.upload_end.UploadEnd.{UploadEnd}
-use Rattle.world.specs.Run.{Load}
-use Rattle.omny_audit.specs.Ends.{did_by}
-use Rattle.omny_audit.specs.Program.{AreWanted, HasLoaded, compared, given_of}
-use Rattle.omny_audit.specs.inside.Options.{audit_request_of}
-use Rattle.omny_audit.specs.inside.Reports.{text_of}
-use Rattle.omny_audit.specs.inside.Traced.{uploads_in, wanted_by}
+use Rattle.std.proofs.Common.{◌∙◌, ℕ, Bor, List, None, Option, Some, [], ap, if◌then◌else◌, map}
+use Rattle.std.proofs.Common.{not, option_map, refl, subst}
+use Rattle.ledger_check.specs.{Columns.has_traced_head, Positions.uploads_of}
 use Rattle.omny_audit.proofs.Causes.{among_reports, among_uploads, class_cause, ends_audit}
 use Rattle.omny_audit.proofs.Causes.{load_cause, stopped_before, stream_cause, unopened_cause}
 use Rattle.omny_audit.proofs.ProgramLemmas.{compared_is, given_is, headed, kept_as, loads_same}
 use Rattle.omny_audit.proofs.ProgramLemmas.{named_none, read_named}
+use Rattle.omny_audit.specs.{Ends.did_by, Program.AreWanted, Program.HasLoaded, Program.compared}
+use Rattle.omny_audit.specs.{Program.given_of, inside.Options.audit_request_of}
+use Rattle.omny_audit.specs.inside.{Reports.text_of, Traced.uploads_in, Traced.wanted_by}
+use Rattle.std.specs.Prelude.{Contains}
+use Rattle.tap_views.specs.declared.{encoder.TapFields.TapFields, upload_end.UploadEnd.UploadEnd}
+use Rattle.world.specs.Run.{Load}
 use Rattle.omny_audit.proofs.program.audit.Goals as goal
 
 pub returns-in-Err : goal.returns-in-Err

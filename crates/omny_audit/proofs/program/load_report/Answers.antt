@@ -1,4 +1,4 @@
-use Rattle.std.proofs.Common.{◌∷◌, [], refl}
+use Rattle.std.proofs.Common.{[], refl}
 use Rattle.std.proofs.lemmas.List.Elements.{Contains-push}
 use Rattle.program_manners.proofs.Refusals.{has_refused}
 use Rattle.program_manners.specs.Refusals.{refusal_of}

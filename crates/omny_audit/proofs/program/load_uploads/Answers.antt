@@ -1,11 +1,10 @@
 use Rattle.std.proofs.Common.{◌≡◌, ◌∙◌, ◌++◌, ◌∷◌, ◌+◌, [], Bor, List, ℕ, ap, append-nil, get_or}
 use Rattle.std.proofs.Common.{map, refl, subst, sym, take}
-use Rattle.std.proofs.lemmas.List.{map-append, take_all, take_more}
-use Rattle.tap_views.specs.UploadEnds.{ArePlainEnds}
+use Rattle.omny_audit.proofs.{Causes.one_of, ProgramLemmas.loads_push}
 use Rattle.omny_audit.specs.inside.Uploads.{AreUploads}
 use Rattle.program_manners.proofs.Refusals.{is_one_at}
-use Rattle.omny_audit.proofs.Causes.{one_of}
-use Rattle.omny_audit.proofs.ProgramLemmas.{loads_push}
+use Rattle.std.proofs.lemmas.List.{map-append, take_all, take_more}
+use Rattle.tap_views.specs.UploadEnds.{ArePlainEnds}
 use Rattle.omny_audit.proofs.program.load_uploads.Goals as goal
 
 abbrev no_name : Bor (List ℕ)

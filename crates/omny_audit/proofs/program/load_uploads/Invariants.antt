@@ -1,7 +1,6 @@
 use Rattle.std.proofs.Common.{List, ℕ, map, take}
+use Rattle.omny_audit.specs.{Program.LoadsNamedFiles, inside.Uploads.AreUploads}
 use Rattle.tap_views.specs.declared.encoder.TapFields.{TapFields}
-use Rattle.omny_audit.specs.Program.{LoadsNamedFiles}
-use Rattle.omny_audit.specs.inside.Uploads.{AreUploads}
 use Rattle.omny_audit.proofs.program.load_uploads.Given as goal
 
 -- so far these were loaded

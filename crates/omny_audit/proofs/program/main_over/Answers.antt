@@ -1,19 +1,16 @@
 use Rattle.std.proofs.Common.{◌≡◌, ◌∙◌, None, Some, ap, arith, inl, inr, option_map, refl, rules}
 use Rattle.std.proofs.Common.{subst, sym, tests}
-use Rattle.std.specs.Prelude.{◌⊎◌}
 use Rattle.clap.specs.Words.{HasKind, IsAmong, Kinds, kind_of}
-use Rattle.clap.specs.declared.error.Error.{Error}
-use Rattle.clap.specs.declared.error.kind.ErrorKind.{ErrorKind}
+use Rattle.clap.specs.declared.error.{Error.Error, kind.ErrorKind.ErrorKind}
 use Rattle.clap.specs.declared.error.kind.ErrorKind.TheVariants.{DisplayHelp, DisplayVersion}
-use Rattle.program_manners.proofs.Refusals.{only_memory}
-use Rattle.program_manners.specs.Words.{IsRequest}
-use Rattle.program_manners.specs.TableViews.{names_of, wrong_of}
-use Rattle.program_manners.specs.TableWords.{wrong_word}
-use Rattle.omny_audit.specs.Ends.{did_by}
-use Rattle.omny_audit.specs.inside.Options.{audit_request_of}
-use Rattle.omny_audit.specs.Options.{AuditRequest}
-use Rattle.omny_audit.specs.declared.fault.Fault.TheVariants.{NoMemory}
 use Rattle.omny_audit.proofs.Causes.{started_none}
+use Rattle.omny_audit.specs.{Ends.did_by, Options.AuditRequest}
+use Rattle.omny_audit.specs.declared.fault.Fault.TheVariants.{NoMemory}
+use Rattle.omny_audit.specs.inside.Options.{audit_request_of}
+use Rattle.program_manners.proofs.Refusals.{only_memory}
+use Rattle.program_manners.specs.TableViews.{names_of, wrong_of}
+use Rattle.program_manners.specs.{TableWords.wrong_word, Words.IsRequest}
+use Rattle.std.specs.Prelude.{◌⊎◌}
 use Rattle.omny_audit.proofs.program.main_over.Goals as goal
 
 -- help or the version is asked for

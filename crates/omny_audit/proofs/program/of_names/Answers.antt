@@ -1,11 +1,10 @@
 -- The file of the table whose class is wrong is one of the tables'.
-use Rattle.std.proofs.Common.{◌∙◌, ◌-◌, ◌<◌, ◌∷◌, Bor, List, ℕ, ap, arith, inl, length, map}
-use Rattle.std.proofs.Common.{refl, subst, sym}
-use Rattle.std.specs.Prelude.{Contains}
-use Rattle.std.proofs.lemmas.List.{length-map}
+use Rattle.std.proofs.Common.{◌∙◌, ◌-◌, ◌<◌, ◌∷◌, Bor, List, ℕ, ap, arith, inl, length, map, refl}
+use Rattle.std.proofs.Common.{subst, sym}
+use Rattle.omny_audit.proofs.{Causes.one_of, LoadedTables.file_at}
 use Rattle.program_manners.specs.TableWords.{file_named}
-use Rattle.omny_audit.proofs.Causes.{one_of}
-use Rattle.omny_audit.proofs.LoadedTables.{file_at}
+use Rattle.std.proofs.lemmas.List.{length-map}
+use Rattle.std.specs.Prelude.{Contains}
 use Rattle.omny_audit.proofs.program.of_names.Goals as goal
 
 pub returns-in-Name : goal.returns-in-Name

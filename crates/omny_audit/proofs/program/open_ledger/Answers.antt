@@ -1,4 +1,4 @@
-use Rattle.std.proofs.Common.{◌∙◌, Bor, List, ap, codes, option_map, ℕ}
+use Rattle.std.proofs.Common.{◌∙◌, Bor, List, ap, option_map, ℕ}
 use Rattle.program_manners.proofs.Shown.{is_shown}
 use Rattle.omny_audit.proofs.ProgramLemmas.{provided_name}
 use Rattle.omny_audit.proofs.program.open_ledger.Goals as goal

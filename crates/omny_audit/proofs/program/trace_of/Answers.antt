@@ -1,17 +1,13 @@
-use Rattle.std.proofs.Common.{◌≡◌, ◌∙◌, Bool, Global, List, Some, Vec, ap, arith}
-use Rattle.std.proofs.Common.{length, map}
-use Rattle.std.proofs.Common.{refl, rules, subst, sym, tests, true, ℕ}
-use Rattle.std.proofs.lemmas.List.{length-map}
-use Rattle.std.proofs.lemmas.Option.{slice_get_within}
+use Rattle.std.proofs.Common.{◌≡◌, ◌∙◌, Bool, Global, List, Some, Vec, ap, arith, length, map, refl}
+use Rattle.std.proofs.Common.{rules, subst, sym, tests, true, ℕ}
+use Rattle.class_names.proofs.Classes.{class_kept}
+use Rattle.class_names.specs.{ClassFaults.IsWrongAt, Classes.AreTrees}
 use Rattle.ledger_check.specs.Columns.{has_traced_head}
+use Rattle.omny_audit.specs.{Program.AreWanted, Traced.Wanted}
+use Rattle.omny_audit.specs.inside.Traced.{uploads_in, wanted_of}
 use Rattle.program_manners.proofs.NextTables.{tables_counted}
 use Rattle.program_manners.specs.TableViews.{names_of}
-use Rattle.class_names.proofs.Classes.{class_kept}
-use Rattle.class_names.specs.Classes.{AreTrees}
-use Rattle.class_names.specs.ClassFaults.{IsWrongAt}
-use Rattle.omny_audit.specs.Program.{AreWanted}
-use Rattle.omny_audit.specs.Traced.{Wanted}
-use Rattle.omny_audit.specs.inside.Traced.{uploads_in, wanted_of}
+use Rattle.std.proofs.lemmas.{List.length-map, Option.slice_get_within}
 use Rattle.omny_audit.proofs.program.trace_of.Goals as goal
 
 pub of_texts-requires : goal.of_texts-requires

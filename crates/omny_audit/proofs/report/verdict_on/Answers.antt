@@ -1,9 +1,8 @@
 use Rattle.std.proofs.Common.{List, None, Option, Some, ◌≡◌, rules, subst, sym, tests, true}
-use Rattle.std.specs.Prelude.{IfSome}
-use Rattle.std.proofs.lemmas.Option.{same_Some}
 use Rattle.histories.specs.declared.entry.Entry.{Entry}
-use Rattle.ledger_check.specs.Sums.{AreSumsOf}
-use Rattle.ledger_check.specs.declared.open_sums.EntrySums.{EntrySums}
+use Rattle.ledger_check.specs.{Sums.AreSumsOf, declared.open_sums.EntrySums.EntrySums}
+use Rattle.std.proofs.lemmas.Option.{same_Some}
+use Rattle.std.specs.Prelude.{IfSome}
 use Rattle.omny_audit.proofs.report.verdict_on.Goals as goal
 
 are_of : (entries : List Entry) (sums : Option EntrySums) (made : EntrySums) → sums ≡ Some made

@@ -1,7 +1,6 @@
 use Rattle.std.proofs.Common.{◌≡◌, Bool, false, refl, sym, true}
-use Rattle.std.specs.Prelude.{◌↔◌, IsTrue}
-use Rattle.std.specs.Str.{bytes_eq}
 use Rattle.std.proofs.lemmas.Slice.Eq.{bytes_eq-Decides}
+use Rattle.std.specs.{Prelude.◌↔◌, Prelude.IsTrue, Str.bytes_eq}
 use Rattle.omny_audit.proofs.traced.are_same.Goals as goal
 
 -- two tests of one thing

@@ -1,5 +1,4 @@
-use Rattle.std.proofs.Common.{◌≡◌, ◌∙◌, ◌++◌, ◌∷◌, ◌≤◌, [], List, ap, arith, length}
-use Rattle.std.proofs.Common.{length-append, subst, ℕ}
+use Rattle.std.proofs.Common.{◌∙◌, ◌++◌, ◌∷◌, [], List, ap, arith, length, length-append, subst, ℕ}
 use Rattle.ledger_check.specs.Taps.{IsTapOfLine}
 use Rattle.omny_audit.proofs.traced.put_fields.Goals as goal
 

@@ -1,10 +1,9 @@
 use Rattle.std.proofs.Common.{◌≡◌, ◌∙◌, ◌++◌, ℕ, Bool, List, Option, true, ap, ap₂, append_assoc}
 use Rattle.std.proofs.Common.{rules, string_bytes, tests}
-use Rattle.std.specs.Prelude.{◌&&◌, is_some, not}
 use Rattle.class_names.specs.Names.{class_by}
 use Rattle.omny_audit.specs.Traced.{class_text, position_text}
-use Rattle.omny_audit.specs.declared.traced.WrongClass.{WrongClass}
-use Rattle.omny_audit.specs.inside.Traced.{uploads_in}
+use Rattle.omny_audit.specs.{declared.traced.WrongClass.WrongClass, inside.Traced.uploads_in}
+use Rattle.std.specs.Prelude.{◌&&◌, is_some, not}
 use Rattle.omny_audit.proofs.traced.write_columns.Goals as goal
 
 pub returns : goal.returns

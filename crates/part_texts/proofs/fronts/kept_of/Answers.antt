@@ -1,7 +1,6 @@
 use Rattle.std.proofs.Common.{Some, None, refl}
-use Rattle.std.specs.BTreeMap.{is_at}
-use Rattle.std.specs.Ordering.{nat_cmp}
 use Rattle.part_texts.proofs.Kept.{kept_is}
+use Rattle.std.specs.{BTreeMap.is_at, Ordering.nat_cmp}
 use Rattle.part_texts.proofs.fronts.kept_of.Goals as goal
 
 pub returns-in-Some : goal.returns-in-Some

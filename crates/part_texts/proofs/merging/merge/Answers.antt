@@ -1,10 +1,8 @@
 use Rattle.std.proofs.Common.{◌∙◌, ap, arith, length, subst, sym}
-use Rattle.std.specs.Prelude.{All}
-use Rattle.std.proofs.lemmas.Bool.Decides.{nat_tests}
-use Rattle.std.proofs.lemmas.List.{nil_from_length}
+use Rattle.part_texts.proofs.{AllParts.no_memory, AllParts.no_parts, Parts.follow_self}
 use Rattle.part_texts.specs.inside.Opened.{IsInitial}
-use Rattle.part_texts.proofs.AllParts.{no_memory, no_parts}
-use Rattle.part_texts.proofs.Parts.{follow_self}
+use Rattle.std.proofs.lemmas.{Bool.Decides.nat_tests, List.nil_from_length}
+use Rattle.std.specs.Prelude.{All}
 use Rattle.part_texts.proofs.merging.merge.Goals as goal
 
 pub returns-then-is_empty-clause-follow : goal.returns-then-is_empty-clause-follow

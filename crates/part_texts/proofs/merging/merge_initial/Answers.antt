@@ -1,6 +1,5 @@
 use Rattle.part_texts.proofs.AllParts.{all_merged, front_cut, no_fronts_read, not_merged}
-use Rattle.part_texts.proofs.AllParts.{still_no_memory}
-use Rattle.part_texts.proofs.Parts.{follow_on}
+use Rattle.part_texts.proofs.{AllParts.still_no_memory, Parts.follow_on}
 use Rattle.part_texts.proofs.merging.merge_initial.Goals as goal
 
 pub returns-in-Err-clause-merges : goal.returns-in-Err-clause-merges

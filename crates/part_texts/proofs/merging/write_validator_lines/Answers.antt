@@ -1,12 +1,10 @@
 use Rattle.std.proofs.Common.{◌≡◌, ap, map, rules, ◌∙◌, ◌++◌}
-use Rattle.std.specs.Prelude.{flat_map}
-use Rattle.std.specs.String.{string_bytes}
-use Rattle.std.specs.Map.Iter.{deref_pair}
-use Rattle.std.proofs.lemmas.Map.Iter.{iter_end}
 use Rattle.fare_texts.specs.ReportLines.{validator_line}
 use Rattle.histories.specs.Sums.{sums_of}
-use Rattle.part_texts.specs.inside.Fronts.{shown_sums}
 use Rattle.part_texts.proofs.WholeTexts.{line_written}
+use Rattle.part_texts.specs.inside.Fronts.{shown_sums}
+use Rattle.std.proofs.lemmas.Map.Iter.{iter_end}
+use Rattle.std.specs.{Map.Iter.deref_pair, Prelude.flat_map, String.string_bytes}
 use Rattle.part_texts.proofs.merging.write_validator_lines.Goals as goal
 
 pub loop-validator-preserved : goal.loop-validator-preserved

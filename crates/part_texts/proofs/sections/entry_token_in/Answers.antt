@@ -1,8 +1,7 @@
 use Rattle.std.proofs.Common.{◌≡◌, sym, ◌∙◌}
-use Rattle.std.proofs.lemmas.Bool.Decides.{Decides-eqb}
-use Rattle.std.proofs.lemmas.Slice.Eq.{slice_eq-Decides}
 use Rattle.ledger_fields.specs.Lines.{row_of_fields}
 use Rattle.part_texts.proofs.KnownTokens.{known_token}
+use Rattle.std.proofs.lemmas.{Bool.Decides.Decides-eqb, Slice.Eq.slice_eq-Decides}
 use Rattle.part_texts.proofs.sections.entry_token_in.Goals as goal
 
 pub returns-then-eq : goal.returns-then-eq

@@ -1,6 +1,5 @@
 use Rattle.std.proofs.Common.{length, map}
-use Rattle.program_manners.specs.FileLists.{end_byte}
-use Rattle.program_manners.specs.inside.FileLists.{AreReadFrom}
+use Rattle.program_manners.specs.{FileLists.end_byte, inside.FileLists.AreReadFrom}
 use Rattle.program_manners.proofs.file_list.names_of_list.Given as goal
 
 -- these names were read, and the rest was not

@@ -1,8 +1,7 @@
 use Rattle.std.proofs.Common.{◌≡◌, ◌∙◌, ◌<◌, ◌≤◌, ℕ, List, [], ◌++◌, Option, Some, None, IfSome}
 use Rattle.std.proofs.Common.{length, take, min, ap, arith}
-use Rattle.std.specs.Prelude.{option_map}
-use Rattle.std.specs.Vec.{vec_len}
 use Rattle.std.proofs.lemmas.List.{length-take, take_all}
+use Rattle.std.specs.{Prelude.option_map, Vec.vec_len}
 use Rattle.program_manners.proofs.loading.load_from.Goals as goal
 
 -- bytes that end before the limit are all that there were

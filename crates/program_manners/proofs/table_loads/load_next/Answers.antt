@@ -1,16 +1,15 @@
 -- The next table was loaded and follows those before it, or its fault is the right one.
 use Rattle.std.proofs.Common.{◌≡◌, ◌∙◌, ◌++◌, ◌∷◌, ℕ, List, Option, Some, false, subst, sym}
-use Rattle.tariffs.specs.Fares.{Fares}
-use Rattle.tap_views.proofs.Choices.{IfErr_handed_on}
-use Rattle.program_manners.specs.Loads.{Loaded, LoadsOne}
-use Rattle.program_manners.specs.Refusals.{IsOneOf}
+use Rattle.program_manners.proofs.TablesFaults.{next_is_right, unloaded}
+use Rattle.program_manners.proofs.TablesRefused.{later_file}
+use Rattle.program_manners.specs.{Loads.Loaded, Loads.LoadsOne, Refusals.IsOneOf}
 use Rattle.program_manners.specs.TableLoads.{FollowsFrom, LoadsTables}
 use Rattle.program_manners.specs.TableWords.{TableNames, table_files}
 use Rattle.program_manners.specs.TablesFaults.{IsTablesFault}
 use Rattle.program_manners.specs.declared.table_loads.TablesFault.TheVariants.{File}
 use Rattle.program_manners.specs.inside.TableLoads.{IsReportedBy, is_memory}
-use Rattle.program_manners.proofs.TablesFaults.{next_is_right, unloaded}
-use Rattle.program_manners.proofs.TablesRefused.{later_file}
+use Rattle.tap_views.proofs.Choices.{IfErr_handed_on}
+use Rattle.tariffs.specs.Fares.{Fares}
 use Rattle.program_manners.proofs.table_loads.load_next.Goals as goal
 
 pub returns-clause-right : goal.returns-clause-right

@@ -1,13 +1,11 @@
 -- Each round loads one table more.
-use Rattle.std.proofs.Common.{◌≡◌, ◌∙◌, ◌+◌, Bor, Global, List, [], ℕ, None, Vec, ap, drop}
-use Rattle.std.proofs.Common.{map, subst, sym, take}
-use Rattle.tap_views.proofs.Choices.{IfErr_handed_on}
-use Rattle.program_manners.specs.TableLoads.{LoadsTables}
-use Rattle.program_manners.specs.TableViews.{names_of}
-use Rattle.program_manners.specs.TableWords.{wrong_later}
-use Rattle.program_manners.specs.TablesFaults.{IsTablesFault}
+use Rattle.std.proofs.Common.{◌≡◌, ◌∙◌, ◌+◌, Bor, Global, List, [], ℕ, None, Vec, ap, drop, map}
+use Rattle.std.proofs.Common.{subst, sym, take}
 use Rattle.program_manners.proofs.DatedWords.{later_right, tables_right}
 use Rattle.program_manners.proofs.NextTables.{tables_on, words_at, words_to}
+use Rattle.program_manners.specs.{TableLoads.LoadsTables, TableViews.names_of}
+use Rattle.program_manners.specs.{TableWords.wrong_later, TablesFaults.IsTablesFault}
+use Rattle.tap_views.proofs.Choices.{IfErr_handed_on}
 use Rattle.program_manners.proofs.table_loads.load_tables.Goals as goal
 
 -- what stands where no word does

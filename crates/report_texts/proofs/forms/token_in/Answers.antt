@@ -1,12 +1,10 @@
 use Rattle.std.proofs.Common.{◌≡◌, ◌∙◌, Bool, true, false, Some, None, sym, ap, refl}
-use Rattle.std.specs.Str.{bytes_eq}
-use Rattle.std.proofs.lemmas.Bool.{false≢true}
-use Rattle.std.proofs.lemmas.Slice.Eq.{bytes_eq-Decides}
 use Rattle.hex.specs.Hex.{decode_sized, encode_lower}
-use Rattle.tap_views.specs.declared.token.Token.{Token}
 use Rattle.line_forms.specs.Forms.{value_if}
-use Rattle.report_texts.specs.Forms.{token_with}
 use Rattle.report_texts.specs.FormLaws.{again_refused, again_taken, token_of}
+use Rattle.report_texts.specs.Forms.{token_with}
+use Rattle.std.proofs.lemmas.{Bool.false≢true, Slice.Eq.bytes_eq-Decides}
+use Rattle.std.specs.Str.{bytes_eq}
 use Rattle.report_texts.proofs.forms.token_in.Goals as goal
 
 pub returns-then-is_err : goal.returns-then-is_err

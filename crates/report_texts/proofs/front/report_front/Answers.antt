@@ -1,11 +1,9 @@
 use Rattle.std.proofs.Common.{ℕ, ◌++◌, codes, length, map, ap, ◌∙◌, string_bytes}
-use Rattle.std.specs.List.{flat_map}
-use Rattle.histories.specs.Shown.{validator_sum}
-use Rattle.histories.specs.Sums.{sums_of}
-use Rattle.fare_texts.specs.ReportLines.{number_line, token_line}
-use Rattle.report_texts.specs.Report.{uploads_section, validators_section}
-use Rattle.fare_texts.specs.Counts.{totals_line}
+use Rattle.fare_texts.specs.{Counts.totals_line, ReportLines.number_line, ReportLines.token_line}
+use Rattle.histories.specs.{Shown.validator_sum, Sums.sums_of}
 use Rattle.report_texts.proofs.Parts.{before_lines}
+use Rattle.report_texts.specs.Report.{uploads_section, validators_section}
+use Rattle.std.specs.List.{flat_map}
 use Rattle.report_texts.proofs.front.report_front.Goals as goal
 
 pub returns : goal.returns

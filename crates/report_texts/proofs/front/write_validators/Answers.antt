@@ -1,10 +1,9 @@
 use Rattle.std.proofs.Common.{◌∙◌, ◌++◌, ℕ, ap, sym, codes, length, map, string_bytes}
-use Rattle.std.proofs.lemmas.List.{length-map}
-use Rattle.std.proofs.lemmas.Result.{on_ok_weaker}
-use Rattle.std.specs.List.{flat_map}
-use Rattle.histories.specs.Shown.{validator_sum}
-use Rattle.fare_texts.specs.ReportLines.{number_line, validator_line}
 use Rattle.fare_texts.proofs.Parts.{in_parts}
+use Rattle.fare_texts.specs.ReportLines.{number_line, validator_line}
+use Rattle.histories.specs.Shown.{validator_sum}
+use Rattle.std.proofs.lemmas.{List.length-map, Result.on_ok_weaker}
+use Rattle.std.specs.List.{flat_map}
 use Rattle.report_texts.proofs.front.write_validators.Goals as goal
 
 pub returns : goal.returns

@@ -1,7 +1,6 @@
 use Rattle.std.proofs.Common.{◌≤◌, take, vec_capacity}
+use Rattle.fare_texts.specs.{ReportLines.token_line, WrittenOut.GoesOut}
 use Rattle.std.specs.List.{flat_map}
-use Rattle.fare_texts.specs.WrittenOut.{GoesOut}
-use Rattle.fare_texts.specs.ReportLines.{token_line}
 use Rattle.report_texts.proofs.token_lines.write_lines.Given as goal
 
 abbrev pub invariant-loop-position : goal.invariant-loop-position

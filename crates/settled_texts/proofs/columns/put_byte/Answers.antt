@@ -1,9 +1,8 @@
-use Rattle.std.proofs.Common.{◌≡◌, ◌∙◌, ◌==◌, ℕ, List, [], ◌∷◌, ◌++◌, ap, sym, append_assoc}
-use Rattle.std.proofs.Common.{false}
-use Rattle.std.proofs.lemmas.Bool.{eqb-true}
-use Rattle.settled_texts.specs.Columns.{columns_by, with_columns}
+use Rattle.std.proofs.Common.{◌≡◌, ◌∙◌, ◌==◌, ℕ, List, [], ◌∷◌, ◌++◌, ap, sym, append_assoc, false}
 use Rattle.class_names.specs.Names.{class_by}
 use Rattle.settled_texts.proofs.TracedLines.{with_other}
+use Rattle.settled_texts.specs.Columns.{columns_by, with_columns}
+use Rattle.std.proofs.lemmas.Bool.{eqb-true}
 use Rattle.settled_texts.proofs.columns.put_byte.Goals as goal
 
 pub returns-then-is_feed : goal.returns-then-is_feed

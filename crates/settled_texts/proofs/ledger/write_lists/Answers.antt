@@ -1,15 +1,13 @@
 -- Each turn writes one list more.
-use Rattle.std.proofs.Common.{◌+◌, List, ◌++◌, drop, take, Vec, Global}
-use Rattle.std.proofs.Common.{string_bytes, sym, ap, subst, ◌∙◌, arith}
-use Rattle.fare_texts.specs.WrittenOut.{GoesOut}
+use Rattle.std.proofs.Common.{◌+◌, List, ◌++◌, drop, take, Vec, Global, string_bytes, sym, ap}
+use Rattle.std.proofs.Common.{subst, ◌∙◌, arith}
 use Rattle.fare_texts.proofs.Beginnings.{goes_nothing}
-use Rattle.std.proofs.lemmas.List.{take_all}
-use Rattle.std.proofs.lemmas.Result.{err_from_is_err_and}
-use Rattle.tap_views.specs.declared.encoder.TapFields.{TapFields}
-use Rattle.settled_texts.specs.ExplainedTaps.{Explains}
+use Rattle.fare_texts.specs.WrittenOut.{GoesOut}
 use Rattle.settled_texts.proofs.Joined.{explains_next, joined, joined_at, joined_more, may_next}
-use Rattle.settled_texts.proofs.Joined.{started_next}
-use Rattle.settled_texts.proofs.TapsExplained.{explains_none}
+use Rattle.settled_texts.proofs.{Joined.started_next, TapsExplained.explains_none}
+use Rattle.settled_texts.specs.ExplainedTaps.{Explains}
+use Rattle.std.proofs.lemmas.{List.take_all, Result.err_from_is_err_and}
+use Rattle.tap_views.specs.declared.encoder.TapFields.{TapFields}
 use Rattle.settled_texts.proofs.ledger.write_lists.Goals as goal
 
 pub loop-list-init : goal.loop-list-init

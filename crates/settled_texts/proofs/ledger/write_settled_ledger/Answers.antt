@@ -1,14 +1,12 @@
 -- The lines of the taps stand behind the head line, and no token falls.
 use Rattle.std.proofs.Common.{ℕ, List, [], ◌++◌, string_bytes, subst, ◌∙◌, arith}
-use Rattle.std.specs.Io.KnownBytes.{Appends}
-use Rattle.std.proofs.lemmas.Result.{err_from_is_err_and}
-use Rattle.fare_texts.specs.WrittenOut.{Begins, GoesOut}
 use Rattle.fare_texts.proofs.Beginnings.{goes_last, goes_then}
 use Rattle.fare_texts.proofs.PieceWriting.{consumed_first}
+use Rattle.fare_texts.specs.WrittenOut.{Begins, GoesOut}
+use Rattle.settled_texts.proofs.{Joined.joined, Rows.ledger_of, TapsExplained.explained_lines}
 use Rattle.settlement.proofs.Nondecreasing.{canonical_nondecreasing}
-use Rattle.settled_texts.proofs.Joined.{joined}
-use Rattle.settled_texts.proofs.Rows.{ledger_of}
-use Rattle.settled_texts.proofs.TapsExplained.{explained_lines}
+use Rattle.std.proofs.lemmas.Result.{err_from_is_err_and}
+use Rattle.std.specs.Io.KnownBytes.{Appends}
 use Rattle.settled_texts.proofs.ledger.write_settled_ledger.Goals as goal
 
 pub write_lists-requires-clause-may : goal.write_lists-requires-clause-may

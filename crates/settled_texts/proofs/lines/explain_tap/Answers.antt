@@ -1,12 +1,10 @@
 -- The explainer goes on to the tap's token, and posts the tap.
 use Rattle.std.proofs.Common.{◌<◌, [], sym, subst, ◌∙◌, arith}
-use Rattle.std.proofs.lemmas.List.Elements.{All-head}
-use Rattle.tap_views.specs.Layout.{moment_limit}
-use Rattle.tap_views.specs.declared.encoder.TapFields.{TapFields}
-use Rattle.tap_views.specs.declared.token.Token.{Token}
 use Rattle.histories.specs.Entry.{own}
-use Rattle.tap_views.specs.TokenOrder.{IsUpTo}
 use Rattle.settled_texts.proofs.TapsExplained.{one_reported}
+use Rattle.std.proofs.lemmas.List.Elements.{All-head}
+use Rattle.tap_views.specs.{Layout.moment_limit, TokenOrder.IsUpTo}
+use Rattle.tap_views.specs.declared.{encoder.TapFields.TapFields, token.Token.Token}
 use Rattle.settled_texts.proofs.lines.explain_tap.Goals as goal
 
 pub write_posted-requires-clause-early : goal.write_posted-requires-clause-early

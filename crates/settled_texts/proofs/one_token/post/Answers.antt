@@ -1,12 +1,9 @@
-use Rattle.std.proofs.Common.{◌≡◌, ◌+◌, List, [], ◌∷◌, ◌++◌, get_or, take, refl, ap, sym}
-use Rattle.std.proofs.Common.{subst, ◌∙◌}
-use Rattle.tap_views.specs.declared.encoder.TapFields.{TapFields}
-use Rattle.histories.specs.Entry.{own}
-use Rattle.histories.specs.declared.entry.Entry.{Entry}
-use Rattle.histories.specs.Plain.{answered}
-use Rattle.settlement.specs.Posted.{posted, posted_after, unposted}
-use Rattle.settlement.specs.Replays.{HasPosted}
+use Rattle.std.proofs.Common.{◌≡◌, ◌+◌, List, [], ◌∷◌, ◌++◌, get_or, take, refl, ap, sym, subst}
+use Rattle.std.proofs.Common.{◌∙◌}
+use Rattle.histories.specs.{Entry.own, Plain.answered, declared.entry.Entry.Entry}
 use Rattle.settlement.proofs.TokenRuns.{posted_more}
+use Rattle.settlement.specs.{Posted.posted, Posted.posted_after, Posted.unposted, Replays.HasPosted}
+use Rattle.tap_views.specs.declared.encoder.TapFields.{TapFields}
 use Rattle.settled_texts.proofs.one_token.post.Goals as goal
 
 pub loop-tap-init : goal.loop-tap-init

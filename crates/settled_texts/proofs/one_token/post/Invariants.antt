@@ -1,6 +1,5 @@
 use Rattle.std.proofs.Common.{◌≡◌, take}
-use Rattle.settlement.specs.Posted.{posted}
-use Rattle.settlement.specs.Replays.{HasPosted}
+use Rattle.settlement.specs.{Posted.posted, Replays.HasPosted}
 use Rattle.settled_texts.proofs.one_token.post.Given as goal
 
 -- the first taps are posted

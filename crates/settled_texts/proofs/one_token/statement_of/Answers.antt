@@ -1,12 +1,9 @@
 use Rattle.std.proofs.Common.{◌≡◌, List, map, ap, refl, sym, ◌∙◌}
-use Rattle.tap_views.specs.Token.{bytes_of}
-use Rattle.tap_views.specs.declared.token.Token.{Token}
-use Rattle.fare_caps.specs.CapMeanings.{capped_rules_of}
-use Rattle.fare_caps.specs.CappedReplies.{capped_window}
+use Rattle.fare_caps.specs.{CapMeanings.capped_rules_of, CappedReplies.capped_window}
 use Rattle.histories.specs.Entry.{own, tap_of, taps_of}
-use Rattle.histories.specs.Sums.{sums}
-use Rattle.histories.specs.declared.entry.Entry.{Entry}
+use Rattle.histories.specs.{Sums.sums, declared.entry.Entry.Entry}
 use Rattle.settled_texts.proofs.OwnEntries.{own_again}
+use Rattle.tap_views.specs.{Token.bytes_of, declared.token.Token.Token}
 use Rattle.settled_texts.proofs.one_token.statement_of.Goals as goal
 
 pub returns : goal.returns

@@ -1,18 +1,16 @@
 -- Each turn writes what is before a slot's taps, and then its lines.
 use Rattle.std.proofs.Common.{List, drop, length, string_bytes, subst, sym, arith}
-use Rattle.std.specs.Prelude.{slice_index_or}
-use Rattle.std.specs.List.{between}
-use Rattle.std.proofs.lemmas.List.{take_all}
-use Rattle.std.proofs.lemmas.List.Edits.{split_between}
-use Rattle.std.proofs.lemmas.Result.{err_from_is_err_and}
-use Rattle.fare_texts.specs.WrittenOut.{GoesOut}
 use Rattle.fare_texts.proofs.Beginnings.{goes_nothing}
-use Rattle.tap_views.specs.declared.encoder.TapFields.{TapFields}
-use Rattle.settled_texts.specs.ExplainedTaps.{Explains}
+use Rattle.fare_texts.specs.WrittenOut.{GoesOut}
 use Rattle.settled_texts.proofs.Joined.{explains_between, may_next, started_next}
 use Rattle.settled_texts.proofs.TapsExplained.{explains_none}
+use Rattle.settled_texts.proofs.rounds.write_by_workers.Goals.{then-slot+then-done-slot+in_ok-write_taps+in_ok-write_slot}
+use Rattle.settled_texts.proofs.rounds.write_by_workers.Goals.{else-slot}
+use Rattle.settled_texts.specs.ExplainedTaps.{Explains}
+use Rattle.std.proofs.lemmas.{List.take_all, List.Edits.split_between, Result.err_from_is_err_and}
+use Rattle.std.specs.{List.between, Prelude.slice_index_or}
+use Rattle.tap_views.specs.declared.encoder.TapFields.{TapFields}
 use Rattle.settled_texts.proofs.rounds.write_by_workers.Goals as goal
-use Rattle.settled_texts.proofs.rounds.write_by_workers.Goals.{then-slot+then-done-slot+in_ok-write_taps+in_ok-write_slot, else-slot}
 
 pub sit-requires-clause-sound : goal.sit-requires-clause-sound
 sit-requires-clause-sound g c κs within = record {

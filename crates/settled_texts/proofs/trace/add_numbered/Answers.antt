@@ -1,8 +1,7 @@
 use Rattle.std.proofs.Common.{◌+◌, ◌++◌, ◌∙◌, ◌∷◌, [], List, ap, append_assoc, get_or, sym, take}
-use Rattle.tap_views.specs.declared.encoder.TapFields.{TapFields}
-use Rattle.settled_texts.specs.Traces.{numbered}
-use Rattle.settled_texts.specs.declared.trace.TracedTap.{TracedTap}
 use Rattle.settled_texts.proofs.Numbering.{numbered_more}
+use Rattle.settled_texts.specs.{Traces.numbered, declared.trace.TracedTap.TracedTap}
+use Rattle.tap_views.specs.declared.encoder.TapFields.{TapFields}
 use Rattle.settled_texts.proofs.trace.add_numbered.Goals as goal
 
 pub loop-index-preserved : goal.loop-index-preserved

@@ -1,13 +1,12 @@
 use Rattle.std.proofs.Common.{◌≡◌, ◌+◌, ◌∙◌, ◌∷◌, ◌++◌, [], ℕ, List, Vec, Global, map, take, ap}
 use Rattle.std.proofs.Common.{sym, subst, arith, length-append, refl, Bool}
-use Rattle.std.specs.Prelude.{◌&&◌}
-use Rattle.std.specs.List.{list_all}
-use Rattle.std.proofs.lemmas.List.{map-append, take_more}
-use Rattle.tap_views.specs.Files.{IsReadAs, ValidBatchesView}
-use Rattle.tap_views.proofs.Lists.{AllZip-append}
+use Rattle.settled_texts.proofs.Numbering.{traced_push, whole_push}
 use Rattle.settled_texts.specs.Traces.{AreReadAs, valid_fields, is_whole, numbered}
 use Rattle.settled_texts.specs.declared.trace.TracedTap.{TracedTap}
-use Rattle.settled_texts.proofs.Numbering.{traced_push, whole_push}
+use Rattle.std.proofs.lemmas.List.{map-append, take_more}
+use Rattle.std.specs.{List.list_all, Prelude.◌&&◌}
+use Rattle.tap_views.proofs.Lists.{AllZip-append}
+use Rattle.tap_views.specs.Files.{IsReadAs, ValidBatchesView}
 use Rattle.settled_texts.proofs.trace.collected.Goals as goal
 
 abbrev bytes_in : Vec ℕ Global → List ℕ

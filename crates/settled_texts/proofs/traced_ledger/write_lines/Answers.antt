@@ -1,20 +1,17 @@
 -- Each round explains a tap more.
 use Rattle.std.proofs.Common.{◌+◌, ◌++◌, ℕ, List, [], ◌∷◌, arith, drop, refl, subst}
-use Rattle.std.specs.Io.KnownBytes.{Appends}
-use Rattle.std.proofs.lemmas.List.{take_all}
-use Rattle.std.proofs.lemmas.Result.{err_from_is_err_and}
-use Rattle.tap_views.specs.declared.encoder.TapFields.{TapFields}
-use Rattle.fare_texts.proofs.Beginnings.{goes_after}
 use Rattle.class_names.specs.Names.{class_by}
-use Rattle.settled_texts.specs.Columns.{columns_by, with_columns}
-use Rattle.settled_texts.specs.ExplainedTaps.{Explains, HaveLines}
-use Rattle.settled_texts.specs.Traces.{taps_of_trace}
-use Rattle.settled_texts.specs.declared.trace.TracedTap.{TracedTap}
+use Rattle.fare_texts.proofs.Beginnings.{goes_after}
 use Rattle.settled_texts.proofs.Joined.{gone_begins, may_next}
 use Rattle.settled_texts.proofs.TapsExplained.{explained_lines, explains_as, explains_none}
-use Rattle.settled_texts.proofs.TapsExplained.{explains_then}
-use Rattle.settled_texts.proofs.TracedLines.{GoesWith, goes_all, goes_put, taps_at}
-use Rattle.settled_texts.proofs.TracedLines.{taps_more, traced_started}
+use Rattle.settled_texts.proofs.{TapsExplained.explains_then, TracedLines.GoesWith}
+use Rattle.settled_texts.proofs.TracedLines.{goes_all, goes_put, taps_at, taps_more, traced_started}
+use Rattle.settled_texts.specs.Columns.{columns_by, with_columns}
+use Rattle.settled_texts.specs.ExplainedTaps.{Explains, HaveLines}
+use Rattle.settled_texts.specs.{Traces.taps_of_trace, declared.trace.TracedTap.TracedTap}
+use Rattle.std.proofs.lemmas.{List.take_all, Result.err_from_is_err_and}
+use Rattle.std.specs.Io.KnownBytes.{Appends}
+use Rattle.tap_views.specs.declared.encoder.TapFields.{TapFields}
 use Rattle.settled_texts.proofs.traced_ledger.write_lines.Goals as goal
 
 pub loop-traced-init : goal.loop-traced-init

@@ -1,8 +1,7 @@
 use Rattle.std.proofs.Common.{take}
 use Rattle.class_names.specs.Names.{class_by}
-use Rattle.settled_texts.specs.ExplainedTaps.{Explains}
-use Rattle.settled_texts.specs.Traces.{taps_of_trace}
 use Rattle.settled_texts.proofs.TracedLines.{GoesWith}
+use Rattle.settled_texts.specs.{ExplainedTaps.Explains, Traces.taps_of_trace}
 use Rattle.settled_texts.proofs.traced_ledger.write_lines.Given as goal
 
 -- the explainer went on by the taps so far, and their lines went out with their columns

@@ -1,14 +1,12 @@
 -- The head line has its columns, and behind it are the lines with theirs.
 use Rattle.std.proofs.Common.{◌∙◌, [], arith, subst}
-use Rattle.std.specs.Io.KnownBytes.{Appends}
-use Rattle.std.proofs.lemmas.List.{length-map}
-use Rattle.std.proofs.lemmas.Result.{err_from_is_err_and}
-use Rattle.fare_texts.specs.WrittenOut.{Begins}
 use Rattle.fare_texts.proofs.PieceWriting.{consumed_first}
-use Rattle.settlement.proofs.Nondecreasing.{canonical_nondecreasing}
-use Rattle.settled_texts.specs.Traces.{taps_of_trace}
-use Rattle.settled_texts.specs.declared.trace.TracedTap.{TracedTap}
+use Rattle.fare_texts.specs.WrittenOut.{Begins}
 use Rattle.settled_texts.proofs.Rows.{ledger_of}
+use Rattle.settled_texts.specs.{Traces.taps_of_trace, declared.trace.TracedTap.TracedTap}
+use Rattle.settlement.proofs.Nondecreasing.{canonical_nondecreasing}
+use Rattle.std.proofs.lemmas.{List.length-map, Result.err_from_is_err_and}
+use Rattle.std.specs.Io.KnownBytes.{Appends}
 use Rattle.settled_texts.proofs.traced_ledger.write_trace.Goals as goal
 
 pub write_lines-requires-clause-may : goal.write_lines-requires-clause-may

@@ -1,18 +1,15 @@
-use Rattle.std.proofs.Common.{◌≡◌, ◌∙◌, ℕ, Bool, List, ◌∷◌, None, Vec, Global, map, refl, subst, sym}
+use Rattle.std.proofs.Common.{◌≡◌, ◌∙◌, ℕ, Bool, List, ◌∷◌, None, Vec, Global, map, refl, subst}
+use Rattle.std.proofs.Common.{sym}
+use Rattle.class_names.specs.Names.{class_by}
+use Rattle.fare_texts.specs.{Ledger.IsLedgerOver, WrittenOut.Begins}
+use Rattle.settled_texts.proofs.Settled.{trace_settled}
+use Rattle.settled_texts.specs.Columns.{columns_by, head_columns, with_columns}
+use Rattle.settled_texts.specs.{Ledgers.IsTracedLedger, Traces.IsTrace, Traces.taps_of_trace}
+use Rattle.settled_texts.specs.declared.trace.TracedTap.{TracedTap}
+use Rattle.settlement.specs.{Posted.posted, Settled.IsSettledHistory, SettledTaps.AreSettledTaps}
 use Rattle.std.proofs.lemmas.Result.{err_from_is_err_and}
 use Rattle.std.specs.Io.KnownBytes.{Appends}
 use Rattle.tariffs.specs.Fares.{Fares}
-use Rattle.fare_texts.specs.Ledger.{IsLedgerOver}
-use Rattle.fare_texts.specs.WrittenOut.{Begins}
-use Rattle.settlement.specs.Posted.{posted}
-use Rattle.settlement.specs.Settled.{IsSettledHistory}
-use Rattle.settlement.specs.SettledTaps.{AreSettledTaps}
-use Rattle.class_names.specs.Names.{class_by}
-use Rattle.settled_texts.specs.Columns.{columns_by, head_columns, with_columns}
-use Rattle.settled_texts.specs.Ledgers.{IsTracedLedger}
-use Rattle.settled_texts.specs.Traces.{IsTrace, taps_of_trace}
-use Rattle.settled_texts.specs.declared.trace.TracedTap.{TracedTap}
-use Rattle.settled_texts.proofs.Settled.{trace_settled}
 use Rattle.settled_texts.proofs.traced_ledger.write_traced_ledger.Goals as goal
 
 abbrev bytes_in : Vec ℕ Global → List ℕ

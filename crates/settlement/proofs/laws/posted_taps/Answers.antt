@@ -1,5 +1,4 @@
-use Rattle.settlement.proofs.OnlyTaps.{own_posted}
-use Rattle.settlement.proofs.SettledOrders.{posted_history}
+use Rattle.settlement.proofs.{OnlyTaps.own_posted, SettledOrders.posted_history}
 use Rattle.settlement.proofs.laws.posted_taps.Goals as goal
 
 pub returns-clause-history : goal.returns-clause-history

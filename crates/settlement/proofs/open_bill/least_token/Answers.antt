@@ -1,6 +1,5 @@
 use Rattle.std.proofs.Common.{arith}
-use Rattle.tap_views.specs.Token.{bytes_of}
-use Rattle.tap_views.specs.declared.token.Token.{Token}
+use Rattle.tap_views.specs.{Token.bytes_of, declared.token.Token.Token}
 use Rattle.settlement.proofs.open_bill.least_token.Goals as goal
 
 abbrev zero : Token

@@ -1,11 +1,9 @@
 use Rattle.std.proofs.Common.{◌≡◌, List, ◌∷◌, ◌++◌, append-nil, append_assoc, sym, ap, ◌∙◌, []}
 use Rattle.std.proofs.Common.{true, false}
-use Rattle.tap_views.specs.Token.{token_eq}
-use Rattle.tap_views.specs.declared.token.Token.{Token}
-use Rattle.tap_views.specs.Encoding.{fields_of}
-use Rattle.tap_views.specs.declared.encoder.TapFields.{TapFields}
 use Rattle.settlement.proofs.OnlyTaps.{is_its, only_here, only_more, only_not}
 use Rattle.settlement.proofs.TokenRuns.{named_token}
+use Rattle.tap_views.specs.{Encoding.fields_of, Token.token_eq}
+use Rattle.tap_views.specs.declared.{encoder.TapFields.TapFields, token.Token.Token}
 use Rattle.settlement.proofs.own_taps.add_batch.Goals as goal
 
 pub loop-tap-preserved-in-Continue-1 : goal.loop-tap-preserved-in-Continue-1

@@ -1,11 +1,10 @@
 use Rattle.std.proofs.Common.{◌∷◌, ◌++◌, length, map, sym, ap, ◌∙◌, subst, arith, [], append_assoc}
-use Rattle.std.specs.List.{AllZip}
-use Rattle.std.specs.Vec.Iter.{into_iter_items}
-use Rattle.std.proofs.lemmas.List.{map-append}
-use Rattle.tap_parts.specs.Canonical.{IsCanonical}
 use Rattle.settlement.proofs.Files.{taps_in}
-use Rattle.settlement.proofs.part_lists.lists_of.Goals as goal
+use Rattle.std.proofs.lemmas.List.{map-append}
+use Rattle.std.specs.{List.AllZip, Vec.Iter.into_iter_items}
+use Rattle.tap_parts.specs.Canonical.{IsCanonical}
 use Rattle.tap_views.proofs.Lists.{AllZip-append}
+use Rattle.settlement.proofs.part_lists.lists_of.Goals as goal
 
 pub loop-pieces-preserved : goal.loop-pieces-preserved
 loop-pieces-preserved c =

@@ -1,6 +1,5 @@
 use Rattle.std.proofs.Common.{◌≡◌, ◌++◌, length, map}
-use Rattle.std.specs.List.{AllZip}
-use Rattle.std.specs.Vec.Iter.{into_iter_items, into_iter_len}
+use Rattle.std.specs.{List.AllZip, Vec.Iter.into_iter_items, Vec.Iter.into_iter_len}
 use Rattle.tap_parts.specs.Canonical.{IsCanonical}
 use Rattle.settlement.proofs.part_lists.lists_of.Given as goal
 

@@ -1,12 +1,11 @@
 use Rattle.std.proofs.Common.{◌≡◌, ℕ, ◌<◌, ◌≤◌, ◌+◌, List, ◌∷◌, ◌++◌, length, get_or, map, set, sym}
 use Rattle.std.proofs.Common.{[], ap, ◌∙◌, arith, append_assoc, inl, inr, length-append}
-use Rattle.std.specs.Prelude.{◌⊎◌}
-use Rattle.std.specs.Vec.Iter.{into_iter_items}
+use Rattle.settlement.proofs.Files.{taps_in}
 use Rattle.std.proofs.lemmas.Bool.{cases_lt}
 use Rattle.std.proofs.lemmas.List.{get_or_default, get_or-set_same, get_or-set_other, length-set}
 use Rattle.std.proofs.lemmas.List.{get_or_append_left, get_or-append-add, length-map, map-append}
+use Rattle.std.specs.{Prelude.◌⊎◌, Vec.Iter.into_iter_items}
 use Rattle.tap_views.specs.declared.encoder.TapFields.{TapFields}
-use Rattle.settlement.proofs.Files.{taps_in}
 use Rattle.settlement.proofs.pieces.join.Goals as goal
 
 pub loop-piece-preserved : goal.loop-piece-preserved

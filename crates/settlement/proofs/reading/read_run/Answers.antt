@@ -1,10 +1,9 @@
 use Rattle.std.proofs.Common.{◌≡◌, ◌+◌, ◌∷◌, ◌++◌, List, [], ap, sym, subst, arith, ◌∙◌}
-use Rattle.tap_views.specs.Layout.{Tap}
-use Rattle.tap_views.specs.declared.upload_end.UploadEnd.{UploadEnd}
-use Rattle.tap_parts.specs.Parts.{taps_of_uploads}
-use Rattle.world.specs.Run.{Calls, nothing_yet}
-use Rattle.settlement.specs.inside.Taken.{AreInRuns, AreTaken, IsUploadKept}
 use Rattle.settlement.proofs.ReadUploads.{none_taken, run_taken, upload_taken}
+use Rattle.settlement.specs.inside.Taken.{AreInRuns, AreTaken, IsUploadKept}
+use Rattle.tap_parts.specs.Parts.{taps_of_uploads}
+use Rattle.tap_views.specs.{Layout.Tap, declared.upload_end.UploadEnd.UploadEnd}
+use Rattle.world.specs.Run.{Calls, nothing_yet}
 use Rattle.settlement.proofs.reading.read_run.Goals as goal
 
 pub loop-number-init : goal.loop-number-init

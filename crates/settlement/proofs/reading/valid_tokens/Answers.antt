@@ -1,10 +1,9 @@
 use Rattle.std.proofs.Common.{List, All, sym, subst, append-nil, ◌∷◌, ◌∙◌, map, []}
-use Rattle.tap_views.specs.Encoding.{fields_of}
-use Rattle.tap_views.specs.Files.{AreValidTapsOfEach, HasUniqueParse}
-use Rattle.tap_views.specs.Layout.{Tap}
-use Rattle.tap_views.proofs.Lists.{All-unmap}
-use Rattle.tap_parts.specs.Canonical.{HasTokenBytes}
 use Rattle.settlement.proofs.Files.{bytes_in}
+use Rattle.tap_parts.specs.Canonical.{HasTokenBytes}
+use Rattle.tap_views.proofs.Lists.{All-unmap}
+use Rattle.tap_views.specs.{Encoding.fields_of, Files.AreValidTapsOfEach, Files.HasUniqueParse}
+use Rattle.tap_views.specs.Layout.{Tap}
 use Rattle.settlement.proofs.ValidTokens as valid
 use Rattle.settlement.proofs.reading.valid_tokens.Goals as goal
 

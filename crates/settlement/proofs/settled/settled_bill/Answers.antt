@@ -1,8 +1,7 @@
 use Rattle.std.proofs.Common.{List, sym, subst, rules}
-use Rattle.tap_views.specs.declared.encoder.TapFields.{TapFields}
+use Rattle.settlement.proofs.{PartBills.flat, SettledOrders.bill_settled}
 use Rattle.settlement.specs.inside.Billing.{AreRangesFrom, IsBillOfTaps}
-use Rattle.settlement.proofs.PartBills.{flat}
-use Rattle.settlement.proofs.SettledOrders.{bill_settled}
+use Rattle.tap_views.specs.declared.encoder.TapFields.{TapFields}
 use Rattle.settlement.proofs.settled.settled_bill.Goals as goal
 
 pub bill_by_threads-requires : goal.bill_by_threads-requires

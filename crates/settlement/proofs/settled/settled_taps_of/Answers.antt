@@ -1,15 +1,11 @@
 use Rattle.std.proofs.Common.{◌∙◌, flat_map, map, ap, subst, sym}
-use Rattle.std.proofs.lemmas.List.Elements.{All-map}
-use Rattle.tap_views.specs.Encoding.{fields_of}
-use Rattle.tap_parts.specs.Canonical.{HasTokenBytes, IsCanonical}
-use Rattle.tap_parts.specs.Parts.{taps_of_uploads}
-use Rattle.world.specs.Run.{Calls}
-use Rattle.settlement.specs.Posted.{only}
-use Rattle.settlement.specs.Reading.{AreRead}
-use Rattle.settlement.proofs.Files.{taps_in}
-use Rattle.settlement.proofs.OnlyTaps.{own_runs}
-use Rattle.settlement.proofs.ReadUploads.{joined_read}
+use Rattle.settlement.proofs.{Files.taps_in, OnlyTaps.own_runs, ReadUploads.joined_read}
 use Rattle.settlement.proofs.SettledOrders.{own_early, own_its, own_settled}
+use Rattle.settlement.specs.{Posted.only, Reading.AreRead}
+use Rattle.std.proofs.lemmas.List.Elements.{All-map}
+use Rattle.tap_parts.specs.{Canonical.HasTokenBytes, Canonical.IsCanonical, Parts.taps_of_uploads}
+use Rattle.tap_views.specs.Encoding.{fields_of}
+use Rattle.world.specs.Run.{Calls}
 use Rattle.settlement.proofs.settled.settled_taps_of.Goals as goal
 
 pub returns-clause-order : goal.returns-clause-order

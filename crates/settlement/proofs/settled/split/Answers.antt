@@ -1,13 +1,11 @@
 use Rattle.std.proofs.Common.{ap, map, ◌<◌, ◌∙◌, subst, sym}
-use Rattle.std.proofs.lemmas.List.Elements.{All-map}
-use Rattle.tap_views.specs.Encoding.{fields_of}
-use Rattle.tap_parts.specs.Canonical.{HasTokenBytes}
-use Rattle.tap_parts.specs.Parts.{taps_at, taps_of_uploads}
-use Rattle.tap_parts.specs.Ranges.{range_of_token}
-use Rattle.world.specs.Run.{Calls}
+use Rattle.settlement.proofs.{ReadUploads.joined_read, Splits.are_split, Splits.parts_runs}
 use Rattle.settlement.specs.Reading.{AreRead}
-use Rattle.settlement.proofs.ReadUploads.{joined_read}
-use Rattle.settlement.proofs.Splits.{are_split, parts_runs}
+use Rattle.std.proofs.lemmas.List.Elements.{All-map}
+use Rattle.tap_parts.specs.{Canonical.HasTokenBytes, Parts.taps_at, Parts.taps_of_uploads}
+use Rattle.tap_parts.specs.Ranges.{range_of_token}
+use Rattle.tap_views.specs.Encoding.{fields_of}
+use Rattle.world.specs.Run.{Calls}
 use Rattle.settlement.proofs.settled.split.Goals as goal
 
 pub pieces_of-requires : goal.pieces_of-requires

@@ -1,10 +1,9 @@
-use Rattle.std.proofs.Common.{◌≡◌, ◌+◌, ◌++◌, take, List, subst, sym, arith}
-use Rattle.std.specs.Prelude.{if◌then◌else◌}
-use Rattle.std.proofs.lemmas.List.{take_all}
+use Rattle.std.proofs.Common.{◌≡◌, ◌+◌, ◌++◌, take, List, subst, arith}
 use Rattle.histories.specs.declared.entry.Entry.{Entry}
-use Rattle.shard_book.specs.Late.{late_after}
-use Rattle.shard_book.specs.inside.Late.{AreLeft}
 use Rattle.shard_book.proofs.LateLemmas.{count-more}
+use Rattle.shard_book.specs.{Late.late_after, inside.Late.AreLeft}
+use Rattle.std.proofs.lemmas.List.{take_all}
+use Rattle.std.specs.Prelude.{if◌then◌else◌}
 use Rattle.shard_book.proofs.late.count_late.Goals as goal
 
 pub loop-i-preserved : goal.loop-i-preserved

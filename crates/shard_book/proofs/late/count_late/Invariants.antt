@@ -1,7 +1,6 @@
 use Rattle.std.proofs.Common.{◌≡◌, ◌+◌, ◌++◌, List, take}
 use Rattle.histories.specs.declared.entry.Entry.{Entry}
-use Rattle.shard_book.specs.Late.{late_after}
-use Rattle.shard_book.specs.inside.Late.{AreLeft}
+use Rattle.shard_book.specs.{Late.late_after, inside.Late.AreLeft}
 use Rattle.shard_book.proofs.late.count_late.Given as goal
 
 abbrev pub invariant-loop-i : goal.invariant-loop-i

@@ -1,6 +1,5 @@
 use Rattle.std.proofs.Common.{◌≡◌, take}
-use Rattle.shard_book.specs.Book.{all_entries}
-use Rattle.shard_book.specs.Late.{late_taps}
+use Rattle.shard_book.specs.{Book.all_entries, Late.late_taps}
 use Rattle.shard_book.specs.inside.Late.{AreLeft, AreStale}
 use Rattle.shard_book.proofs.late.late_taps.Given as goal
 

@@ -1,8 +1,7 @@
 use Rattle.std.proofs.Common.{◌≡◌, ◌&&◌, ◌∙◌, Bool, true, false, cond, ap, sym, subst}
-use Rattle.std.specs.List.{list_any}
 use Rattle.histories.specs.Sums.{is_stale}
-use Rattle.shard_book.specs.declared.late.TapKey.{TapKey}
-use Rattle.shard_book.specs.inside.Late.{key_eq, key_of}
+use Rattle.shard_book.specs.{declared.late.TapKey.TapKey, inside.Late.key_eq, inside.Late.key_of}
+use Rattle.std.specs.List.{list_any}
 use Rattle.shard_book.proofs.late.take_late.Goals as goal
 
 pub returns-then-is_first-clause-late : goal.returns-then-is_first-clause-late

@@ -1,20 +1,14 @@
 use Rattle.std.proofs.Common.{◌≡◌, ◌≤◌, ◌∙◌, ℕ, ap, false, List, [], filter, arith, map, sym}
-use Rattle.account_rule.specs.declared.reply.Reply.{Reply}
-use Rattle.account_rule.specs.Laws.{is_ride}
-use Rattle.account_rule.specs.Replies.{replies}
-use Rattle.account_rule.specs.Taps.{LiveTap}
-use Rattle.account_rule.specs.TokenRules.{rules_of, token_class}
-use Rattle.tariffs.specs.Fares.{Fares, has_caps_or_prices, meaning_at, terms_at, valid_at}
-use Rattle.fare_caps.specs.CapMeanings.{capped_rules_of}
+use Rattle.account_rule.specs.{Laws.is_ride, Replies.replies, Taps.LiveTap, TokenRules.rules_of}
+use Rattle.account_rule.specs.{TokenRules.token_class, declared.reply.Reply.Reply}
 use Rattle.fare_caps.proofs.EmptyLemmas.{replies-empty}
+use Rattle.fare_caps.specs.CapMeanings.{capped_rules_of}
 use Rattle.histories.specs.Entry.{own, reply_of, taps_of}
-use Rattle.histories.specs.History.{IsLegal}
-use Rattle.histories.specs.declared.entry.Entry.{Entry}
-use Rattle.tap_views.specs.declared.token.Token.{Token}
-use Rattle.tap_views.specs.Token.{bytes_of}
+use Rattle.histories.specs.{History.IsLegal, declared.entry.Entry.Entry}
 use Rattle.shard_book.proofs.WindowsLemmas.{cents-counted, cents-of, cents-own, paid-counted}
-use Rattle.shard_book.proofs.WindowsLemmas.{paid-of}
-use Rattle.shard_book.proofs.WindowsLemmas.{replies-own}
+use Rattle.shard_book.proofs.WindowsLemmas.{paid-of, replies-own}
+use Rattle.tap_views.specs.{Token.bytes_of, declared.token.Token.Token}
+use Rattle.tariffs.specs.Fares.{Fares, has_caps_or_prices, meaning_at, terms_at, valid_at}
 use Rattle.shard_book.proofs.laws.book_keeps_limits.Goals as goal
 
 valid_alone : (table : Fares) (moment : ℕ) → table.later ≡ []

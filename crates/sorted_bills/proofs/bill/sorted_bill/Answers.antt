@@ -1,15 +1,13 @@
 use Rattle.std.proofs.Common.{◌<◌, ◌^◌, ℕ, List, [], map, sym, ap, subst, ◌∙◌, arith, refl}
-use Rattle.std.specs.Prelude.{sum}
-use Rattle.std.proofs.lemmas.Result.{IfOk-at_ok, err_from_is_err_and}
-use Rattle.tap_views.specs.UploadEnds.{ArePlainEnds}
-use Rattle.tap_views.specs.declared.upload_end.UploadEnd.{UploadEnd}
-use Rattle.tap_views.specs.declared.upload_end.UploadEnd.TheVariants.{Posted}
-use Rattle.settlement.specs.Posted.{posted}
 use Rattle.settlement.proofs.TokenRuns.{posted_length}
-use Rattle.sorted_bills.specs.inside.Charged.{IsPart}
+use Rattle.settlement.specs.Posted.{posted}
 use Rattle.sorted_bills.proofs.Counted.{plain_ends, too_many}
-use Rattle.sorted_bills.proofs.JoinedParts.{whole_spans}
-use Rattle.sorted_bills.proofs.Settled.{settled_list}
+use Rattle.sorted_bills.proofs.{JoinedParts.whole_spans, Settled.settled_list}
+use Rattle.sorted_bills.specs.inside.Charged.{IsPart}
+use Rattle.std.proofs.lemmas.Result.{IfOk-at_ok, err_from_is_err_and}
+use Rattle.std.specs.Prelude.{sum}
+use Rattle.tap_views.specs.UploadEnds.{ArePlainEnds}
+use Rattle.tap_views.specs.declared.upload_end.UploadEnd.{UploadEnd, TheVariants.Posted}
 use Rattle.sorted_bills.proofs.bill.sorted_bill.Goals as goal
 
 pub returns-clause-billed : goal.returns-clause-billed

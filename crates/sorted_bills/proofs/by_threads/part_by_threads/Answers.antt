@@ -1,9 +1,8 @@
 use Rattle.std.proofs.Common.{map}
-use Rattle.std.specs.Prelude.{IfSome, Option}
-use Rattle.std.proofs.lemmas.List.Elements.{All-pop}
-use Rattle.sorted_bills.specs.inside.Charged.{IsPart}
-use Rattle.sorted_bills.specs.declared.part.Part.{Part}
 use Rattle.sorted_bills.proofs.Parts.{parts_room}
+use Rattle.sorted_bills.specs.{declared.part.Part.Part, inside.Charged.IsPart}
+use Rattle.std.proofs.lemmas.List.Elements.{All-pop}
+use Rattle.std.specs.Prelude.{IfSome, Option}
 use Rattle.sorted_bills.proofs.by_threads.part_by_threads.Goals as goal
 
 pub loop-init : goal.loop-init

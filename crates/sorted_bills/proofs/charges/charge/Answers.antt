@@ -1,13 +1,12 @@
 -- Each round adds the taps that were taken last.
 use Rattle.std.proofs.Common.{List, [], ◌++◌, All, map, length, refl, sym, ap, subst, ◌∙◌, arith}
 use Rattle.std.proofs.Common.{length-append}
-use Rattle.tap_views.specs.declared.encoder.TapFields.{TapFields}
-use Rattle.tap_views.specs.declared.token.Token.{Token}
-use Rattle.settlement.specs.Nondecreasing.{TapsNondecreasingFrom, last_token}
 use Rattle.settlement.proofs.Nondecreasing.{last_append}
+use Rattle.settlement.specs.Nondecreasing.{TapsNondecreasingFrom, last_token}
 use Rattle.settlement.specs.OpenBills.{IsOpenBill}
 use Rattle.sorted_bills.proofs.Takings.{Early, both_taken, nondecreasing_both, last_taken}
 use Rattle.sorted_bills.proofs.Takings.{none_taken, none_there}
+use Rattle.tap_views.specs.declared.{encoder.TapFields.TapFields, token.Token.Token}
 use Rattle.sorted_bills.proofs.charges.charge.Goals as goal
 
 pub loop-round-init : goal.loop-round-init

@@ -1,6 +1,5 @@
 use Rattle.std.proofs.Common.{length, map}
-use Rattle.sorted_bills.specs.inside.Charged.{IsCharged}
-use Rattle.sorted_bills.specs.inside.Taken.{IsReady}
+use Rattle.sorted_bills.specs.inside.{Charged.IsCharged, Taken.IsReady}
 use Rattle.sorted_bills.proofs.charges.charge.Given as goal
 
 -- the taps taken so far were added

@@ -1,22 +1,19 @@
 -- All taps of the files are their settled taps, and their lines are the ledger.
 use Rattle.std.proofs.Common.{◌≡◌, ◌∙◌, ◌++◌, ◌^◌, ◌<◌, List, ap, map, refl, subst, sym, ℕ}
-use Rattle.std.specs.Prelude.{sum}
-use Rattle.std.proofs.lemmas.Result.{err_from_is_err_and}
-use Rattle.tap_views.specs.UploadEnds.{ArePlainEnds}
-use Rattle.tap_views.specs.declared.upload_end.UploadEnd.{UploadEnd}
-use Rattle.tap_views.specs.declared.upload_end.UploadEnd.TheVariants.{Posted}
-use Rattle.fare_texts.specs.LedgerLines.{head_text}
 use Rattle.fare_texts.proofs.Along.{ledger_along}
-use Rattle.settlement.specs.Posted.{posted}
+use Rattle.fare_texts.specs.LedgerLines.{head_text}
 use Rattle.settled_texts.proofs.Rows.{posted_nondecreasing}
-use Rattle.sorted_taps.specs.Merges.{AreAtEnd, AreStarted}
-use Rattle.sorted_taps.specs.declared.merge.Merge.{Merge}
-use Rattle.sorted_taps.specs.declared.reader.TapReader.{TapReader}
+use Rattle.settlement.specs.Posted.{posted}
+use Rattle.sorted_bills.proofs.{Counted.too_many, LedgerStarted.ledger_started}
+use Rattle.sorted_bills.proofs.OwnTaps.{own_counted, own_ends}
 use Rattle.sorted_bills.specs.declared.fault.BillFault.TheVariants.{NoMemory, Write}
 use Rattle.sorted_bills.specs.inside.Taken.{IsReady}
-use Rattle.sorted_bills.proofs.Counted.{too_many}
-use Rattle.sorted_bills.proofs.LedgerStarted.{ledger_started}
-use Rattle.sorted_bills.proofs.OwnTaps.{own_counted, own_ends}
+use Rattle.sorted_taps.specs.Merges.{AreAtEnd, AreStarted}
+use Rattle.sorted_taps.specs.declared.{merge.Merge.Merge, reader.TapReader.TapReader}
+use Rattle.std.proofs.lemmas.Result.{err_from_is_err_and}
+use Rattle.std.specs.Prelude.{sum}
+use Rattle.tap_views.specs.UploadEnds.{ArePlainEnds}
+use Rattle.tap_views.specs.declared.upload_end.UploadEnd.{UploadEnd, TheVariants.Posted}
 use Rattle.sorted_bills.proofs.ledger.write_sorted_ledger.Goals as goal
 
 pub write_lines-requires-clause-ready : goal.write_lines-requires-clause-ready

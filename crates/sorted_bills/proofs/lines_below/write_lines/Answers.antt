@@ -1,20 +1,17 @@
 -- Each turn explains the taps that were taken last.
-use Rattle.std.proofs.Common.{ℕ, List, [], ◌++◌, All, length, map, string_bytes, sym, ap, subst, ◌∙◌}
-use Rattle.std.proofs.Common.{arith}
-use Rattle.tap_views.specs.declared.encoder.TapFields.{TapFields}
-use Rattle.tap_views.specs.declared.token.Token.{Token}
-use Rattle.fare_texts.specs.LedgerLines.{head_text}
-use Rattle.fare_texts.specs.WrittenOut.{Begins, GoesOut}
+use Rattle.std.proofs.Common.{ℕ, List, [], ◌++◌, All, length, map, string_bytes, sym, ap, subst}
+use Rattle.std.proofs.Common.{◌∙◌, arith}
 use Rattle.fare_texts.proofs.Beginnings.{goes_begins, goes_last, goes_nothing, goes_on, goes_then}
 use Rattle.fare_texts.proofs.PieceWriting.{consumed_first}
-use Rattle.settlement.specs.Posted.{posted}
-use Rattle.settlement.specs.Nondecreasing.{TapsNondecreasingFrom, last_token}
-use Rattle.settlement.proofs.Nondecreasing.{last_append}
-use Rattle.settled_texts.specs.ExplainedTaps.{Explains, HaveLines}
+use Rattle.fare_texts.specs.{LedgerLines.head_text, WrittenOut.Begins, WrittenOut.GoesOut}
 use Rattle.settled_texts.proofs.TapsExplained.{none_reported, reported_append}
-use Rattle.sorted_bills.proofs.Explained.{along_both}
-use Rattle.sorted_bills.proofs.Takings.{Early, both_taken, last_taken, none_taken, none_there}
-use Rattle.sorted_bills.proofs.Takings.{nondecreasing_both}
+use Rattle.settled_texts.specs.ExplainedTaps.{Explains, HaveLines}
+use Rattle.settlement.proofs.Nondecreasing.{last_append}
+use Rattle.settlement.specs.Nondecreasing.{TapsNondecreasingFrom, last_token}
+use Rattle.settlement.specs.Posted.{posted}
+use Rattle.sorted_bills.proofs.{Explained.along_both, Takings.Early, Takings.both_taken}
+use Rattle.sorted_bills.proofs.Takings.{last_taken, none_taken, none_there, nondecreasing_both}
+use Rattle.tap_views.specs.declared.{encoder.TapFields.TapFields, token.Token.Token}
 use Rattle.sorted_bills.proofs.lines_below.write_lines.Goals as goal
 
 pub loop-init : goal.loop-init

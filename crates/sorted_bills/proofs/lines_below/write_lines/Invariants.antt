@@ -1,10 +1,9 @@
 use Rattle.std.proofs.Common.{◌≡◌, ◌+◌, ◌<◌, ◌^◌, List, [], ℕ, length, map, string_bytes}
-use Rattle.tap_views.specs.declared.encoder.TapFields.{TapFields}
-use Rattle.fare_texts.specs.LedgerLines.{head_text}
-use Rattle.fare_texts.specs.WrittenOut.{GoesOut}
-use Rattle.settlement.specs.Nondecreasing.{TapsNondecreasingFrom, last_token}
+use Rattle.fare_texts.specs.{LedgerLines.head_text, WrittenOut.GoesOut}
 use Rattle.settled_texts.specs.ExplainedTaps.{AreExplained}
+use Rattle.settlement.specs.Nondecreasing.{TapsNondecreasingFrom, last_token}
 use Rattle.sorted_bills.specs.inside.Taken.{AreTapsTaken, IsReady}
+use Rattle.tap_views.specs.declared.encoder.TapFields.{TapFields}
 use Rattle.sorted_bills.proofs.lines_below.write_lines.Given as goal
 
 -- the taps taken so far were explained

@@ -1,9 +1,8 @@
 use Rattle.std.proofs.Common.{List, ◌++◌, ◌∙◌, ap, subst}
+use Rattle.sorted_bills.specs.{declared.own_by_threads.OwnTaps.OwnTaps, inside.OwnTaps.IsOwnOf}
+use Rattle.sorted_taps.specs.declared.fault.SortedFault.{SortedFault}
 use Rattle.std.specs.Prelude.{IfOk, Result}
 use Rattle.tap_views.specs.declared.encoder.TapFields.{TapFields}
-use Rattle.sorted_taps.specs.declared.fault.SortedFault.{SortedFault}
-use Rattle.sorted_bills.specs.declared.own_by_threads.OwnTaps.{OwnTaps}
-use Rattle.sorted_bills.specs.inside.OwnTaps.{IsOwnOf}
 use Rattle.sorted_bills.proofs.own_by_threads.add_next.Goals as goal
 
 pub returns-in_ok-push-in-Ok-clause-own : goal.returns-in_ok-push-in-Ok-clause-own

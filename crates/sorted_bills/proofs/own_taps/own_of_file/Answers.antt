@@ -1,12 +1,11 @@
 use Rattle.std.proofs.Common.{[], ap, arith, length, take}
-use Rattle.std.proofs.lemmas.Result.{err_from_is_err_and}
-use Rattle.std.specs.Prelude.{Err, Ok}
-use Rattle.sorted_taps.specs.Readers.{ahead, IsAfterFault, IsPassed, IsPositionedIn, IsStepFault}
+use Rattle.sorted_bills.proofs.OwnTaps.{IsOwnRead, none_read, one_read, whole_read}
+use Rattle.sorted_bills.specs.{declared.own_by_threads.OwnTaps.OwnTaps, inside.OwnTaps.IsOwnResult}
 use Rattle.sorted_taps.proofs.Known.{known_all, known_map, known_map2}
 use Rattle.sorted_taps.proofs.Standing.{opening_fault, step_fault}
-use Rattle.sorted_bills.specs.declared.own_by_threads.OwnTaps.{OwnTaps}
-use Rattle.sorted_bills.specs.inside.OwnTaps.{IsOwnResult}
-use Rattle.sorted_bills.proofs.OwnTaps.{IsOwnRead, none_read, one_read, whole_read}
+use Rattle.sorted_taps.specs.Readers.{ahead, IsAfterFault, IsPassed, IsPositionedIn, IsStepFault}
+use Rattle.std.proofs.lemmas.Result.{err_from_is_err_and}
+use Rattle.std.specs.Prelude.{Err, Ok}
 use Rattle.sorted_bills.proofs.own_taps.own_of_file.Goals as goal
 
 pub returns-in_err-reader : goal.returns-in_err-reader

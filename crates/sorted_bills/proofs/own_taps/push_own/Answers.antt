@@ -1,8 +1,7 @@
 use Rattle.std.proofs.Common.{◌∙◌, sym, ap}
-use Rattle.std.proofs.lemmas.Bool.{not-false, not-true}
-use Rattle.tap_views.specs.Token.{token_eq}
-use Rattle.tap_views.specs.declared.token.Token.{Token}
 use Rattle.sorted_bills.proofs.OwnTaps.{is_own, not_own}
+use Rattle.std.proofs.lemmas.Bool.{not-false, not-true}
+use Rattle.tap_views.specs.{Token.token_eq, declared.token.Token.Token}
 use Rattle.sorted_bills.proofs.own_taps.push_own.Goals as goal
 
 pub returns-then-ne : goal.returns-then-ne

@@ -1,15 +1,13 @@
 use Rattle.std.proofs.Common.{◌≡◌, ◌∙◌, All, List, Some, map, sym, ap, subst}
-use Rattle.std.proofs.lemmas.Bool.{not-false}
-use Rattle.tap_views.specs.Token.{token_eq}
-use Rattle.tap_views.specs.UploadEnds.{ArePlainEnds}
-use Rattle.tap_views.specs.declared.encoder.TapFields.{TapFields}
-use Rattle.tap_views.specs.declared.upload_end.UploadEnd.{UploadEnd}
-use Rattle.tap_views.specs.declared.upload_end.UploadEnd.TheVariants.{Posted}
-use Rattle.tap_views.proofs.TokenLemmas.{same_token}
 use Rattle.settlement.specs.Posted.{token_of_tap}
-use Rattle.sorted_bills.specs.inside.Taken.{AreFollowing}
 use Rattle.sorted_bills.proofs.OwnTaps.{all_its, own_ends, own_in_order}
 use Rattle.sorted_bills.proofs.Takings.{Early}
+use Rattle.sorted_bills.specs.inside.Taken.{AreFollowing}
+use Rattle.std.proofs.lemmas.Bool.{not-false}
+use Rattle.tap_views.proofs.TokenLemmas.{same_token}
+use Rattle.tap_views.specs.{Token.token_eq, UploadEnds.ArePlainEnds}
+use Rattle.tap_views.specs.declared.encoder.TapFields.{TapFields}
+use Rattle.tap_views.specs.declared.upload_end.UploadEnd.{UploadEnd, TheVariants.Posted}
 use Rattle.sorted_bills.proofs.own_taps.sorted_taps_of.Goals as goal
 
 pub returns-clause-ended : goal.returns-clause-ended

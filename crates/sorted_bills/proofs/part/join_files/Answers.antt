@@ -1,10 +1,8 @@
-use Rattle.std.proofs.Common.{◌≡◌, ℕ, zero, suc, ◌+◌, ◌<◌, List, [], ◌∷◌, ◌++◌, take, get_or, length}
-use Rattle.std.proofs.Common.{ap, arith, refl, sym, ◌∙◌, add-one, Some, None, rules}
-use Rattle.sorted_taps.specs.Positions.{first_position}
-use Rattle.sorted_taps.specs.declared.positions.FileSpan.{FileSpan}
-use Rattle.sorted_bills.specs.Parts.{added}
-use Rattle.sorted_bills.specs.inside.Charged.{joined_spans}
+use Rattle.std.proofs.Common.{◌≡◌, ℕ, zero, suc, ◌+◌, ◌<◌, List, [], ◌∷◌, ◌++◌, take, get_or}
+use Rattle.std.proofs.Common.{length, ap, arith, refl, sym, ◌∙◌, add-one, Some, None, rules}
 use Rattle.sorted_bills.proofs.JoinedParts.{begins_of, ends_of}
+use Rattle.sorted_bills.specs.{Parts.added, inside.Charged.joined_spans}
+use Rattle.sorted_taps.specs.{Positions.first_position, declared.positions.FileSpan.FileSpan}
 use Rattle.sorted_bills.proofs.part.join_files.Goals as goal
 
 -- one span more of each

@@ -1,7 +1,6 @@
 use Rattle.std.proofs.Common.{◌≡◌, Some, map, take}
+use Rattle.sorted_bills.specs.{Parts.added, inside.Charged.joined_spans}
 use Rattle.sorted_taps.specs.declared.positions.FileSpan.{FileSpan}
-use Rattle.sorted_bills.specs.Parts.{added}
-use Rattle.sorted_bills.specs.inside.Charged.{joined_spans}
 use Rattle.sorted_bills.proofs.part.join_files.Given as goal
 
 abbrev pub invariant-loop-at : goal.invariant-loop-at

@@ -1,8 +1,7 @@
 -- The taps that were taken lie between the places of the spans.
 use Rattle.std.proofs.Common.{All, sym, subst, arith, ◌∙◌}
-use Rattle.tap_views.specs.declared.token.Token.{Token}
-use Rattle.tap_views.specs.TokenOrder.{IsUpTo}
 use Rattle.sorted_bills.proofs.Parts.{From, UpTo, nondecreasing_between}
+use Rattle.tap_views.specs.{TokenOrder.IsUpTo, declared.token.Token.Token}
 use Rattle.sorted_bills.proofs.part.part_of.Goals as goal
 
 pub charge-requires-clause-none : goal.charge-requires-clause-none

@@ -1,5 +1,4 @@
-use Rattle.std.proofs.Common.{arith}
-use Rattle.std.proofs.lemmas.List.{same_lists}
+use Rattle.std.proofs.{Common.arith, lemmas.List.same_lists}
 use Rattle.sorted_bills.proofs.part_ledger.are_spans.Goals as goal
 
 pub returns : goal.returns

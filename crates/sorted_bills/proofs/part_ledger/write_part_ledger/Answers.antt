@@ -1,12 +1,11 @@
 -- The lines of the taps between the places of the spans are the ledger of the part.
 use Rattle.std.proofs.Common.{List, ◌++◌, sym, subst, ◌∙◌, refl}
-use Rattle.std.proofs.lemmas.Result.{err_from_is_err_and}
-use Rattle.fare_texts.specs.LedgerLines.{head_text}
 use Rattle.fare_texts.proofs.Along.{ledger_along}
-use Rattle.settlement.specs.Posted.{posted}
+use Rattle.fare_texts.specs.LedgerLines.{head_text}
 use Rattle.settled_texts.proofs.Rows.{posted_nondecreasing}
-use Rattle.sorted_taps.specs.Positions.{AreSpanned}
-use Rattle.sorted_taps.specs.declared.positions.FileSpan.{FileSpan}
+use Rattle.settlement.specs.Posted.{posted}
+use Rattle.sorted_taps.specs.{Positions.AreSpanned, declared.positions.FileSpan.FileSpan}
+use Rattle.std.proofs.lemmas.Result.{err_from_is_err_and}
 use Rattle.sorted_bills.proofs.part_ledger.write_part_ledger.Goals as goal
 
 pub returns-clause-ok : goal.returns-clause-ok

@@ -1,8 +1,7 @@
 use Rattle.std.proofs.Common.{◌≡◌, ℕ, List, Some, length, map}
-use Rattle.tap_views.specs.declared.encoder.TapFields.{TapFields}
-use Rattle.sorted_taps.specs.Positions.{ArePlaced}
-use Rattle.sorted_taps.specs.declared.reader.TapReader.{TapReader}
 use Rattle.sorted_bills.specs.inside.Taken.{AreTapsTaken, IsReady}
+use Rattle.sorted_taps.specs.{Positions.ArePlaced, declared.reader.TapReader.TapReader}
+use Rattle.tap_views.specs.declared.encoder.TapFields.{TapFields}
 use Rattle.sorted_bills.proofs.token_part.spans_of_part.Given as goal
 
 -- some taps were taken from where the part begins

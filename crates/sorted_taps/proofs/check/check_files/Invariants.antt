@@ -1,6 +1,5 @@
 use Rattle.std.proofs.Common.{◌≡◌, ◌≤◌, ℕ, List, Some, map, length}
-use Rattle.sorted_taps.specs.Checked.{AreSortedBelow}
-use Rattle.sorted_taps.specs.Reading.{window_bytes}
+use Rattle.sorted_taps.specs.{Checked.AreSortedBelow, Reading.window_bytes}
 use Rattle.sorted_taps.proofs.check.check_files.Given as goal
 
 abbrev pub invariant-loop-index : goal.invariant-loop-index

@@ -1,11 +1,10 @@
 use Rattle.std.proofs.Common.{◌≡◌, ◌<◌, ℕ, List, IfSome, None, refl, arith}
-use Rattle.std.specs.Prelude.{Option}
-use Rattle.std.proofs.lemmas.Result.{IfOk-from_err}
-use Rattle.tap_views.specs.declared.encoder.TapFields.{TapFields}
+use Rattle.sorted_taps.proofs.{Known.known_map, ReadingOn.read_on, ReadingOn.read_fault}
 use Rattle.sorted_taps.specs.declared.decoded_taps.Decoded.{Decoded}
 use Rattle.sorted_taps.specs.inside.Decoding.{IsDecodedAt, IsReadOn}
-use Rattle.sorted_taps.proofs.Known.{known_map}
-use Rattle.sorted_taps.proofs.ReadingOn.{read_on, read_fault}
+use Rattle.std.proofs.lemmas.Result.{IfOk-from_err}
+use Rattle.std.specs.Prelude.{Option}
+use Rattle.tap_views.specs.declared.encoder.TapFields.{TapFields}
 use Rattle.sorted_taps.proofs.file_batches.read_batches.Goals as goal
 
 batches : (known : Option (List ℕ)) (offset room : ℕ) (taps : List TapFields) (decoded : Decoded)

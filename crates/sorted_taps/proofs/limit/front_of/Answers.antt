@@ -1,12 +1,11 @@
 use Rattle.std.proofs.Common.{ℕ, List, arith, below_more, length, subst, ◌<◌, ◌∙◌, get_or}
-use Rattle.std.specs.Prelude.{IfSome, None, Option, Some}
-use Rattle.std.proofs.lemmas.List.{get_or_default}
-use Rattle.tap_views.specs.declared.encoder.TapFields.{TapFields}
-use Rattle.tap_parts.specs.Keys.{tap_of_key}
 use Rattle.sorted_taps.specs.Readers.{ahead}
-use Rattle.sorted_taps.specs.declared.limit.Front.{Front}
-use Rattle.sorted_taps.specs.declared.reader.TapReader.{TapReader}
+use Rattle.sorted_taps.specs.declared.{limit.Front.Front, reader.TapReader.TapReader}
 use Rattle.sorted_taps.specs.inside.Limits.{IsFrontOf, IsLimitOf}
+use Rattle.std.proofs.lemmas.List.{get_or_default}
+use Rattle.std.specs.Prelude.{IfSome, None, Option, Some}
+use Rattle.tap_parts.specs.Keys.{tap_of_key}
+use Rattle.tap_views.specs.declared.encoder.TapFields.{TapFields}
 use Rattle.sorted_taps.proofs.limit.front_of.Goals as goal
 
 pub loop-reader-init : goal.loop-reader-init

@@ -1,6 +1,5 @@
 use Rattle.std.proofs.Common.{◌<◌, ℕ, get_or}
-use Rattle.sorted_taps.specs.Readers.{ahead}
-use Rattle.sorted_taps.specs.declared.reader.TapReader.{TapReader}
+use Rattle.sorted_taps.specs.{Readers.ahead, declared.reader.TapReader.TapReader}
 use Rattle.sorted_taps.specs.inside.Limits.{IsFrontOf}
 use Rattle.sorted_taps.proofs.limit.front_of.Given as goal
 

@@ -1,11 +1,10 @@
 use Rattle.std.proofs.Common.{◌-◌, length, subst, sym, ◌∙◌}
-use Rattle.std.specs.Prelude.{Option}
-use Rattle.std.proofs.lemmas.Option.{get_or_from_slice_get}
-use Rattle.tap_parts.specs.Keys.{tap_of_key}
-use Rattle.sorted_taps.specs.Merged.{IsNotBefore}
-use Rattle.sorted_taps.specs.declared.limit.Front.{Front}
-use Rattle.sorted_taps.specs.inside.Limits.{IsFrontOf}
 use Rattle.sorted_taps.proofs.Joining.{not_before_self, ranked}
+use Rattle.sorted_taps.specs.{Merged.IsNotBefore, declared.limit.Front.Front}
+use Rattle.sorted_taps.specs.inside.Limits.{IsFrontOf}
+use Rattle.std.proofs.lemmas.Option.{get_or_from_slice_get}
+use Rattle.std.specs.Prelude.{Option}
+use Rattle.tap_parts.specs.Keys.{tap_of_key}
 use Rattle.sorted_taps.proofs.limit.least_front.Goals as goal
 
 pub returns-in-None-clause-last : goal.returns-in-None-clause-last

@@ -1,15 +1,11 @@
-use Rattle.std.proofs.Common.{◌≡◌, ◌≢◌, [], ◌++◌, ap, append-nil, sym, ◌∙◌, subst, arith}
-use Rattle.std.proofs.Common.{vec_len}
-use Rattle.std.proofs.lemmas.Bool.{eqb-true}
-use Rattle.std.proofs.lemmas.List.{nil_from_length}
-use Rattle.std.specs.Prelude.{IfErr}
-use Rattle.std.proofs.lemmas.Result.{err_from_is_err_and}
-use Rattle.sorted_taps.specs.Written.{IsPartlyWritten}
-use Rattle.sorted_taps.specs.declared.merged_file.MergeStop.TheVariants.{Write}
-use Rattle.sorted_taps.specs.inside.Waiting.{HasPut}
+use Rattle.std.proofs.Common.{◌≡◌, ◌≢◌, [], ◌++◌, ap, append-nil, sym, ◌∙◌, subst, arith, vec_len}
 use Rattle.sorted_taps.proofs.Putting.{if_any, may_wait_none, put_none}
 use Rattle.sorted_taps.proofs.Taking.{taken_append, taken_merged, taken_none}
-use Rattle.sorted_taps.specs.Merges.{AreAtEnd, AreTaken}
+use Rattle.sorted_taps.specs.{Merges.AreAtEnd, Merges.AreTaken, Written.IsPartlyWritten}
+use Rattle.sorted_taps.specs.declared.merged_file.MergeStop.TheVariants.{Write}
+use Rattle.sorted_taps.specs.inside.Waiting.{HasPut}
+use Rattle.std.proofs.lemmas.{Bool.eqb-true, List.nil_from_length, Result.err_from_is_err_and}
+use Rattle.std.specs.Prelude.{IfErr}
 use Rattle.sorted_taps.proofs.merged_file.write_merged.Goals as goal
 
 pub returns-in_err-stamps-clause-started : goal.returns-in_err-stamps-clause-started

@@ -1,9 +1,8 @@
 use Rattle.std.proofs.Common.{◌≡◌, ◌≤◌, List, ℕ, Some, map, length}
-use Rattle.tap_views.specs.declared.encoder.TapFields.{TapFields}
 use Rattle.sorted_taps.specs.Merges.{AreStarted, AreTaken}
-use Rattle.sorted_taps.specs.Reading.{window_bytes}
-use Rattle.sorted_taps.specs.declared.reader.TapReader.{TapReader}
+use Rattle.sorted_taps.specs.{Reading.window_bytes, declared.reader.TapReader.TapReader}
 use Rattle.sorted_taps.specs.inside.Waiting.{HasPut, MayWait}
+use Rattle.tap_views.specs.declared.encoder.TapFields.{TapFields}
 use Rattle.sorted_taps.proofs.merged_file.write_merged.Given as goal
 
 abbrev pub invariant-loop : goal.invariant-loop

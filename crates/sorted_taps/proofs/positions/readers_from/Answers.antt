@@ -1,10 +1,9 @@
 use Rattle.std.proofs.Common.{◌≡◌, [], ◌∷◌, ◌++◌, length, get_or, arith, sym, subst, ap, ◌∙◌}
 use Rattle.std.proofs.Common.{length-append}
-use Rattle.std.proofs.lemmas.List.{get_or_append_left, get_or_push}
+use Rattle.sorted_taps.proofs.{Files.known_more, Known.known_map}
 use Rattle.sorted_taps.specs.Positions.{ArePlaced, IsPlacedAnew}
 use Rattle.sorted_taps.specs.declared.positions.Position.{Position}
-use Rattle.sorted_taps.proofs.Files.{known_more}
-use Rattle.sorted_taps.proofs.Known.{known_map}
+use Rattle.std.proofs.lemmas.List.{get_or_append_left, get_or_push}
 use Rattle.sorted_taps.proofs.positions.readers_from.Goals as goal
 
 pub loop-file-preserved : goal.loop-file-preserved

@@ -1,6 +1,5 @@
 use Rattle.std.proofs.Common.{◌≡◌, ◌≤◌, List, ℕ, Some, map, length}
-use Rattle.sorted_taps.specs.Reading.{window_bytes}
-use Rattle.sorted_taps.specs.Positions.{ArePlaced}
+use Rattle.sorted_taps.specs.{Positions.ArePlaced, Reading.window_bytes}
 use Rattle.sorted_taps.proofs.positions.readers_from.Given as goal
 
 -- the files so far have places, and readers there

@@ -1,13 +1,10 @@
 use Rattle.std.proofs.Common.{◌≡◌, [], ◌∷◌, ◌++◌, ◌∙◌, ap, arith, get_or, IfSome, length}
 use Rattle.std.proofs.Common.{length-append, subst}
+use Rattle.sorted_taps.proofs.{Files.if_known, Files.known_more, Known.known_map}
+use Rattle.sorted_taps.specs.{Positions.IsAt, declared.positions.FileSpan.FileSpan}
+use Rattle.sorted_taps.specs.declared.{positions.Position.Position, reader.TapReader.TapReader}
 use Rattle.std.proofs.lemmas.List.{get_or_default}
 use Rattle.std.specs.Prelude.{Option}
-use Rattle.sorted_taps.specs.Positions.{IsAt}
-use Rattle.sorted_taps.specs.declared.positions.FileSpan.{FileSpan}
-use Rattle.sorted_taps.specs.declared.positions.Position.{Position}
-use Rattle.sorted_taps.specs.declared.reader.TapReader.{TapReader}
-use Rattle.sorted_taps.proofs.Files.{if_known, known_more}
-use Rattle.sorted_taps.proofs.Known.{known_map}
 use Rattle.sorted_taps.proofs.positions.spans_to.Goals as goal
 
 pub loop-at-init : goal.loop-at-init

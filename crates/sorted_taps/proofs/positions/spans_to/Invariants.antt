@@ -1,6 +1,5 @@
 use Rattle.std.proofs.Common.{◌≡◌, ◌≤◌, List, ℕ, Some, map, length}
-use Rattle.sorted_taps.specs.Reading.{window_bytes}
-use Rattle.sorted_taps.specs.Positions.{DoSpan}
+use Rattle.sorted_taps.specs.{Positions.DoSpan, Reading.window_bytes}
 use Rattle.sorted_taps.proofs.positions.spans_to.Given as goal
 
 -- the files so far have spans

@@ -1,9 +1,8 @@
 use Rattle.std.proofs.Common.{List, arith, ap, subst, sym, take, ◌∙◌}
-use Rattle.tap_views.specs.declared.encoder.TapFields.{TapFields}
+use Rattle.sorted_taps.proofs.{Known.known_map, Standing.positioned_on}
 use Rattle.sorted_taps.specs.Readers.{AreRead, ahead, IsPositionedIn}
 use Rattle.sorted_taps.specs.declared.reader.TapReader.{TapReader}
-use Rattle.sorted_taps.proofs.Known.{known_map}
-use Rattle.sorted_taps.proofs.Standing.{positioned_on}
+use Rattle.tap_views.specs.declared.encoder.TapFields.{TapFields}
 use Rattle.sorted_taps.proofs.ranges.reader_from.Goals as goal
 
 pub loop-preserved : goal.loop-preserved

@@ -1,7 +1,6 @@
 use Rattle.std.proofs.Common.{◌≤◌, List, IfSome, length}
+use Rattle.sorted_taps.specs.{Readers.IsPositionedIn, Reading.window_bytes}
 use Rattle.tap_views.specs.declared.encoder.TapFields.{TapFields}
-use Rattle.sorted_taps.specs.Reading.{window_bytes}
-use Rattle.sorted_taps.specs.Readers.{IsPositionedIn}
 use Rattle.sorted_taps.proofs.ranges.reader_from.Given as goal
 
 -- the reader has passed some taps since the offset

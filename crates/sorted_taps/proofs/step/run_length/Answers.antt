@@ -1,12 +1,10 @@
 use Rattle.std.proofs.Common.{◌≡◌, arith, length, subst, sym, ◌∙◌}
-use Rattle.std.proofs.lemmas.List.{get_or_default}
-use Rattle.std.proofs.lemmas.Option.{get_or_from_slice_get}
-use Rattle.std.proofs.lemmas.Option.{slice_get_within}
-use Rattle.tap_parts.specs.Keys.{tap_of_key}
-use Rattle.sorted_taps.specs.Merged.{IsNotBefore}
-use Rattle.sorted_taps.specs.inside.Limits.{IsRunIn, no_tap}
 use Rattle.sorted_taps.proofs.Joining.{ranked}
 use Rattle.sorted_taps.proofs.Limits.{none_before_limit, run_first, run_more}
+use Rattle.sorted_taps.specs.{Merged.IsNotBefore, inside.Limits.IsRunIn, inside.Limits.no_tap}
+use Rattle.std.proofs.lemmas.List.{get_or_default}
+use Rattle.std.proofs.lemmas.Option.{get_or_from_slice_get, slice_get_within}
+use Rattle.tap_parts.specs.Keys.{tap_of_key}
 use Rattle.sorted_taps.proofs.step.run_length.Goals as goal
 
 pub returns-then-is_before : goal.returns-then-is_before

@@ -1,12 +1,11 @@
 use Rattle.std.proofs.Common.{List, [], ◌++◌, append-nil, ap, arith, subst, sym, take, ◌∙◌}
-use Rattle.std.specs.List.Sorted.{IsSorted}
-use Rattle.tap_views.specs.declared.encoder.TapFields.{TapFields}
-use Rattle.tap_parts.specs.Canonical.{tap_cmp}
-use Rattle.tap_parts.specs.Keys.{tap_of_key}
-use Rattle.sorted_taps.specs.Readers.{IsPassed, ahead}
-use Rattle.sorted_taps.specs.inside.Limits.{IsPassedUpTo, IsRunUpTo}
 use Rattle.sorted_taps.proofs.Known.{known_all, known_map}
 use Rattle.sorted_taps.proofs.Limits.{none_up_to, run_up_to}
+use Rattle.sorted_taps.specs.Readers.{IsPassed, ahead}
+use Rattle.sorted_taps.specs.inside.Limits.{IsPassedUpTo, IsRunUpTo}
+use Rattle.std.specs.List.Sorted.{IsSorted}
+use Rattle.tap_parts.specs.{Canonical.tap_cmp, Keys.tap_of_key}
+use Rattle.tap_views.specs.declared.encoder.TapFields.{TapFields}
 use Rattle.sorted_taps.proofs.step.take_run.Goals as goal
 
 pub returns-then-number-eq0 : goal.returns-then-number-eq0

@@ -1,12 +1,11 @@
-use Rattle.std.proofs.Common.{◌≡◌, ◌<◌, ◌++◌, ◌∷◌, ◌∙◌, List, [], ap, arith}
-use Rattle.std.proofs.Common.{below_more, get_or, length, length-append, set, subst}
+use Rattle.std.proofs.Common.{◌≡◌, ◌<◌, ◌++◌, ◌∷◌, ◌∙◌, List, [], ap, arith, below_more, get_or}
+use Rattle.std.proofs.Common.{length, length-append, set, subst}
+use Rattle.sorted_taps.proofs.Files.{if_known, known_at}
+use Rattle.sorted_taps.specs.{declared.reader.TapReader.TapReader, inside.Limits.IsPassedUpTo}
 use Rattle.std.proofs.lemmas.List.{flat_map_more, get_or_append_left, get_or_default, get_or_push}
 use Rattle.std.proofs.lemmas.List.{get_or-set_other, get_or-set_same}
-use Rattle.tap_views.specs.declared.encoder.TapFields.{TapFields}
 use Rattle.tap_parts.specs.Keys.{tap_of_key}
-use Rattle.sorted_taps.specs.declared.reader.TapReader.{TapReader}
-use Rattle.sorted_taps.specs.inside.Limits.{IsPassedUpTo}
-use Rattle.sorted_taps.proofs.Files.{if_known, known_at}
+use Rattle.tap_views.specs.declared.encoder.TapFields.{TapFields}
 use Rattle.sorted_taps.proofs.step.take_runs.Goals as goal
 
 pub loop-at-preserved : goal.loop-at-preserved

@@ -1,10 +1,9 @@
 use Rattle.std.proofs.Common.{◌≡◌, ◌<◌, ◌≤◌, ◌++◌, ℕ, List, [], Some, get_or, length, map}
-use Rattle.tap_views.specs.declared.encoder.TapFields.{TapFields}
-use Rattle.tap_parts.specs.Keys.{tap_of_key}
-use Rattle.sorted_taps.specs.Reading.{window_bytes}
-use Rattle.sorted_taps.specs.declared.reader.TapReader.{TapReader}
-use Rattle.sorted_taps.specs.inside.Limits.{IsPassedUpTo}
 use Rattle.sorted_taps.proofs.Taking.{all_of}
+use Rattle.sorted_taps.specs.{Reading.window_bytes, declared.reader.TapReader.TapReader}
+use Rattle.sorted_taps.specs.inside.Limits.{IsPassedUpTo}
+use Rattle.tap_parts.specs.Keys.{tap_of_key}
+use Rattle.tap_views.specs.declared.encoder.TapFields.{TapFields}
 use Rattle.sorted_taps.proofs.step.take_runs.Given as goal
 
 -- the readers before this one have passed runs, and the others are where they were

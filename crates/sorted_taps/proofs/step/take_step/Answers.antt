@@ -1,11 +1,9 @@
 use Rattle.std.proofs.Common.{◌≡◌, ◌++◌, ◌∙◌, ℕ, List, ap, arith, drop, length, subst, take}
-use Rattle.std.proofs.Math.Seq.{drop-append_seam, take-append_seam}
-use Rattle.tap_views.specs.declared.encoder.TapFields.{TapFields}
-use Rattle.tap_parts.specs.Canonical.{IsCanonical}
-use Rattle.tap_parts.specs.Keys.{tap_of_key}
+use Rattle.sorted_taps.proofs.{Limits.taken_up_to, Taking.all_of}
 use Rattle.sorted_taps.specs.inside.Limits.{IsSortedFrom}
-use Rattle.sorted_taps.proofs.Limits.{taken_up_to}
-use Rattle.sorted_taps.proofs.Taking.{all_of}
+use Rattle.std.proofs.Math.Seq.{drop-append_seam, take-append_seam}
+use Rattle.tap_parts.specs.{Canonical.IsCanonical, Keys.tap_of_key}
+use Rattle.tap_views.specs.declared.encoder.TapFields.{TapFields}
 use Rattle.sorted_taps.proofs.step.take_step.Goals as goal
 
 -- the taps from the begin on were sorted

@@ -1,7 +1,6 @@
 use Rattle.std.proofs.Common.{◌++◌, ◌∷◌, [], ap, sym, ◌∙◌, subst, append_assoc, take, get_or}
-use Rattle.std.proofs.lemmas.List.{take_more}
-use Rattle.std.proofs.lemmas.Result.{err_from_is_err_and}
 use Rattle.sorted_taps.specs.inside.Waiting.{HasPut}
+use Rattle.std.proofs.lemmas.{List.take_more, Result.err_from_is_err_and}
 use Rattle.sorted_taps.proofs.writer.put_all.Goals as goal
 
 pub returns-in_err-put-clause-started : goal.returns-in_err-put-clause-started

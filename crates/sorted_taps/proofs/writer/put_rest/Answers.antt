@@ -1,12 +1,10 @@
 use Rattle.std.proofs.Common.{◌≡◌, ◌<◌, List, ℕ, ◌==◌, sym, ◌∙◌, arith, length, false}
-use Rattle.std.specs.Prelude.{Option}
-use Rattle.std.proofs.lemmas.Bool.{eqb-true}
-use Rattle.std.proofs.lemmas.Bool.Decides.{nat_tests}
-use Rattle.std.proofs.lemmas.List.{nil_from_length}
-use Rattle.std.proofs.lemmas.Result.{on_ok_weaker}
-use Rattle.tap_views.specs.declared.encoder.TapFields.{TapFields}
-use Rattle.sorted_taps.specs.inside.Waiting.{HasPut, IsBatchWritten}
 use Rattle.sorted_taps.proofs.Putting.{written_more, written_whole}
+use Rattle.sorted_taps.specs.inside.Waiting.{HasPut, IsBatchWritten}
+use Rattle.std.proofs.lemmas.Bool.{eqb-true, Decides.nat_tests}
+use Rattle.std.proofs.lemmas.{List.nil_from_length, Result.on_ok_weaker}
+use Rattle.std.specs.Prelude.{Option}
+use Rattle.tap_views.specs.declared.encoder.TapFields.{TapFields}
 use Rattle.sorted_taps.proofs.writer.put_rest.Goals as goal
 
 pub returns-then-is_empty-clause-written : goal.returns-then-is_empty-clause-written

@@ -1,8 +1,7 @@
 use Rattle.std.proofs.Common.{subst}
-use Rattle.std.proofs.lemmas.Bool.Decides.{Decides-eqb}
-use Rattle.std.proofs.lemmas.Slice.Eq.{slice_eq-Decides}
-use Rattle.tap_rows.specs.Fields.{FieldRepresents}
+use Rattle.std.proofs.lemmas.{Bool.Decides.Decides-eqb, Slice.Eq.slice_eq-Decides}
 use Rattle.tap_rows.proofs.FieldLemmas.{one_value}
+use Rattle.tap_rows.specs.Fields.{FieldRepresents}
 use Rattle.tap_rows.proofs.field.represents.Goals as goal
 
 pub returns-in-Some : goal.returns-in-Some

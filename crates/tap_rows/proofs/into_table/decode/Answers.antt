@@ -1,15 +1,10 @@
 use Rattle.std.proofs.Common.{◌≡◌, ◌∙◌, List, [], ◌∷◌, ◌++◌, ap, append-nil, append_assoc, map}
-use Rattle.std.proofs.Common.{refl}
-use Rattle.std.proofs.Common.{sym}
-use Rattle.std.proofs.lemmas.List.{map-append}
-use Rattle.std.proofs.lemmas.Result.{err_from_is_err_and}
-use Rattle.tap_views.specs.Encoding.{fields_of}
-use Rattle.tap_views.specs.Files.{taps_of_batches}
-use Rattle.tap_views.specs.Layout.{Tap}
-use Rattle.tap_views.proofs.ParseLemmas.{read_end, read_on, taps_more}
-use Rattle.tap_rows.specs.Decoded.{fields_in}
-use Rattle.tap_rows.specs.Rows.{rows_text}
+use Rattle.std.proofs.Common.{refl, sym}
+use Rattle.std.proofs.lemmas.{List.map-append, Result.err_from_is_err_and}
 use Rattle.tap_rows.proofs.RowLemmas.{rows_joined}
+use Rattle.tap_rows.specs.{Decoded.fields_in, Rows.rows_text}
+use Rattle.tap_views.proofs.ParseLemmas.{read_end, read_on, taps_more}
+use Rattle.tap_views.specs.{Encoding.fields_of, Files.taps_of_batches, Layout.Tap}
 use Rattle.tap_rows.proofs.into_table.decode.Goals as goal
 
 -- the rows of one batch more

@@ -1,7 +1,6 @@
 use Rattle.std.proofs.Common.{◌≡◌, ◌++◌}
+use Rattle.tap_rows.specs.{Decoded.fields_in, Rows.rows_text}
 use Rattle.tap_views.specs.Files.{IsReadAs}
-use Rattle.tap_rows.specs.Decoded.{fields_in}
-use Rattle.tap_rows.specs.Rows.{rows_text}
 use Rattle.tap_rows.proofs.into_table.decode.Given as goal
 
 abbrev pub invariant-loop-batch : goal.invariant-loop-batch

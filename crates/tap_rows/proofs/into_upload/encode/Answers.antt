@@ -1,11 +1,9 @@
 use Rattle.std.proofs.Common.{◌≡◌, ◌∙◌, ◌==◌, ◌+◌, [], true, length, refl, subst, sym}
-use Rattle.std.proofs.lemmas.Bool.{eqb-true}
-use Rattle.std.proofs.lemmas.List.{nil_from_length}
+use Rattle.std.proofs.lemmas.{Bool.eqb-true, List.nil_from_length}
 use Rattle.std.specs.Io.BufRead.{drop_through}
-use Rattle.tap_rows.specs.Rows.{IsNoTapRow, IsTapRow}
-use Rattle.tap_rows.specs.TapTables.{BeginsWithRows, IsHead}
-use Rattle.tap_rows.specs.inside.TapTables.{HasEncoded}
 use Rattle.tap_rows.proofs.TableLemmas.{encoded_bad, encoded_row}
+use Rattle.tap_rows.specs.Rows.{IsNoTapRow, IsTapRow}
+use Rattle.tap_rows.specs.{TapTables.BeginsWithRows, TapTables.IsHead, inside.TapTables.HasEncoded}
 use Rattle.tap_rows.proofs.into_upload.encode.Goals as goal
 
 pub returns-then-is_empty-clause-upload : goal.returns-then-is_empty-clause-upload

@@ -1,8 +1,7 @@
 use Rattle.std.proofs.Common.{◌≡◌, ◌∙◌, ℕ, List, [], ap, refl, None, Some, length, arith}
 use Rattle.std.specs.Prelude.{Option}
-use Rattle.tap_views.specs.declared.fault.LayoutFault.{LayoutFault}
-use Rattle.tap_views.specs.Files.{IsEndAfterBatches}
 use Rattle.tap_rows.specs.Decoded.{fields_in}
+use Rattle.tap_views.specs.{Files.IsEndAfterBatches, declared.fault.LayoutFault.LayoutFault}
 use Rattle.tap_rows.proofs.laws.decodes_back.Goals as goal
 
 no_fault : (upload rest : List ℕ) (fault : Option (ℕ × LayoutFault)) → rest ≡ []

@@ -1,5 +1,4 @@
-use Rattle.std.proofs.lemmas.Str.{IsUtf8-from_ascii}
-use Rattle.std.proofs.lemmas.Fmt.{IsAscii-from_digits}
+use Rattle.std.proofs.lemmas.{Fmt.IsAscii-from_digits, Str.IsUtf8-from_ascii}
 use Rattle.tap_rows.proofs.moment.number_of.Goals as goal
 
 pub returns-in-Err : goal.returns-in-Err

@@ -1,6 +1,5 @@
-use Rattle.tap_rows.specs.Moments.{IsMoment}
-use Rattle.tap_rows.specs.Rows.{IsToken, IsValidator}
 use Rattle.tap_rows.proofs.FieldLemmas.{reported_of}
+use Rattle.tap_rows.specs.{Moments.IsMoment, Rows.IsToken, Rows.IsValidator}
 use Rattle.tap_rows.proofs.row.tap_of.Goals as goal
 
 pub returns-in_default-and_then-2-clause-wrong : goal.returns-in_default-and_then-2-clause-wrong

@@ -1,7 +1,6 @@
 use Rattle.std.proofs.Common.{◌≡◌, ◌⊎◌, ◌≤◌, ◌∙◌, take, drop, length, codes, arith, rules}
+use Rattle.tap_views.proofs.{Deciding.rows_before, Numbers.number_read}
 use Rattle.tap_views.specs.Faults.{header, layout_in, flags_in, count_in}
-use Rattle.tap_views.proofs.Deciding.{rows_before}
-use Rattle.tap_views.proofs.Numbers.{number_read}
 use Rattle.tap_views.proofs.batch.count_of.Goals as goal
 
 pub returns-then-count-clause-fault : goal.returns-then-count-clause-fault

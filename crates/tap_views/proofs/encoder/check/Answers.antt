@@ -1,6 +1,5 @@
 use Rattle.std.proofs.Common.{◌<◌, get_or, ap, arith}
-use Rattle.std.proofs.lemmas.List.{take_all}
-use Rattle.std.proofs.lemmas.List.Elements.{All-more}
+use Rattle.std.proofs.lemmas.List.{take_all, Elements.All-more}
 use Rattle.tap_views.specs.Layout.{moment_limit}
 use Rattle.tap_views.proofs.encoder.check.Goals as goal
 

@@ -1,9 +1,7 @@
 use Rattle.std.proofs.Common.{List, ℕ, [], ◌∷◌, length, map, ap, ◌∙◌, sym, subst, arith}
-use Rattle.std.proofs.Common.{length-append}
-use Rattle.std.proofs.lemmas.List.{map-append}
-use Rattle.tap_views.specs.Files.{taps_of_batches}
-use Rattle.tap_views.specs.Facts.{IsSpan, moment_of}
+use Rattle.std.proofs.{Common.length-append, lemmas.List.map-append}
 use Rattle.tap_views.proofs.ParseLemmas.{read_end, read_on, room_on, taps_more}
+use Rattle.tap_views.specs.{Facts.IsSpan, Facts.moment_of, Files.taps_of_batches}
 use Rattle.tap_views.proofs.facts.facts_of.Goals as goal
 
 pub loop-batch-preserved : goal.loop-batch-preserved

@@ -1,6 +1,5 @@
 use Rattle.std.proofs.Common.{◌≡◌, ◌++◌, length, map}
-use Rattle.tap_views.specs.Files.{IsReadAs, taps_of_batches}
-use Rattle.tap_views.specs.Facts.{IsSpan, moment_of}
+use Rattle.tap_views.specs.{Facts.IsSpan, Facts.moment_of, Files.IsReadAs, Files.taps_of_batches}
 use Rattle.tap_views.proofs.facts.facts_of.Given as goal
 
 abbrev pub invariant-loop-batch : goal.invariant-loop-batch

@@ -1,7 +1,6 @@
 use Rattle.std.proofs.Common.{map, ap, ◌∙◌}
-use Rattle.tap_views.specs.Layout.{Tap1, Tap2}
-use Rattle.tap_views.specs.Encoding.{with_validator}
 use Rattle.tap_views.proofs.Encodings.{fields_read, fields_shared}
+use Rattle.tap_views.specs.{Encoding.with_validator, Layout.Tap1, Layout.Tap2}
 use Rattle.tap_views.proofs.laws.round_trip.Goals as goal
 
 pub returns-clause-tap1 : goal.returns-clause-tap1

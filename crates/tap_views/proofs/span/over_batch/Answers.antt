@@ -1,6 +1,5 @@
-use Rattle.std.proofs.Common.{◌≡◌, [], ◌++◌, ◌∷◌, map, ap, ◌∙◌, sym, subst}
-use Rattle.std.proofs.Common.{append_assoc, append-nil}
-use Rattle.std.proofs.lemmas.List.{map-append}
+use Rattle.std.proofs.Common.{◌≡◌, [], ◌++◌, ◌∷◌, map, ap, ◌∙◌, sym, subst, append_assoc}
+use Rattle.std.proofs.{Common.append-nil, lemmas.List.map-append}
 use Rattle.tap_views.specs.Facts.{IsSpan, moment_of}
 use Rattle.tap_views.proofs.span.over_batch.Goals as goal
 

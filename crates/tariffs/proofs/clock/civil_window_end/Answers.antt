@@ -1,11 +1,10 @@
 use Rattle.std.proofs.Common.{◌∙◌, FitsSigned, ap, pos, subst, sym, w64}
+use Rattle.jiff.specs.{Types.Date, ZoneView.plain_zone}
 use Rattle.std.proofs.lemmas.Int.{to_z-of_z}
 use Rattle.std.specs.Prelude.{int_div}
-use Rattle.jiff.specs.Types.{Date}
-use Rattle.jiff.specs.ZoneView.{plain_zone}
+use Rattle.tariffs.proofs.UntilLemmas.{after_start, fits_word, in_millis, is_instant, later_nanos}
+use Rattle.tariffs.proofs.UntilLemmas.{whole_end}
 use Rattle.tariffs.specs.Until.{IsEndDate}
-use Rattle.tariffs.proofs.UntilLemmas.{after_start, fits_word, in_millis, is_instant}
-use Rattle.tariffs.proofs.UntilLemmas.{later_nanos, whole_end}
 use Rattle.tariffs.proofs.clock.civil_window_end.Goals as goal
 
 pub unwrap-window_end-requires : goal.unwrap-window_end-requires

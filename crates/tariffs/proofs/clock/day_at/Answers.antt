@@ -1,8 +1,7 @@
 use Rattle.std.proofs.Common.{◌∙◌, ◌+ℤ◌, ◌-ℤ◌, ap, pos}
-use Rattle.jiff.specs.Words.{nanos_of_seconds, offset_at}
-use Rattle.jiff.specs.ZoneView.{plain_zone}
-use Rattle.tariffs.specs.Until.{day_start_nanos, moment_nanos}
+use Rattle.jiff.specs.{Words.nanos_of_seconds, Words.offset_at, ZoneView.plain_zone}
 use Rattle.tariffs.proofs.UntilLemmas.{shown_high, shown_low}
+use Rattle.tariffs.specs.Until.{day_start_nanos, moment_nanos}
 use Rattle.tariffs.proofs.clock.day_at.Goals as goal
 
 pub returns-clause-day : goal.returns-clause-day

@@ -1,8 +1,7 @@
 use Rattle.std.proofs.Common.{◌≡◌, ◌*ℤ◌, FitsSigned, ap, pos, sym, w64, ◌∙◌}
+use Rattle.jiff.specs.{Words.picked_instant, ZoneView.plain_zone}
 use Rattle.std.proofs.lemmas.Int.{to_z-of_z}
-use Rattle.jiff.specs.Words.{picked_instant}
 use Rattle.std.specs.Prelude.{int_div}
-use Rattle.jiff.specs.ZoneView.{plain_zone}
 use Rattle.tariffs.proofs.UntilLemmas.{fits_word, in_millis, is_instant, whole_of_year}
 use Rattle.tariffs.proofs.clock.midnight_millis.Goals as goal
 

@@ -1,6 +1,5 @@
 use Rattle.std.proofs.Common.{◌≡◌, drop, map}
-use Rattle.tariffs.specs.Following.{last_from}
-use Rattle.tariffs.specs.inside.Table.{dated_meaning}
+use Rattle.tariffs.specs.{Following.last_from, inside.Table.dated_meaning}
 use Rattle.tariffs.proofs.table.last_from.Given as goal
 
 -- what is left decides

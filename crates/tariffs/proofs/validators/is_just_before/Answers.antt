@@ -1,5 +1,4 @@
-use Rattle.std.proofs.Common.{◌≡◌, ◌-◌, suc, arith}
-use Rattle.std.proofs.lemmas.Bool.{leb-true}
+use Rattle.std.proofs.{Common.◌≡◌, Common.◌-◌, Common.suc, Common.arith, lemmas.Bool.leb-true}
 use Rattle.tariffs.proofs.ApartLemmas.{none_before, none_between}
 use Rattle.tariffs.proofs.validators.is_just_before.Goals as goal
 

@@ -1,10 +1,8 @@
 use Rattle.std.proofs.Common.{◌≡◌, ◌∙◌, ◌≤◌, ℕ, add-zero, length, map, true, false, arith}
 use Rattle.std.proofs.lemmas.List.{length-map}
-use Rattle.std.specs.List.{AllWithin}
-use Rattle.std.specs.Prelude.{nat_le}
+use Rattle.std.specs.{List.AllWithin, Prelude.nat_le}
 use Rattle.tariffs.proofs.ApartLemmas.{holds-increases, last_started-split, within-firsts}
-use Rattle.tariffs.specs.inside.Validators.{IsSplitAt}
-use Rattle.tariffs.specs.declared.validators.RangeRest.{RangeRest}
+use Rattle.tariffs.specs.{declared.validators.RangeRest.RangeRest, inside.Validators.IsSplitAt}
 use Rattle.tariffs.proofs.validators.last_started.Goals as goal
 
 pub started_by_halves-requires : goal.started_by_halves-requires

@@ -1,6 +1,5 @@
 use Rattle.std.proofs.Common.{◌≡◌, ◌+◌, ◌-◌, ◌/◌, ◌%◌, ◌^◌, arith, inl, inr}
-use Rattle.std.proofs.lemmas.Bool.Decides.{leb_tells}
-use Rattle.std.proofs.lemmas.Nat.{and_mask}
+use Rattle.std.proofs.lemmas.{Bool.Decides.leb_tells, Nat.and_mask}
 use Rattle.tariffs.proofs.validators.taken_if_started.Goals as goal
 
 pub returns : goal.returns

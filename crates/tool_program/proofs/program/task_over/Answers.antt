@@ -1,7 +1,6 @@
 use Rattle.std.proofs.Common.{Bor, List, map, refl, subst, ℕ}
-use Rattle.tool_tasks.specs.EncodeRows.{EndsRows}
 use Rattle.frame.specs.Outcome.{Ends}
-use Rattle.tool_tasks.specs.Merge.{merge_rule}
+use Rattle.tool_tasks.specs.{EncodeRows.EndsRows, Merge.merge_rule}
 use Rattle.tool_program.proofs.program.task_over.Goals as goal
 
 pub returns-in-Merge : goal.returns-in-Merge

@@ -1,9 +1,8 @@
 use Rattle.std.proofs.Common.{◌∙◌, ◌++◌, ◌∷◌, [], List, ap, append_assoc, arith, inl, refl}
 use Rattle.recorded_lines.specs.Texts.{calls_of}
+use Rattle.tool_tasks.proofs.{Corrected.corrected, Streaming.unopened_in, Streaming.unopened_leaves}
 use Rattle.tool_words.specs.Tasks.{corrections_of}
 use Rattle.world.specs.Run.{Calls}
-use Rattle.tool_tasks.proofs.Corrected.{corrected}
-use Rattle.tool_tasks.proofs.Streaming.{unopened_in, unopened_leaves}
 use Rattle.tool_tasks.proofs.corrections.correct.Goals as goal
 
 pub returns-in-Err : goal.returns-in-Err

@@ -1,10 +1,9 @@
 use Rattle.std.proofs.Common.{◌∙◌, ◌++◌, [], List, None, Option, ap, inl, inr, refl, subst, sym, ℕ}
-use Rattle.ledger_changes.specs.Given.{IsGivenAfter, new_calls, old_calls}
-use Rattle.ledger_changes.specs.Tokens.{head_of}
-use Rattle.recorded_lines.proofs.Reading.{follows_on}
-use Rattle.world.specs.Run.{with_written}
+use Rattle.ledger_changes.specs.{Given.IsGivenAfter, Tokens.head_of}
 use Rattle.part_texts.proofs.Written.{cut_on, written_none, written_on}
+use Rattle.recorded_lines.proofs.Reading.{follows_on}
 use Rattle.tool_tasks.proofs.Corrected.{after_started, started_part, given_head}
+use Rattle.world.specs.Run.{with_written}
 use Rattle.tool_tasks.proofs.corrections.write_all.Goals as goal
 
 pub begin-requires : goal.begin-requires

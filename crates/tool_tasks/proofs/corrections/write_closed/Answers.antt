@@ -1,7 +1,6 @@
-use Rattle.std.proofs.Common.{◌≡◌, ◌∙◌, ◌++◌, ◌∷◌, [], List, ap, append_assoc}
-use Rattle.recorded_lines.specs.Texts.{calls_of}
-use Rattle.recorded_lines.specs.declared.text.Lines.{Lines}
+use Rattle.std.proofs.Common.{◌∙◌, ◌++◌, ◌∷◌, [], List, ap, append_assoc}
 use Rattle.ledger_changes.specs.Given.{new_calls, old_calls}
+use Rattle.recorded_lines.specs.{Texts.calls_of, declared.text.Lines.Lines}
 use Rattle.world.specs.Run.{Calls}
 use Rattle.tool_tasks.proofs.corrections.write_closed.Goals as goal
 

@@ -1,11 +1,10 @@
-use Rattle.std.proofs.Common.{◌≡◌, ◌∙◌, ◌++◌, ◌∷◌, [], Bool, Bor, List, ap, append-nil, if◌then◌else◌, map}
-use Rattle.std.proofs.Common.{refl, sym, take_all, ℕ}
-use Rattle.std.specs.Prelude.{◌&&◌, is_none}
-use Rattle.frame.proofs.Giving.{gave_nothing}
-use Rattle.frame.proofs.Outcomes.{stopped_flush}
+use Rattle.std.proofs.Common.{◌≡◌, ◌∙◌, ◌++◌, ◌∷◌, [], Bool, Bor, List, ap, append-nil}
+use Rattle.std.proofs.Common.{if◌then◌else◌, map, refl, sym, take_all, ℕ}
+use Rattle.frame.proofs.{Giving.gave_nothing, Outcomes.stopped_flush}
 use Rattle.frame.specs.Given.{gave, nothing}
-use Rattle.tool_tasks.proofs.Decoding.{decoding_push, halted_one, halted_part, whole_push, words_push}
-use Rattle.tool_tasks.proofs.Loading.{word_contained}
+use Rattle.std.specs.Prelude.{◌&&◌, is_none}
+use Rattle.tool_tasks.proofs.Decoding.{decoding_push, halted_one, halted_part, whole_push}
+use Rattle.tool_tasks.proofs.{Decoding.words_push, Loading.word_contained}
 use Rattle.tool_tasks.specs.Decode.{Decoded, decoding_of, words_of}
 use Rattle.world.specs.Run.{with_flushed}
 use Rattle.tool_tasks.proofs.decode.decode.Goals as goal

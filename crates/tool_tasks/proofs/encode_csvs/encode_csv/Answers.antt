@@ -1,6 +1,5 @@
 use Rattle.std.proofs.Common.{◌≡◌, List, None, inl, inr, refl, subst, ℕ}
-use Rattle.tap_rows.specs.Agencies.{IsFirstRefused, IsWanting}
-use Rattle.tap_rows.specs.AgencyTexts.{first_record}
+use Rattle.tap_rows.specs.{Agencies.IsFirstRefused, Agencies.IsWanting, AgencyTexts.first_record}
 use Rattle.tool_tasks.proofs.EncodingRows.{first_refused}
 use Rattle.tool_tasks.specs.EncodeRows.{word_in}
 use Rattle.tool_tasks.proofs.encode_csvs.encode_csv.Goals as goal

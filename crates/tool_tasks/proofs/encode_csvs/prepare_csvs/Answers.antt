@@ -1,7 +1,6 @@
 use Rattle.std.proofs.Common.{◌≡◌, List, [], arith, drop, map, refl, subst, sym}
 use Rattle.tool_tasks.proofs.EncodingRows.{added_on, none_after, wrong_csv}
-use Rattle.tool_tasks.specs.EncodeRows.{AddsCsvs}
-use Rattle.tool_tasks.specs.declared.encode_loads.Csv.{Csv}
+use Rattle.tool_tasks.specs.{EncodeRows.AddsCsvs, declared.encode_loads.Csv.Csv}
 use Rattle.tool_tasks.specs.inside.EncodeRows.{csv_of, encoded_of}
 use Rattle.tool_tasks.proofs.encode_csvs.prepare_csvs.Goals as goal
 

@@ -1,12 +1,9 @@
 use Rattle.std.proofs.Common.{◌∙◌, ◌++◌, ◌∷◌, [], Bor, List, ap, get_or, map, subst, ℕ}
-use Rattle.frame.specs.Given.{load_of}
-use Rattle.frame.specs.Outsides.{Leaves}
+use Rattle.frame.specs.{Given.load_of, Names.file_named, Outsides.Leaves}
+use Rattle.tool_tasks.proofs.Loading.{word_contained}
+use Rattle.tool_tasks.specs.{EncodeRows.load_csv, inside.EncodeRows.csv_of}
 use Rattle.world.proofs.Laws.{more_loads}
 use Rattle.world.specs.Run.{Run, with_load}
-use Rattle.frame.specs.Names.{file_named}
-use Rattle.tool_tasks.proofs.Loading.{word_contained}
-use Rattle.tool_tasks.specs.EncodeRows.{load_csv}
-use Rattle.tool_tasks.specs.inside.EncodeRows.{csv_of}
 use Rattle.tool_tasks.proofs.encode_loads.load_csvs.Goals as goal
 
 pub returns-in-Err-clause-stopped : goal.returns-in-Err-clause-stopped

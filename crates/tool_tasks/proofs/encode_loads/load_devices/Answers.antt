@@ -1,7 +1,6 @@
 use Rattle.std.proofs.Common.{◌≡◌, List, Option, Some, refl, subst, sym, ℕ}
+use Rattle.tool_tasks.specs.{EncodeRows.word_in, inside.Loads.IsNameIn}
 use Rattle.world.proofs.Laws.{no_loads}
-use Rattle.tool_tasks.specs.EncodeRows.{word_in}
-use Rattle.tool_tasks.specs.inside.Loads.{IsNameIn}
 use Rattle.tool_tasks.proofs.encode_loads.load_devices.Goals as goal
 
 pub returns-in-Err-Unread-clause-loaded : goal.returns-in-Err-Unread-clause-loaded

@@ -1,11 +1,9 @@
 use Rattle.std.proofs.Common.{◌∙◌, ◌++◌, [], ap, arith, map, refl, subst, sym}
-use Rattle.frame.specs.Outsides.{Leaves}
-use Rattle.frame.specs.declared.outside.Outside.TheVariants.{NoMemory, Unread}
-use Rattle.world.proofs.Laws.{more_loads, no_loads}
-use Rattle.world.specs.Origins.{with_loads}
-use Rattle.world.specs.Run.{Run}
+use Rattle.frame.specs.{Outsides.Leaves, declared.outside.Outside.TheVariants.Unread}
 use Rattle.tool_tasks.proofs.EncodingRows.{is_in, later_csv, zone_in}
 use Rattle.tool_tasks.specs.EncodeRows.{loads_in, names_of, word_in}
+use Rattle.world.proofs.Laws.{more_loads, no_loads}
+use Rattle.world.specs.{Origins.with_loads, Run.Run}
 use Rattle.tool_tasks.proofs.encode_loads.load_later.Goals as goal
 
 pub returns-in-Err-clause-stopped : goal.returns-in-Err-clause-stopped

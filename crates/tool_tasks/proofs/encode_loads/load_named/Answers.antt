@@ -1,7 +1,6 @@
 use Rattle.std.proofs.Common.{◌≡◌, List, Option, Some, refl, subst, ℕ}
 use Rattle.std.proofs.lemmas.Result.{IfErr-weaker}
-use Rattle.tool_tasks.specs.EncodeRows.{word_in}
-use Rattle.tool_tasks.specs.inside.Loads.{IsNameIn}
+use Rattle.tool_tasks.specs.{EncodeRows.word_in, inside.Loads.IsNameIn}
 use Rattle.tool_tasks.proofs.encode_loads.load_named.Goals as goal
 
 pub returns-in-Some-clause-refused : goal.returns-in-Some-clause-refused

@@ -1,10 +1,9 @@
-use Rattle.std.proofs.Common.{List, map, refl, ℕ}
+use Rattle.std.proofs.Common.{map, refl}
 use Rattle.frame.proofs.Outcomes.{halted_by, stops_weaker}
 use Rattle.tool_tasks.proofs.EncodingRows.{all_loaded, halted_more, rows_named}
 use Rattle.tool_tasks.proofs.Preparing.{carried}
 use Rattle.tool_tasks.specs.EncodeRows.{EncodesRows, LoadsWrong, devices_word, loads_in, loads_of}
-use Rattle.tool_tasks.specs.EncodeRows.{names_of}
-use Rattle.tool_tasks.specs.inside.EncodeRows.{texts_in}
+use Rattle.tool_tasks.specs.{EncodeRows.names_of, inside.EncodeRows.texts_in}
 use Rattle.tool_tasks.proofs.encode_rows.encode.Goals as goal
 
 pub returns-in-Err : goal.returns-in-Err

@@ -1,6 +1,5 @@
-use Rattle.std.proofs.Common.{[], arith, inl, inr, map, refl, true}
-use Rattle.tool_tasks.proofs.EncodingRows.{is_in}
-use Rattle.tool_tasks.proofs.Preparing.{halted_early}
+use Rattle.std.proofs.Common.{arith, inl, inr, map, refl, true}
+use Rattle.tool_tasks.proofs.{EncodingRows.is_in, Preparing.halted_early}
 use Rattle.tool_tasks.specs.EncodeRows.{EncodesRows, LoadsWrong, names_of, word_in}
 use Rattle.tool_tasks.proofs.encode_rows.encode_rows_over.Goals as goal
 

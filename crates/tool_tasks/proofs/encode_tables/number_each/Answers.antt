@@ -1,6 +1,5 @@
-use Rattle.std.proofs.Common.{arith, subst, sym, List, ℕ}
-use Rattle.tap_rows.specs.Devices.{devices_of}
-use Rattle.tap_rows.specs.Numbering.{IsNumbered}
+use Rattle.std.proofs.Common.{subst, List, ℕ}
+use Rattle.tap_rows.specs.{Devices.devices_of, Numbering.IsNumbered}
 use Rattle.tool_tasks.proofs.EncodingRows.{numbered_on}
 use Rattle.tool_tasks.proofs.encode_tables.number_each.Goals as goal
 

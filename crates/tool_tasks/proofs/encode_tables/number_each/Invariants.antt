@@ -1,7 +1,6 @@
 use Rattle.std.proofs.Common.{List, drop, map}
 use Rattle.tap_rows.specs.Devices.{Device, devices_of}
-use Rattle.tool_tasks.specs.EncodeRows.{AreNumbered}
-use Rattle.tool_tasks.specs.inside.EncodeRows.{csv_of}
+use Rattle.tool_tasks.specs.{EncodeRows.AreNumbered, inside.EncodeRows.csv_of}
 use Rattle.tool_tasks.proofs.encode_tables.number_each.Given as goal
 
 -- what numbers the devices of the rest numbers those of all

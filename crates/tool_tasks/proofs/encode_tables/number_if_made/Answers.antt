@@ -1,5 +1,4 @@
-use Rattle.std.proofs.Common.{refl}
-use Rattle.std.proofs.lemmas.Result.{on_ok_weaker}
+use Rattle.std.proofs.{Common.refl, lemmas.Result.on_ok_weaker}
 use Rattle.tool_tasks.proofs.encode_tables.number_if_made.Goals as goal
 
 pub returns : goal.returns

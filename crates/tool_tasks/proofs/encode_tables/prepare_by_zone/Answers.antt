@@ -1,7 +1,6 @@
 use Rattle.std.proofs.Common.{◌≡◌, List, None, Some, map, refl, subst, sym}
 use Rattle.tool_tasks.proofs.EncodingRows.{made_choice, named_clock, prepared_so}
-use Rattle.tool_tasks.specs.EncodeRows.{word_in}
-use Rattle.tool_tasks.specs.EncodeTables.{IsClock}
+use Rattle.tool_tasks.specs.{EncodeRows.word_in, EncodeTables.IsClock}
 use Rattle.tool_tasks.specs.declared.encode_loads.Csv.{Csv}
 use Rattle.tool_tasks.specs.inside.EncodeRows.{PreparesCsvs, csv_of, texts_in}
 use Rattle.tool_tasks.proofs.encode_tables.prepare_by_zone.Goals as goal

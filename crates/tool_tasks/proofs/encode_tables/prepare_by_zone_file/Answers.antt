@@ -1,7 +1,6 @@
 use Rattle.std.proofs.Common.{◌∙◌, List, Some, ap, inl, inr, map, refl, subst, sym, ℕ}
 use Rattle.jiff_core.specs.declared.error.Error.TheVariants.{Tzif as TzifError}
-use Rattle.jiff_tz.specs.Tzif.{IsParseFailure}
-use Rattle.jiff_tz.specs.TzifReader.{read_tzif}
+use Rattle.jiff_tz.specs.{Tzif.IsParseFailure, TzifReader.read_tzif}
 use Rattle.tool_tasks.proofs.EncodingRows.{made_choice, named_clock, prepared_so, table_zone}
 use Rattle.tool_tasks.specs.declared.encode_loads.Csv.{Csv}
 use Rattle.tool_tasks.specs.inside.EncodeRows.{PreparesCsvs, csv_of, texts_in}

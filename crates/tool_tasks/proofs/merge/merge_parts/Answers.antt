@@ -1,12 +1,11 @@
-use Rattle.std.proofs.Common.{◌++◌, ◌∙◌, [], List, ap, append_assoc, arith, drop, inl, length, map, refl}
-use Rattle.std.proofs.lemmas.List.{take_at}
+use Rattle.std.proofs.Common.{◌++◌, ◌∙◌, [], List, ap, append_assoc, arith, drop, inl, length, map}
+use Rattle.std.proofs.Common.{refl}
 use Rattle.part_texts.proofs.Parts.{follow_length}
-use Rattle.recorded_lines.specs.Texts.{calls_of}
-use Rattle.recorded_lines.specs.declared.text.Lines.{Lines}
-use Rattle.world.specs.Run.{Calls}
+use Rattle.recorded_lines.specs.{Texts.calls_of, declared.text.Lines.Lines}
+use Rattle.std.proofs.lemmas.List.{take_at}
+use Rattle.tool_tasks.proofs.{PartsRead.merged, PartsRead.names_kept, Streaming.unopened_leaves}
 use Rattle.tool_tasks.specs.inside.Merge.{names_of}
-use Rattle.tool_tasks.proofs.PartsRead.{merged, names_kept}
-use Rattle.tool_tasks.proofs.Streaming.{unopened_leaves}
+use Rattle.world.specs.Run.{Calls}
 use Rattle.tool_tasks.proofs.merge.merge_parts.Goals as goal
 
 pub returns-in-Ok : goal.returns-in-Ok

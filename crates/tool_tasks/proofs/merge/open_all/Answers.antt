@@ -1,11 +1,10 @@
-use Rattle.std.proofs.Common.{◌∙◌, ◌++◌, ◌∷◌, [], Bor, List, ap, append-nil, map, refl, sym, take_all, ℕ}
-use Rattle.std.proofs.lemmas.List.Elements.{All-nil, All-push, All-same}
-use Rattle.recorded_lines.specs.Texts.{IsFresh, calls_of}
+use Rattle.std.proofs.Common.{◌∙◌, ◌++◌, ◌∷◌, [], Bor, List, ap, append-nil, map, refl, sym}
+use Rattle.std.proofs.Common.{take_all, ℕ}
 use Rattle.frame.specs.Names.{file_named}
+use Rattle.recorded_lines.specs.Texts.{IsFresh, calls_of}
+use Rattle.std.proofs.lemmas.List.Elements.{All-nil, All-push, All-same}
+use Rattle.tool_tasks.proofs.{Loading.word_contained, PartsRead.opened_more, Streaming.unopened_in}
 use Rattle.tool_tasks.specs.inside.Merge.{names_of}
-use Rattle.tool_tasks.proofs.Loading.{word_contained}
-use Rattle.tool_tasks.proofs.PartsRead.{opened_more}
-use Rattle.tool_tasks.proofs.Streaming.{unopened_in}
 use Rattle.tool_tasks.proofs.merge.open_all.Goals as goal
 
 pub loop-word-init : goal.loop-word-init

@@ -1,6 +1,5 @@
 use Rattle.std.proofs.Common.{map, subst, sym}
-use Rattle.sorted_taps.specs.Checked.{IsMergeFault}
-use Rattle.sorted_taps.specs.declared.fault.MergeFault.{MergeFault}
+use Rattle.sorted_taps.specs.{Checked.IsMergeFault, declared.fault.MergeFault.MergeFault}
 use Rattle.tool_tasks.proofs.MergedUploads.{stops_file}
 use Rattle.tool_tasks.proofs.merge_sorted.halt_of_merge.Goals as goal
 

@@ -1,12 +1,11 @@
-use Rattle.std.proofs.Common.{◌≡◌, ◌∙◌, [], Bor, IfSome, List, Option, Some, ap, arith, map, refl, subst, sym, ℕ}
+use Rattle.std.proofs.Common.{◌≡◌, ◌∙◌, [], Bor, IfSome, List, Option, Some, ap, arith, map, refl}
+use Rattle.std.proofs.Common.{subst, sym, ℕ}
 use Rattle.frame.proofs.Outcomes.{halted_by}
 use Rattle.frame.specs.Outsides.{Leaves, LeavesBy, Stops}
-use Rattle.tool_tasks.proofs.KnownBytes.{some_known}
-use Rattle.tool_tasks.proofs.MergedUploads.{whole_file}
+use Rattle.tool_tasks.proofs.{KnownBytes.some_known, MergedUploads.whole_file}
 use Rattle.tool_tasks.proofs.Preparing.{carried, halted_early}
 use Rattle.tool_tasks.specs.MergeSorted.{IsMergeOf, IsUnsorted, Merges}
-use Rattle.tool_tasks.specs.Sort.{names_of}
-use Rattle.tool_tasks.specs.declared.stops.Halt.{Halt}
+use Rattle.tool_tasks.specs.{Sort.names_of, declared.stops.Halt.Halt}
 use Rattle.tool_words.specs.Tasks.{sorting_of}
 use Rattle.world.proofs.Laws.{no_loads}
 use Rattle.world.specs.Run.{Run}

@@ -1,10 +1,9 @@
-use Rattle.std.proofs.Common.{◌≡◌, ◌∙◌, [], List, ap, refl, string_bytes, subst, sym, ℕ}
+use Rattle.std.proofs.Common.{◌∙◌, [], List, ap, refl, string_bytes, subst, sym, ℕ}
 use Rattle.frame.proofs.Giving.{gave_flushed, part_files, part_note, stopped_at}
 use Rattle.frame.proofs.Outcomes.{gave_loads, stopped_early, stopped_flush}
-use Rattle.frame.specs.Given.{Given, with_files, with_note}
-use Rattle.frame.specs.Outsides.{IsStoppedIn}
-use Rattle.world.specs.Run.{Run, with_said}
+use Rattle.frame.specs.{Given.Given, Given.with_files, Given.with_note, Outsides.IsStoppedIn}
 use Rattle.tool_tasks.specs.inside.Prepared.{partial_files, with_prepared}
+use Rattle.world.specs.Run.{Run, with_said}
 use Rattle.tool_tasks.proofs.prepared.carry.Goals as goal
 
 pub returns-in-Err : goal.returns-in-Err

@@ -1,4 +1,4 @@
-use Rattle.std.proofs.Common.{◌≡◌, ◌∙◌, [], List, Option, Some, ap, refl, string_bytes, subst, sym, ℕ}
+use Rattle.std.proofs.Common.{◌∙◌, [], List, Option, Some, ap, string_bytes, subst, sym, ℕ}
 use Rattle.frame.proofs.Giving.{part_files, part_note}
 use Rattle.frame.proofs.Outcomes.{gave_loads, stopped_early}
 use Rattle.frame.specs.Given.{Given, with_files, with_note}

@@ -1,8 +1,6 @@
-use Rattle.std.proofs.Common.{◌≡◌, ◌∙◌, List, ap, subst, ℕ}
-use Rattle.frame.proofs.Giving.{part_files, stopped_at}
-use Rattle.frame.proofs.Outcomes.{stopped_early}
-use Rattle.frame.specs.Given.{gave, with_files, with_text}
-use Rattle.frame.specs.Outsides.{IsStoppedIn}
+use Rattle.std.proofs.Common.{◌∙◌, List, ap, subst, ℕ}
+use Rattle.frame.proofs.{Giving.part_files, Giving.stopped_at, Outcomes.stopped_early}
+use Rattle.frame.specs.{Given.gave, Given.with_files, Given.with_text, Outsides.IsStoppedIn}
 use Rattle.tool_tasks.proofs.Preparing.{stopped_first}
 use Rattle.tool_tasks.specs.inside.Prepared.{files_in}
 use Rattle.tool_tasks.proofs.prepared.give.Goals as goal

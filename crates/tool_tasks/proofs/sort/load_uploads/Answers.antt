@@ -1,7 +1,5 @@
 use Rattle.std.proofs.Common.{◌∙◌, ◌++◌, ◌∷◌, [], ap, arith, refl, subst}
-use Rattle.frame.specs.Given.{load_of}
-use Rattle.frame.specs.Names.{file_named}
-use Rattle.frame.specs.Outsides.{Leaves}
+use Rattle.frame.specs.{Given.load_of, Names.file_named, Outsides.Leaves}
 use Rattle.tool_tasks.proofs.Loading.{upload_contained}
 use Rattle.tool_tasks.specs.Sort.{names_of}
 use Rattle.tool_words.specs.Tasks.{sorting_of}

@@ -1,4 +1,4 @@
-use Rattle.std.proofs.Common.{◌≡◌, map, take}
+use Rattle.std.proofs.Common.{map, take}
 use Rattle.tool_tasks.specs.inside.Sort.{LoadsAll}
 use Rattle.tool_tasks.proofs.sort.load_uploads.Given as goal
 

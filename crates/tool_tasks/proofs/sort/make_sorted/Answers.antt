@@ -1,12 +1,9 @@
-use Rattle.std.proofs.Common.{◌≡◌, ◌∙◌, [], List, ap, arith, refl, string_bytes, subst, sym, ℕ}
-use Rattle.frame.proofs.Giving.{stopped_at}
-use Rattle.frame.proofs.Outcomes.{gave_loads, loaded_of, stopped_early}
-use Rattle.frame.specs.Given.{Given}
-use Rattle.frame.specs.declared.outside.Outside.TheVariants.{NoMemory}
+use Rattle.std.proofs.Common.{◌∙◌, [], List, ap, arith, refl, string_bytes, subst, ℕ}
+use Rattle.frame.proofs.Outcomes.{gave_loads, loaded_of}
+use Rattle.frame.specs.{Given.Given}
 use Rattle.tool_tasks.proofs.Making.{ends_given, first_named}
 use Rattle.tool_tasks.specs.Sort.{ends_files, names_of}
-use Rattle.tool_tasks.specs.inside.Prepared.{Carries}
-use Rattle.tool_tasks.specs.inside.Sort.{sorted_given}
+use Rattle.tool_tasks.specs.inside.{Prepared.Carries, Sort.sorted_given}
 use Rattle.tool_words.specs.Tasks.{sorting_of}
 use Rattle.tool_tasks.proofs.sort.make_sorted.Goals as goal
 

@@ -1,13 +1,10 @@
-use Rattle.std.proofs.Common.{◌∙◌, [], ap, arith, map, refl, subst, sym}
+use Rattle.std.proofs.Common.{◌∙◌, ap, arith, map, refl, subst, sym}
 use Rattle.frame.proofs.Outcomes.{halted_loading}
-use Rattle.frame.specs.Outsides.{Leaves}
-use Rattle.frame.specs.declared.outside.Outside.TheVariants.{Unmade}
+use Rattle.frame.specs.{Outsides.Leaves}
 use Rattle.tool_tasks.proofs.Preparing.{halted_early}
-use Rattle.tool_tasks.specs.Sort.{Sorts, names_of}
-use Rattle.tool_tasks.specs.inside.Sort.{LoadsAll}
+use Rattle.tool_tasks.specs.{Sort.Sorts, Sort.names_of, inside.Sort.LoadsAll}
 use Rattle.tool_words.specs.Tasks.{sorting_of}
-use Rattle.world.specs.Origins.{with_loads}
-use Rattle.world.specs.Run.{Run}
+use Rattle.world.specs.{Origins.with_loads, Run.Run}
 use Rattle.tool_tasks.proofs.sort.sort.Goals as goal
 
 pub returns-in-Err : goal.returns-in-Err

@@ -1,12 +1,11 @@
-use Rattle.std.proofs.Common.{◌≡◌, ◌∙◌, List, arith, if◌then◌else◌, map, refl, string_bytes, subst, sym, true, ℕ}
-use Rattle.frame.proofs.Giving.{known_whole}
-use Rattle.frame.proofs.Outcomes.{halted_loading}
+use Rattle.std.proofs.Common.{◌≡◌, ◌∙◌, List, arith, if◌then◌else◌, map, refl, string_bytes, subst}
+use Rattle.std.proofs.Common.{sym, true}
+use Rattle.frame.proofs.{Giving.known_whole, Outcomes.halted_loading}
 use Rattle.frame.specs.declared.outside.Outside.TheVariants.{NoMemory}
 use Rattle.std.specs.Prelude.{[]}
 use Rattle.tap_views.specs.UploadEnds.{ArePlainEnds, are_posted}
 use Rattle.tap_views.specs.declared.upload_end.UploadEnd.{UploadEnd}
-use Rattle.tool_tasks.proofs.Making.{sorts_so}
-use Rattle.tool_tasks.proofs.Preparing.{carried}
+use Rattle.tool_tasks.proofs.{Making.sorts_so, Preparing.carried}
 use Rattle.tool_tasks.specs.Sort.{Sorts, names_of}
 use Rattle.tool_words.specs.Tasks.{sorting_of}
 use Rattle.tool_tasks.proofs.sort.write_sorted.Goals as goal

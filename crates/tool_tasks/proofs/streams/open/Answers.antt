@@ -1,6 +1,5 @@
 use Rattle.std.proofs.Common.{◌∙◌, ◌∷◌, [], List, Option, ap, option_map, subst, ℕ}
-use Rattle.world.specs.Loads.{IsRefused}
-use Rattle.world.specs.Run.{Run, nothing_yet}
+use Rattle.world.specs.{Loads.IsRefused, Run.Run, Run.nothing_yet}
 use Rattle.world.specs.declared.faults.LoadFault.{LoadFault}
 use Rattle.tool_tasks.proofs.streams.open.Goals as goal
 

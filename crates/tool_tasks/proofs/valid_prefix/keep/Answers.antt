@@ -1,11 +1,9 @@
 use Rattle.std.proofs.Common.{◌∷◌, [], List, arith, refl, subst, ℕ}
 use Rattle.frame.proofs.Outcomes.{halted_loading}
-use Rattle.frame.specs.Given.{load_of}
-use Rattle.frame.specs.declared.outside.Outside.TheVariants.{NoMemory}
-use Rattle.tool_words.specs.Tasks.{valid_prefix_of}
+use Rattle.frame.specs.{Given.load_of, declared.outside.Outside.TheVariants.NoMemory}
 use Rattle.tool_tasks.proofs.Preparing.{carried, halted_early}
-use Rattle.tool_tasks.specs.ValidPrefix.{HasValidPrefix}
-use Rattle.tool_tasks.specs.inside.Prepared.{whole_of}
+use Rattle.tool_tasks.specs.{ValidPrefix.HasValidPrefix, inside.Prepared.whole_of}
+use Rattle.tool_words.specs.Tasks.{valid_prefix_of}
 use Rattle.tool_tasks.proofs.valid_prefix.keep.Goals as goal
 
 pub returns-in-Err : goal.returns-in-Err

@@ -1,6 +1,5 @@
 use Rattle.std.proofs.Common.{◌≡◌, drop, map}
-use Rattle.tool_words.specs.Columns.{value_of}
-use Rattle.tool_words.specs.Tasks.{condition_of}
+use Rattle.tool_words.specs.{Columns.value_of, Tasks.condition_of}
 use Rattle.tool_words.proofs.encode_words.value_of.Given as goal
 
 -- what is left decides

@@ -1,8 +1,7 @@
 use Rattle.std.proofs.Common.{◌≡◌, false, take}
-use Rattle.std.specs.Prelude.{fold}
 use Rattle.clap.specs.Words.{app_of, with_subcommand}
-use Rattle.tool_words.specs.ToolLine.{app_of_name}
-use Rattle.tool_words.specs.inside.Rows.{shape_of_table}
+use Rattle.std.specs.Prelude.{fold}
+use Rattle.tool_words.specs.{ToolLine.app_of_name, inside.Rows.shape_of_table}
 use Rattle.tool_words.proofs.program.with_leaves.Given as goal
 
 -- the subcommands so far were added

@@ -1,8 +1,7 @@
 use Rattle.std.proofs.Common.{◌∙◌, Bool, List, [], ℕ, Option, ap}
-use Rattle.std.specs.Prelude.{unwrap_or}
-use Rattle.std.specs.List.{list_any}
-use Rattle.clap.specs.Words.{found_of}
 use Rattle.clap.proofs.WalkLemmas.{list_any-map, raw_values-rows}
+use Rattle.clap.specs.Words.{found_of}
+use Rattle.std.specs.{List.list_any, Prelude.unwrap_or}
 use Rattle.tool_words.specs.Request.{is_input}
 use Rattle.tool_words.proofs.reading.names_input.Goals as goal
 

@@ -1,7 +1,6 @@
 use Rattle.std.proofs.Common.{◌≡◌, ◌∙◌, ap, sym, subst, take, arith}
-use Rattle.world.specs.Run.{Run}
-use Rattle.world.specs.Loads.{IsRefused}
 use Rattle.world.proofs.files.read_all.Goals.{in-Ok+else-end-gt-LOAD_LIMIT_BYTES, in-Err}
+use Rattle.world.specs.{Loads.IsRefused, Run.Run}
 use Rattle.world.proofs.files.read_all.Goals as goal
 
 pub returns-then-end-gt-LOAD_LIMIT_BYTES-clause-refused :

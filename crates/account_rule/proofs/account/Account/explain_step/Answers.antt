@@ -1,30 +1,24 @@
 -- Each way out is one of the rule's four cases: unknown, stale, transfer, ride. The reason is that
 -- case's, and the account then stands for one tap more, as after a step.
 use Rattle.std.proofs.Common.{◌≡◌, ◌≤◌, List, [], ◌∷◌, ◌++◌, Some, refl, sym, ◌∙◌, arith}
-use Rattle.account_rule.specs.declared.window.Window.{Window}
-use Rattle.tariffs.specs.Fares.{class_of, meaning_at, ride_terms}
-use Rattle.tariffs.specs.Until.{window_end_in}
-use Rattle.account_rule.specs.Replies.{reply_with, ride_reply}
-use Rattle.account_rule.specs.Windows.{charge, paid_by}
-use Rattle.account_rule.specs.inside.Kept.{window_at}
-use Rattle.account_rule.specs.Kept.{kept_numbers, kept_of, kept_trip}
-use Rattle.account_rule.specs.TokenRules.{rules_of}
-use Rattle.account_rule.specs.Represents.{Represents, RepresentsSome}
-use Rattle.account_rule.specs.Taps.{live_at}
-use Rattle.account_rule.specs.declared.tap.TapIn.{TapIn}
+use Rattle.account_rule.proofs.FareLemmas.{given-few, ride_reason-few}
 use Rattle.account_rule.proofs.ReasonLemmas.{reason_unknown, why_ride, why_stale, why_transfer}
-use Rattle.account_rule.specs.declared.reply.Answer.TheVariants.{Transfer}
 use Rattle.account_rule.proofs.StepLemmas.{IsStep, at_fresh, at_kept, at_state, class_at, class_is}
 use Rattle.account_rule.proofs.StepLemmas.{class_there, first_ride, gives_none-fresh}
 use Rattle.account_rule.proofs.StepLemmas.{gives_none-state, gives_same, kept-fresh, kept-open}
 use Rattle.account_rule.proofs.StepLemmas.{kept_room, listed, next_ride, stale, holds-open}
 use Rattle.account_rule.proofs.StepLemmas.{terms_same, transfer, trip_order, unknown, until_same}
 use Rattle.account_rule.proofs.WindowLemmas.{room-open}
-use Rattle.account_rule.proofs.FareLemmas.{given-few, ride_reason-few}
-use Rattle.account_rule.proofs.account.Account.explain_step.Goals as goal
 use Rattle.account_rule.proofs.account.Account.explain_step.Goals.{After-explain_ride}
 use Rattle.account_rule.proofs.account.Account.explain_step.Goals.{After-first_ride}
 use Rattle.account_rule.proofs.account.Account.explain_step.Goals.{After-take_transfer}
+use Rattle.account_rule.specs.{Kept.kept_numbers, Kept.kept_of, Kept.kept_trip, Replies.reply_with}
+use Rattle.account_rule.specs.{Replies.ride_reply, Represents.Represents, Represents.RepresentsSome}
+use Rattle.account_rule.specs.{Taps.live_at, TokenRules.rules_of, Windows.charge, Windows.paid_by}
+use Rattle.account_rule.specs.declared.{reply.Answer.TheVariants.Transfer, tap.TapIn.TapIn}
+use Rattle.account_rule.specs.{declared.window.Window.Window, inside.Kept.window_at}
+use Rattle.tariffs.specs.{Fares.class_of, Fares.meaning_at, Fares.ride_terms, Until.window_end_in}
+use Rattle.account_rule.proofs.account.Account.explain_step.Goals as goal
 
 -- the tap's validator is not known
 

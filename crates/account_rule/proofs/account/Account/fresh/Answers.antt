@@ -1,11 +1,10 @@
 -- A fresh account stands for no taps, under whatever rules.
 use Rattle.std.proofs.Common.{[], refl}
-use Rattle.account_rule.specs.Trips.{last_trip, rides, trip_of, trips}
 use Rattle.account_rule.specs.Blocks.{blocks_by, last_block}
 use Rattle.account_rule.specs.Kept.{is_after, kept_of, kept_trip, kept_window}
 use Rattle.account_rule.specs.Represents.{Represents, RepresentsSome, window_of}
-use Rattle.account_rule.specs.Taps.{is_later, live, live_after}
-use Rattle.account_rule.specs.Windows.{windows}
+use Rattle.account_rule.specs.{Taps.is_later, Taps.live, Taps.live_after, Trips.last_trip}
+use Rattle.account_rule.specs.{Trips.rides, Trips.trip_of, Trips.trips, Windows.windows}
 use Rattle.account_rule.proofs.account.Account.fresh.Goals as goal
 
 pub returns-clause-holds : goal.returns-clause-holds

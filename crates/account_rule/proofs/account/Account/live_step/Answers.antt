@@ -1,10 +1,8 @@
 use Rattle.std.proofs.Common.{◌≡◌, true, false, sym, ap, ◌∙◌}
-use Rattle.account_rule.specs.Kept.{kept_numbers}
-use Rattle.account_rule.specs.Replies.{ride_reply}
-use Rattle.account_rule.specs.Taps.{live_at}
-use Rattle.account_rule.specs.inside.Kept.{window_under}
 use Rattle.account_rule.proofs.FareLemmas.{free-few, ride-few}
 use Rattle.account_rule.proofs.StepLemmas.{kept_given, kept_paid, reply_given, reply_paid}
+use Rattle.account_rule.specs.{Kept.kept_numbers, Replies.ride_reply, Taps.live_at}
+use Rattle.account_rule.specs.inside.Kept.{window_under}
 use Rattle.account_rule.proofs.account.Account.live_step.Goals as goal
 
 -- the last ride gives a transfer

@@ -1,11 +1,9 @@
 -- What the account keeps decides the answer: nothing, or what its last trip says.
 use Rattle.std.proofs.Common.{refl, ◌∙◌, Some}
-use Rattle.account_rule.specs.Kept.{kept_numbers, kept_of, kept_trip}
-use Rattle.account_rule.specs.Represents.{Represents}
-use Rattle.account_rule.specs.Taps.{live_at}
-use Rattle.account_rule.specs.TokenRules.{rules_of}
 use Rattle.account_rule.proofs.NoTransferLemmas.{none-first, none-kept}
 use Rattle.account_rule.proofs.StepLemmas.{at_state, kept-fresh, kept-open, lacks_same}
+use Rattle.account_rule.specs.Kept.{kept_numbers, kept_of, kept_trip}
+use Rattle.account_rule.specs.{Represents.Represents, Taps.live_at, TokenRules.rules_of}
 use Rattle.account_rule.proofs.account.Account.no_transfer.Goals as goal
 
 pub returns-then-not-self-clause-lacks : goal.returns-then-not-self-clause-lacks

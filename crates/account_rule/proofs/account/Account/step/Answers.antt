@@ -1,21 +1,17 @@
 -- Each way out of the step is one of the rule's cases: unknown, at a later tariff, the first ride,
 -- stale, a transfer or a later ride.
-use Rattle.std.proofs.Common.{◌≡◌, ◌<◌, ◌≤◌, List, [], ◌∷◌, ◌++◌, Some, arith, refl, sym, ap, ◌∙◌}
+use Rattle.std.proofs.Common.{◌≡◌, ◌<◌, ◌≤◌, List, [], ◌∷◌, ◌++◌, Some, arith, refl, sym, ◌∙◌}
 use Rattle.std.proofs.Common.{length, subst}
-use Rattle.tariffs.specs.Fares.{class_of, meaning_at}
-use Rattle.account_rule.specs.Replies.{reply}
-use Rattle.account_rule.specs.TokenRules.{rules_of}
-use Rattle.account_rule.specs.Kept.{kept_numbers, kept_of, kept_trip}
-use Rattle.account_rule.specs.Represents.{RepresentsSome, Represents}
-use Rattle.account_rule.specs.Taps.{live_at}
-use Rattle.account_rule.specs.declared.tap.TapIn.{TapIn}
-use Rattle.account_rule.specs.inside.Kept.{known_tap}
+use Rattle.account_rule.proofs.FareLemmas.{free-few, ride-few}
 use Rattle.account_rule.proofs.StepLemmas.{IsStep, at_state, class_is, class_there, first_ride_is}
 use Rattle.account_rule.proofs.StepLemmas.{kept-fresh, kept-open, kept_room, live_tap_is, stale}
 use Rattle.account_rule.proofs.StepLemmas.{holds-open, tap_is, trip_order, unknown}
-use Rattle.account_rule.proofs.FareLemmas.{free-few, ride-few}
-use Rattle.account_rule.proofs.account.Account.step.Goals as goal
 use Rattle.account_rule.proofs.account.Account.step.Goals.{After-first_ride, After-live_step}
+use Rattle.account_rule.specs.{Kept.kept_numbers, Kept.kept_of, Kept.kept_trip, Replies.reply}
+use Rattle.account_rule.specs.{Represents.RepresentsSome, Represents.Represents, Taps.live_at}
+use Rattle.account_rule.specs.{TokenRules.rules_of, declared.tap.TapIn.TapIn}
+use Rattle.tariffs.specs.Fares.{class_of, meaning_at}
+use Rattle.account_rule.proofs.account.Account.step.Goals as goal
 
 -- the tap's validator is not known
 

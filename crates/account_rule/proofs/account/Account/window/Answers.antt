@@ -1,17 +1,13 @@
 -- What is seen of the kept window is what the rule shows of the last one.
 use Rattle.std.proofs.Common.{◌≡◌, ◌≤◌, List, Option, refl, sym, subst, option_map, ◌∙◌}
-use Rattle.std.specs.Prelude.{IfSome}
-use Rattle.account_rule.specs.Blocks.{last_block}
-use Rattle.account_rule.specs.Kept.{kept_of, kept_window}
-use Rattle.account_rule.specs.inside.Kept.{shown_of}
-use Rattle.account_rule.specs.TokenRules.{TokenRules}
-use Rattle.account_rule.specs.Represents.{Represents}
-use Rattle.account_rule.specs.Windows.{last_window, windows}
-use Rattle.account_rule.specs.declared.account.Account.{Account}
-use Rattle.account_rule.specs.declared.tap.TapIn.{TapIn}
-use Rattle.account_rule.specs.declared.window.WindowView.{WindowView}
 use Rattle.account_rule.proofs.StepLemmas.{kept-fresh, kept-open}
 use Rattle.account_rule.proofs.WindowLemmas.{cents-shown, paid-shown, shown_window-of}
+use Rattle.account_rule.specs.{Blocks.last_block, Kept.kept_of, Kept.kept_window}
+use Rattle.account_rule.specs.{Represents.Represents, TokenRules.TokenRules}
+use Rattle.account_rule.specs.Windows.{last_window, windows}
+use Rattle.account_rule.specs.declared.{account.Account.Account, tap.TapIn.TapIn}
+use Rattle.account_rule.specs.{declared.window.WindowView.WindowView, inside.Kept.shown_of}
+use Rattle.std.specs.Prelude.{IfSome}
 use Rattle.account_rule.proofs.account.Account.window.Goals as goal
 
 seen : (rules : TokenRules) (account : Account) (taps : List TapIn) (shown : Option WindowView)

@@ -1,8 +1,7 @@
 -- The ride limit is reached: nothing is paid.
 use Rattle.std.proofs.Common.{◌≤◌, arith, sym, ap, ◌∙◌}
+use Rattle.account_rule.proofs.{LimitLemmas.limit_from, WindowLemmas.with_free}
 use Rattle.account_rule.specs.Windows.{paid_by}
-use Rattle.account_rule.proofs.LimitLemmas.{limit_from}
-use Rattle.account_rule.proofs.WindowLemmas.{with_free}
 use Rattle.account_rule.proofs.window.Window.add_ride.Goals as goal
 
 pub returns-then-from-terms-clause-cost : goal.returns-then-from-terms-clause-cost

@@ -1,11 +1,10 @@
 use Rattle.std.proofs.Common.{◌≡◌, ◌∙◌, ◌+◌, ◌<◌, ℕ, List, [], ◌∷◌, ◌++◌, All, Some, ap, arith}
-use Rattle.std.proofs.Common.{drop, length}
-use Rattle.std.proofs.Common.{map, subst, sym, take}
-use Rattle.std.specs.Prelude.{slice_get}
-use Rattle.tariffs.specs.TableMeaning.{TableMeaning}
-use Rattle.class_names.specs.ClassFaults.{HasPlainClasses}
+use Rattle.std.proofs.Common.{drop, length, map, subst, sym, take}
 use Rattle.class_names.proofs.Classes.{at_position, after_first, next_trees, plain_before}
 use Rattle.class_names.proofs.Classes.{plain_more}
+use Rattle.class_names.specs.ClassFaults.{HasPlainClasses}
+use Rattle.std.specs.Prelude.{slice_get}
+use Rattle.tariffs.specs.TableMeaning.{TableMeaning}
 use Rattle.class_names.proofs.names.ClassNames.of_texts.Goals as goal
 
 pub loop-position-preserved : goal.loop-position-preserved

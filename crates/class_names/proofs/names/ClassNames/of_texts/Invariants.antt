@@ -1,10 +1,7 @@
 use Rattle.std.proofs.Common.{◌≡◌, ◌+◌, ◌<◌, ℕ, List, Some, drop, get_or, map, take}
+use Rattle.class_names.specs.{ClassFaults.HasPlainClasses, Classes.AreLaterTrees, Names.HasClasses}
 use Rattle.std.specs.Prelude.{slice_get}
-use Rattle.toml.specs.Data.{Members}
-use Rattle.toml.specs.Parse.{parse_document}
-use Rattle.class_names.specs.ClassFaults.{HasPlainClasses}
-use Rattle.class_names.specs.Classes.{AreLaterTrees}
-use Rattle.class_names.specs.Names.{HasClasses}
+use Rattle.toml.specs.{Data.Members, Parse.parse_document}
 use Rattle.class_names.proofs.names.ClassNames.of_texts.Given as goal
 
 -- the names so far are those of the texts so far, and each of these is plain

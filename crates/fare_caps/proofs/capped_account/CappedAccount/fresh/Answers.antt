@@ -1,8 +1,7 @@
 use Rattle.std.proofs.Common.{[]}
 use Rattle.account_rule.specs.TokenRules.{rules_of}
-use Rattle.fare_caps.specs.CapMeanings.{capped_rules_of}
-use Rattle.fare_caps.specs.Represents.{RepresentsSome}
 use Rattle.fare_caps.proofs.FurtherLemmas.{keeps-nothing}
+use Rattle.fare_caps.specs.{CapMeanings.capped_rules_of, Represents.RepresentsSome}
 use Rattle.fare_caps.proofs.capped_account.CappedAccount.fresh.Goals as goal
 
 pub returns-clause-holds : goal.returns-clause-holds

@@ -1,9 +1,8 @@
 -- With neither caps nor prices the step is that of the account alone.
 use Rattle.std.proofs.Common.{[], ◌∷◌, ◌++◌, sym, ◌∙◌}
-use Rattle.account_rule.specs.Represents as kept
-use Rattle.fare_caps.specs.CapMeanings.{capped_rules_of}
-use Rattle.fare_caps.specs.Represents.{RepresentsSome}
 use Rattle.fare_caps.proofs.ExplainLemmas.{empty-holds, empty-reply}
+use Rattle.fare_caps.specs.{CapMeanings.capped_rules_of, Represents.RepresentsSome}
+use Rattle.account_rule.specs.Represents as kept
 use Rattle.fare_caps.proofs.capped_account.CappedAccount.step.Goals as goal
 
 pub step-requires-clause-holds : goal.step-requires-clause-holds

@@ -1,9 +1,8 @@
 use Rattle.std.proofs.Common.{sym, ap, ◌∙◌}
 use Rattle.account_rule.specs.TokenRules.{rules_of}
-use Rattle.fare_caps.specs.CapMeanings.{capped_rules_of}
-use Rattle.fare_caps.specs.declared.cap_window.CapWindow.{CapWindow}
 use Rattle.fare_caps.proofs.ExplainLemmas.{empty-window, some-rules}
 use Rattle.fare_caps.proofs.SeenLemmas.{no-window, some-window}
+use Rattle.fare_caps.specs.{CapMeanings.capped_rules_of, declared.cap_window.CapWindow.CapWindow}
 use Rattle.fare_caps.proofs.capped_account.CappedAccount.window.Goals as goal
 
 pub returns-in_default : goal.returns-in_default

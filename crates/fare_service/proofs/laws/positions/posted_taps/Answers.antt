@@ -1,5 +1,4 @@
-use Rattle.fare_service.proofs.GatheredWork.{Given}
-use Rattle.fare_service.proofs.HeadlineLemmas.{gathered_of}
+use Rattle.fare_service.proofs.{GatheredWork.Given, HeadlineLemmas.gathered_of}
 use Rattle.fare_service.proofs.PlacingLemmas.{posted_reported}
 use Rattle.fare_service.proofs.laws.positions.posted_taps.Goals as goal
 

@@ -1,17 +1,13 @@
 use Rattle.std.proofs.Common.{◌≡◌, ℕ, ◌^◌, ◌<◌, ◌++◌, All, List, Some, slice_get, take, drop, refl}
 use Rattle.std.proofs.Common.{sym, ap, ◌∙◌, subst, arith, w64}
-use Rattle.std.specs.Int.{to_be_bytes, from_be_bytes}
-use Rattle.std.proofs.lemmas.List.{take_at, drop_at}
-use Rattle.std.proofs.lemmas.List.Elements.{All-weaker}
-use Rattle.std.proofs.lemmas.Nat.{from_be_bytes-to_be_bytes_8}
-use Rattle.std.proofs.lemmas.Option.{slice_get_within}
-use borrow.Author.Count.{below_more}
-use Rattle.shard_book.specs.Book.{AreOfShard, Book}
-use Rattle.histories.specs.Entry.{TokensFit}
-use Rattle.tap_views.specs.Token.{Fits, bytes_of}
+use Rattle.histories.specs.{Entry.TokensFit, Plain.IsNamed, Plain.token_of_bytes}
 use Rattle.histories.specs.declared.entry.Entry.{Entry}
-use Rattle.tap_views.specs.declared.token.Token.{Token}
-use Rattle.histories.specs.Plain.{IsNamed, token_of_bytes}
+use Rattle.shard_book.specs.Book.{AreOfShard, Book}
+use Rattle.std.proofs.lemmas.List.{take_at, drop_at, Elements.All-weaker}
+use Rattle.std.proofs.lemmas.{Nat.from_be_bytes-to_be_bytes_8, Option.slice_get_within}
+use Rattle.std.specs.Int.{to_be_bytes, from_be_bytes}
+use Rattle.tap_views.specs.{Token.Fits, Token.bytes_of, declared.token.Token.Token}
+use borrow.Author.Count.{below_more}
 use Rattle.fare_service.proofs.laws.schedules.tokens_are_named.Goals as goal
 
 abbrev pair : ℕ → ℕ → Token

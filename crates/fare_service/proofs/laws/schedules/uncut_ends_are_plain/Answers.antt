@@ -1,6 +1,5 @@
 use Rattle.std.proofs.Common.{◌<◌, length, arith}
-use Rattle.fare_service.proofs.GatheredWork.{Given}
-use Rattle.fare_service.proofs.HeadlineLemmas.{gathered_of}
+use Rattle.fare_service.proofs.{GatheredWork.Given, HeadlineLemmas.gathered_of}
 use Rattle.fare_service.proofs.PlainEnds.{plain_ends}
 use Rattle.fare_service.proofs.laws.schedules.uncut_ends_are_plain.Goals as goal
 

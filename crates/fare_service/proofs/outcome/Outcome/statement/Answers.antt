@@ -1,9 +1,8 @@
 use Rattle.std.proofs.Common.{sym, ◌∙◌, ap, subst}
-use Rattle.std.specs.Prelude.{slice_get, string_bytes}
-use Rattle.tariffs.specs.Fares.{Fares}
 use Rattle.fare_texts.specs.StatementText.{IsStatementText}
-use Rattle.tap_views.specs.Token.{bytes_of}
-use Rattle.tap_views.specs.Shards.{shard_of_token}
+use Rattle.std.specs.Prelude.{slice_get, string_bytes}
+use Rattle.tap_views.specs.{Shards.shard_of_token, Token.bytes_of}
+use Rattle.tariffs.specs.Fares.{Fares}
 use Rattle.fare_service.proofs.outcome.Outcome.statement.Goals as goal
 
 pub returns : goal.returns

@@ -1,26 +1,20 @@
 use Rattle.std.proofs.Common.{◌≡◌, ℕ, ◌^◌, ◌≤◌, arith, ◌<◌, List, All, length, map, replicate, sym}
 use Rattle.std.proofs.Common.{◌∙◌, ap, subst}
+use Rattle.fare_service.proofs.AddingLemmas.{shares_add_up, few_taps}
+use Rattle.fare_service.proofs.{EndingLemmas.full_made, GatherLemmas.reported_undrawn}
+use Rattle.fare_service.proofs.GatherLemmas.{undrawn_last, is_outcome, done_within, loads_all}
+use Rattle.fare_service.proofs.{GatheredShares.has_gathered, GatheredWork.given_of}
+use Rattle.fare_service.proofs.HeadlineLemmas.{headline_of}
+use Rattle.fare_service.specs.{Claims.HaveAllClaims, Closing.ReportsFirst, Faults.IsForMemory}
+use Rattle.fare_service.specs.{Headline.HasOutcome, ServiceView.ServiceView, ServiceView.shards_of}
+use Rattle.fare_service.specs.{ShareView.ShareView, Shares.IsShareOf}
+use Rattle.fare_service.specs.declared.faults.GatherFault.{GatherFault}
+use Rattle.fare_service.specs.inside.Joining.{with_all_done, with_runs}
 use Rattle.histories.specs.Sums.{sums, sums_of, add_all}
 use Rattle.shard_book.specs.Book.{all_entries}
-use Rattle.tap_views.specs.declared.upload_end.UploadEnd.TheVariants.{Undrawn}
-use Rattle.fare_service.specs.declared.faults.GatherFault.{GatherFault}
-use Rattle.fare_service.specs.Claims.{HaveAllClaims}
-use Rattle.fare_service.specs.Closing.{ReportsFirst}
-use Rattle.fare_service.specs.Faults.{IsForMemory}
-use Rattle.fare_service.specs.inside.Joining.{with_all_done, with_runs}
-use Rattle.fare_service.specs.ServiceView.{ServiceView, shards_of}
-use Rattle.fare_service.specs.ShareView.{ShareView}
-use Rattle.fare_service.specs.Shares.{IsShareOf}
-use Rattle.fare_service.specs.Headline.{HasOutcome}
-use Rattle.fare_service.proofs.AddingLemmas.{shares_add_up, few_taps}
-use Rattle.fare_service.proofs.EndingLemmas.{full_made}
-use Rattle.fare_service.proofs.GatheredShares.{has_gathered}
-use Rattle.fare_service.proofs.GatheredWork.{given_of}
-use Rattle.fare_service.proofs.GatherLemmas.{reported_undrawn, undrawn_last, is_outcome}
-use Rattle.fare_service.proofs.GatherLemmas.{done_within, loads_all}
-use Rattle.fare_service.proofs.HeadlineLemmas.{headline_of}
-use Rattle.fare_service.proofs.service.Service.gather.Goals as goal
 use Rattle.tap_views.proofs.Choices.{IfErr_handed_on}
+use Rattle.tap_views.specs.declared.upload_end.UploadEnd.TheVariants.{Undrawn}
+use Rattle.fare_service.proofs.service.Service.gather.Goals as goal
 
 pub ends_of-requires : goal.ends_of-requires
 ends_of-requires g c =

@@ -1,12 +1,9 @@
 use Rattle.std.proofs.Common.{ℕ, ◌≡◌, ◌<◌, ◌+◌, List, [], sym, ◌∙◌, ap, subst, arith}
-use Rattle.histories.specs.Sums.{sums_of}
-use Rattle.shared_books.specs.Claims.{all_claims}
-use Rattle.shared_books.specs.Passes.{PassView}
-use Rattle.fare_service.specs.Claims.{claims_at}
-use Rattle.fare_service.specs.ServiceView.{ServiceView}
-use Rattle.fare_service.specs.inside.ServiceView.{AreOpened}
-use Rattle.fare_service.specs.Shares.{made_visits_at, books_of}
 use Rattle.fare_service.proofs.ShareLemmas.{fresh_share, fresh, own_new, books_new, claims_new_at}
+use Rattle.fare_service.specs.{Claims.claims_at, ServiceView.ServiceView, Shares.made_visits_at}
+use Rattle.fare_service.specs.{Shares.books_of, inside.ServiceView.AreOpened}
+use Rattle.histories.specs.Sums.{sums_of}
+use Rattle.shared_books.specs.{Claims.all_claims, Passes.PassView}
 use Rattle.fare_service.proofs.service.Service.open.Goals as goal
 
 pub invariant_of-service : goal.invariant_of-service

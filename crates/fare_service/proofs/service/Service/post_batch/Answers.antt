@@ -1,10 +1,9 @@
 use Rattle.std.proofs.Common.{ℕ, ◌≡◌, [], ◌∙◌, inl, subst, refl, arith}
-use Rattle.histories.specs.Sums.{sums_of}
-use Rattle.fare_service.specs.ServiceView.{shards_of}
-use Rattle.fare_service.specs.Runs.{runs_below}
-use Rattle.fare_service.proofs.VisitLemmas.{made_none}
 use Rattle.fare_service.proofs.BatchLemmas.{Posts, batch_more, batch_cut, cuts_reported}
 use Rattle.fare_service.proofs.FullLemmas.{handed_on, reports_ok, the_error}
+use Rattle.fare_service.proofs.VisitLemmas.{made_none}
+use Rattle.fare_service.specs.{Runs.runs_below, ServiceView.shards_of}
+use Rattle.histories.specs.Sums.{sums_of}
 use Rattle.fare_service.proofs.service.Service.post_batch.Goals as goal
 
 pub loop-shard-init : goal.loop-shard-init

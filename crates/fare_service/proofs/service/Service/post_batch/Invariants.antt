@@ -1,10 +1,9 @@
 use Rattle.std.proofs.Common.{◌≡◌, ◌+◌, ◌*◌, ◌≤◌, List, length}
-use Rattle.tap_views.specs.Runs.{AreRuns}
-use Rattle.histories.specs.Sums.{sums_of}
-use Rattle.fare_service.specs.ServiceView.{shards_of}
 use Rattle.fare_service.specs.Runs.{RunVisit, ArePostedWhole, runs_below}
-use Rattle.fare_service.specs.Shares.{HasVisited, books_of}
+use Rattle.fare_service.specs.{ServiceView.shards_of, Shares.HasVisited, Shares.books_of}
 use Rattle.fare_service.specs.Stopping.{SomeFull}
+use Rattle.histories.specs.Sums.{sums_of}
+use Rattle.tap_views.specs.Runs.{AreRuns}
 use Rattle.fare_service.proofs.service.Service.post_batch.Given as goal
 
 abbrev pub invariant-loop-shard : goal.invariant-loop-shard

@@ -1,15 +1,13 @@
-use Rattle.std.proofs.Common.{List, [], ◌++◌, ◌∷◌, ◌≤◌, ◌*◌, ◌<◌, ◌^◌, length, true, false}
-use Rattle.std.proofs.Common.{inl, ◌∙◌, sym, refl, subst, append-nil, arith}
-use Rattle.tap_views.specs.Layout.{Tap}
-use Rattle.tap_views.specs.Files.{IsFile}
-use Rattle.histories.specs.Sums.{sums_of}
-use Rattle.fare_service.specs.ServiceView.{shards_of}
-use Rattle.fare_service.proofs.VisitLemmas.{made_none}
-use Rattle.fare_service.proofs.TapCounts.{batches_taps}
-use Rattle.tap_views.proofs.ParseLemmas.{read_end, read_on}
-use Rattle.fare_service.proofs.PostedBatches.{done_room, posted_few, batches_more, batches_cut}
-use Rattle.fare_service.proofs.PostedBatches.{cut_upload}
+use Rattle.std.proofs.Common.{List, [], ◌++◌, ◌∷◌, ◌≤◌, ◌*◌, ◌<◌, ◌^◌, length, true, false, inl}
+use Rattle.std.proofs.Common.{◌∙◌, sym, refl, subst, append-nil, arith}
 use Rattle.fare_service.proofs.FullLemmas.{handed_on, reports_ok, the_error}
+use Rattle.fare_service.proofs.PostedBatches.{done_room, posted_few, batches_more, batches_cut}
+use Rattle.fare_service.proofs.{PostedBatches.cut_upload, TapCounts.batches_taps}
+use Rattle.fare_service.proofs.VisitLemmas.{made_none}
+use Rattle.fare_service.specs.ServiceView.{shards_of}
+use Rattle.histories.specs.Sums.{sums_of}
+use Rattle.tap_views.proofs.ParseLemmas.{read_end, read_on}
+use Rattle.tap_views.specs.{Files.IsFile, Layout.Tap}
 use Rattle.fare_service.proofs.service.Service.post_batches.Goals as goal
 
 pub loop-batch-init : goal.loop-batch-init

@@ -1,11 +1,9 @@
 use Rattle.std.proofs.Common.{◌≡◌, ◌++◌, length}
-use Rattle.tap_views.specs.Files.{IsReadAs}
-use Rattle.histories.specs.Sums.{sums_of}
-use Rattle.fare_service.specs.ServiceView.{shards_of}
-use Rattle.fare_service.specs.Runs.{runs_of}
-use Rattle.fare_service.specs.Shares.{books_of}
-use Rattle.fare_service.specs.Stopping.{SomeFull}
 use Rattle.fare_service.proofs.BatchLemmas.{Posts}
+use Rattle.fare_service.specs.{Runs.runs_of, ServiceView.shards_of, Shares.books_of}
+use Rattle.fare_service.specs.Stopping.{SomeFull}
+use Rattle.histories.specs.Sums.{sums_of}
+use Rattle.tap_views.specs.Files.{IsReadAs}
 use Rattle.fare_service.proofs.service.Service.post_batches.Given as goal
 
 abbrev pub invariant-loop-batch : goal.invariant-loop-batch

@@ -1,21 +1,17 @@
 use Rattle.std.proofs.Common.{◌≡◌, ◌<◌, List, inr, refl, ◌++◌, length, map, sym, ◌∙◌, ap, subst}
 use Rattle.std.proofs.Common.{arith}
-use Rattle.std.proofs.lemmas.List.{length-map}
-use Rattle.tap_views.specs.Layout.{Tap}
-use Rattle.tap_views.specs.Shards.{run_of, run_taps, ShardRun}
-use Rattle.shard_book.specs.declared.run_end.RunEnd.{RunEnd}
-use Rattle.shard_book.specs.declared.run_end.RunEnd.TheVariants.{Whole, Cut}
-use Rattle.histories.specs.Entry.{reply_of}
-use Rattle.histories.specs.Sums.{sums_of, sums_of_replies, add_sums}
-use Rattle.shard_book.specs.Visits.{IsVisit}
-use Rattle.shared_books.specs.Passes.{PassView}
-use Rattle.fare_service.specs.declared.service.working.Stop.TheVariants.{Memory}
-use Rattle.fare_service.specs.ServiceView.{shards_of}
-use Rattle.fare_service.proofs.RunVisits.{same_run, run_empty, run_refused, run_full, run_visited}
-use Rattle.fare_service.proofs.RunVisits.{visit_length, book_at}
-use Rattle.fare_service.proofs.VisitLemmas.{taps_after}
 use Rattle.fare_service.proofs.FullLemmas.{full_here, full_stays, is_full, own_grows, the_error}
 use Rattle.fare_service.proofs.FullLemmas.{reports_ok, reports_refused, visits_full}
+use Rattle.fare_service.proofs.RunVisits.{same_run, run_empty, run_refused, run_full, run_visited}
+use Rattle.fare_service.proofs.{RunVisits.visit_length, RunVisits.book_at, VisitLemmas.taps_after}
+use Rattle.fare_service.specs.ServiceView.{shards_of}
+use Rattle.fare_service.specs.declared.service.working.Stop.TheVariants.{Memory}
+use Rattle.histories.specs.{Entry.reply_of, Sums.sums_of, Sums.sums_of_replies, Sums.add_sums}
+use Rattle.shard_book.specs.Visits.{IsVisit}
+use Rattle.shard_book.specs.declared.run_end.RunEnd.{RunEnd, TheVariants.Whole, TheVariants.Cut}
+use Rattle.shared_books.specs.Passes.{PassView}
+use Rattle.std.proofs.lemmas.List.{length-map}
+use Rattle.tap_views.specs.{Layout.Tap, Shards.run_of, Shards.run_taps, Shards.ShardRun}
 use Rattle.fare_service.proofs.service.Service.post_run.Goals as goal
 
 pub returns-then-len-eq0-clause-made : goal.returns-then-len-eq0-clause-made

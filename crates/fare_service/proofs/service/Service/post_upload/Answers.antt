@@ -1,10 +1,9 @@
 use Rattle.std.proofs.Common.{ℕ, Option, None, Some, sym, refl, subst, inl}
-use Rattle.tap_views.specs.declared.upload_end.UploadEnd.{UploadEnd}
-use Rattle.histories.specs.Sums.{sums_of}
-use Rattle.tap_views.specs.declared.fault.LayoutFault.{LayoutFault}
-use Rattle.tap_views.specs.UploadEnds.{end_by}
-use Rattle.fare_service.specs.Plain.{WasNotCut}
 use Rattle.fare_service.proofs.UploadLemmas.{Worked_as, upload_whole, upload_cut}
+use Rattle.fare_service.specs.Plain.{WasNotCut}
+use Rattle.histories.specs.Sums.{sums_of}
+use Rattle.tap_views.specs.UploadEnds.{end_by}
+use Rattle.tap_views.specs.declared.{fault.LayoutFault.LayoutFault, upload_end.UploadEnd.UploadEnd}
 use Rattle.fare_service.proofs.service.Service.post_upload.Goals as goal
 
 pub returns-in-Ok-clause-worked : goal.returns-in-Ok-clause-worked

@@ -1,16 +1,13 @@
 use Rattle.std.proofs.Common.{◌∙◌}
-use Rattle.fare_service.specs.declared.faults.RunFault.TheVariants.{Gather}
-use Rattle.fare_service.specs.declared.faults.GatherFault.{GatherFault}
-use Rattle.fare_service.specs.declared.faults.RunFault.{RunFault}
-use Rattle.fare_service.specs.Faults.{MissesNothing}
-use Rattle.fare_service.specs.Refusals.{WasNotGathered}
-use Rattle.fare_service.specs.inside.Stopping.{WorkedOn}
 use Rattle.fare_service.proofs.AnswerLemmas.{answered, fault_reported}
-use Rattle.fare_service.proofs.ClaimLemmas.{claims_kept}
-use Rattle.fare_service.proofs.EndingLemmas.{have_stopped}
+use Rattle.fare_service.proofs.{ClaimLemmas.claims_kept, EndingLemmas.have_stopped}
 use Rattle.fare_service.proofs.GatheredShares.{has_run}
-use Rattle.fare_service.proofs.service.Service.run.Goals as goal
+use Rattle.fare_service.specs.{Faults.MissesNothing, Refusals.WasNotGathered}
+use Rattle.fare_service.specs.declared.faults.GatherFault.{GatherFault}
+use Rattle.fare_service.specs.declared.faults.RunFault.{RunFault, TheVariants.Gather}
+use Rattle.fare_service.specs.inside.Stopping.{WorkedOn}
 use Rattle.tap_views.proofs.Choices.{IfErr_handed_on}
+use Rattle.fare_service.proofs.service.Service.run.Goals as goal
 
 pub gather-requires : goal.gather-requires
 gather-requires g c =

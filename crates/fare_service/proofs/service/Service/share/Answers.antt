@@ -1,12 +1,11 @@
 use Rattle.std.proofs.Common.{ℕ, ◌≡◌, List, [], sym, ◌∙◌, ap, subst}
-use Rattle.shared_books.specs.Claims.{claims_given}
-use Rattle.fare_service.specs.Claims.{claims_at, left_drawer, left_share}
-use Rattle.fare_service.specs.ShareView.{ShareView}
-use Rattle.histories.specs.Sums.{sums_of}
-use Rattle.shared_books.specs.Passes.{PassView}
-use Rattle.fare_service.specs.Shares.{made_visits_at, books_of, IsShareOf}
 use Rattle.fare_service.proofs.ShareLemmas.{fresh_share, fresh, own_split, books_split, holding}
 use Rattle.fare_service.proofs.ShareLemmas.{share_left, claims_given_at}
+use Rattle.fare_service.specs.Claims.{claims_at, left_drawer, left_share}
+use Rattle.fare_service.specs.ShareView.{ShareView}
+use Rattle.fare_service.specs.Shares.{made_visits_at, books_of, IsShareOf}
+use Rattle.histories.specs.Sums.{sums_of}
+use Rattle.shared_books.specs.{Claims.claims_given, Passes.PassView}
 use Rattle.fare_service.proofs.service.Service.share.Goals as goal
 
 pub returns-clause-new : goal.returns-clause-new

@@ -1,11 +1,9 @@
 use Rattle.std.proofs.Common.{◌<◌, List, [], ◌∷◌, All, length, length-append, sym, ap, subst, arith}
-use Rattle.std.proofs.lemmas.List.Elements.{All-nil, All-cons, All-append}
-use Rattle.fare_service.specs.Claims.{HaveAllClaims}
-use Rattle.fare_service.specs.ServiceView.{shards_of}
-use Rattle.fare_service.specs.ShareView.{ShareView}
-use Rattle.fare_service.specs.Shares.{IsFresh, IsShareOf}
 use Rattle.fare_service.proofs.ClaimLemmas.{AreSharesSplit, split_none, split_more, split_all}
 use Rattle.fare_service.proofs.EndingLemmas.{fresh_left}
+use Rattle.fare_service.specs.{Claims.HaveAllClaims, ServiceView.shards_of, ShareView.ShareView}
+use Rattle.fare_service.specs.Shares.{IsFresh, IsShareOf}
+use Rattle.std.proofs.lemmas.List.Elements.{All-nil, All-cons, All-append}
 use Rattle.fare_service.proofs.service.Service.share_out.Goals as goal
 
 pub loop-init : goal.loop-init

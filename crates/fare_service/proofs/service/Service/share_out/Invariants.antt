@@ -1,8 +1,7 @@
 use Rattle.std.proofs.Common.{◌≡◌, All, length, ◌+◌}
-use Rattle.fare_service.specs.Claims.{HasAllClaims}
-use Rattle.fare_service.specs.ServiceView.{shards_of}
-use Rattle.fare_service.specs.Shares.{IsFresh, IsShareOf}
 use Rattle.fare_service.proofs.ClaimLemmas.{AreSharesSplit}
+use Rattle.fare_service.specs.{Claims.HasAllClaims, ServiceView.shards_of}
+use Rattle.fare_service.specs.Shares.{IsFresh, IsShareOf}
 use Rattle.fare_service.proofs.service.Service.share_out.Given as goal
 
 abbrev pub invariant-loop : goal.invariant-loop

@@ -1,9 +1,8 @@
 use Rattle.std.proofs.Common.{◌≡◌, ◌<◌, ◌+◌, suc, ◌∙◌, [], ◌∷◌, take, length, ap, arith, get_or}
-use Rattle.std.proofs.Math.ListN.{set}
-use Rattle.std.proofs.Math.Seq.{map-set_same}
-use Rattle.std.proofs.lemmas.List.{length-map, map-append, take_more}
-use Rattle.shared_books.specs.Passes.{PassView, fresh_pass}
 use Rattle.fare_service.proofs.ClaimLemmas.{left_until, left_here, left_step, left_all}
+use Rattle.shared_books.specs.Passes.{PassView, fresh_pass}
+use Rattle.std.proofs.Math.{ListN.set, Seq.map-set_same}
+use Rattle.std.proofs.lemmas.List.{length-map, map-append, take_more}
 use Rattle.fare_service.proofs.service.Service.split_passes.Goals as goal
 
 pub loop-shard-preserved : goal.loop-shard-preserved

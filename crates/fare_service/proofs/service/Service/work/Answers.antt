@@ -1,15 +1,13 @@
 use Rattle.std.proofs.Common.{◌≡◌, [], ◌++◌, ◌∷◌, ℕ, length, inr, refl, sym, ◌∙◌, ap, subst, arith}
 use Rattle.std.proofs.Common.{List, false, Ok, Err}
-use Rattle.std.specs.Prelude.{OnOk, Result}
-use Rattle.std.specs.Result.{is_err}
-use Rattle.histories.specs.Sums.{sums_of}
-use Rattle.fare_service.specs.ShareView.{ShareView}
-use Rattle.fare_service.specs.Lending.{origin_at}
-use Rattle.fare_service.specs.Shares.{IsShareOf, WentOn}
-use Rattle.world.specs.Origins.{Origin, IsFrom, IsProvided, loads_from, with_loads}
 use Rattle.fare_service.proofs.ShareLemmas.{holding, next_share, worked_none}
 use Rattle.fare_service.proofs.StoppingLemmas.{Going, going_start, going_next, cut_next, none_next}
 use Rattle.fare_service.proofs.StoppingLemmas.{stopped_went_on}
+use Rattle.fare_service.specs.{Lending.origin_at, ShareView.ShareView}
+use Rattle.fare_service.specs.Shares.{IsShareOf, WentOn}
+use Rattle.histories.specs.Sums.{sums_of}
+use Rattle.std.specs.{Prelude.OnOk, Prelude.Result, Result.is_err}
+use Rattle.world.specs.Origins.{Origin, IsFrom, IsProvided, loads_from, with_loads}
 use Rattle.fare_service.proofs.service.Service.work.Goals as goal
 
 ok_holds : {T E P : Type 0} (r : Result T E) → is_err r ≡ false → OnOk r P → P

@@ -1,9 +1,7 @@
 use Rattle.std.proofs.Common.{◌≡◌, ◌+◌, ◌-◌, ◌≤◌, length, vec_len, vec_capacity}
+use Rattle.fare_service.proofs.{ShareLemmas.holding, StoppingLemmas.Going}
+use Rattle.fare_service.specs.{ServiceView.shards_of, Shares.IsShareOf}
 use Rattle.histories.specs.Sums.{sums_of}
-use Rattle.fare_service.specs.ServiceView.{shards_of}
-use Rattle.fare_service.specs.Shares.{IsShareOf}
-use Rattle.fare_service.proofs.ShareLemmas.{holding}
-use Rattle.fare_service.proofs.StoppingLemmas.{Going}
 use Rattle.fare_service.proofs.service.Service.work.Given as goal
 
 abbrev pub invariant-loop : goal.invariant-loop

@@ -1,16 +1,12 @@
 use Rattle.std.proofs.Common.{◌≡◌, List, [], ◌∷◌, ◌++◌, All, length, map, length-append}
 use Rattle.std.proofs.Common.{append_assoc, append-nil, sym, ◌∙◌, ap, subst, arith}
+use Rattle.fare_service.proofs.ThreadLemmas.{kept_zip}
+use Rattle.fare_service.specs.{ShareView.ShareView, declared.lending.Unavailable.Unavailable}
+use Rattle.fare_service.specs.{declared.service.running.OfShare.OfShare, inside.Lending.IsAnswer}
 use Rattle.std.proofs.lemmas.List.{map-append, nil_from_length}
 use Rattle.std.proofs.lemmas.List.Elements.{All-nil, All-cons, All-append}
-use Rattle.std.specs.Vec.Iter.{into_iter_items}
+use Rattle.std.specs.{List.AllZip, Prelude.Result, Vec.Iter.into_iter_items}
 use Rattle.std.specs.declared.thread.PromisedHandle.{PromisedHandle}
-use Rattle.fare_service.specs.declared.service.running.OfShare.{OfShare}
-use Rattle.std.specs.Prelude.{Result}
-use Rattle.std.specs.List.{AllZip}
-use Rattle.fare_service.specs.ShareView.{ShareView}
-use Rattle.fare_service.specs.inside.Lending.{IsAnswer}
-use Rattle.fare_service.specs.declared.lending.Unavailable.{Unavailable}
-use Rattle.fare_service.proofs.ThreadLemmas.{kept_zip}
 use Rattle.fare_service.proofs.service.Service.work_in.Goals as goal
 
 abbrev Answer : Type 0

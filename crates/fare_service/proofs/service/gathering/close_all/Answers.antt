@@ -1,17 +1,14 @@
 use Rattle.std.proofs.Common.{ℕ, ◌≡◌, List, ◌∷◌, [], ◌++◌, length, sym, ◌∙◌, ap, subst, arith}
 use Rattle.std.proofs.Common.{append_assoc, length-append}
-use Rattle.std.specs.Prelude.{slice_get, Some}
-use Rattle.std.proofs.lemmas.List.{length-map, map-append}
-use Rattle.std.specs.Vec.Iter.{into_iter_items}
-use Rattle.shard_book.specs.Book.{Book}
-use Rattle.shared_books.specs.declared.turns.rule.Mark.{Mark}
-use Rattle.shared_books.specs.Passes.{PassView}
+use Rattle.fare_service.proofs.JoinLemmas.{next_book, at_end, marks_mid}
+use Rattle.fare_service.proofs.{PositionLemmas.position_more, Signing.made_own}
+use Rattle.fare_service.specs.Shares.{marks_at, made_visits}
 use Rattle.fare_service.specs.declared.faults.GatherFault.{GatherFault}
 use Rattle.fare_service.specs.inside.Closing.{AreClosed, IsClosedBy, IsFirstMissing, IsMissing}
-use Rattle.fare_service.specs.Shares.{marks_at, made_visits}
-use Rattle.fare_service.proofs.PositionLemmas.{position_more}
-use Rattle.fare_service.proofs.Signing.{made_own}
-use Rattle.fare_service.proofs.JoinLemmas.{next_book, at_end, marks_mid}
+use Rattle.shard_book.specs.Book.{Book}
+use Rattle.shared_books.specs.{Passes.PassView, declared.turns.rule.Mark.Mark}
+use Rattle.std.proofs.lemmas.List.{length-map, map-append}
+use Rattle.std.specs.{Prelude.slice_get, Prelude.Some, Vec.Iter.into_iter_items}
 use Rattle.fare_service.proofs.service.gathering.close_all.Goals as goal
 
 pub returns-in-Err-clause-missing : goal.returns-in-Err-clause-missing

@@ -1,8 +1,7 @@
 use Rattle.std.proofs.Common.{◌≡◌, ◌≤◌, ◌++◌, List, length, vec_capacity}
-use Rattle.std.specs.Vec.Iter.{into_iter_items, into_iter_len}
+use Rattle.fare_service.specs.{Shares.books_of, inside.Closing.AreClosed}
 use Rattle.shared_books.specs.Passes.{PassView}
-use Rattle.fare_service.specs.inside.Closing.{AreClosed}
-use Rattle.fare_service.specs.Shares.{books_of}
+use Rattle.std.specs.Vec.Iter.{into_iter_items, into_iter_len}
 use Rattle.fare_service.proofs.service.gathering.close_all.Given as goal
 
 abbrev pub invariant-loop-book : goal.invariant-loop-book

@@ -1,12 +1,10 @@
 use Rattle.std.proofs.Common.{ℕ, ◌≡◌, List, ◌∷◌, [], ◌++◌, length, sym, ◌∙◌, ap, subst, arith}
 use Rattle.std.proofs.Common.{append_assoc, length-append}
-use Rattle.std.specs.Prelude.{slice_get, Some}
-use Rattle.std.specs.Vec.Iter.{into_iter_items}
+use Rattle.fare_service.proofs.{JoinLemmas.at_end, PositionLemmas.position_more}
+use Rattle.fare_service.specs.inside.Closing.{AreUnseen, IsUnseen}
 use Rattle.shard_book.specs.Book.{Book}
 use Rattle.shared_books.specs.Passes.{SharedBookView}
-use Rattle.fare_service.specs.inside.Closing.{AreUnseen, IsUnseen}
-use Rattle.fare_service.proofs.PositionLemmas.{position_more}
-use Rattle.fare_service.proofs.JoinLemmas.{at_end}
+use Rattle.std.specs.{Prelude.slice_get, Prelude.Some, Vec.Iter.into_iter_items}
 use Rattle.fare_service.proofs.service.gathering.close_unseen.Goals as goal
 
 pub loop-book-preserved : goal.loop-book-preserved

@@ -1,20 +1,17 @@
 use Rattle.std.proofs.Common.{◌≡◌, ◌+◌, List, ◌∷◌, length, sym, ◌∙◌, ap, subst, arith}
-use Rattle.std.proofs.lemmas.List.{nil_from_length}
-use Rattle.std.specs.Prelude.{Result, IfErr}
-use Rattle.std.specs.Vec.{vec_len}
-use Rattle.shared_books.specs.Passes.{SharedBookView}
-use Rattle.fare_service.specs.declared.faults.GatherFault.{GatherFault}
-use Rattle.fare_service.specs.Closing.{ReportsFirst}
-use Rattle.fare_service.specs.inside.Closing.{IsClosedWork}
-use Rattle.fare_service.specs.inside.Joining.{IsJoinedOf, with_runs}
 use Rattle.fare_service.proofs.CloseLemmas.{split_first, closed_none, closed_all, held_drawn}
-use Rattle.fare_service.proofs.CloseLemmas.{joined_whole, some_shares, none_there}
-use Rattle.fare_service.proofs.CloseLemmas.{first_missing, first_unseen, first_drawn, first_undrawn}
-use Rattle.fare_service.proofs.CloseLemmas.{none_whole, lacks_whole, drawer_whole}
-use Rattle.tap_views.proofs.Choices.{OnErr_any, OnOk_any}
-use Rattle.fare_service.specs.Claims.{HaveAllClaims}
-use Rattle.fare_service.proofs.service.gathering.close_with.Goals as goal
+use Rattle.fare_service.proofs.CloseLemmas.{joined_whole, some_shares, none_there, first_missing}
+use Rattle.fare_service.proofs.CloseLemmas.{first_unseen, first_drawn, first_undrawn, none_whole}
+use Rattle.fare_service.proofs.CloseLemmas.{lacks_whole, drawer_whole}
 use Rattle.fare_service.proofs.service.gathering.close_with.Goals.{in-Ok, in-Err-finish_unseen}
+use Rattle.fare_service.specs.{Claims.HaveAllClaims, Closing.ReportsFirst}
+use Rattle.fare_service.specs.{declared.faults.GatherFault.GatherFault, inside.Closing.IsClosedWork}
+use Rattle.fare_service.specs.inside.Joining.{IsJoinedOf, with_runs}
+use Rattle.shared_books.specs.Passes.{SharedBookView}
+use Rattle.std.proofs.lemmas.List.{nil_from_length}
+use Rattle.std.specs.{Prelude.Result, Prelude.IfErr, Vec.vec_len}
+use Rattle.tap_views.proofs.Choices.{OnErr_any, OnOk_any}
+use Rattle.fare_service.proofs.service.gathering.close_with.Goals as goal
 
 pub returns-then-is_empty-clause-ok : goal.returns-then-is_empty-clause-ok
 returns-then-is_empty-clause-ok c =

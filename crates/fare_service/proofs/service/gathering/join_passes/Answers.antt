@@ -1,13 +1,10 @@
 use Rattle.std.proofs.Common.{◌<◌, ◌∷◌, [], ◌++◌, length, refl, sym, ◌∙◌, ap, arith, append_assoc}
 use Rattle.std.proofs.Common.{length-append}
-use Rattle.std.proofs.lemmas.List.{length-map}
-use Rattle.std.proofs.Math.Seq.{map-set_same}
-use Rattle.std.specs.Vec.Iter.{into_iter_items}
-use Rattle.shared_books.specs.Passes.{PassView}
+use Rattle.fare_service.proofs.{ClaimLemmas.claims_step, JoinLemmas.join_step, Signing.joined_none}
 use Rattle.fare_service.specs.Shares.{marks_at}
-use Rattle.fare_service.proofs.Signing.{joined_none}
-use Rattle.fare_service.proofs.ClaimLemmas.{claims_step}
-use Rattle.fare_service.proofs.JoinLemmas.{join_step}
+use Rattle.shared_books.specs.Passes.{PassView}
+use Rattle.std.proofs.{Math.Seq.map-set_same, lemmas.List.length-map}
+use Rattle.std.specs.Vec.Iter.{into_iter_items}
 use Rattle.fare_service.proofs.service.gathering.join_passes.Goals as goal
 
 pub loop-pass-init : goal.loop-pass-init

@@ -1,8 +1,6 @@
 use Rattle.std.proofs.Common.{◌≡◌, ◌+◌, ◌++◌, ℕ, length}
+use Rattle.fare_service.specs.{Claims.claims_at, Shares.books_of, inside.Joining.AreJoinedAt}
 use Rattle.std.specs.Vec.Iter.{into_iter_items, into_iter_len}
-use Rattle.fare_service.specs.inside.Joining.{AreJoinedAt}
-use Rattle.fare_service.specs.Claims.{claims_at}
-use Rattle.fare_service.specs.Shares.{books_of}
 use Rattle.fare_service.proofs.service.gathering.join_passes.Given as goal
 
 abbrev pub invariant-loop-pass : goal.invariant-loop-pass

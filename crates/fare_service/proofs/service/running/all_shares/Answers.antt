@@ -1,10 +1,8 @@
-use Rattle.std.proofs.Common.{◌≡◌, [], ◌∷◌, ◌++◌, length, map, append_assoc, append-nil, Ok}
-use Rattle.std.proofs.Common.{sym, ◌∙◌, ap, arith}
+use Rattle.std.proofs.Common.{◌≡◌, [], ◌∷◌, ◌++◌, length, map, append_assoc, append-nil, Ok, sym}
+use Rattle.std.proofs.Common.{◌∙◌, ap, arith}
+use Rattle.fare_service.specs.{ShareView.ShareView, declared.lending.Unavailable.Unavailable}
 use Rattle.std.proofs.lemmas.List.{map-append, nil_from_length}
-use Rattle.std.specs.Prelude.{Result}
-use Rattle.std.specs.Vec.Iter.{into_iter_items}
-use Rattle.fare_service.specs.ShareView.{ShareView}
-use Rattle.fare_service.specs.declared.lending.Unavailable.{Unavailable}
+use Rattle.std.specs.{Prelude.Result, Vec.Iter.into_iter_items}
 use Rattle.fare_service.proofs.service.running.all_shares.Goals as goal
 
 abbrev given : ShareView → Result ShareView Unavailable

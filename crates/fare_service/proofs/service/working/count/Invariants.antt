@@ -1,6 +1,5 @@
 use Rattle.std.proofs.Common.{◌≡◌, take}
-use Rattle.histories.specs.Sums.{sums_of_replies}
-use Rattle.histories.specs.Tally.{sums_of_tally}
+use Rattle.histories.specs.{Sums.sums_of_replies, Tally.sums_of_tally}
 use Rattle.fare_service.proofs.service.working.count.Given as goal
 
 abbrev pub invariant-loop-position : goal.invariant-loop-position

@@ -1,5 +1,4 @@
-use Rattle.std.proofs.Common.{arith}
-use Rattle.std.proofs.lemmas.Nat.{div-mul-add, mod-mul-add}
+use Rattle.std.proofs.{Common.arith, lemmas.Nat.div-mul-add, lemmas.Nat.mod-mul-add}
 use Rattle.fare_service.proofs.spot.Spot.of.Goals as goal
 
 pub returns-clause-book : goal.returns-clause-book

@@ -1,12 +1,9 @@
 use Rattle.std.proofs.Common.{◌≡◌, ◌∙◌, ◌+◌, ℕ, List, [], ◌∷◌, ◌++◌, All, Ok, ap, arith, length}
 use Rattle.std.proofs.Common.{map, length-append, sym, string_bytes}
+use Rattle.fare_table.specs.{Caps.cap_in, Caps.caps_from, Classes.count_of}
 use Rattle.std.proofs.lemmas.Grind.{common_steps}
-use Rattle.toml.specs.Data.{Data, Members, member}
-use Rattle.toml.specs.View.{members_view, view}
-use Rattle.tariffs.specs.WindowSpan.{IsBoundedLength}
-use Rattle.tariffs.specs.declared.cap_terms.CapTerms.{CapTerms}
-use Rattle.fare_table.specs.Caps.{cap_in, caps_from}
-use Rattle.fare_table.specs.Classes.{count_of}
+use Rattle.tariffs.specs.{WindowSpan.IsBoundedLength, declared.cap_terms.CapTerms.CapTerms}
+use Rattle.toml.specs.{Data.Data, Data.Members, Data.member, View.members_view, View.view}
 use Rattle.fare_table.proofs.read.caps.caps_from.Goals as goal
 
 caps-step : (modes : List (List ℕ)) (earlier found : List CapTerms) (key : List ℕ) (value : Data)

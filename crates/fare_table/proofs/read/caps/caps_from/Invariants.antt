@@ -1,8 +1,7 @@
 use Rattle.std.proofs.Common.{◌≡◌, ◌+◌, [], All, length, map, string_bytes}
-use Rattle.toml.specs.View.{members_view}
+use Rattle.fare_table.specs.{Caps.caps_from, Classes.count_of}
 use Rattle.tariffs.specs.WindowSpan.{IsBoundedLength}
-use Rattle.fare_table.specs.Caps.{caps_from}
-use Rattle.fare_table.specs.Classes.{count_of}
+use Rattle.toml.specs.View.{members_view}
 use Rattle.fare_table.proofs.read.caps.caps_from.Given as goal
 
 abbrev pub invariant-loop-name : goal.invariant-loop-name

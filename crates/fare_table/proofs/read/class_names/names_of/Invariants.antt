@@ -1,7 +1,6 @@
 use Rattle.std.proofs.Common.{◌≡◌, ◌+◌, ◌++◌, length, map, string_bytes}
+use Rattle.fare_table.specs.{Classes.count_of, Members.names_in}
 use Rattle.toml.specs.View.{members_view}
-use Rattle.fare_table.specs.Classes.{count_of}
-use Rattle.fare_table.specs.Members.{names_in}
 use Rattle.fare_table.proofs.read.class_names.names_of.Given as goal
 
 abbrev pub invariant-loop-name : goal.invariant-loop-name

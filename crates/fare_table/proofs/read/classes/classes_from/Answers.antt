@@ -1,11 +1,9 @@
 use Rattle.std.proofs.Common.{◌≡◌, ◌∙◌, ◌+◌, ℕ, List, [], ◌∷◌, ◌++◌, All, Ok, ap, arith, length}
 use Rattle.std.proofs.Common.{map, length-append, sym, string_bytes}
-use Rattle.std.proofs.lemmas.Grind.{common_steps}
-use Rattle.toml.specs.Data.{Data, Members, member}
-use Rattle.toml.specs.View.{members_view, view}
 use Rattle.fare_table.specs.Classes.{class_in, classes_from, count_of}
-use Rattle.tariffs.specs.Terms.{IsBoundedClass}
-use Rattle.tariffs.specs.declared.class.Class.{Class}
+use Rattle.std.proofs.lemmas.Grind.{common_steps}
+use Rattle.tariffs.specs.{Terms.IsBoundedClass, declared.class.Class.Class}
+use Rattle.toml.specs.{Data.Data, Data.Members, Data.member, View.members_view, View.view}
 use Rattle.fare_table.proofs.read.classes.classes_from.Goals as goal
 
 classes-step : (modes caps : List (List ℕ)) (earlier found : List Class) (key : List ℕ)

@@ -1,5 +1,4 @@
-use Rattle.std.proofs.Common.{◌≤◌}
-use Rattle.std.proofs.lemmas.List.Elements.{All-replicate}
+use Rattle.std.proofs.{Common.◌≤◌, lemmas.List.Elements.All-replicate}
 use Rattle.fare_table.proofs.read.classes.equal_fares.Goals as goal
 
 pub returns-clause-bounds : goal.returns-clause-bounds

@@ -1,11 +1,8 @@
-use Rattle.std.proofs.Common.{◌≡◌, ◌∙◌, ◌≤◌, ℕ, List, Ok, ap, length-set, map, refl}
-use Rattle.std.proofs.Common.{set, string_bytes, subst, sym}
+use Rattle.std.proofs.Common.{◌≡◌, ◌∙◌, ◌≤◌, ℕ, List, Ok, ap, length-set, map, refl, set}
+use Rattle.std.proofs.Common.{string_bytes, subst, sym}
+use Rattle.fare_table.specs.{Classes.fares_from, Members.number_in, Modes.mode_named}
 use Rattle.std.proofs.lemmas.List.Elements.{All-set}
-use Rattle.toml.specs.Data.{Data, Members, member}
-use Rattle.toml.specs.View.{members_view, view}
-use Rattle.fare_table.specs.Classes.{fares_from}
-use Rattle.fare_table.specs.Members.{number_in}
-use Rattle.fare_table.specs.Modes.{mode_named}
+use Rattle.toml.specs.{Data.Data, Data.Members, Data.member, View.members_view, View.view}
 use Rattle.fare_table.specs.declared.fault.Key.TheVariants as the_key
 use Rattle.fare_table.proofs.read.classes.fares_from.Goals as goal
 

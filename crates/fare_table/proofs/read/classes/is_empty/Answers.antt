@@ -1,8 +1,7 @@
 use Rattle.std.proofs.Common.{◌≡◌, ◌↔◌, Bool, true, false, List, [], ◌∷◌, length, IsTrue, String}
 use Rattle.std.proofs.Common.{Global, refl, arith}
-use Rattle.toml.specs.View.{members_view}
-use Rattle.toml.specs.declared.value.Value.{Value}
 use Rattle.fare_table.specs.Classes.{is_empty}
+use Rattle.toml.specs.{View.members_view, declared.value.Value.Value}
 use Rattle.fare_table.proofs.read.classes.is_empty.Goals as goal
 
 empty_view : (b : Bool) (entries : List (String Global × Value)) → IsTrue b ↔ (length entries ≡ 0)

@@ -1,5 +1,4 @@
-use Rattle.std.proofs.Common.{◌≤◌, arith}
-use Rattle.std.proofs.lemmas.List.Elements.{All-replicate}
+use Rattle.std.proofs.{Common.◌≤◌, Common.arith, lemmas.List.Elements.All-replicate}
 use Rattle.fare_table.proofs.read.classes.no_ceilings.Goals as goal
 
 pub returns-clause-bounds : goal.returns-clause-bounds

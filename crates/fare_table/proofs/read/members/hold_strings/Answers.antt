@@ -1,7 +1,6 @@
 use Rattle.std.proofs.Common.{◌∙◌, rules}
-use Rattle.std.proofs.lemmas.Iterator.Consumers.{YieldsList-from_rest}
-use Rattle.std.proofs.lemmas.Iterator.Search.{all_from_yields_List}
 use Rattle.fare_table.proofs.MemberLemmas.{each_is_string, is_string}
+use Rattle.std.proofs.lemmas.Iterator.{Consumers.YieldsList-from_rest, Search.all_from_yields_List}
 use Rattle.fare_table.proofs.read.members.hold_strings.Goals as goal
 
 pub returns : goal.returns

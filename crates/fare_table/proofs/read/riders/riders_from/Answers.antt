@@ -1,17 +1,13 @@
 use Rattle.std.proofs.Common.{◌≡◌, ◌∙◌, ◌<◌, ℕ, true, false, List, Err, Ok, ap, refl, sym, subst}
 use Rattle.std.proofs.Common.{string_bytes}
-use Rattle.std.proofs.lemmas.Map.Views.{All-keys-insert_entry, All-values-insert_entry}
-use Rattle.std.specs.BTreeMap.{insert_entry}
-use Rattle.std.specs.Cmp.Lexicographic.{slice_cmp}
-use Rattle.std.specs.Ordering.{nat_cmp}
-use Rattle.toml.specs.Data.{Data, Members, member}
-use Rattle.toml.specs.View.{members_view, view}
-use Rattle.tariffs.proofs.RiderBytes.{found-by_bytes, insert-by_bytes}
-use Rattle.fare_table.specs.Riders.{is_rider, rider_of, riders_from}
-use Rattle.tariffs.specs.Riders.{by_bytes}
+use Rattle.fare_table.specs.{Classes.count_of, Riders.is_rider, Riders.rider_of, Riders.riders_from}
 use Rattle.fare_table.specs.declared.fault.TableFault.TheVariants.{Rider}
-use Rattle.fare_table.specs.Classes.{count_of}
+use Rattle.std.proofs.lemmas.Map.Views.{All-keys-insert_entry, All-values-insert_entry}
+use Rattle.std.specs.{BTreeMap.insert_entry, Cmp.Lexicographic.slice_cmp, Ordering.nat_cmp}
 use Rattle.tap_views.specs.Token.{Fits, token_cmp}
+use Rattle.tariffs.proofs.RiderBytes.{found-by_bytes, insert-by_bytes}
+use Rattle.tariffs.specs.Riders.{by_bytes}
+use Rattle.toml.specs.{Data.Data, Data.Members, Data.member, View.members_view, View.view}
 use Rattle.fare_table.proofs.read.riders.riders_from.Goals as goal
 
 riders-step : (classes : Members) (earlier riders : List (List ℕ × ℕ)) (key : List ℕ)

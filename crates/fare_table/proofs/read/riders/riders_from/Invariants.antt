@@ -1,10 +1,9 @@
 use Rattle.std.proofs.Common.{◌≡◌, ◌<◌, [], All}
+use Rattle.fare_table.specs.{Classes.count_of, Riders.riders_from}
 use Rattle.std.specs.Map.{keys_of, values_of}
-use Rattle.toml.specs.View.{members_view}
-use Rattle.fare_table.specs.Riders.{riders_from}
-use Rattle.fare_table.specs.Classes.{count_of}
 use Rattle.tap_views.specs.Token.{Fits}
 use Rattle.tariffs.specs.Riders.{by_bytes}
+use Rattle.toml.specs.View.{members_view}
 use Rattle.fare_table.proofs.read.riders.riders_from.Given as goal
 
 abbrev pub invariant-loop-key : goal.invariant-loop-key

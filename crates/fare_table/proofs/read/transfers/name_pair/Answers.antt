@@ -1,7 +1,6 @@
 use Rattle.std.proofs.Common.{◌≡◌, ◌≢◌, List, [], ◌∷◌, None, length, refl, sym, arith}
-use Rattle.toml.specs.View.{items_view}
-use Rattle.toml.specs.declared.value.Value.{Value}
 use Rattle.fare_table.specs.Transfers.{two_strings}
+use Rattle.toml.specs.{View.items_view, declared.value.Value.Value}
 use Rattle.fare_table.proofs.read.transfers.name_pair.Goals as goal
 
 not_two : (values : List Value) → length values ≢ 2 → two_strings (items_view values) ≡ None

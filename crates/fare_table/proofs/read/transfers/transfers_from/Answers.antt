@@ -1,19 +1,17 @@
-use Rattle.std.proofs.Common.{◌≡◌, ◌∙◌, ℕ, ◌<◌, ◌++◌, ◌∷◌, [], List, All, Bool, Ok, None}
-use Rattle.std.proofs.Common.{ap, refl, sym, map, string_bytes, drop, length, get_or, suc, add-one}
-use Rattle.std.proofs.Common.{arith}
-use Rattle.std.specs.Prelude.{if◌then◌else◌}
-use Rattle.std.proofs.Math.Seq.{drop-cons}
-use Rattle.std.proofs.lemmas.Grind.{common_steps}
-use Rattle.std.proofs.lemmas.Result.{err_from_is_err_and}
+use Rattle.std.proofs.Common.{◌≡◌, ◌∙◌, ℕ, ◌<◌, ◌++◌, ◌∷◌, [], List, All, Bool, Ok, None, ap, refl}
+use Rattle.std.proofs.Common.{sym, map, string_bytes, drop, length, get_or, suc, add-one, arith}
+use Rattle.fare_table.proofs.read.transfers.transfers_from.Goals.{else-branch}
+use Rattle.fare_table.proofs.read.transfers.transfers_from.Goals.{then-branch+in_ok-push}
 use Rattle.fare_table.specs.OrFault.{OrFault, ◌>>=◌}
-use Rattle.fare_table.specs.Transfers as spec
+use Rattle.fare_table.specs.Transfers.{at_positions, is_new, named_pair, positions_of}
+use Rattle.fare_table.specs.Transfers.{transfers_from, with_transfer}
+use Rattle.fare_table.specs.declared.read.transfers.{NamedPair.NamedPair, TextTransfer.TextTransfer}
 use Rattle.fare_table.specs.inside.TextTransfers.{IsBoundedTransfer}
-use Rattle.fare_table.specs.Transfers.{at_positions, is_new, named_pair}
-use Rattle.fare_table.specs.Transfers.{positions_of, transfers_from, with_transfer}
-use Rattle.fare_table.specs.declared.read.transfers.NamedPair.{NamedPair}
-use Rattle.fare_table.specs.declared.read.transfers.TextTransfer.{TextTransfer}
+use Rattle.std.proofs.Math.Seq.{drop-cons}
+use Rattle.std.proofs.lemmas.{Grind.common_steps, Result.err_from_is_err_and}
+use Rattle.std.specs.Prelude.{if◌then◌else◌}
+use Rattle.fare_table.specs.Transfers as spec
 use Rattle.fare_table.proofs.read.transfers.transfers_from.Goals as goal
-use Rattle.fare_table.proofs.read.transfers.transfers_from.Goals.{else-branch, then-branch+in_ok-push}
 
 abbrev named : NamedPair → spec.NamedPair
 named p = named_pair p.from.now p.to.now p.pays

@@ -1,15 +1,12 @@
 use Rattle.std.proofs.Common.{◌≡◌, ◌∙◌, ℕ, ◌+◌, false, List, Ok, ap, sym, map, string_bytes, drop}
 use Rattle.std.proofs.Common.{length, arith, get_or, subst}
-use Rattle.std.specs.BTreeMap.{insert_entry}
-use Rattle.std.specs.List.{list_any}
-use Rattle.std.specs.Ordering.{nat_cmp}
-use Rattle.toml.proofs.Views.{items_view-drop}
-use Rattle.toml.specs.Data.{Data, Items, item}
-use Rattle.toml.specs.View.{items_view, view}
-use Rattle.toml.specs.declared.value.Value.{Value}
 use Rattle.fare_table.proofs.OverlapLemmas.{holds-insert, known-insert}
 use Rattle.fare_table.specs.Validators.{range_in, ranges_from, share_number}
+use Rattle.std.specs.{BTreeMap.insert_entry, List.list_any, Ordering.nat_cmp}
 use Rattle.tariffs.specs.declared.validators.RangeRest.{RangeRest}
+use Rattle.toml.proofs.Views.{items_view-drop}
+use Rattle.toml.specs.Data.{Data, Items, item}
+use Rattle.toml.specs.{View.items_view, View.view, declared.value.Value.Value}
 use Rattle.fare_table.proofs.read.validators.ranges_from.Goals as goal
 
 ranges-step : (modes : List (List ℕ)) (earlier ranges : List (ℕ × RangeRest)) (value : Data)

@@ -1,8 +1,7 @@
 use Rattle.std.proofs.Common.{◌≡◌, ◌∙◌, ℕ, false, Option, Some, None, option_map, refl, sym}
-use Rattle.std.specs.Prelude.{nat_le}
 use Rattle.fare_table.proofs.OverlapLemmas.{reaches, shares-last_started}
-use Rattle.tariffs.specs.Validators.{last_started}
-use Rattle.tariffs.specs.declared.validators.RangeRest.{RangeRest}
+use Rattle.std.specs.Prelude.{nat_le}
+use Rattle.tariffs.specs.{Validators.last_started, declared.validators.RangeRest.RangeRest}
 use Rattle.fare_table.proofs.read.validators.shares_number.Goals as goal
 
 reaches-Some : (first last : ℕ) (range : Option (ℕ × RangeRest))

@@ -1,19 +1,17 @@
 -- Each round explains one entry more, and writes its line.
 use Rattle.std.proofs.Common.{◌≡◌, ℕ, ◌+◌, ◌<◌, List, [], ◌∷◌, ◌++◌, get_or, length, take, sym, ap}
 use Rattle.std.proofs.Common.{subst, ◌∙◌, string_bytes, append_assoc, append-nil, arith}
-use Rattle.std.proofs.lemmas.List.{length-take-le}
-use Rattle.std.specs.Prelude.{Option}
 use Rattle.account_rule.specs.declared.no_transfer.NoTransfer.{NoTransfer}
 use Rattle.fare_caps.specs.declared.capped_reason.CappedReason.{CappedReason}
-use Rattle.tariffs.specs.Fares.{Fares}
-use Rattle.histories.specs.declared.entry.Entry.{Entry}
-use Rattle.tap_views.specs.declared.token.Token.{Token}
+use Rattle.fare_texts.proofs.{LineLists.taken, Parts.in_parts}
 use Rattle.fare_texts.specs.ExplainedJson.{entries_json, entry_json, what_json, why_json}
-use Rattle.fare_texts.specs.Explainers.{HasExplained}
-use Rattle.fare_texts.specs.LedgerLines.{reason_after}
+use Rattle.fare_texts.specs.{Explainers.HasExplained, LedgerLines.reason_after}
 use Rattle.fare_texts.specs.NoTransferWords.{no_transfer_after}
-use Rattle.fare_texts.proofs.LineLists.{taken}
-use Rattle.fare_texts.proofs.Parts.{in_parts}
+use Rattle.histories.specs.declared.entry.Entry.{Entry}
+use Rattle.std.proofs.lemmas.List.{length-take-le}
+use Rattle.std.specs.Prelude.{Option}
+use Rattle.tap_views.specs.declared.token.Token.{Token}
+use Rattle.tariffs.specs.Fares.{Fares}
 use Rattle.fare_texts.proofs.explained.json.write_entries.Goals as goal
 
 entries-push : (fares : Fares) (token : Token) (earlier entries : List Entry) (entry : Entry)

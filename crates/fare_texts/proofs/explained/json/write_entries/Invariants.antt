@@ -1,6 +1,5 @@
 use Rattle.std.proofs.Common.{◌≡◌, ◌++◌, [], string_bytes, take}
-use Rattle.fare_texts.specs.ExplainedJson.{entries_json}
-use Rattle.fare_texts.specs.Explainers.{HasExplained}
+use Rattle.fare_texts.specs.{ExplainedJson.entries_json, Explainers.HasExplained}
 use Rattle.fare_texts.proofs.explained.json.write_entries.Given as goal
 
 -- the token's entries so far were explained, and their lines were written

@@ -1,10 +1,9 @@
 use Rattle.std.proofs.Common.{◌++◌, List, ℕ, ap, append-nil, string_bytes, sym, take, ◌∙◌, ◌∷◌, []}
-use Rattle.std.specs.List.{flat_map}
+use Rattle.fare_texts.specs.ExplainedJson.{dated_json, later_json}
 use Rattle.std.proofs.lemmas.List.{flat_map_more, take_more}
 use Rattle.std.proofs.lemmas.Option.{slice_get_within, get_or_from_slice_get}
-use Rattle.tariffs.specs.TableMeaning.{TableMeaning}
-use Rattle.tariffs.specs.declared.terms.Terms.{Terms}
-use Rattle.fare_texts.specs.ExplainedJson.{dated_json, later_json}
+use Rattle.std.specs.List.{flat_map}
+use Rattle.tariffs.specs.{TableMeaning.TableMeaning, declared.terms.Terms.Terms}
 use Rattle.fare_texts.proofs.explained.json.write_later.Goals as goal
 
 pub loop-position-init : goal.loop-position-init

@@ -1,8 +1,7 @@
 use Rattle.std.proofs.Common.{◌++◌, refl, string_bytes}
-use Rattle.std.specs.Prelude.{codes}
 use Rattle.fare_texts.proofs.Parts.{in_parts}
-use Rattle.fare_texts.specs.Local.{local_words}
-use Rattle.fare_texts.specs.StatementText.{entry_words}
+use Rattle.fare_texts.specs.{Local.local_words, StatementText.entry_words}
+use Rattle.std.specs.Prelude.{codes}
 use Rattle.fare_texts.proofs.explained.lines.write_line.Goals as goal
 
 -- the six parts of the line

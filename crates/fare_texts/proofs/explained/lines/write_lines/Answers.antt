@@ -1,11 +1,10 @@
 -- Each round explains one entry more, and writes its line.
-use Rattle.std.proofs.Common.{List, [], ◌++◌, take, refl, sym, ap, subst, ◌∙◌}
-use Rattle.std.proofs.Common.{string_bytes, append_assoc, append-nil, arith}
-use Rattle.std.proofs.lemmas.List.{length-take-le}
-use Rattle.histories.specs.declared.entry.Entry.{Entry}
+use Rattle.std.proofs.Common.{List, [], ◌++◌, take, refl, sym, ap, subst, ◌∙◌, string_bytes}
+use Rattle.std.proofs.Common.{append_assoc, append-nil, arith}
+use Rattle.fare_texts.proofs.{ExplainedLines.next_explained, LineLists.taken}
 use Rattle.fare_texts.specs.Explainers.{HasExplained}
-use Rattle.fare_texts.proofs.LineLists.{taken}
-use Rattle.fare_texts.proofs.ExplainedLines.{next_explained}
+use Rattle.histories.specs.declared.entry.Entry.{Entry}
+use Rattle.std.proofs.lemmas.List.{length-take-le}
 use Rattle.fare_texts.proofs.explained.lines.write_lines.Goals as goal
 
 pub loop-entry-init : goal.loop-entry-init

@@ -1,6 +1,5 @@
 use Rattle.std.proofs.Common.{◌≡◌, ℕ, List, [], ◌++◌, string_bytes, take}
-use Rattle.fare_texts.specs.Explainers.{HasExplained}
-use Rattle.fare_texts.specs.Explained.{AreExplainedAfter}
+use Rattle.fare_texts.specs.{Explained.AreExplainedAfter, Explainers.HasExplained}
 use Rattle.fare_texts.proofs.explained.lines.write_lines.Given as goal
 
 -- the token's entries so far were explained, and their lines were written

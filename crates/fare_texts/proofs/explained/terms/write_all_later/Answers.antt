@@ -1,8 +1,7 @@
 use Rattle.std.proofs.Common.{[], ◌++◌, refl, sym, subst, append-nil, string_bytes}
-use Rattle.tariffs.specs.declared.terms.Terms.{Terms}
+use Rattle.fare_texts.proofs.{Parts.in_parts, TermsLines.next_terms}
 use Rattle.fare_texts.specs.Explained.{IsLaterTerms}
-use Rattle.fare_texts.proofs.Parts.{in_parts}
-use Rattle.fare_texts.proofs.TermsLines.{next_terms}
+use Rattle.tariffs.specs.declared.terms.Terms.{Terms}
 use Rattle.fare_texts.proofs.explained.terms.write_all_later.Goals as goal
 
 pub loop-position-init : goal.loop-position-init

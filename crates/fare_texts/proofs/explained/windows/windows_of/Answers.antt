@@ -1,15 +1,13 @@
 -- Each round explains one entry more, and keeps the window that it ends.
 use Rattle.std.proofs.Common.{List, map, take, sym, ap, subst, ◌∙◌, arith}
-use Rattle.std.proofs.lemmas.List.{length-take-le, take_all}
-use Rattle.fare_caps.specs.CappedReplies.{replied_by}
-use Rattle.fare_caps.specs.CapMeanings.{capped_rules_of}
 use Rattle.fare_caps.proofs.AnswerLemmas.{capped-follows}
-use Rattle.histories.specs.Entry.{tap_of}
-use Rattle.histories.specs.declared.entry.Entry.{Entry}
-use Rattle.tap_views.specs.Token.{bytes_of}
-use Rattle.fare_texts.specs.Explainers.{HasExplained}
-use Rattle.fare_texts.proofs.LineLists.{more, taken}
+use Rattle.fare_caps.specs.{CapMeanings.capped_rules_of, CappedReplies.replied_by}
 use Rattle.fare_texts.proofs.Closing.{earlier-none, next_earlier}
+use Rattle.fare_texts.proofs.LineLists.{more, taken}
+use Rattle.fare_texts.specs.Explainers.{HasExplained}
+use Rattle.histories.specs.{Entry.tap_of, declared.entry.Entry.Entry}
+use Rattle.std.proofs.lemmas.List.{length-take-le, take_all}
+use Rattle.tap_views.specs.Token.{bytes_of}
 use Rattle.fare_texts.proofs.explained.windows.windows_of.Goals as goal
 
 pub loop-entry-init : goal.loop-entry-init

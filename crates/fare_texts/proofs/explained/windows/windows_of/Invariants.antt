@@ -1,9 +1,8 @@
 use Rattle.std.proofs.Common.{◌≡◌, map, take}
 use Rattle.fare_caps.specs.CapMeanings.{capped_rules_of}
+use Rattle.fare_texts.specs.{Explained.earlier_windows, Explainers.HasExplained}
 use Rattle.histories.specs.Entry.{tap_of}
 use Rattle.tap_views.specs.Token.{bytes_of}
-use Rattle.fare_texts.specs.Explainers.{HasExplained}
-use Rattle.fare_texts.specs.Explained.{earlier_windows}
 use Rattle.fare_texts.proofs.explained.windows.windows_of.Given as goal
 
 -- the token's entries so far were explained, and the windows before its last one are kept

@@ -1,14 +1,12 @@
 -- The account stands for the taps of the entries taken, and then for one tap more.
-use Rattle.std.proofs.Common.{◌+◌, ◌∷◌, [], ◌++◌, List, map, ap, sym, subst, ◌∙◌}
-use Rattle.std.proofs.Common.{length-append}
-use Rattle.std.proofs.lemmas.List.{map-append}
-use Rattle.fare_caps.specs.CapMeanings.{capped_rules_of}
-use Rattle.fare_caps.specs.CappedReplies.{capped_reason}
-use Rattle.fare_caps.specs.Represents.{Represents, RepresentsSome}
+use Rattle.std.proofs.Common.{◌+◌, ◌∷◌, [], ◌++◌, List, map, ap, sym, subst, ◌∙◌, length-append}
 use Rattle.account_rule.specs.declared.tap.TapIn.{TapIn}
-use Rattle.histories.specs.Entry.{tap_of}
-use Rattle.tap_views.specs.Token.{bytes_of}
+use Rattle.fare_caps.specs.{CapMeanings.capped_rules_of, CappedReplies.capped_reason}
+use Rattle.fare_caps.specs.Represents.{Represents, RepresentsSome}
 use Rattle.fare_texts.proofs.Modes.{has_mode}
+use Rattle.histories.specs.Entry.{tap_of}
+use Rattle.std.proofs.lemmas.List.{map-append}
+use Rattle.tap_views.specs.Token.{bytes_of}
 use Rattle.fare_texts.proofs.explainer.Explainer.explain_next.Goals as goal
 
 pub explain_step-reason-requires-clause-holds : goal.explain_step-reason-requires-clause-holds

@@ -1,9 +1,7 @@
 -- The account stands for the taps of the entries taken, and the entry's mode is the table's.
 use Rattle.std.proofs.Common.{◌≡◌, Some, None, length, map, ap, subst, ◌∙◌}
-use Rattle.account_rule.specs.NoTransfers.{HasModesBelow}
-use Rattle.account_rule.specs.TokenRules.{rules_of}
-use Rattle.account_rule.specs.declared.no_transfer.NoTransfer.{NoTransfer}
-use Rattle.account_rule.specs.declared.tap.TapIn.{TapIn}
+use Rattle.account_rule.specs.{NoTransfers.HasModesBelow, TokenRules.rules_of}
+use Rattle.account_rule.specs.declared.{no_transfer.NoTransfer.NoTransfer, tap.TapIn.TapIn}
 use Rattle.fare_caps.specs.CapMeanings.{capped_rules_of}
 use Rattle.histories.proofs.Histories.{tap_of-post}
 use Rattle.histories.specs.Entry.{tap_of}

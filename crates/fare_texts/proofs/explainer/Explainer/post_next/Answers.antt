@@ -2,23 +2,18 @@
 -- one that follows from the reason.
 use Rattle.std.proofs.Common.{◌≡◌, ℕ, ◌+◌, ◌∷◌, [], ◌++◌, List, Option, map, option_map, refl, ap}
 use Rattle.std.proofs.Common.{sym, subst, ◌∙◌, length-append}
-use Rattle.std.proofs.lemmas.List.{map-append}
-use Rattle.tariffs.specs.Fares.{Fares, mode_at}
-use Rattle.tariffs.specs.declared.mode.Mode.{Mode}
-use Rattle.tap_views.specs.declared.token.Token.{Token}
+use Rattle.account_rule.specs.declared.reply.{Answer.TheVariants.Unknown, Reply.Reply}
+use Rattle.account_rule.specs.declared.tap.TapIn.{TapIn}
+use Rattle.fare_caps.proofs.AnswerLemmas.{capped-follows}
 use Rattle.fare_caps.specs.CapMeanings.{capped_rules_of}
 use Rattle.fare_caps.specs.CappedReplies.{capped_reason, capped_reply, replied_by}
 use Rattle.fare_caps.specs.Represents.{Represents, RepresentsSome}
-use Rattle.fare_caps.proofs.AnswerLemmas.{capped-follows}
-use Rattle.account_rule.specs.declared.reply.Answer.TheVariants.{Unknown}
-use Rattle.account_rule.specs.declared.reply.Reply.{Reply}
-use Rattle.account_rule.specs.declared.tap.TapIn.{TapIn}
-use Rattle.histories.specs.Entry.{tap_of}
-use Rattle.histories.specs.declared.entry.Entry.{Entry}
-use Rattle.tap_views.specs.Token.{bytes_of}
+use Rattle.fare_texts.specs.{Explainers.HasExplained, LedgerLines.reason_after}
 use Rattle.histories.proofs.Histories.{tap_of-post}
-use Rattle.fare_texts.specs.LedgerLines.{reason_after}
-use Rattle.fare_texts.specs.Explainers.{HasExplained}
+use Rattle.histories.specs.{Entry.tap_of, declared.entry.Entry.Entry}
+use Rattle.std.proofs.lemmas.List.{map-append}
+use Rattle.tap_views.specs.{Token.bytes_of, declared.token.Token.Token}
+use Rattle.tariffs.specs.{Fares.Fares, Fares.mode_at, declared.mode.Mode.Mode}
 use Rattle.fare_texts.proofs.explainer.Explainer.post_next.Goals as goal
 
 -- a tap that was not taken

@@ -1,5 +1,4 @@
-use Rattle.std.proofs.Common.{arith}
-use Rattle.std.proofs.lemmas.List.{drop_all}
+use Rattle.std.proofs.{Common.arith, lemmas.List.drop_all}
 use Rattle.fare_texts.proofs.line.Line.clear.Goals as goal
 
 pub returns : goal.returns

@@ -1,11 +1,10 @@
 use Rattle.std.proofs.Common.{List, [], ◌∷◌, ◌++◌, Vec, Global, ℕ, All, map, take, sym, ap, ◌∙◌}
 use Rattle.std.proofs.Common.{subst, take_all}
-use Rattle.std.proofs.lemmas.List.{map_more}
-use Rattle.std.proofs.lemmas.List.Elements.{All-map, All-more}
-use Rattle.tap_views.specs.Files.{AreValidTaps, AreValidTapsOfEach}
 use Rattle.histories.proofs.PlainFields.{AreBytes, plain_fields}
 use Rattle.histories.proofs.PlainUploads.{some_plain, one_plain, legal_plain}
+use Rattle.std.proofs.lemmas.List.{map_more, Elements.All-map, Elements.All-more}
 use Rattle.tap_views.proofs.ParseLemmas.{each_more}
+use Rattle.tap_views.specs.Files.{AreValidTaps, AreValidTapsOfEach}
 use Rattle.histories.proofs.laws.plain.plain_history.Goals as goal
 
 abbrev bytes_in : Vec ℕ Global → List ℕ

@@ -1,6 +1,5 @@
 use Rattle.std.proofs.Common.{◌<◌, All, List, map, take}
-use Rattle.tap_views.specs.Layout.{Tap}
-use Rattle.tap_views.specs.Files.{AreValidTapsOfEach}
+use Rattle.tap_views.specs.{Files.AreValidTapsOfEach, Layout.Tap}
 use Rattle.histories.proofs.laws.plain.plain_history.Given as goal
 
 abbrev pub invariant-loop-upload : goal.invariant-loop-upload

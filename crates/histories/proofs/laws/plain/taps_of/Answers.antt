@@ -1,7 +1,6 @@
-use Rattle.std.proofs.Common.{◌<◌, arith}
-use Rattle.std.proofs.lemmas.List.Elements.{All-from_get_or}
-use Rattle.tap_views.specs.Files.{taps_of_batches}
+use Rattle.std.proofs.{Common.◌<◌, Common.arith, lemmas.List.Elements.All-from_get_or}
 use Rattle.tap_views.proofs.ParseLemmas.{valid_taps}
+use Rattle.tap_views.specs.Files.{taps_of_batches}
 use Rattle.histories.proofs.laws.plain.taps_of.Goals as goal
 
 pub returns-clause-taps : goal.returns-clause-taps

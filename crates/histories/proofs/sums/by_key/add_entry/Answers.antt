@@ -1,10 +1,8 @@
 use Rattle.std.proofs.Common.{rules, Option, ap, ◌∙◌, arith}
-use Rattle.std.specs.HashMap.{get}
-use Rattle.indexmap.specs.Entry.{map_with_value}
-use Rattle.std.specs.Option.{unwrap_or}
-use Rattle.histories.specs.declared.sums.tally.Tally.{Tally}
-use Rattle.histories.specs.Sums.{Sums}
 use Rattle.histories.proofs.ByKeyLemmas.{kept-or, room-kept, by_key-written}
+use Rattle.histories.specs.{Sums.Sums, declared.sums.tally.Tally.Tally}
+use Rattle.indexmap.specs.Entry.{map_with_value}
+use Rattle.std.specs.{HashMap.get, Option.unwrap_or}
 use Rattle.histories.proofs.sums.by_key.add_entry.Goals as goal
 
 pub add-requires : goal.add-requires

@@ -1,8 +1,7 @@
 use Rattle.std.proofs.Common.{Option, ap, arith}
-use Rattle.histories.specs.declared.sums.tally.Tally.{Tally}
-use Rattle.histories.specs.TalliesByKey.{kept_sums}
-use Rattle.histories.specs.Positions.{all_of}
 use Rattle.histories.proofs.ByKeyLemmas.{room-kept}
+use Rattle.histories.specs.{Positions.all_of, TalliesByKey.kept_sums}
+use Rattle.histories.specs.declared.sums.tally.Tally.{Tally}
 use Rattle.histories.proofs.sums.by_key.kept_totals.Goals as goal
 
 pub totals-requires : goal.totals-requires

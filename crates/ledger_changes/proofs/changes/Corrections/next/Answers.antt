@@ -1,9 +1,7 @@
 use Rattle.std.proofs.Common.{◌∙◌, ◌++◌, Bool, sym, subst}
-use Rattle.std.proofs.lemmas.Result.{IfErr-weaker, IfOk-weaker}
-use Rattle.ledger_changes.specs.Given.{IsWalked}
-use Rattle.ledger_changes.specs.inside.Walks.{WalksOn}
-use Rattle.ledger_changes.specs.inside.Views.{sum_in}
 use Rattle.ledger_changes.proofs.Walking.{started, given_after}
+use Rattle.ledger_changes.specs.{Given.IsWalked, inside.Views.sum_in, inside.Walks.WalksOn}
+use Rattle.std.proofs.lemmas.Result.{IfErr-weaker, IfOk-weaker}
 use Rattle.ledger_changes.proofs.changes.Corrections.next.Goals as goal
 
 pub returns-clause-given : goal.returns-clause-given

@@ -1,10 +1,9 @@
 use Rattle.std.proofs.Common.{◌≡◌, refl, rules, subst, sym, arith}
-use Rattle.std.proofs.lemmas.Grind.{common_steps}
 use Rattle.fare_texts.specs.LedgerLines.{head_text}
-use Rattle.recorded_lines.specs.Texts.{calls_of, left}
-use Rattle.ledger_changes.specs.Given.{Said}
-use Rattle.ledger_changes.specs.inside.Readings.{IsWrongAs}
 use Rattle.ledger_changes.proofs.Readings.{head_is, head_long, head_other}
+use Rattle.ledger_changes.specs.{Given.Said, inside.Readings.IsWrongAs}
+use Rattle.recorded_lines.specs.Texts.{calls_of, left}
+use Rattle.std.proofs.lemmas.Grind.{common_steps}
 use Rattle.ledger_changes.proofs.ledger_rows.LedgerRows.begin.Goals as goal
 
 pub returns-in-Ok-Long-clause-wrong : goal.returns-in-Ok-Long-clause-wrong

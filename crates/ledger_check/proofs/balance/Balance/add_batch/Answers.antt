@@ -1,10 +1,8 @@
-use Rattle.std.proofs.Common.{◌≡◌, List, [], ◌++◌, ◌∷◌, map, ap, ◌∙◌, sym, subst}
-use Rattle.std.proofs.Common.{append_assoc, append-nil}
-use Rattle.std.proofs.lemmas.List.{map-append}
-use Rattle.tap_views.specs.Encoding.{fields_of}
-use Rattle.tap_views.specs.Layout.{Tap}
-use Rattle.tap_views.specs.declared.encoder.TapFields.{TapFields}
+use Rattle.std.proofs.Common.{◌≡◌, List, [], ◌++◌, ◌∷◌, map, ap, ◌∙◌, sym, subst, append_assoc}
+use Rattle.std.proofs.Common.{append-nil}
 use Rattle.ledger_check.specs.Balances.{IsBalance}
+use Rattle.std.proofs.lemmas.List.{map-append}
+use Rattle.tap_views.specs.{Encoding.fields_of, Layout.Tap, declared.encoder.TapFields.TapFields}
 use Rattle.ledger_check.proofs.balance.Balance.add_batch.Goals as goal
 
 pub loop-tap-init : goal.loop-tap-init

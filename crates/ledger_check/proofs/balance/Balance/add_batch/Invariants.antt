@@ -1,7 +1,6 @@
 use Rattle.std.proofs.Common.{◌≡◌, List, [], ◌++◌, map}
-use Rattle.tap_views.specs.Encoding.{fields_of}
-use Rattle.tap_views.specs.declared.encoder.TapFields.{TapFields}
 use Rattle.ledger_check.specs.Balances.{IsBalance}
+use Rattle.tap_views.specs.{Encoding.fields_of, declared.encoder.TapFields.TapFields}
 use Rattle.ledger_check.proofs.balance.Balance.add_batch.Given as goal
 
 abbrev pub invariant-loop-tap : goal.invariant-loop-tap

@@ -1,12 +1,10 @@
-use Rattle.std.proofs.Common.{List, [], ◌++◌, map, ap, ◌∙◌, sym}
-use Rattle.std.proofs.Common.{refl, subst, append_assoc, append-nil}
-use Rattle.std.proofs.lemmas.List.{map-append}
-use Rattle.tap_views.specs.Encoding.{fields_of}
-use Rattle.tap_views.specs.Files.{ValidBatchesView, IsReadAs, taps_of_batches}
-use Rattle.tap_views.specs.Layout.{Tap}
-use Rattle.tap_views.specs.declared.encoder.TapFields.{TapFields}
-use Rattle.tap_views.proofs.ParseLemmas.{valid_taps, read_end, read_on, taps_more}
+use Rattle.std.proofs.Common.{List, [], ◌++◌, map, ap, ◌∙◌, sym, refl, subst, append_assoc}
+use Rattle.std.proofs.Common.{append-nil}
 use Rattle.ledger_check.specs.Balances.{IsBalance}
+use Rattle.std.proofs.lemmas.List.{map-append}
+use Rattle.tap_views.proofs.ParseLemmas.{valid_taps, read_end, read_on, taps_more}
+use Rattle.tap_views.specs.{Encoding.fields_of, Files.ValidBatchesView, Files.IsReadAs}
+use Rattle.tap_views.specs.{Files.taps_of_batches, Layout.Tap, declared.encoder.TapFields.TapFields}
 use Rattle.ledger_check.proofs.balance.Balance.add_upload.Goals as goal
 
 pub loop-batch-init : goal.loop-batch-init

@@ -1,8 +1,7 @@
 use Rattle.std.proofs.Common.{List, [], ◌++◌, map}
-use Rattle.tap_views.specs.Encoding.{fields_of}
-use Rattle.tap_views.specs.Files.{IsReadAs, taps_of_batches}
-use Rattle.tap_views.specs.declared.encoder.TapFields.{TapFields}
 use Rattle.ledger_check.specs.Balances.{IsBalance}
+use Rattle.tap_views.specs.{Encoding.fields_of, Files.IsReadAs, Files.taps_of_batches}
+use Rattle.tap_views.specs.declared.encoder.TapFields.{TapFields}
 use Rattle.ledger_check.proofs.balance.Balance.add_upload.Given as goal
 
 abbrev pub invariant-loop-batch : goal.invariant-loop-batch

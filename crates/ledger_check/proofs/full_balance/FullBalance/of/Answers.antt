@@ -1,10 +1,7 @@
 use Rattle.std.proofs.Common.{ℕ, List, refl, ap}
-use Rattle.std.specs.BTreeMap.{is_at}
-use Rattle.std.specs.Map.{lookup}
-use Rattle.std.specs.Option.{unwrap_or}
-use Rattle.tap_views.specs.TapOrder.{tap_cmp}
-use Rattle.tap_views.specs.declared.encoder.TapFields.{TapFields}
 use Rattle.ledger_check.proofs.FullyBalanced.{started}
+use Rattle.std.specs.{BTreeMap.is_at, Map.lookup, Option.unwrap_or}
+use Rattle.tap_views.specs.{TapOrder.tap_cmp, declared.encoder.TapFields.TapFields}
 use Rattle.ledger_check.proofs.full_balance.FullBalance.of.Goals as goal
 
 pub returns : goal.returns

@@ -1,10 +1,8 @@
-use Rattle.std.proofs.Common.{◌≡◌, Option, ◌∷◌, sym, subst, ap, ap₂, ◌∙◌}
-use Rattle.std.proofs.Common.{arith}
-use Rattle.tap_views.specs.declared.token.Token.{Token}
+use Rattle.std.proofs.Common.{◌≡◌, Option, ◌∷◌, sym, subst, ap, ap₂, ◌∙◌, arith}
 use Rattle.ledger_check.specs.FullChecks.{charged_cents, last_wrong_token, one_other, one_wrong}
-use Rattle.ledger_check.specs.Orders.{IsOrderOf}
 use Rattle.ledger_check.specs.FullChecks.{ruled_cents, taps_from, taps_with, wrong_token_of}
-use Rattle.ledger_check.specs.declared.walk.LineFinding.{LineFinding}
+use Rattle.ledger_check.specs.{Orders.IsOrderOf, declared.walk.LineFinding.LineFinding}
+use Rattle.tap_views.specs.declared.token.Token.{Token}
 use Rattle.ledger_check.proofs.full_check_sums.FullCheckSums.with.Goals as goal
 
 pub returns : goal.returns

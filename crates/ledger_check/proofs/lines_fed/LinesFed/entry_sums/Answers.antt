@@ -1,8 +1,7 @@
 use Rattle.std.proofs.Common.{◌∙◌, Option, subst, sym, arith}
-use Rattle.ledger_check.specs.FullChecks.{entries_from}
-use Rattle.ledger_check.specs.FullCheckStates.{HasEntries}
-use Rattle.ledger_check.specs.declared.open_sums.OpenSums.{OpenSums}
 use Rattle.ledger_check.proofs.LineSums.{entries_few}
+use Rattle.ledger_check.specs.{FullCheckStates.HasEntries, FullChecks.entries_from}
+use Rattle.ledger_check.specs.declared.open_sums.OpenSums.{OpenSums}
 use Rattle.ledger_check.proofs.lines_fed.LinesFed.entry_sums.Goals as goal
 
 pub into_sums-requires : goal.into_sums-requires

@@ -1,10 +1,8 @@
 use Rattle.std.proofs.Common.{◌==◌, ◌∙◌, ◌∷◌, ℕ, List, [], refl, sym, ap, subst, arith}
 use Rattle.account_rule.specs.declared.reply.Reply.{Reply}
-use Rattle.histories.specs.Sums.{add_sums, sums_of_replies}
-use Rattle.histories.specs.SumsByKey.{validator_of}
+use Rattle.histories.specs.{Sums.add_sums, Sums.sums_of_replies, SumsByKey.validator_of}
 use Rattle.histories.specs.TalliesByKey.{AreByKey, HasRoom}
-use Rattle.histories.specs.Tally.{sums_of_tally}
-use Rattle.histories.specs.declared.sums.tally.Tally.{Tally}
+use Rattle.histories.specs.{Tally.sums_of_tally, declared.sums.tally.Tally.Tally}
 use Rattle.ledger_check.proofs.OpenSums.{all_few, entry_added, run_few}
 use Rattle.ledger_check.proofs.open_sums.OpenSums.add.Goals as goal
 

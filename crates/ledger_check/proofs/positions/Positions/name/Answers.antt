@@ -1,9 +1,8 @@
 use Rattle.std.proofs.Common.{◌<◌, ◌∙◌, ap, length, nat_eq, refl, rules}
-use Rattle.std.proofs.Math.Seq.{map-set_same}
-use Rattle.std.proofs.lemmas.Option.{slice_get_read}
-use Rattle.std.specs.Option.{option_and_then}
-use Rattle.ledger_check.specs.Positions.{at_position, named_of, taps_of}
 use Rattle.ledger_check.proofs.PositionLemmas.{read_written}
+use Rattle.ledger_check.specs.Positions.{at_position, named_of, taps_of}
+use Rattle.std.proofs.{Math.Seq.map-set_same, lemmas.Option.slice_get_read}
+use Rattle.std.specs.Option.{option_and_then}
 use Rattle.ledger_check.proofs.positions.Positions.name.Goals as goal
 
 pub returns-clause-taps : goal.returns-clause-taps

@@ -1,12 +1,9 @@
-use Rattle.std.proofs.Common.{◌≡◌, ℕ, Bool, true, false, List, Option, inr, refl}
-use Rattle.std.proofs.Common.{sym, ap, ◌∙◌, string_bytes}
-use Rattle.std.specs.Option.{unwrap_or}
-use Rattle.std.specs.Prelude.{IsTrue, ◌↔◌}
-use Rattle.std.specs.Str.{bytes_eq}
-use Rattle.std.proofs.lemmas.Bool.{false≢true}
-use Rattle.std.proofs.lemmas.Slice.Eq.{bytes_eq-Decides}
-use Rattle.ledger_check.specs.FullChecks.{remark_for}
+use Rattle.std.proofs.Common.{◌≡◌, ℕ, Bool, true, false, List, Option, inr, refl, sym, ap, ◌∙◌}
+use Rattle.std.proofs.Common.{string_bytes}
 use Rattle.ledger_check.proofs.WalkLemmas.{judged}
+use Rattle.ledger_check.specs.FullChecks.{remark_for}
+use Rattle.std.proofs.lemmas.{Bool.false≢true, Slice.Eq.bytes_eq-Decides}
+use Rattle.std.specs.{Option.unwrap_or, Prelude.IsTrue, Prelude.◌↔◌, Str.bytes_eq}
 use Rattle.ledger_check.proofs.walk.Walk.judge_exactly.Goals as goal
 
 same_test : (b : Bool) (xs ys : List ℕ) → (IsTrue b ↔ (xs ≡ ys)) → b ≡ bytes_eq xs ys

@@ -1,14 +1,11 @@
-use Rattle.std.proofs.Common.{◌++◌, ◌∙◌, ℕ, Bool, List, ap, ap₂, append_assoc}
-use Rattle.std.proofs.Common.{Global, Vec, string_bytes, subst, sym, true}
-use Rattle.std.specs.Prelude.{◌&&◌, ◌||◌}
+use Rattle.std.proofs.Common.{◌++◌, ◌∙◌, ℕ, Bool, List, ap, ap₂, append_assoc, Global, Vec}
+use Rattle.std.proofs.Common.{string_bytes, subst, sym}
+use Rattle.omny_audit.proofs.{AuditLemmas.decides, Audits.ended, Audits.undecided, Audits.unsound}
+use Rattle.omny_audit.specs.Reports.{Given, IsAudit, IsVerdictOn, damage_text, ledger_in}
+use Rattle.omny_audit.specs.{Reports.verdict_lines, Traced.AreColumnsReported}
+use Rattle.omny_audit.specs.inside.{Audits.given_in, Reports.text_of, Traced.wanted_by}
 use Rattle.std.proofs.lemmas.Bool.{and_parts}
-use Rattle.omny_audit.specs.Reports.{Given, IsAudit, IsVerdictOn, damage_text, ledger_in, verdict_lines}
-use Rattle.omny_audit.specs.Traced.{AreColumnsReported}
-use Rattle.omny_audit.specs.inside.Audits.{given_in}
-use Rattle.omny_audit.specs.inside.Reports.{text_of}
-use Rattle.omny_audit.specs.inside.Traced.{wanted_by}
-use Rattle.omny_audit.proofs.AuditLemmas.{decides}
-use Rattle.omny_audit.proofs.Audits.{ended, undecided, unsound}
+use Rattle.std.specs.Prelude.{◌&&◌, ◌||◌}
 use Rattle.omny_audit.proofs.audit.Audit.end.Goals as goal
 
 pub finish-requires : goal.finish-requires

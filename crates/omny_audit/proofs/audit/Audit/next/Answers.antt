@@ -1,11 +1,8 @@
-use Rattle.std.proofs.Common.{◌≡◌, ◌∙◌, ◌++◌, ◌==◌, ℕ, [], Bool, List, ap, ap₂, false, length}
+use Rattle.std.proofs.Common.{◌≡◌, ◌∙◌, ◌++◌, ◌==◌, ℕ, Bool, List, ap, ap₂, false, length}
 use Rattle.std.proofs.Common.{Global, Vec, refl, string_bytes, subst, sym, true}
+use Rattle.omny_audit.specs.{Reports.IsAudit, inside.Audits.HasAudited, inside.Checks.is_decided}
+use Rattle.std.proofs.lemmas.{Bool.eqb-true, Bool.true≢false, List.nil_from_length}
 use Rattle.std.specs.Prelude.{◌||◌}
-use Rattle.std.proofs.lemmas.Bool.{eqb-true, true≢false}
-use Rattle.std.proofs.lemmas.List.{nil_from_length}
-use Rattle.omny_audit.specs.Reports.{IsAudit}
-use Rattle.omny_audit.specs.inside.Audits.{HasAudited}
-use Rattle.omny_audit.specs.inside.Checks.{is_decided}
 use Rattle.omny_audit.proofs.audit.Audit.next.Goals as goal
 
 pub read-requires : goal.read-requires

@@ -1,10 +1,9 @@
 use Rattle.std.proofs.Common.{◌∙◌, ℕ, List, [], Option, ap, codes, Bor, map}
-use Rattle.std.specs.Prelude.{option_and_then, unwrap_or}
-use Rattle.clap.specs.Words.{all_of, first_of, found_of}
 use Rattle.clap.proofs.WalkLemmas.{first_value-rows}
+use Rattle.clap.specs.Words.{all_of, first_of, found_of}
 use Rattle.frame.specs.Names.{file_named}
-use Rattle.program_manners.specs.TableWords.{TableNames, tables_in}
-use Rattle.program_manners.specs.Words.{is_given}
+use Rattle.program_manners.specs.{TableWords.TableNames, TableWords.tables_in, Words.is_given}
+use Rattle.std.specs.Prelude.{option_and_then, unwrap_or}
 use Rattle.omny_audit.proofs.options.Options.read.Goals as goal
 
 pub returns-clause-request : goal.returns-clause-request

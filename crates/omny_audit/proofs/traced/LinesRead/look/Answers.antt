@@ -1,11 +1,10 @@
-use Rattle.std.proofs.Common.{◌≡◌, ◌+◌, ◌∙◌, Option, ℕ, ap, ap₂, arith, length, refl, rules, suc, tests}
-use Rattle.std.specs.Option.{option_or}
-use Rattle.std.specs.Prelude.{option_map}
-use Rattle.std.proofs.lemmas.Bool.Decides.{nat_tests}
+use Rattle.std.proofs.Common.{◌≡◌, ◌+◌, ◌∙◌, Option, ℕ, ap, ap₂, arith, length, refl, rules, suc}
+use Rattle.std.proofs.Common.{tests}
 use Rattle.class_names.specs.Names.{class_by}
-use Rattle.omny_audit.specs.Traced.{class_fault}
-use Rattle.omny_audit.specs.declared.traced.WrongClass.{WrongClass}
+use Rattle.omny_audit.specs.{Traced.class_fault, declared.traced.WrongClass.WrongClass}
 use Rattle.omny_audit.specs.inside.Traced.{placed_of}
+use Rattle.std.proofs.lemmas.Bool.Decides.{nat_tests}
+use Rattle.std.specs.{Option.option_or, Prelude.option_map}
 use Rattle.omny_audit.proofs.traced.LinesRead.look.Goals as goal
 
 pub returns-clause-wanted : goal.returns-clause-wanted

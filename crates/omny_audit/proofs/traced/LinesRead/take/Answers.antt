@@ -1,9 +1,8 @@
-use Rattle.std.proofs.Common.{◌∙◌, ◌++◌, ℕ, List, Option, refl, sym, ap, append_assoc}
-use Rattle.std.specs.Prelude.{option_map}
+use Rattle.std.proofs.Common.{◌∙◌, ◌++◌, ℕ, List, refl, sym, ap, append_assoc}
 use Rattle.ledger_check.specs.Columns.{untraced_line, untraced_lines}
-use Rattle.omny_audit.specs.Traced.{lines_read}
-use Rattle.omny_audit.specs.inside.Traced.{placed_of}
 use Rattle.omny_audit.proofs.TraceLemmas.{kept_line, untraced_more}
+use Rattle.omny_audit.specs.{Traced.lines_read, inside.Traced.placed_of}
+use Rattle.std.specs.Prelude.{option_map}
 use Rattle.omny_audit.proofs.traced.LinesRead.take.Goals as goal
 
 pub returns-clause-read : goal.returns-clause-read

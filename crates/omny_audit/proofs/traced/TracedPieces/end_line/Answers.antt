@@ -1,5 +1,5 @@
 -- The line, or the one that it ends.
-use Rattle.std.proofs.Common.{◌≡◌, ◌++◌, ◌≤◌, arith, ap, inl, length, List, ℕ, refl, sym, subst}
+use Rattle.std.proofs.Common.{◌≡◌, ◌++◌, ◌≤◌, arith, ap, inl, length, List, ℕ, sym, subst}
 use Rattle.std.proofs.lemmas.Bool.Decides.{nat_tests}
 use Rattle.ledger_check.proofs.LineEnds.{empty_list}
 use Rattle.omny_audit.specs.inside.Traced.{IsKeptOf}

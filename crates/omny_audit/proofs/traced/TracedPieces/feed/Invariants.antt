@@ -1,6 +1,5 @@
 use Rattle.std.proofs.Common.{◌≡◌, List, ℕ, ◌++◌, length}
-use Rattle.omny_audit.specs.Traced.{ReadLine}
-use Rattle.omny_audit.specs.inside.Traced.{HasTraced, wanted_of}
+use Rattle.omny_audit.specs.{Traced.ReadLine, inside.Traced.HasTraced, inside.Traced.wanted_of}
 use Rattle.omny_audit.proofs.traced.TracedPieces.feed.Given as goal
 
 -- a front of the piece was read

@@ -1,12 +1,11 @@
 use Rattle.std.proofs.Common.{◌≡◌, ◌∙◌, ◌++◌, [], Bool, List, Some, ap, arith, drop, false, length}
 use Rattle.std.proofs.Common.{refl, rules, true, ℕ}
-use Rattle.std.specs.Prelude.{not}
-use Rattle.std.proofs.lemmas.Bool.Decides.{nat_tests}
-use Rattle.std.proofs.lemmas.List.{nil_from_length}
 use Rattle.line_folds.specs.declared.reader.ReadFault.TheVariants.{Unread}
-use Rattle.world.specs.Run.{Load}
-use Rattle.world.proofs.Streams.{whole_at_end}
 use Rattle.recorded_lines.proofs.Reading.{follows_self, is_unread, read_none, read_on, sound_now}
+use Rattle.std.proofs.lemmas.{Bool.Decides.nat_tests, List.nil_from_length}
+use Rattle.std.specs.Prelude.{not}
+use Rattle.world.proofs.Streams.{whole_at_end}
+use Rattle.world.specs.Run.{Load}
 use Rattle.recorded_lines.proofs.text.Lines.read_more.Goals as goal
 
 pub returns-in-Some : goal.returns-in-Some

@@ -1,10 +1,9 @@
-use Rattle.std.proofs.Common.{◌≡◌, ◌∙◌, ◌-◌, ◌≤◌, ℕ, false, cond, List, None, Some, length, take}
+use Rattle.std.proofs.Common.{◌≡◌, ◌∙◌, ◌-◌, ℕ, false, cond, List, None, Some, length, take}
 use Rattle.std.proofs.Common.{drop, length-drop, sym, ap, arith}
-use Rattle.std.specs.Prelude.{nat_lt}
-use Rattle.std.proofs.lemmas.Bool.Decides.{nat_tests}
-use Rattle.std.proofs.lemmas.List.{take_all}
 use Rattle.line_forms.specs.Forms.{with_rest}
 use Rattle.report_texts.specs.Forms.{token_in}
+use Rattle.std.proofs.lemmas.{Bool.Decides.nat_tests, List.take_all}
+use Rattle.std.specs.Prelude.{nat_lt}
 use Rattle.report_texts.proofs.forms.TokenDigitsFormOf.read.Goals as goal
 
 pub returns : goal.returns

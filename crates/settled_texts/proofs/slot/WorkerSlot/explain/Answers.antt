@@ -1,11 +1,10 @@
 -- The first token's account is fresh, so the lines are those of the taps wherever it has no entry.
-use Rattle.std.proofs.Common.{◌≡◌, ℕ, List, [], ◌++◌, false, sym, ap, subst, ◌∙◌, string_bytes, arith}
-use Rattle.tap_views.specs.declared.token.Token.{Token}
-use Rattle.tap_views.specs.Token.{token_eq}
-use Rattle.tap_views.specs.TokenOrder.{IsUpTo}
+use Rattle.std.proofs.Common.{◌≡◌, ℕ, List, [], ◌++◌, false, sym, ap, subst, ◌∙◌, string_bytes}
+use Rattle.std.proofs.Common.{arith}
 use Rattle.fare_texts.proofs.PieceWriting.{consumed_first}
-use Rattle.settlement.specs.Nondecreasing.{TapsNondecreasingFrom}
 use Rattle.settled_texts.proofs.TapsExplained.{explains_as, explains_later, nondecreasing_first}
+use Rattle.settlement.specs.Nondecreasing.{TapsNondecreasingFrom}
+use Rattle.tap_views.specs.{Token.token_eq, TokenOrder.IsUpTo, declared.token.Token.Token}
 use Rattle.settled_texts.proofs.slot.WorkerSlot.explain.Goals as goal
 
 pub explain_taps-requires-clause-may : goal.explain_taps-requires-clause-may

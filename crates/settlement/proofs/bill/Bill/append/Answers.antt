@@ -1,12 +1,10 @@
 use Rattle.std.proofs.Common.{List, ◌++◌, ap, sym, ◌∙◌, arith}
-use Rattle.tap_views.specs.declared.token.Token.{Token}
-use Rattle.histories.specs.Sums.{Sums, add_sums, sums}
-use Rattle.histories.specs.SumsByKey.{sums_by_token}
-use Rattle.histories.specs.TalliesByKey.{HaveRoom}
-use Rattle.histories.specs.Tally.{sums_of_tally}
-use Rattle.histories.proofs.SumsLemmas.{sums-append, sums-taps}
 use Rattle.histories.proofs.SumsByToken.{by_token_joined}
+use Rattle.histories.proofs.SumsLemmas.{sums-append, sums-taps}
+use Rattle.histories.specs.Sums.{Sums, add_sums, sums}
+use Rattle.histories.specs.{SumsByKey.sums_by_token, TalliesByKey.HaveRoom, Tally.sums_of_tally}
 use Rattle.settlement.specs.Bills.{HaveBillRoom}
+use Rattle.tap_views.specs.declared.token.Token.{Token}
 use Rattle.settlement.proofs.bill.Bill.append.Goals as goal
 
 pub add_all-requires : goal.add_all-requires

@@ -1,16 +1,14 @@
 use Rattle.std.proofs.Common.{◌+◌, ◌<◌, ◌∙◌, List, [], ◌++◌, length, take, refl, sym, ap, subst}
 use Rattle.std.proofs.Common.{arith}
-use Rattle.std.proofs.lemmas.List.{get_or_default, take_all}
-use Rattle.std.proofs.lemmas.List.Folds.{length-flat_map-take}
-use Rattle.std.proofs.lemmas.List.Sorted.{All-permutation, length_permutation}
-use Rattle.tap_views.specs.Layout.{moment_limit}
-use Rattle.tap_views.specs.declared.encoder.TapFields.{TapFields}
-use Rattle.tap_views.specs.declared.token.Token.{Token}
-use Rattle.tap_parts.specs.Canonical.{IsCanonical}
-use Rattle.settlement.specs.Nondecreasing.{last_token}
 use Rattle.settlement.proofs.Nondecreasing.{last_append}
 use Rattle.settlement.proofs.PartBills.{flat, flat_more, flat_take, next_up, no_order}
 use Rattle.settlement.proofs.PartBills.{ranges_joined, sound_before, sound_here}
+use Rattle.settlement.specs.Nondecreasing.{last_token}
+use Rattle.std.proofs.lemmas.List.{get_or_default, take_all, Folds.length-flat_map-take}
+use Rattle.std.proofs.lemmas.List.Sorted.{All-permutation, length_permutation}
+use Rattle.tap_parts.specs.Canonical.{IsCanonical}
+use Rattle.tap_views.specs.Layout.{moment_limit}
+use Rattle.tap_views.specs.declared.{encoder.TapFields.TapFields, token.Token.Token}
 use Rattle.settlement.proofs.bill_by_threads.ChargesCharging.bill_of.Goals as goal
 
 abbrev least : Token

@@ -1,10 +1,9 @@
-use Rattle.std.proofs.Common.{List, [], ◌∷◌, ◌++◌, take, refl, sym, ap, subst, ◌∙◌}
-use Rattle.std.proofs.Common.{append_assoc, append-nil, arith, length-append}
+use Rattle.std.proofs.Common.{List, [], ◌∷◌, ◌++◌, take, refl, sym, ap, subst, ◌∙◌, append_assoc}
+use Rattle.std.proofs.Common.{append-nil, arith, length-append}
+use Rattle.settlement.proofs.Nondecreasing.{nondecreasing_here, last_append}
+use Rattle.settlement.specs.{Nondecreasing.last_token, OpenBills.IsOpenBill}
 use Rattle.std.proofs.lemmas.List.{length-take, take_all, take_more}
 use Rattle.tap_views.specs.declared.encoder.TapFields.{TapFields}
-use Rattle.settlement.specs.Nondecreasing.{last_token}
-use Rattle.settlement.proofs.Nondecreasing.{nondecreasing_here, last_append}
-use Rattle.settlement.specs.OpenBills.{IsOpenBill}
 use Rattle.settlement.proofs.open_bill.OpenBill.add.Goals as goal
 
 pub loop-tap-init : goal.loop-tap-init

@@ -1,7 +1,6 @@
 use Rattle.std.proofs.Common.{◌≡◌, List, ◌++◌, take}
+use Rattle.settlement.specs.{Nondecreasing.last_token, OpenBills.IsOpenBill}
 use Rattle.tap_views.specs.declared.encoder.TapFields.{TapFields}
-use Rattle.settlement.specs.Nondecreasing.{last_token}
-use Rattle.settlement.specs.OpenBills.{IsOpenBill}
 use Rattle.settlement.proofs.open_bill.OpenBill.add.Given as goal
 
 -- the taps so far were added

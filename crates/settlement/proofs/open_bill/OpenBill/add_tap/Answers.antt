@@ -1,6 +1,5 @@
 use Rattle.std.proofs.Common.{◌∙◌, sym, subst, arith}
-use Rattle.tap_views.specs.declared.token.Token.{Token}
-use Rattle.tap_views.specs.TokenOrder.{IsUpTo}
+use Rattle.tap_views.specs.{TokenOrder.IsUpTo, declared.token.Token.Token}
 use Rattle.settlement.proofs.open_bill.OpenBill.add_tap.Goals as goal
 
 pub go_on_to-requires-clause-up : goal.go_on_to-requires-clause-up

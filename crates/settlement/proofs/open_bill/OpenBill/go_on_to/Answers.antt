@@ -1,11 +1,9 @@
 use Rattle.std.proofs.Common.{◌∙◌, refl, sym, ap, subst}
-use Rattle.std.proofs.lemmas.Bool.{false≢true}
-use Rattle.tap_views.specs.Token.{token_eq}
-use Rattle.tap_views.specs.declared.token.Token.{Token}
 use Rattle.histories.specs.Entry.{own}
-use Rattle.tap_views.proofs.TokenLemmas.{same_token, token_eq-refl}
-use Rattle.tap_views.specs.TokenOrder.{IsUpTo}
 use Rattle.settlement.proofs.OpenBills.{gone_on}
+use Rattle.std.proofs.lemmas.Bool.{false≢true}
+use Rattle.tap_views.proofs.TokenLemmas.{same_token, token_eq-refl}
+use Rattle.tap_views.specs.{Token.token_eq, TokenOrder.IsUpTo, declared.token.Token.Token}
 use Rattle.settlement.proofs.open_bill.OpenBill.go_on_to.Goals as goal
 
 pub returns-then-eq-clause-token : goal.returns-then-eq-clause-token

@@ -1,11 +1,9 @@
 use Rattle.std.proofs.Common.{◌≡◌, [], refl, true, false, All, ◌∷◌}
+use Rattle.histories.specs.{Entry.own, declared.entry.Entry.Entry}
+use Rattle.settlement.specs.Posted.{posted_after}
 use Rattle.std.proofs.lemmas.List.Elements.{All-nil}
 use Rattle.std.specs.declared.cmp.Ordering.TheVariants.{Less}
-use Rattle.tap_views.specs.Token.{token_cmp}
-use Rattle.tap_views.specs.declared.token.Token.{Token}
-use Rattle.histories.specs.Entry.{own}
-use Rattle.histories.specs.declared.entry.Entry.{Entry}
-use Rattle.settlement.specs.Posted.{posted_after}
+use Rattle.tap_views.specs.{Token.token_cmp, declared.token.Token.Token}
 use Rattle.settlement.proofs.open_bill.OpenBill.new.Goals as goal
 
 pub returns-clause-bill : goal.returns-clause-bill

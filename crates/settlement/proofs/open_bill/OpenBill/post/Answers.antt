@@ -1,11 +1,9 @@
 use Rattle.std.proofs.Common.{◌∙◌, ◌∷◌, [], refl, ap, arith}
 use Rattle.account_rule.specs.declared.reply.Reply.{Reply}
 use Rattle.histories.specs.Sums.{add_sums, sums_of_replies}
-use Rattle.histories.specs.TalliesByKey.{HasRoom}
-use Rattle.histories.specs.Tally.{sums_of_tally}
+use Rattle.histories.specs.{TalliesByKey.HasRoom, Tally.sums_of_tally}
+use Rattle.settlement.proofs.{OpenBills.counted_taps, OpenBills.one_more, TokenRuns.posted_length}
 use Rattle.settlement.specs.Posted.{posted}
-use Rattle.settlement.proofs.TokenRuns.{posted_length}
-use Rattle.settlement.proofs.OpenBills.{counted_taps, one_more}
 use Rattle.settlement.proofs.open_bill.OpenBill.post.Goals as goal
 
 pub next-entry-requires-clause-posted : goal.next-entry-requires-clause-posted

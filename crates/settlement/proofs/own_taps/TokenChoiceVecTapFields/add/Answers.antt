@@ -1,8 +1,7 @@
 use Rattle.std.proofs.Common.{length, ap, ◌∙◌, sym, refl, append-nil, arith, length-append, []}
-use Rattle.tap_views.specs.Files.{taps_of_batches}
-use Rattle.tap_views.proofs.ParseLemmas.{valid_taps, read_end, read_on, room_on, taps_more}
-use Rattle.tap_views.specs.UploadEnds.{end_by}
 use Rattle.settlement.proofs.OnlyTaps.{only_batch, only_more}
+use Rattle.tap_views.proofs.ParseLemmas.{valid_taps, read_end, read_on, room_on, taps_more}
+use Rattle.tap_views.specs.{Files.taps_of_batches, UploadEnds.end_by}
 use Rattle.settlement.proofs.own_taps.TokenChoiceVecTapFields.add.Goals as goal
 
 pub loop-batch-init : goal.loop-batch-init

@@ -1,7 +1,6 @@
 use Rattle.std.proofs.Common.{◌≡◌, ◌++◌, length, map}
-use Rattle.tap_views.specs.Encoding.{fields_of}
-use Rattle.tap_views.specs.Files.{IsReadAs, taps_of_batches}
 use Rattle.settlement.specs.Posted.{only}
+use Rattle.tap_views.specs.{Encoding.fields_of, Files.IsReadAs, Files.taps_of_batches}
 use Rattle.settlement.proofs.own_taps.TokenChoiceVecTapFields.add.Given as goal
 
 abbrev pub invariant-loop-batch : goal.invariant-loop-batch

@@ -1,18 +1,13 @@
 use Rattle.std.proofs.Common.{◌≡◌, List, ◌∷◌, ◌++◌, cond, ap, sym, subst, ◌∙◌, []}
-use Rattle.account_rule.specs.declared.reply.Reply.{Reply}
-use Rattle.account_rule.specs.declared.tap.TapIn.{TapIn}
-use Rattle.fare_caps.specs.CapMeanings.{capped_rules_of}
-use Rattle.fare_caps.specs.CappedReplies.{capped_reply}
+use Rattle.account_rule.specs.declared.{reply.Reply.Reply, tap.TapIn.TapIn}
+use Rattle.fare_caps.specs.{CapMeanings.capped_rules_of, CappedReplies.capped_reply}
 use Rattle.fare_caps.specs.Represents.{Represents, RepresentsSome}
-use Rattle.tap_views.specs.Token.{bytes_of}
-use Rattle.tap_views.specs.declared.token.Token.{Token}
-use Rattle.histories.specs.Entry.{tap_of, taps_of}
-use Rattle.histories.specs.declared.entry.Entry.{Entry}
 use Rattle.histories.proofs.Histories.{taps-push}
+use Rattle.histories.specs.Entry.{tap_of, taps_of}
+use Rattle.histories.specs.{Plain.answered, Plain.with_reply, declared.entry.Entry.Entry}
+use Rattle.settlement.specs.{Posted.unposted, Replays.HasPosted}
 use Rattle.tap_views.proofs.TokenLemmas.{token_eq-refl}
-use Rattle.histories.specs.Plain.{answered, with_reply}
-use Rattle.settlement.specs.Posted.{unposted}
-use Rattle.settlement.specs.Replays.{HasPosted}
+use Rattle.tap_views.specs.{Token.bytes_of, declared.token.Token.Token}
 use Rattle.settlement.proofs.replay.Replay.next.Goals as goal
 
 pub step-reply-requires-clause-holds : goal.step-reply-requires-clause-holds

@@ -1,10 +1,9 @@
 use Rattle.std.proofs.Common.{List, map, ap, sym, subst}
 use Rattle.account_rule.specs.declared.tap.TapIn.{TapIn}
-use Rattle.fare_caps.specs.CapMeanings.{capped_rules_of}
-use Rattle.fare_caps.specs.Represents.{Represents}
-use Rattle.tap_views.specs.Token.{bytes_of}
+use Rattle.fare_caps.specs.{CapMeanings.capped_rules_of, Represents.Represents}
 use Rattle.histories.specs.Entry.{tap_of, taps_of}
 use Rattle.settlement.specs.Replays.{HasPosted}
+use Rattle.tap_views.specs.Token.{bytes_of}
 use Rattle.settlement.proofs.replay.Replay.of.Goals as goal
 
 pub returns-clause-none : goal.returns-clause-none

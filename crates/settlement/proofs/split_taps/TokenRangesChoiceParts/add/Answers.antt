@@ -1,12 +1,8 @@
 use Rattle.std.proofs.Common.{◌++◌, ◌<◌, List, ap, sym, subst, ◌∙◌, arith, map, refl}
-use Rattle.tap_views.specs.Encoding.{fields_of}
-use Rattle.tap_views.specs.Files.{taps_of_batches}
-use Rattle.tap_views.specs.UploadEnds.{end_by}
+use Rattle.tap_parts.proofs.{Adding.fields-append, RangeLemmas.range_below}
+use Rattle.tap_parts.specs.{Parts.taps_at, Ranges.range_of_token}
+use Rattle.tap_views.specs.{Encoding.fields_of, Files.taps_of_batches, UploadEnds.end_by}
 use Rattle.tap_views.specs.declared.encoder.TapFields.{TapFields}
-use Rattle.tap_parts.specs.Parts.{taps_at}
-use Rattle.tap_parts.specs.Ranges.{range_of_token}
-use Rattle.tap_parts.proofs.Adding.{fields-append}
-use Rattle.tap_parts.proofs.RangeLemmas.{range_below}
 use Rattle.settlement.proofs.split_taps.TokenRangesChoiceParts.add.Goals as goal
 
 pub add_upload-requires : goal.add_upload-requires

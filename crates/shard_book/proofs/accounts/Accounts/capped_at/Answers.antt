@@ -1,5 +1,4 @@
 use Rattle.std.proofs.Common.{◌≡◌, ap, sym, ◌∙◌}
-use Rattle.fare_caps.specs.declared.capped_account.CappedAccount.{CappedAccount}
 use Rattle.shard_book.specs.declared.accounts.KeptAccount.{KeptAccount}
 use Rattle.shard_book.specs.inside.Accounts.{capped_of, further_at}
 use Rattle.shard_book.proofs.AccountsLemmas.{account-at, same-kept}

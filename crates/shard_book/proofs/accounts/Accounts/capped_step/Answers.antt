@@ -1,17 +1,13 @@
 -- The step is taken on what stands at the token's place and beside it, and written there.
-use Rattle.std.proofs.Common.{◌≡◌, ℕ, List, [], ◌∷◌, ◌++◌, Option, Some, None, ap, arith, length}
-use Rattle.std.proofs.Common.{◌∙◌, refl, sym}
-use Rattle.std.specs.Option.{unwrap_or}
-use Rattle.indexmap.proofs.CallerLemmas.{keys-with_value_at}
+use Rattle.std.proofs.Common.{ℕ, List, [], ◌∷◌, ap, arith, length, ◌∙◌, refl, sym}
 use Rattle.fare_caps.specs.Represents.{RepresentsSome, no_further}
-use Rattle.fare_caps.specs.declared.further.Further.{Further}
 use Rattle.histories.specs.Sums.{Sums, add_sums, sums_of_replies}
-use Rattle.shard_book.specs.declared.accounts.KeptAccount.{KeptAccount}
-use Rattle.shard_book.specs.inside.Accounts.{counted, further_at, kept_at}
+use Rattle.indexmap.proofs.CallerLemmas.{keys-with_value_at}
 use Rattle.shard_book.proofs.AccountsLemmas.{account-at, kept-capped, stays-beside, written}
-use Rattle.shard_book.specs.declared.accounts.Accounts.{Accounts}
-use Rattle.tap_views.proofs.Choices.{OnErr_any}
-use Rattle.tap_views.proofs.TokenBytes.{token_length}
+use Rattle.shard_book.specs.declared.accounts.{Accounts.Accounts, KeptAccount.KeptAccount}
+use Rattle.shard_book.specs.inside.Accounts.{counted, further_at, kept_at}
+use Rattle.std.specs.Option.{unwrap_or}
+use Rattle.tap_views.proofs.{Choices.OnErr_any, TokenBytes.token_length}
 use Rattle.shard_book.proofs.accounts.Accounts.capped_step.Goals as goal
 
 pub step-reply-requires-clause-token : goal.step-reply-requires-clause-token

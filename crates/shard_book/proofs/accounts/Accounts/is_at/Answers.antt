@@ -1,9 +1,8 @@
 use Rattle.std.proofs.Common.{sym, ap, ◌≡◌, ◌∙◌, arith}
 use Rattle.indexmap.specs.IndexMap.{get}
-use Rattle.tap_views.specs.Token.{token_eq}
-use Rattle.tap_views.specs.declared.token.Token.{Token}
 use Rattle.shard_book.proofs.AccountsLemmas.{at_position}
 use Rattle.tap_views.proofs.TokenLemmas.{same_token}
+use Rattle.tap_views.specs.{Token.token_eq, declared.token.Token.Token}
 use Rattle.shard_book.proofs.accounts.Accounts.is_at.Goals as goal
 
 pub returns-in-Some : goal.returns-in-Some

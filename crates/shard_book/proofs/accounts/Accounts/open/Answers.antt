@@ -1,10 +1,9 @@
 use Rattle.std.proofs.Common.{◌<◌, rules, ◌∙◌, length, arith}
 use Rattle.indexmap.specs.IndexMap.{insert_index}
-use Rattle.shard_book.specs.inside.Accounts.{kept_at}
-use Rattle.tap_views.specs.Token.{token_eq}
-use Rattle.shard_book.specs.declared.accounts.KeptAccount.{KeptAccount}
 use Rattle.shard_book.proofs.AccountsLemmas.{index-within, keep_found, keep_opened, made_found}
 use Rattle.shard_book.proofs.AccountsLemmas.{made_last}
+use Rattle.shard_book.specs.{declared.accounts.KeptAccount.KeptAccount, inside.Accounts.kept_at}
+use Rattle.tap_views.specs.Token.{token_eq}
 use Rattle.shard_book.proofs.accounts.Accounts.open.Goals as goal
 
 pub overflow_cast-result : goal.overflow_cast-result

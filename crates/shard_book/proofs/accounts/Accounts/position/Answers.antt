@@ -1,6 +1,5 @@
 use Rattle.std.proofs.Common.{refl}
-use Rattle.shard_book.proofs.AccountsLemmas.{made_before}
-use Rattle.shard_book.proofs.PackedLemmas.{keep_same}
+use Rattle.shard_book.proofs.{AccountsLemmas.made_before, PackedLemmas.keep_same}
 use Rattle.shard_book.proofs.accounts.Accounts.position.Goals as goal
 
 pub returns-then-is_at-clause-made : goal.returns-then-is_at-clause-made

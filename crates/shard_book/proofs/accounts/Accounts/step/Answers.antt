@@ -1,5 +1,5 @@
 -- The step is taken on what stands at the token's place.
-use Rattle.std.proofs.Common.{◌≡◌, List, ap, slice_get, ◌∙◌}
+use Rattle.std.proofs.Common.{List, ap, slice_get, ◌∙◌}
 use Rattle.tap_views.proofs.Choices.{OnErr_any}
 use Rattle.tap_views.specs.declared.token.Token.{Token}
 use Rattle.shard_book.proofs.AccountsLemmas.{kept-from, stays-still, steps-from, there-of}

@@ -1,5 +1,5 @@
 -- The step is taken on what is stored at the token's index.
-use Rattle.std.proofs.Common.{◌≡◌, List, ap, slice_get, ◌∙◌}
+use Rattle.std.proofs.Common.{List, ap, slice_get, ◌∙◌}
 use Rattle.tap_views.proofs.Choices.{OnErr_any}
 use Rattle.tap_views.specs.declared.token.Token.{Token}
 use Rattle.shard_book.proofs.AccountsLemmas.{kept-from, stays-still, steps-from, still-from}

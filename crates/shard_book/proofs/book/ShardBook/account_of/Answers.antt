@@ -1,9 +1,7 @@
 use Rattle.std.proofs.Common.{subst}
-use Rattle.fare_caps.specs.CapMeanings.{capped_rules_of}
-use Rattle.fare_caps.specs.Represents.{Represents}
-use Rattle.shard_book.specs.Book.{Book}
+use Rattle.fare_caps.specs.{CapMeanings.capped_rules_of, Represents.Represents}
 use Rattle.histories.specs.Entry.{taps_of}
-use Rattle.shard_book.specs.inside.Sound.{AreKept}
+use Rattle.shard_book.specs.{Book.Book, inside.Sound.AreKept}
 use Rattle.tap_views.specs.Token.{bytes_of}
 use Rattle.shard_book.proofs.book.ShardBook.account_of.Goals as goal
 

@@ -1,11 +1,9 @@
 use Rattle.std.proofs.Common.{refl, ap, ◌∙◌, ℕ, List}
-use Rattle.tariffs.specs.Fares.{Fares}
-use Rattle.shard_book.specs.Book.{Book}
 use Rattle.histories.specs.declared.entry.Entry.{Entry}
-use Rattle.shard_book.specs.inside.Packed.{tokens_of}
-use Rattle.shard_book.proofs.AccountsLemmas.{further-same}
-use Rattle.shard_book.proofs.PackedLemmas.{history-kept}
+use Rattle.shard_book.proofs.{AccountsLemmas.further-same, PackedLemmas.history-kept}
 use Rattle.shard_book.proofs.SoundLemmas.{book-on}
+use Rattle.shard_book.specs.{Book.Book, inside.Packed.tokens_of}
+use Rattle.tariffs.specs.Fares.{Fares}
 use Rattle.shard_book.proofs.book.ShardBook.open_early.Goals as goal
 
 pub invariant_of-self : goal.invariant_of-self

@@ -1,18 +1,16 @@
 use Rattle.std.proofs.Common.{refl, ◌≡◌, ℕ, List, [], ◌∷◌, ◌++◌, Some, slice_get, subst, sym, ap}
 use Rattle.std.proofs.Common.{◌∙◌, arith}
-use Rattle.tariffs.specs.Fares.{Fares}
-use Rattle.shard_book.specs.Book.{Book, with_entries}
-use Rattle.tap_views.specs.Shards.{shard_of_token}
 use Rattle.histories.specs.declared.entry.Entry.{Entry}
-use Rattle.shard_book.specs.declared.packed.PackedEntry.{PackedEntry}
-use Rattle.shard_book.specs.inside.Packed.{history_of, tokens_of}
-use Rattle.shard_book.specs.inside.Sound.{AreKept, IsSound}
-use Rattle.tap_views.specs.Token.{bytes_of}
-use Rattle.tap_views.proofs.Choices.{OnErr_any}
 use Rattle.shard_book.proofs.PackedLemmas.{history-push, history-same, placed-push}
 use Rattle.shard_book.proofs.SoundLemmas.{book-still, sound-post}
-use Rattle.shard_book.proofs.book.ShardBook.post_at.Goals as goal
 use Rattle.shard_book.proofs.book.ShardBook.post_at.Goals.{After-push_reserved}
+use Rattle.shard_book.specs.{Book.Book, Book.with_entries, declared.packed.PackedEntry.PackedEntry}
+use Rattle.shard_book.specs.inside.Packed.{history_of, tokens_of}
+use Rattle.shard_book.specs.inside.Sound.{AreKept, IsSound}
+use Rattle.tap_views.proofs.Choices.{OnErr_any}
+use Rattle.tap_views.specs.{Shards.shard_of_token, Token.bytes_of}
+use Rattle.tariffs.specs.Fares.{Fares}
+use Rattle.shard_book.proofs.book.ShardBook.post_at.Goals as goal
 
 pub step-requires-clause-kept : goal.step-requires-clause-kept
 unfolding AreKept

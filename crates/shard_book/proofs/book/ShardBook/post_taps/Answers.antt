@@ -1,8 +1,7 @@
 use Rattle.std.proofs.Common.{◌∙◌, sym, subst, List}
-use Rattle.std.specs.List.{AllByRecursion}
-use Rattle.tap_views.specs.Layout.{Tap}
-use Rattle.tap_views.specs.Shards.{IsShardTap}
 use Rattle.shard_book.proofs.RunLemmas.{posting-none, posting-room, posting-push}
+use Rattle.std.specs.List.{AllByRecursion}
+use Rattle.tap_views.specs.{Layout.Tap, Shards.IsShardTap}
 use Rattle.shard_book.proofs.book.ShardBook.post_taps.Goals as goal
 
 pub loop-tap-init : goal.loop-tap-init

@@ -1,7 +1,6 @@
 use Rattle.std.proofs.Common.{rules, subst}
-use Rattle.shard_book.specs.inside.Accounts.{pairs_of}
 use Rattle.shard_book.specs.Book.{Book, AreOfShard}
-use Rattle.shard_book.specs.inside.Counting.{AreSummed}
+use Rattle.shard_book.specs.inside.{Accounts.pairs_of, Counting.AreSummed}
 use Rattle.shard_book.proofs.book.ShardBook.push_counts.Goals as goal
 
 pub returns-clause-sums : goal.returns-clause-sums

@@ -1,9 +1,8 @@
 use Rattle.std.proofs.Common.{◌≡◌, length, take, ap, ◌∙◌, arith}
-use Rattle.std.proofs.lemmas.List.{length-take-le}
-use Rattle.histories.specs.Sums.{Sums}
-use Rattle.histories.specs.Tally.{sums_of_tally}
 use Rattle.histories.proofs.SumsLemmas.{sums-taps}
+use Rattle.histories.specs.{Sums.Sums, Tally.sums_of_tally}
 use Rattle.shard_book.proofs.HistoryLemmas.{sums-read}
+use Rattle.std.proofs.lemmas.List.{length-take-le}
 use Rattle.shard_book.proofs.book.ShardBook.totals.Goals as goal
 
 pub add-requires : goal.add-requires

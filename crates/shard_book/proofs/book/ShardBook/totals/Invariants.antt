@@ -1,6 +1,5 @@
 use Rattle.std.proofs.Common.{◌≡◌, take}
-use Rattle.histories.specs.Sums.{sums}
-use Rattle.histories.specs.Tally.{sums_of_tally}
+use Rattle.histories.specs.{Sums.sums, Tally.sums_of_tally}
 use Rattle.shard_book.proofs.book.ShardBook.totals.Given as goal
 
 abbrev pub invariant-loop-i : goal.invariant-loop-i

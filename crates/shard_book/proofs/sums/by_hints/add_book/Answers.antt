@@ -1,9 +1,8 @@
 use Rattle.std.proofs.Common.{◌==◌, ◌++◌, take, List, subst, arith}
-use Rattle.std.proofs.lemmas.List.{length-append, length-take-le}
+use Rattle.histories.specs.{SumsByKey.validator_of, TalliesByKey.HasRoom, TalliesByKey.AreByKey}
 use Rattle.histories.specs.declared.entry.Entry.{Entry}
-use Rattle.histories.specs.SumsByKey.{validator_of}
-use Rattle.histories.specs.TalliesByKey.{HasRoom, AreByKey}
 use Rattle.shard_book.proofs.HistoryLemmas.{grown-read}
+use Rattle.std.proofs.lemmas.List.{length-append, length-take-le}
 use Rattle.shard_book.proofs.sums.by_hints.add_book.Goals as goal
 
 pub add-requires : goal.add-requires

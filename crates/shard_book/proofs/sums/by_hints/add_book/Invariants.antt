@@ -1,7 +1,6 @@
 use Rattle.std.proofs.Common.{◌==◌, List, ◌++◌, take}
+use Rattle.histories.specs.{SumsByKey.validator_of, TalliesByKey.AreByKey}
 use Rattle.histories.specs.declared.entry.Entry.{Entry}
-use Rattle.histories.specs.SumsByKey.{validator_of}
-use Rattle.histories.specs.TalliesByKey.{AreByKey}
 use Rattle.shard_book.proofs.sums.by_hints.add_book.Given as goal
 
 abbrev pub invariant-loop-i : goal.invariant-loop-i

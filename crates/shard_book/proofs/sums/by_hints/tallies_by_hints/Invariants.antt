@@ -1,7 +1,6 @@
 use Rattle.std.proofs.Common.{◌==◌, ◌≤◌, ◌*◌, ◌^◌, length, take}
+use Rattle.histories.specs.{SumsByKey.validator_of, TalliesByKey.AreByKey}
 use Rattle.shard_book.specs.Book.{all_entries}
-use Rattle.histories.specs.SumsByKey.{validator_of}
-use Rattle.histories.specs.TalliesByKey.{AreByKey}
 use Rattle.shard_book.proofs.sums.by_hints.tallies_by_hints.Given as goal
 
 abbrev pub invariant-loop-book : goal.invariant-loop-book

@@ -1,8 +1,7 @@
 use Rattle.std.proofs.Common.{◌++◌, take, List, subst, arith}
-use Rattle.std.proofs.lemmas.List.{length-append, length-take-le}
-use Rattle.histories.specs.declared.entry.Entry.{Entry}
-use Rattle.histories.specs.TalliesByKey.{HasRoom, AreByKey}
+use Rattle.histories.specs.{TalliesByKey.HasRoom, TalliesByKey.AreByKey, declared.entry.Entry.Entry}
 use Rattle.shard_book.proofs.HistoryLemmas.{grown-read}
+use Rattle.std.proofs.lemmas.List.{length-append, length-take-le}
 use Rattle.shard_book.proofs.sums.by_key.add_entries.Goals as goal
 
 pub add_entry-requires : goal.add_entry-requires

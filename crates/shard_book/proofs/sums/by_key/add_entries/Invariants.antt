@@ -1,6 +1,5 @@
 use Rattle.std.proofs.Common.{List, ◌++◌, take}
-use Rattle.histories.specs.declared.entry.Entry.{Entry}
-use Rattle.histories.specs.TalliesByKey.{AreByKey}
+use Rattle.histories.specs.{TalliesByKey.AreByKey, declared.entry.Entry.Entry}
 use Rattle.shard_book.proofs.sums.by_key.add_entries.Given as goal
 
 abbrev pub invariant-loop-i : goal.invariant-loop-i

@@ -1,15 +1,12 @@
 use Rattle.std.proofs.Common.{◌≡◌, ◌==◌, ◌+◌, ◌/◌, ◌%◌, min, ◌<◌, List, ◌∷◌, length, sym, ap, subst}
 use Rattle.std.proofs.Common.{◌∙◌, arith, rules}
-use Rattle.std.specs.Prelude.{slice_index_or}
-use Rattle.std.proofs.lemmas.List.{nil_from_length}
-use Rattle.std.specs.Vec.Iter.{into_iter_items, into_iter_len}
-use Rattle.shard_book.specs.Book.{Book}
-use Rattle.shard_book.specs.Book.{all_entries}
-use Rattle.histories.specs.SumsByKey.{validator_of}
-use Rattle.histories.specs.TalliesByKey.{AreByKey}
 use Rattle.histories.proofs.ByKeyLemmas.{by_key-none}
+use Rattle.histories.specs.{SumsByKey.validator_of, TalliesByKey.AreByKey}
 use Rattle.shard_book.proofs.ChunkLemmas.{IsTallied, AreTallied, IsMerging, no-chunks, all-tallied}
 use Rattle.shard_book.proofs.ChunkLemmas.{merging-first, merging-room, merging-more, merging-by_key}
+use Rattle.shard_book.specs.Book.{Book, all_entries}
+use Rattle.std.proofs.lemmas.List.{nil_from_length}
+use Rattle.std.specs.{Prelude.slice_index_or, Vec.Iter.into_iter_items, Vec.Iter.into_iter_len}
 use Rattle.shard_book.proofs.sums.by_threads.tallies_by_four.Goals as goal
 
 -- without chunks there are no books

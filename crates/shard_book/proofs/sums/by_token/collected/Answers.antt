@@ -1,16 +1,11 @@
 use Rattle.std.proofs.Common.{rules, ◌≡◌, ℕ, ◌+◌, ◌<◌, ◌≤◌, List, [], map, take, sym, ap, subst}
 use Rattle.std.proofs.Common.{◌∙◌, arith}
+use Rattle.histories.specs.{Counts.token_counts, Sums.Sums, declared.entry.Entry.Entry}
+use Rattle.shard_book.proofs.SummedLemmas.{summed-none, summed-no_books, summed-more}
+use Rattle.shard_book.specs.{Book.all_entries, inside.Counting.AreSummed, inside.Counting.AreBelow}
 use Rattle.std.proofs.lemmas.List.Elements.{All-nil}
 use Rattle.std.specs.Option.{option_copied}
-use Rattle.tap_views.specs.Shards.{shard_of_token}
-use Rattle.histories.specs.declared.entry.Entry.{Entry}
-use Rattle.tap_views.specs.declared.token.Token.{Token}
-use Rattle.shard_book.specs.inside.Counting.{AreSummed, AreBelow}
-use Rattle.histories.specs.Counts.{token_counts}
-use Rattle.shard_book.specs.Book.{all_entries}
-use Rattle.histories.specs.Sums.{Sums}
-use Rattle.tap_views.specs.Token.{bytes_of}
-use Rattle.shard_book.proofs.SummedLemmas.{summed-none, summed-no_books, summed-more}
+use Rattle.tap_views.specs.{Shards.shard_of_token, Token.bytes_of, declared.token.Token.Token}
 use Rattle.shard_book.proofs.sums.by_token.collected.Goals as goal
 
 pub loop-book-init : goal.loop-book-init

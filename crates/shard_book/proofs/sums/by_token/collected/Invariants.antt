@@ -1,7 +1,6 @@
 use Rattle.std.proofs.Common.{map, take}
-use Rattle.shard_book.specs.inside.Counting.{AreSummed, AreBelow}
 use Rattle.histories.specs.Counts.{token_counts}
-use Rattle.shard_book.specs.Book.{all_entries}
+use Rattle.shard_book.specs.{Book.all_entries, inside.Counting.AreSummed, inside.Counting.AreBelow}
 use Rattle.shard_book.proofs.sums.by_token.collected.Given as goal
 
 abbrev pub invariant-loop-book : goal.invariant-loop-book

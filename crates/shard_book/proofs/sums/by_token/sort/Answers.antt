@@ -1,9 +1,7 @@
 use Rattle.std.proofs.Common.{rules}
-use Rattle.std.proofs.lemmas.Fn.{always_returns_same}
-use Rattle.std.proofs.lemmas.List.Sorted.{IsPermutation-map}
-use Rattle.histories.specs.declared.sums.counts.TokenCounts.{TokenCounts}
-use Rattle.histories.specs.Counts.{token_counts}
+use Rattle.histories.specs.{Counts.token_counts, declared.sums.counts.TokenCounts.TokenCounts}
 use Rattle.shard_book.proofs.SummedLemmas.{counts-sorted}
+use Rattle.std.proofs.lemmas.{Fn.always_returns_same, List.Sorted.IsPermutation-map}
 use Rattle.shard_book.proofs.sums.by_token.sort.Goals as goal
 
 pub returns-clause-permutation : goal.returns-clause-permutation

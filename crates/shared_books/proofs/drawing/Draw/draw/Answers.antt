@@ -1,8 +1,6 @@
 use Rattle.std.proofs.Common.{◌≡◌, ◌<◌, ◌≤◌, ◌+◌, ◌++◌, ◌∷◌, [], ap, sym, ◌∙◌, arith}
-use Rattle.shared_books.specs.Drawing.{Drawing}
-use Rattle.shared_books.specs.inside.DrawerStates.{drawer_state}
-use Rattle.shared_books.proofs.Held.{held_few, held_won, held_lost}
-use Rattle.shared_books.proofs.DrawSteps.{draws}
+use Rattle.shared_books.proofs.{DrawSteps.draws, Held.held_few, Held.held_won, Held.held_lost}
+use Rattle.shared_books.specs.{Drawing.Drawing, inside.DrawerStates.drawer_state}
 use Rattle.shared_books.proofs.drawing.Draw.draw.Goals as goal
 
 pub compare_exchange-found-requires : goal.compare_exchange-found-requires

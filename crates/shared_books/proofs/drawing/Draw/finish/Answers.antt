@@ -1,8 +1,7 @@
 use Rattle.std.proofs.Common.{◌≡◌, ◌<◌, ◌≤◌, length, subst, arith, lt_of_not-le}
+use Rattle.shared_books.proofs.{DrawSteps.ends, Numbers.few, Numbers.full}
 use Rattle.shared_books.specs.Claims.{all_claims}
 use Rattle.shared_books.specs.Drawing.{DrawerView, HasAll, IsCount}
-use Rattle.shared_books.proofs.Numbers.{few, full}
-use Rattle.shared_books.proofs.DrawSteps.{ends}
 use Rattle.shared_books.proofs.drawing.Draw.finish.Goals as goal
 
 pub returns-then-held-drawn-clause-err : goal.returns-then-held-drawn-clause-err

@@ -1,7 +1,6 @@
 use Rattle.std.proofs.Common.{◌≡◌, ◌<◌, ◌+◌, ◌++◌, ap, sym, ◌∙◌, subst, arith}
+use Rattle.shared_books.proofs.{DrawSteps.meets, DrawSteps.looks, Held.held_few, Held.held_met}
 use Rattle.shared_books.specs.Drawing.{DrawerView, NoneTwice}
-use Rattle.shared_books.proofs.Held.{held_few, held_met}
-use Rattle.shared_books.proofs.DrawSteps.{meets, looks}
 use Rattle.shared_books.proofs.drawing.Draw.join.Goals as goal
 
 pub join_seat-requires : goal.join_seat-requires

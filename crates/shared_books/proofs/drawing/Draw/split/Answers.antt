@@ -1,6 +1,5 @@
 use Rattle.std.proofs.Common.{◌≡◌, ◌<◌, ap, sym, ◌∙◌, arith}
-use Rattle.shared_books.proofs.Held.{held_left}
-use Rattle.shared_books.proofs.DrawSteps.{parts}
+use Rattle.shared_books.proofs.{DrawSteps.parts, Held.held_left}
 use Rattle.shared_books.proofs.drawing.Draw.split.Goals as goal
 
 pub split_seat-seat-requires : goal.split_seat-seat-requires

@@ -1,8 +1,7 @@
 use Rattle.std.proofs.Common.{◌<◌, subst, arith}
-use Rattle.shared_books.specs.Claims.{all_claims}
-use Rattle.shared_books.specs.Passes.{HasMadeAll}
-use Rattle.shared_books.proofs.TurnEnds.{closes}
 use Rattle.shared_books.proofs.Passing.{whole_slot, made_whole, lacks_claims}
+use Rattle.shared_books.proofs.TurnEnds.{closes}
+use Rattle.shared_books.specs.{Claims.all_claims, Passes.HasMadeAll}
 use Rattle.shared_books.proofs.turns.SharedBook.close.Goals as goal
 
 pub unreachable-requires : goal.unreachable-requires

@@ -1,8 +1,7 @@
 use Rattle.std.proofs.Common.{◌≡◌, ◌<◌, ap, sym, ◌∙◌, subst, arith}
-use Rattle.shared_books.specs.Passes.{IsJoined}
-use Rattle.shared_books.proofs.MarkLists.{made_few}
-use Rattle.shared_books.proofs.PassSteps.{meets, settles}
+use Rattle.shared_books.proofs.{MarkLists.made_few, PassSteps.meets, PassSteps.settles}
 use Rattle.shared_books.proofs.Passing.{knows, pass_joins, joined_of}
+use Rattle.shared_books.specs.Passes.{IsJoined}
 use Rattle.shared_books.proofs.turns.SharedBook.join.Goals as goal
 
 pub join_seat-requires : goal.join_seat-requires

@@ -1,11 +1,9 @@
 use Rattle.std.proofs.Common.{◌≡◌, ◌*◌, [], ◌∷◌, ◌++◌, List, Option, Some, false, sym, ap, ◌∙◌}
 use Rattle.std.proofs.Common.{subst, refl}
 use Rattle.atomic_table.specs.Table.{opening}
-use Rattle.shared_books.specs.declared.turns.rule.Opening.{Opening}
-use Rattle.shared_books.specs.Claims.{all_claims}
-use Rattle.shared_books.specs.Turns.{Boxed, IsTurn}
-use Rattle.shared_books.specs.PassStates.{pass_state}
 use Rattle.shared_books.proofs.TurnEnds.{opens}
+use Rattle.shared_books.specs.{Claims.all_claims, PassStates.pass_state, Turns.Boxed, Turns.IsTurn}
+use Rattle.shared_books.specs.declared.turns.rule.Opening.{Opening}
 use Rattle.shared_books.proofs.turns.SharedBook.open.Goals as goal
 
 pub new-requires-2 : goal.new-requires-2

@@ -1,6 +1,5 @@
 use Rattle.std.proofs.Common.{◌≡◌, ◌<◌, ap, sym, ◌∙◌, arith}
-use Rattle.shared_books.proofs.PassSteps.{parts}
-use Rattle.shared_books.proofs.Passing.{new_pass_is, left_pass_is}
+use Rattle.shared_books.proofs.{PassSteps.parts, Passing.new_pass_is, Passing.left_pass_is}
 use Rattle.shared_books.proofs.turns.SharedBook.split.Goals as goal
 
 pub split_seat-seat-requires : goal.split_seat-seat-requires

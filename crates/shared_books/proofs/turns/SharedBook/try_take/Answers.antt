@@ -1,6 +1,5 @@
 use Rattle.std.proofs.Common.{◌≡◌, ◌<◌, ap, sym, ◌∙◌, arith}
-use Rattle.shared_books.proofs.TurnSteps.{takes_turn}
-use Rattle.shared_books.proofs.Handing.{first_again}
+use Rattle.shared_books.proofs.{Handing.first_again, TurnSteps.takes_turn}
 use Rattle.shared_books.proofs.turns.SharedBook.try_take.Goals as goal
 
 pub compare_exchange-before-requires : goal.compare_exchange-before-requires

@@ -1,12 +1,11 @@
 use Rattle.std.proofs.Common.{◌≡◌, ◌∙◌, ◌++◌, ap, arith, get_or, length-append, refl, sym}
+use Rattle.settlement.specs.Posted.{HasName, token_of_tap}
+use Rattle.sorted_bills.proofs.JoinedParts.{begins_of, both_have, ends_of}
+use Rattle.sorted_bills.proofs.Parts.{From, UpTo, below_bound, billed_both, less_is_up}
+use Rattle.sorted_bills.specs.{Parts.added, inside.Charged.joined_spans}
 use Rattle.std.proofs.lemmas.List.Elements.{All-append}
 use Rattle.tap_views.proofs.TokensUp.{up_chain}
 use Rattle.tap_views.specs.TokenOrder.{IsUpTo}
-use Rattle.settlement.specs.Posted.{HasName, token_of_tap}
-use Rattle.sorted_bills.specs.Parts.{added}
-use Rattle.sorted_bills.specs.inside.Charged.{joined_spans}
-use Rattle.sorted_bills.proofs.JoinedParts.{begins_of, both_have, ends_of}
-use Rattle.sorted_bills.proofs.Parts.{From, UpTo, below_bound, billed_both, less_is_up}
 use Rattle.sorted_bills.proofs.part.Part.append.Goals as goal
 
 pub returns : goal.returns

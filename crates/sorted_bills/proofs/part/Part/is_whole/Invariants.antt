@@ -1,6 +1,5 @@
 use Rattle.std.proofs.Common.{◌≡◌, All, None, take}
-use Rattle.sorted_taps.specs.Positions.{first_position}
-use Rattle.sorted_taps.specs.declared.positions.FileSpan.{FileSpan}
+use Rattle.sorted_taps.specs.{Positions.first_position, declared.positions.FileSpan.FileSpan}
 use Rattle.sorted_bills.proofs.part.Part.is_whole.Given as goal
 
 abbrev pub invariant-loop-span : goal.invariant-loop-span

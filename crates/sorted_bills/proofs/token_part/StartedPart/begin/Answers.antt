@@ -1,8 +1,7 @@
 use Rattle.std.proofs.Common.{ℕ, ap, sym, subst, ◌∙◌, length, Vec, Global}
-use Rattle.sorted_taps.specs.Positions.{ArePlaced}
-use Rattle.sorted_taps.specs.declared.merge.Merge.{Merge}
-use Rattle.sorted_taps.specs.declared.reader.TapReader.{TapReader}
 use Rattle.sorted_bills.specs.inside.Taken.{IsReady}
+use Rattle.sorted_taps.specs.Positions.{ArePlaced}
+use Rattle.sorted_taps.specs.declared.{merge.Merge.Merge, reader.TapReader.TapReader}
 use Rattle.sorted_bills.proofs.token_part.StartedPart.begin.Goals as goal
 
 pub returns-clause-ready : goal.returns-clause-ready

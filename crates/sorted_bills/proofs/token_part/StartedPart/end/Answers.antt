@@ -1,10 +1,8 @@
 -- The taps that were taken lie between the places of the spans.
 use Rattle.std.proofs.Common.{List, arith, subst}
+use Rattle.sorted_taps.proofs.{Files.known_number, Placing.taken_between}
 use Rattle.sorted_taps.specs.Positions.{DoSpan}
-use Rattle.sorted_taps.specs.declared.positions.Position.{Position}
-use Rattle.sorted_taps.specs.declared.reader.TapReader.{TapReader}
-use Rattle.sorted_taps.proofs.Files.{known_number}
-use Rattle.sorted_taps.proofs.Placing.{taken_between}
+use Rattle.sorted_taps.specs.declared.{positions.Position.Position, reader.TapReader.TapReader}
 use Rattle.sorted_bills.proofs.token_part.StartedPart.end.Goals as goal
 
 pub returns-in-Some : goal.returns-in-Some

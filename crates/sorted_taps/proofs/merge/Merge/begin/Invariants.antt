@@ -1,6 +1,5 @@
 use Rattle.std.proofs.Common.{◌≡◌, ◌≤◌, ◌<◌, ℕ, List, [], Some, map, length, get_or}
-use Rattle.sorted_taps.specs.Reading.{window_bytes}
-use Rattle.sorted_taps.specs.Readers.{IsPositionedIn}
+use Rattle.sorted_taps.specs.{Readers.IsPositionedIn, Reading.window_bytes}
 use Rattle.sorted_taps.specs.declared.reader.TapReader.{TapReader}
 use Rattle.sorted_taps.proofs.merge.Merge.begin.Given as goal
 

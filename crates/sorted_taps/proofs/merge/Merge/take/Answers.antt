@@ -1,9 +1,8 @@
 use Rattle.std.proofs.Common.{List, ap, arith, drop, length, subst, sym}
+use Rattle.sorted_taps.proofs.Taking.{taken_append, taken_none}
+use Rattle.sorted_taps.specs.{Merges.AreTaken, declared.reader.TapReader.TapReader}
 use Rattle.std.proofs.lemmas.List.{take_at}
 use Rattle.tap_views.specs.declared.encoder.TapFields.{TapFields}
-use Rattle.sorted_taps.specs.Merges.{AreTaken}
-use Rattle.sorted_taps.specs.declared.reader.TapReader.{TapReader}
-use Rattle.sorted_taps.proofs.Taking.{taken_append, taken_none}
 use Rattle.sorted_taps.proofs.merge.Merge.take.Goals as goal
 
 pub loop-init : goal.loop-init

@@ -1,6 +1,5 @@
 use Rattle.std.proofs.Common.{◌≡◌, ◌≤◌, ℕ, List, Some, length, map}
-use Rattle.sorted_taps.specs.Merges.{AreTaken}
-use Rattle.sorted_taps.specs.Reading.{window_bytes}
+use Rattle.sorted_taps.specs.{Merges.AreTaken, Reading.window_bytes}
 use Rattle.sorted_taps.proofs.merge.Merge.take.Given as goal
 
 abbrev pub invariant-loop : goal.invariant-loop

@@ -1,12 +1,9 @@
 use Rattle.std.proofs.Common.{◌≡◌, ◌+◌, ◌-◌, ◌<◌, ◌≤◌, ℕ, length, get_or, arith, ◌∙◌, sym, subst}
+use Rattle.sorted_taps.proofs.{Known.known_map, Standing.out_of_order, Standing.run_passed}
+use Rattle.sorted_taps.specs.{Merged.BeginsNotBefore, Readers.ahead}
+use Rattle.sorted_taps.specs.{declared.reader.TapReader.TapReader, inside.Steps.IsMovedOn}
 use Rattle.std.proofs.lemmas.List.{get_or_default, get_or-drop, length-drop}
 use Rattle.tap_views.specs.declared.encoder.TapFields.{TapFields}
-use Rattle.sorted_taps.specs.Merged.{BeginsNotBefore}
-use Rattle.sorted_taps.specs.Readers.{ahead}
-use Rattle.sorted_taps.specs.declared.reader.TapReader.{TapReader}
-use Rattle.sorted_taps.specs.inside.Steps.{IsMovedOn}
-use Rattle.sorted_taps.proofs.Known.{known_map}
-use Rattle.sorted_taps.proofs.Standing.{out_of_order, run_passed}
 use Rattle.sorted_taps.proofs.reader.TapReader.pass.Goals as goal
 
 -- the last of the taps that are passed

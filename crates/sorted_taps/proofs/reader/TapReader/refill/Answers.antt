@@ -1,11 +1,10 @@
 use Rattle.std.proofs.Common.{◌≡◌, ◌⊎◌, ◌<◌, ◌+◌, [], drop, length, refl, subst, arith, inl, inr}
-use Rattle.std.proofs.lemmas.List.{nil_from_length}
-use Rattle.sorted_taps.specs.Reading.{AreTapsBetween}
-use Rattle.sorted_taps.specs.inside.Decoding.{IsReadOn}
-use Rattle.sorted_taps.proofs.Known.{known_all, known_map2}
 use Rattle.sorted_taps.proofs.Batches.{end_after, front_append, front_none}
+use Rattle.sorted_taps.proofs.Known.{known_all, known_map2}
 use Rattle.sorted_taps.proofs.reader.TapReader.refill.Goals.{then-used-eq0-via-then-used-eq0}
 use Rattle.sorted_taps.proofs.reader.TapReader.refill.Goals.{then-used-eq0-via-else-used-eq0+then-not-is_empty}
+use Rattle.sorted_taps.specs.{Reading.AreTapsBetween, inside.Decoding.IsReadOn}
+use Rattle.std.proofs.lemmas.List.{nil_from_length}
 use Rattle.sorted_taps.proofs.reader.TapReader.refill.Goals as goal
 
 pub loop-init : goal.loop-init

@@ -1,12 +1,10 @@
 use Rattle.std.proofs.Common.{◌≡◌, ◌∙◌, SFits, ap, of_z, rules, sym, to_z}
-use Rattle.std.specs.Prelude.{◌-ℤ◌}
-use Rattle.std.specs.Int.{w128}
-use Rattle.std.proofs.lemmas.Int.{to_z-of_z}
 use Rattle.jiff_core.specs.Timestamp.{nanos_of_seconds}
-use Rattle.tap_rows.specs.AgencyMoments.{moment_by, moment_of, whole_ms}
-use Rattle.tap_rows.specs.LocalTimes.{clock_nanos}
-use Rattle.tap_rows.specs.inside.WrittenTimes.{written_of}
+use Rattle.std.proofs.lemmas.Int.{to_z-of_z}
+use Rattle.std.specs.{Int.w128, Prelude.◌-ℤ◌}
 use Rattle.tap_rows.proofs.LocalLemmas.{nanos_written}
+use Rattle.tap_rows.specs.AgencyMoments.{moment_by, moment_of, whole_ms}
+use Rattle.tap_rows.specs.{LocalTimes.clock_nanos, inside.WrittenTimes.written_of}
 use Rattle.tap_rows.proofs.agency.instant.moment_by.Goals as goal
 
 pub returns-in-Ok-clause-moment : goal.returns-in-Ok-clause-moment

@@ -1,8 +1,7 @@
 use Rattle.std.proofs.Common.{◌≡◌, ◌∙◌, ℕ, ◌+◌, ◌<◌, ◌≤◌, List, [], ◌∷◌, ◌++◌, ap, arith, length}
-use Rattle.std.proofs.Common.{sym, take}
-use Rattle.std.specs.Prelude.{bit_xor, slice_index_or, slice_set}
+use Rattle.std.proofs.{Common.sym, Common.take, Math.ListN.length-set}
 use Rattle.std.proofs.lemmas.List.{map-append, take_all, take_more, take_more_set}
-use Rattle.std.proofs.Math.ListN.{length-set}
+use Rattle.std.specs.Prelude.{bit_xor, slice_index_or, slice_set}
 use Rattle.tap_rows.specs.Keys.{masked}
 use Rattle.tap_rows.proofs.agency.key.masked.Goals as goal
 

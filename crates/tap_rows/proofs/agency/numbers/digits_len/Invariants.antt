@@ -1,6 +1,5 @@
 use Rattle.std.proofs.Common.{◌≡◌, ◌<◌, ℕ, true}
-use Rattle.std.specs.Prelude.{slice_index}
-use Rattle.std.specs.Char.{is_ascii_digit}
+use Rattle.std.specs.{Char.is_ascii_digit, Prelude.slice_index}
 use Rattle.tap_rows.proofs.agency.numbers.digits_len.Given as goal
 
 abbrev pub invariant-loop-index : goal.invariant-loop-index

@@ -1,6 +1,5 @@
-use Rattle.std.specs.Prelude.{take}
-use Rattle.std.specs.List.{AllZip}
 use Rattle.csv.specs.Records.{fields_of}
+use Rattle.std.specs.{List.AllZip, Prelude.take}
 use Rattle.tap_rows.specs.inside.Positions.{IsTestOf}
 use Rattle.tap_rows.proofs.agency.positions.tests_of.Given as goal
 

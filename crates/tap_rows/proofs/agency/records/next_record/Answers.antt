@@ -1,8 +1,7 @@
 use Rattle.std.proofs.Common.{◌∙◌, Some, inl}
-use Rattle.csv.specs.Reading.{strip_bom}
-use Rattle.csv.specs.Records.{fields_of}
-use Rattle.csv.specs.declared.parser.State.TheVariants.{StartRecord}
 use Rattle.csv.proofs.ReadFacts.{rows-more}
+use Rattle.csv.specs.{Reading.strip_bom, Records.fields_of}
+use Rattle.csv.specs.declared.parser.State.TheVariants.{StartRecord}
 use Rattle.tap_rows.specs.AgencyTexts.{config_of}
 use Rattle.tap_rows.proofs.agency.records.next_record.Goals as goal
 

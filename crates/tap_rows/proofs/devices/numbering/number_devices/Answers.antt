@@ -1,9 +1,8 @@
 use Rattle.std.proofs.Common.{[], inr, refl}
 use Rattle.csv.specs.Records.{fields_of}
-use Rattle.tap_rows.specs.Devices.{devices_of}
-use Rattle.tap_rows.specs.declared.agency.fault.Wanted.TheVariants.{Token}
 use Rattle.tap_rows.proofs.GoingLemmas.{head_fault, head_is, no_head}
 use Rattle.tap_rows.proofs.NumberingLemmas.{numbering_done, numbering_more}
+use Rattle.tap_rows.specs.{Devices.devices_of, declared.agency.fault.Wanted.TheVariants.Token}
 use Rattle.tap_rows.proofs.devices.numbering.number_devices.Goals as goal
 
 pub returns-then-not-has_head : goal.returns-then-not-has_head

@@ -1,5 +1,4 @@
-use Rattle.tap_rows.specs.Devices.{devices_of}
-use Rattle.tap_rows.specs.inside.Numbering.{IsNumbering}
+use Rattle.tap_rows.specs.{Devices.devices_of, inside.Numbering.IsNumbering}
 use Rattle.tap_rows.proofs.devices.numbering.number_devices.Given as goal
 
 abbrev pub invariant-loop-count : goal.invariant-loop-count

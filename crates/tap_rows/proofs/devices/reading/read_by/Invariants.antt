@@ -1,5 +1,4 @@
-use Rattle.tap_rows.specs.Devices.{devices_of}
-use Rattle.tap_rows.specs.inside.DeviceRows.{HasDevices}
+use Rattle.tap_rows.specs.{Devices.devices_of, inside.DeviceRows.HasDevices}
 use Rattle.tap_rows.proofs.devices.reading.read_by.Given as goal
 
 abbrev pub invariant-loop-count : goal.invariant-loop-count

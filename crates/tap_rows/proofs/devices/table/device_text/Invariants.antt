@@ -1,6 +1,5 @@
 use Rattle.std.proofs.Common.{◌≡◌, take}
-use Rattle.tap_rows.specs.Devices.{devices_of}
-use Rattle.tap_rows.specs.Numbering.{device_table_text}
+use Rattle.tap_rows.specs.{Devices.devices_of, Numbering.device_table_text}
 use Rattle.tap_rows.proofs.devices.table.device_text.Given as goal
 
 -- the text of the devices so far

@@ -1,8 +1,7 @@
 use Rattle.std.proofs.Common.{◌≡◌, ◌∙◌, [], ap, arith, subst, sym, vec_items, vec_len}
-use Rattle.std.proofs.lemmas.Bool.{eqb-true}
-use Rattle.std.proofs.lemmas.List.{nil_from_length}
-use Rattle.tap_views.specs.Files.{IsFileOf}
+use Rattle.std.proofs.lemmas.{Bool.eqb-true, List.nil_from_length}
 use Rattle.tap_rows.proofs.GrowingLemmas.{grown_whole}
+use Rattle.tap_views.specs.Files.{IsFileOf}
 use Rattle.tap_rows.proofs.growing.Growing.finish.Goals as goal
 
 pub returns-then-is_empty : goal.returns-then-is_empty

@@ -1,9 +1,7 @@
 use Rattle.std.proofs.Common.{Err, ap}
-use Rattle.std.proofs.lemmas.Result.{err_from_is_err_and}
-use Rattle.tap_views.proofs.Deciding.{same_fault}
-use Rattle.std.proofs.lemmas.List.{take_rest}
-use Rattle.tap_views.proofs.Grammar.{begins, no_row, measured-no_row, first-found, first-only}
-use Rattle.tap_views.proofs.Grammar.{first-records}
+use Rattle.std.proofs.lemmas.{List.take_rest, Result.err_from_is_err_and}
+use Rattle.tap_views.proofs.{Deciding.same_fault, Grammar.begins, Grammar.no_row}
+use Rattle.tap_views.proofs.Grammar.{measured-no_row, first-found, first-only, first-records}
 use Rattle.tap_views.proofs.batch.Batch.first.Goals as goal
 
 pub returns-in_err-count-clause-only : goal.returns-in_err-count-clause-only

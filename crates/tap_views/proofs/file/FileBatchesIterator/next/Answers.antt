@@ -1,5 +1,4 @@
-use Rattle.std.proofs.Common.{ap, sym, length, arith}
-use Rattle.std.proofs.lemmas.Bool.{eqb-false}
+use Rattle.std.proofs.{Common.ap, Common.sym, Common.length, Common.arith, lemmas.Bool.eqb-false}
 use Rattle.tap_views.proofs.Reading.{step-batch, step-fault}
 use Rattle.tap_views.proofs.file.FileBatchesIterator.next.Goals as goal
 

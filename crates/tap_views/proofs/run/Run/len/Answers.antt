@@ -1,9 +1,7 @@
 use Rattle.std.proofs.Common.{◌≡◌, length, arith}
-use Rattle.tap_views.specs.inside.Records.{layout_of, tap_at, taps_in}
+use Rattle.tap_views.proofs.{Cuts.length-cut, RunLemmas.few_taps, Sorted.kept_count}
 use Rattle.tap_views.specs.Faults.{width}
-use Rattle.tap_views.proofs.Cuts.{length-cut}
-use Rattle.tap_views.proofs.RunLemmas.{few_taps}
-use Rattle.tap_views.proofs.Sorted.{kept_count}
+use Rattle.tap_views.specs.inside.Records.{layout_of, tap_at, taps_in}
 use Rattle.tap_views.proofs.run.Run.len.Goals as goal
 
 pub returns-in-Some-clause-number : goal.returns-in-Some-clause-number

@@ -1,9 +1,8 @@
 use Rattle.std.proofs.Common.{arith}
-use Rattle.tap_views.specs.inside.Records.{layout_of, tap_at, taps_in}
-use Rattle.tap_views.specs.Faults.{width}
-use Rattle.tap_views.proofs.Cuts.{length-cut}
-use Rattle.tap_views.proofs.RunLemmas.{own_taps, few_taps}
+use Rattle.tap_views.proofs.{Cuts.length-cut, RunLemmas.own_taps, RunLemmas.few_taps}
 use Rattle.tap_views.proofs.Sorted.{kept_left, kept_below}
+use Rattle.tap_views.specs.Faults.{width}
+use Rattle.tap_views.specs.inside.Records.{layout_of, tap_at, taps_in}
 use Rattle.tap_views.proofs.run.Run.taps.Goals as goal
 
 pub invariant_of-result-2 : goal.invariant_of-result-2

@@ -1,9 +1,7 @@
 use Rattle.std.proofs.Common.{◌≡◌, ◌<◌, [], length, get_or, ap, ◌∙◌, arith}
 use Rattle.std.proofs.lemmas.List.{get_or_default}
-use Rattle.tap_views.specs.Runs.{positions_from}
-use Rattle.tap_views.specs.Shards.{run_of}
-use Rattle.tap_views.proofs.RunLemmas.{few_taps}
-use Rattle.tap_views.proofs.Sorted.{positions_count}
+use Rattle.tap_views.proofs.{RunLemmas.few_taps, Sorted.positions_count}
+use Rattle.tap_views.specs.{Runs.positions_from, Shards.run_of}
 use Rattle.tap_views.proofs.runs.Runs.len_of.Goals as goal
 
 pub returns-clause-number : goal.returns-clause-number

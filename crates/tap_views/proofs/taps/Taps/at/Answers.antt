@@ -1,8 +1,7 @@
 use Rattle.std.proofs.Common.{◌<◌, ap, length, arith}
-use Rattle.tap_views.specs.Faults.{width}
-use Rattle.tap_views.specs.Layout.{IsTap}
-use Rattle.tap_views.specs.inside.Records.{layout_of, tap_at}
 use Rattle.tap_views.proofs.Cuts.{all-cut, length-cut, room, slice_get-cut}
+use Rattle.tap_views.specs.{Faults.width, Layout.IsTap}
+use Rattle.tap_views.specs.inside.Records.{layout_of, tap_at}
 use Rattle.tap_views.proofs.taps.Taps.at.Goals as goal
 
 pub record_at-requires : goal.record_at-requires

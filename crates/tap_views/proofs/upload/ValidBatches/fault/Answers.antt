@@ -1,5 +1,4 @@
-use Rattle.std.proofs.Common.{ap, sym, length, ◌∙◌}
-use Rattle.std.proofs.lemmas.Bool.{eqb-false}
+use Rattle.std.proofs.{Common.ap, Common.sym, Common.length, Common.◌∙◌, lemmas.Bool.eqb-false}
 use Rattle.tap_views.proofs.Reading.{valid-batch, valid-fault}
 use Rattle.tap_views.proofs.upload.ValidBatches.fault.Goals as goal
 

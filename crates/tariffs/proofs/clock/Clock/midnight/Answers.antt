@@ -1,5 +1,4 @@
-use Rattle.std.proofs.Common.{arith}
-use Rattle.std.proofs.lemmas.Int.{ints}
+use Rattle.std.proofs.{Common.arith, lemmas.Int.ints}
 use Rattle.tariffs.proofs.clock.Clock.midnight.Goals as goal
 
 pub returns-else-millis-lt0-clause-moment : goal.returns-else-millis-lt0-clause-moment

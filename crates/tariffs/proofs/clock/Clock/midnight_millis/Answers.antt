@@ -1,15 +1,12 @@
 use Rattle.std.proofs.Common.{◌∙◌, arith, FitsSigned, IsSome, Option, ap, sym, subst, w64}
-use Rattle.std.proofs.lemmas.Int.{to_z-of_z}
 use Rattle.jiff.proofs.SpanFacts.{signed_arith}
-use Rattle.jiff.specs.Words.{epoch_day}
-use Rattle.jiff.specs.ZoneView.{plain_zone}
+use Rattle.jiff.specs.{Words.epoch_day, ZoneView.plain_zone}
 use Rattle.jiff.specs.declared.tz.timezone.TimeZone.{TimeZone as Zone}
 use Rattle.jiff_tz.specs.declared.posix.TimeZone.{TimeZone as PosixRule}
+use Rattle.std.proofs.lemmas.Int.{to_z-of_z}
 use Rattle.tariffs.proofs.UntilLemmas.{midnight-is, midnight-utc}
-use Rattle.tariffs.specs.ClockView.{ClockView}
-use Rattle.tariffs.specs.PosixRule.{posix_rule}
+use Rattle.tariffs.specs.{ClockView.ClockView, PosixRule.posix_rule, Until.midnight_by}
 use Rattle.tariffs.specs.inside.PosixRule.{HasRule, rule_of}
-use Rattle.tariffs.specs.Until.{midnight_by}
 use Rattle.tariffs.proofs.clock.Clock.midnight_millis.Goals as goal
 
 pub returns-in-Some : goal.returns-in-Some

@@ -1,15 +1,13 @@
 use Rattle.std.proofs.Common.{◌≡◌, ◌∙◌, ℕ, IsSome, Option, ap, sym, subst}
-use Rattle.std.proofs.lemmas.Bool.{false≢true}
 use Rattle.jiff.specs.Types.{TimeZone, UTC, Unknown, Fixed, Posix, Tzif}
-use Rattle.jiff.specs.ZoneView.{plain_zone}
-use Rattle.jiff.specs.declared.tz.timezone.TimeZone.{TimeZone as Zone}
+use Rattle.jiff.specs.{ZoneView.plain_zone, declared.tz.timezone.TimeZone.TimeZone as Zone}
 use Rattle.jiff_tz.specs.declared.posix.TimeZone.{TimeZone as PosixRule}
+use Rattle.std.proofs.lemmas.Bool.{false≢true}
 use Rattle.tariffs.proofs.UntilLemmas.{civil_window_end-is, plain_window_end-is}
-use Rattle.tariffs.specs.ClockView.{ClockView}
-use Rattle.tariffs.specs.PosixRule.{posix_rule}
-use Rattle.tariffs.specs.inside.PosixRule.{HasRule, rule_of}
+use Rattle.tariffs.specs.{ClockView.ClockView, PosixRule.posix_rule}
 use Rattle.tariffs.specs.Until.{IsCivilWindowEnd, window_end_by, window_end_in}
 use Rattle.tariffs.specs.declared.window_span.WindowSpan.{WindowSpan}
+use Rattle.tariffs.specs.inside.PosixRule.{HasRule, rule_of}
 use Rattle.tariffs.proofs.clock.Clock.window_end.Goals as goal
 
 by_rule : (zone : TimeZone) (span : WindowSpan) (start window_end : ℕ)

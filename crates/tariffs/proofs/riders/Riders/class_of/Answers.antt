@@ -1,6 +1,5 @@
 use Rattle.std.proofs.Common.{◌∙◌, rules, sym}
-use Rattle.tariffs.proofs.TokenFilter.{lookup-unmarked}
-use Rattle.tariffs.proofs.RiderBytes.{found-by_bytes}
+use Rattle.tariffs.proofs.{RiderBytes.found-by_bytes, TokenFilter.lookup-unmarked}
 use Rattle.tariffs.proofs.riders.Riders.class_of.Goals as goal
 
 pub returns-then-not-has : goal.returns-then-not-has

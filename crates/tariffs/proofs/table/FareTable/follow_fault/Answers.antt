@@ -1,11 +1,9 @@
 use Rattle.std.proofs.Common.{◌≡◌, ◌<◌, Bool, true, false, List, [], ◌∷◌, refl, sym, ◌∙◌, length}
-use Rattle.std.proofs.Common.{map}
-use Rattle.std.proofs.Common.{◌==◌, arith}
+use Rattle.std.proofs.Common.{map, ◌==◌, arith}
 use Rattle.std.proofs.lemmas.Bool.{eqb-true, true≢false}
-use Rattle.tariffs.specs.declared.table.DatedTariff.{DatedTariff}
-use Rattle.tariffs.specs.Following.{last_from}
-use Rattle.tariffs.specs.inside.Table.{dated_meaning, same_names, same_zone}
 use Rattle.tariffs.proofs.DatedLemmas.{names-other, names-same, zones-same}
+use Rattle.tariffs.specs.{Following.last_from, declared.table.DatedTariff.DatedTariff}
+use Rattle.tariffs.specs.inside.Table.{dated_meaning, same_names, same_zone}
 use Rattle.tariffs.proofs.table.FareTable.follow_fault.Goals as goal
 
 -- a list of tariffs is empty exactly if that of what they say is

@@ -1,7 +1,6 @@
-use Rattle.std.proofs.Common.{◌<◌, arith, map}
-use Rattle.std.proofs.lemmas.Bool.{ltb-true}
-use Rattle.tariffs.specs.inside.Table.{dated_meaning, first_from}
+use Rattle.std.proofs.{Common.◌<◌, Common.arith, Common.map, lemmas.Bool.ltb-true}
 use Rattle.tariffs.proofs.DatedLemmas.{first_valid}
+use Rattle.tariffs.specs.inside.Table.{dated_meaning, first_from}
 use Rattle.tariffs.proofs.table.FareTable.is_first_at.Goals as goal
 
 pub returns : goal.returns

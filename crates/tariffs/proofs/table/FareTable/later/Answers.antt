@@ -1,9 +1,8 @@
 use Rattle.std.proofs.Common.{◌<◌, arith, sym, ap, ◌∙◌, Some, length, map}
 use Rattle.std.proofs.lemmas.List.{length-map}
 use Rattle.std.specs.Prelude.{slice_get}
-use Rattle.tariffs.specs.Fares.{Fares}
-use Rattle.tariffs.specs.inside.Table.{dated_meaning}
 use Rattle.tariffs.proofs.DatedLemmas.{got}
+use Rattle.tariffs.specs.{Fares.Fares, inside.Table.dated_meaning}
 use Rattle.tariffs.proofs.table.FareTable.later.Goals as goal
 
 pub returns : goal.returns

@@ -1,9 +1,8 @@
-use Rattle.std.proofs.Common.{◌≡◌, ◌≤◌, ◌-◌, suc, Some, arith, sym, ap}
-use Rattle.std.proofs.Common.{◌∙◌, length, map, slice_get}
+use Rattle.std.proofs.Common.{◌≡◌, ◌≤◌, ◌-◌, suc, Some, arith, sym, ap, ◌∙◌, length, map, slice_get}
 use Rattle.std.specs.Arc.{arc_value}
+use Rattle.tariffs.proofs.DatedLemmas.{got, meaning-modes, nth_valid, nth-get, valid-started}
 use Rattle.tariffs.specs.Fares.{Fares, meaning_at}
 use Rattle.tariffs.specs.inside.Table.{started, dated_meaning}
-use Rattle.tariffs.proofs.DatedLemmas.{got, meaning-modes, nth_valid, nth-get, valid-started}
 use Rattle.tariffs.proofs.table.FareTable.later_at.Goals as goal
 
 pub returns-then-started-eq0-clause-meaning : goal.returns-then-started-eq0-clause-meaning

@@ -1,7 +1,6 @@
-use Rattle.std.proofs.Common.{◌≡◌, sym, ◌∙◌, map}
-use Rattle.std.proofs.lemmas.Bool.{eqb-true}
-use Rattle.tariffs.specs.inside.Table.{started, dated_meaning}
+use Rattle.std.proofs.{Common.◌≡◌, Common.sym, Common.◌∙◌, Common.map, lemmas.Bool.eqb-true}
 use Rattle.tariffs.proofs.DatedLemmas.{valid-same}
+use Rattle.tariffs.specs.inside.Table.{started, dated_meaning}
 use Rattle.tariffs.proofs.table.FareTable.none_between.Goals as goal
 
 pub returns : goal.returns

@@ -1,10 +1,8 @@
 use Rattle.std.proofs.Common.{◌≡◌, ℕ, true, Option, Some, None, IfSome, option_map, subst, sym}
-use Rattle.std.proofs.Common.{length, leb-true}
-use Rattle.std.proofs.lemmas.List.{length-map}
+use Rattle.std.proofs.{Common.length, Common.leb-true, lemmas.List.length-map}
 use Rattle.std.specs.Prelude.{nat_lt}
 use Rattle.tariffs.proofs.ApartLemmas.{find-all}
-use Rattle.tariffs.specs.Fares.{has_number}
-use Rattle.tariffs.specs.declared.validators.RangeRest.{RangeRest}
+use Rattle.tariffs.specs.{Fares.has_number, declared.validators.RangeRest.RangeRest}
 use Rattle.tariffs.proofs.tariff.Tariff.mode_of.Goals as goal
 
 rest-below : (count : ℕ) (range : Option (ℕ × RangeRest))

@@ -1,14 +1,11 @@
 use Rattle.std.proofs.Common.{◌≡◌, ◌∙◌, ◌<◌, ℕ, Bor, Equal, Err, IfErr, IfOk, List, Ok, Option}
 use Rattle.std.proofs.Common.{Result, Some, ap, get_or, length, sym, subst}
-use Rattle.std.specs.Cmp.Lexicographic.{slice_cmp}
-use Rattle.std.specs.Option.{ok_or}
-use Rattle.std.specs.Ordering.{nat_cmp}
-use Rattle.toml.specs.View.{table_view}
 use Rattle.fare_table.proofs.NameLemmas.{found_at}
 use Rattle.fare_table.specs.Classes.{count_of, position_of}
-use Rattle.fare_table.specs.declared.fault.TableFault.{TableFault}
-use Rattle.fare_table.specs.declared.fault.TableFault.TheVariants.{NoMemory, Rider}
-use Rattle.fare_table.specs.inside.OrFault.{Answers}
+use Rattle.fare_table.specs.declared.fault.TableFault.{TableFault, TheVariants.NoMemory}
+use Rattle.fare_table.specs.{declared.fault.TableFault.TheVariants.Rider, inside.OrFault.Answers}
+use Rattle.std.specs.{Cmp.Lexicographic.slice_cmp, Option.ok_or, Ordering.nat_cmp}
+use Rattle.toml.specs.View.{table_view}
 use Rattle.fare_table.proofs.read.class_names.ClassNames.position_of.Goals as goal
 
 answer_of : (result : Result ℕ TableFault) (position : ℕ) (o : Option ℕ)

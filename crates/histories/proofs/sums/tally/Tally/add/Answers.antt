@@ -1,8 +1,7 @@
 use Rattle.std.proofs.Common.{rules, ◌+◌, ap, ◌∙◌}
-use Rattle.std.specs.Prelude.{slice_index, slice_set}
-use Rattle.histories.specs.Positions.{count_position}
-use Rattle.histories.specs.Tally.{sums_of_positions}
 use Rattle.histories.proofs.TallyLemmas.{tallied}
+use Rattle.histories.specs.{Positions.count_position, Tally.sums_of_positions}
+use Rattle.std.specs.Prelude.{slice_index, slice_set}
 use Rattle.histories.proofs.sums.tally.Tally.add.Goals as goal
 
 pub returns : goal.returns

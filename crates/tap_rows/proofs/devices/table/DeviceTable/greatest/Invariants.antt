@@ -1,6 +1,5 @@
 use Rattle.std.proofs.Common.{◌≡◌, take}
-use Rattle.tap_rows.specs.Devices.{devices_of}
-use Rattle.tap_rows.specs.Numbering.{greatest}
+use Rattle.tap_rows.specs.{Devices.devices_of, Numbering.greatest}
 use Rattle.tap_rows.proofs.devices.table.DeviceTable.greatest.Given as goal
 
 -- that of the devices so far

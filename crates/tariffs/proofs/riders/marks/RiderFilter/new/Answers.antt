@@ -1,12 +1,10 @@
 use Rattle.std.proofs.Common.{◌≡◌, ◌∙◌, ◌<◌, true, All, Bor, arith, length, ap, slice_set, subst}
-use Rattle.std.proofs.lemmas.List.{length-map, length-set}
-use Rattle.std.proofs.lemmas.List.Elements.{All-map, All-push, All-weaker}
-use Rattle.std.proofs.lemmas.Map.Iter.{iter_end, iter_turn}
-use Rattle.std.specs.Map.{keys_of}
-use Rattle.std.specs.Map.Iter.{deref}
+use Rattle.std.proofs.lemmas.List.{length-map, length-set, Elements.All-map, Elements.All-push}
+use Rattle.std.proofs.lemmas.{List.Elements.All-weaker, Map.Iter.iter_end, Map.Iter.iter_turn}
+use Rattle.std.specs.Map.{keys_of, Iter.deref}
+use Rattle.tap_views.specs.declared.token.Token.{Token}
 use Rattle.tariffs.proofs.TokenFilter.{marked-more, marked-new}
 use Rattle.tariffs.specs.RiderFilter.{may_contain, filter_bit}
-use Rattle.tap_views.specs.declared.token.Token.{Token}
 use Rattle.tariffs.proofs.riders.marks.RiderFilter.new.Goals as goal
 
 pub filter_bit-position-requires : goal.filter_bit-position-requires
