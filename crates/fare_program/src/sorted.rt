@@ -19,7 +19,7 @@ use file_sources::Disk;
 use histories::HashSeed;
 use placed_files::{Placed, Unopened};
 use settlement::laws;
-use sorted_bills::{sorted_bill, sorted_taps_of, write_sorted_ledger};
+use settled_bills::{sorted_bill, sorted_taps_of, write_sorted_ledger};
 use std::alloc::Global;
 use std::io::Write;
 use std::marker::Sync;

@@ -6,7 +6,7 @@ use placed_files::InMemory;
 use sample_table::bytes_of;
 use settlement::{Billed, LoadedUploads, settled_bill};
 use shard_book::{HashSeed, Totals};
-use sorted_bills::{sorted_bill, write_sorted_ledger};
+use settled_bills::{sorted_bill, write_sorted_ledger};
 use sorted_taps::merge_sorted;
 use sorted_uploads::sort_uploads;
 use std::alloc::Global;
