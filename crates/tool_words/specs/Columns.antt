@@ -1,6 +1,7 @@
 -- How an agency's CSV is read: what the values of `--columns`, `--from`, `--separator`, `--unit`,
 -- `--fold`, `--only`, `--drop` and `--count` say.
 use Rattle.clap.specs.Words.{Row, Text, first_of}
+use Rattle.program_manners.specs.Words.{is_given}
 use Rattle.std.specs.List.{after_first, before_first, find, list_all, list_any, slice_split}
 use Rattle.std.specs.{Option.option_and_then, Option.option_or, Prelude.◌==◌}
 use Rattle.std.specs.Prelude.{◌&&◌, ◌||◌, if◌then◌else◌, ℕ, Bool, List, [], ◌∷◌, ◌++◌, Option, None}
@@ -66,6 +67,15 @@ columns_text rows = if is_from (codes "littlepay") rows
 abbrev pub columns_in : List Row → Option (Text × Text × Text)
 columns_in rows =
     option_and_then columns_among (conditions_in (slice_split is_comma (columns_text rows)))
+
+-- whether a token is the hash of its field, as that of TIDES
+abbrev pub has_hashes : List Row → Bool
+has_hashes rows = is_from (codes "tides") rows || is_given (codes "token-hash") rows
+
+-- the device table that is read, or made
+abbrev pub devices_in : List Row → Option Text
+devices_in rows = option_or (first_of (codes "validators") rows)
+    (first_of (codes "validators-make") rows)
 
 -- the column of riders, which TIDES has
 abbrev pub count_in : List Row → Option Text

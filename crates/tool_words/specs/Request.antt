@@ -1,13 +1,12 @@
 -- What the words of the tools ask for.
 use Rattle.clap.specs.Words.{Row, Text, first_of}
 use Rattle.program_manners.specs.Words.{is_given}
-use Rattle.std.specs.{List.count_by, Option.option_map_or, Option.option_or, Prelude.ℕ}
-use Rattle.std.specs.Prelude.{Bool, ◌&&◌, ◌||◌, if◌then◌else◌, nat_lt, List, [], ◌∷◌, ◌++◌, Option}
-use Rattle.std.specs.Prelude.{Some, None, codes, length, unwrap_or}
-use Rattle.std.specs.Str.{bytes_eq}
+use Rattle.std.specs.{List.count_by, Option.option_map_or, Prelude.ℕ, Prelude.Bool, Prelude.◌&&◌}
+use Rattle.std.specs.Prelude.{◌||◌, if◌then◌else◌, nat_lt, List, [], ◌∷◌, ◌++◌, Option, Some, None}
+use Rattle.std.specs.{Prelude.codes, Prelude.length, Prelude.unwrap_or, Str.bytes_eq}
 use Rattle.tap_rows.specs.declared.agency.choice.{Fold.Fold, Separator.Separator, Unit.Unit}
-use Rattle.tool_words.specs.Columns.{columns_in, conditions_of, count_in, fold_in, is_from}
-use Rattle.tool_words.specs.Columns.{separator_in, unit_in}
+use Rattle.tool_words.specs.Columns.{columns_in, conditions_of, count_in, devices_in, fold_in}
+use Rattle.tool_words.specs.Columns.{has_hashes, separator_in, unit_in}
 use Rattle.tool_words.specs.ToolLine.{entered, has_any, has_value, named}
 
 -- what `encode` is asked for with columns, beside the files
@@ -110,32 +109,36 @@ abbrev pub read_files : List Row → List Text
 read_files rows = (encoded_files rows ++ unwrap_or (first_of (codes "validators") rows) [] ∷ [])
     ++ unwrap_or (first_of (codes "token-key") rows) [] ∷ []
 
--- The rows of an agency's CSV with these columns, this separator, this unit and this fold, under
--- these conditions that keep rows and leave them out, if none of these is wrong.
+-- an agency's CSV with these columns, this separator, this unit and this fold, under these conditions
+-- that keep rows and leave them out
+abbrev pub rows_asked : Text × Text × Text → Separator → Unit → Fold → List (Text × Text)
+    → List (Text × Text) → List Row → RowsRequest
+rows_asked columns separator unit fold only without rows = record {
+  separator = separator;
+  token = columns.0;
+  validator = columns.1;
+  moment = columns.2;
+  has_hashes = has_hashes rows;
+  unit = unit;
+  format = first_of (codes "moment-format") rows;
+  only = only;
+  without = without;
+  count = count_in rows;
+  devices = devices_in rows;
+  makes_devices = has_value (codes "validators-make") rows;
+  key = first_of (codes "token-key") rows;
+  zone = first_of (codes "zone") rows;
+  fold = fold;
+  refused = first_of (codes "refused") rows;
+  out = first_of (codes "out") rows;
+}
+
+-- the same, if none of these is wrong
 abbrev pub rows_by : Option (Text × Text × Text) → Option Separator → Option Unit → Option Fold
     → Option (List (Text × Text)) → Option (List (Text × Text)) → List Row → Request
 rows_by (Some columns) (Some separator) (Some unit) (Some fold) (Some only) (Some without) rows =
-    if nat_lt 1 (inputs_in (read_files rows)) then misused
-    else encode_rows (encoded_files rows) (record {
-      separator = separator;
-      token = columns.0;
-      validator = columns.1;
-      moment = columns.2;
-      has_hashes = is_from (codes "tides") rows || is_given (codes "token-hash") rows;
-      unit = unit;
-      format = first_of (codes "moment-format") rows;
-      only = only;
-      without = without;
-      count = count_in rows;
-      devices = option_or (first_of (codes "validators") rows)
-          (first_of (codes "validators-make") rows);
-      makes_devices = has_value (codes "validators-make") rows;
-      key = first_of (codes "token-key") rows;
-      zone = first_of (codes "zone") rows;
-      fold = fold;
-      refused = first_of (codes "refused") rows;
-      out = first_of (codes "out") rows;
-    })
+    if nat_lt 1 (inputs_in (read_files rows)) then misused else encode_rows (encoded_files rows)
+    (rows_asked columns separator unit fold only without rows)
 rows_by _ _ _ _ _ _ rows = misused
 
 -- the rows of an agency's CSV

@@ -1,10 +1,13 @@
 //! What `encode` with columns requests.
 ghost use Rattle.clap.specs.Words.{found_of, rows_of};
-ghost use Rattle.std.specs.Prelude.{◌≡◌, IfOk, map, option_map};
+ghost use Rattle.std.specs.{List.slice_split, Prelude.◌≡◌, Prelude.IfOk, Prelude.map};
+ghost use Rattle.std.specs.Prelude.{nat_lt, option_map};
 ghost use Rattle.tool_words.specs.Columns.{columns_among, columns_text, columns_in, conditions_in};
-ghost use Rattle.tool_words.specs.Columns.{conditions_of, count_in, fold_in, has_parts, is_from};
-ghost use Rattle.tool_words.specs.Columns.{parts_of, separator_in, unit_in, value_of};
-ghost use Rattle.tool_words.specs.Request.{encoded_files, read_files, rows_request};
+ghost use Rattle.tool_words.specs.Columns.{conditions_of, count_in, devices_in, fold_in};
+ghost use Rattle.tool_words.specs.Columns.{has_hashes, has_parts, is_comma, is_from, parts_of};
+ghost use Rattle.tool_words.specs.Columns.{separator_in, unit_in, value_of};
+ghost use Rattle.tool_words.specs.Request.{encoded_files, inputs_in, read_files, rows_asked};
+ghost use Rattle.tool_words.specs.{Request.rows_request, Tasks.rows_words_of};
 ghost use Rattle.tool_words.specs.Tasks.{condition_of, names_of, request_of, text_in, texts_of};
 
 use crate::reading::{INPUT_TWICE, has_value, inputs_in};
@@ -53,6 +56,13 @@ fn parts_of<'a>(word: &'a str) -> Condition<'a>
     }
 }
 
+fn all_parts<'a>(alloc: Global, words: &[&'a str]) -> Result<Vec<Condition<'a>>, AllocError>
+    ensures { IfOk result (λ all. map condition_of all.items
+        ≡ map (λ w. parts_of w.now) words.now) }
+{
+    words.iter().map(|word| parts_of(word)).collect(alloc)
+}
+
 fn conditions_in<'a>(
     alloc: Global,
     words: &[&'a str],
@@ -63,7 +73,7 @@ fn conditions_in<'a>(
     if !words.iter().all(|word| has_parts(word)) {
         return Ok(None);
     }
-    Ok(Some(words.iter().map(|word| parts_of(word)).collect(alloc)?))
+    Ok(Some(all_parts(alloc, words)?))
 }
 
 /// The words under this name, with this one if they are short for `littlepay`.
@@ -127,6 +137,12 @@ fn columns_text<'a>(matches: &ArgMatches<'a>) -> &'a str
     value_in(matches, "columns").unwrap_or("")
 }
 
+fn between_commas<'a>(alloc: Global, text: &'a str) -> Result<Vec<&'a str>, AllocError>
+    ensures { IfOk result (λ words. texts_of words.items ≡ slice_split is_comma text.entry.now) }
+{
+    text.split(',').collect(alloc)
+}
+
 fn columns_in<'a>(
     alloc: Global,
     matches: &ArgMatches<'a>,
@@ -134,7 +150,7 @@ fn columns_in<'a>(
     ensures { IfOk result (λ columns. option_map names_of columns
         ≡ columns_in (rows_of (found_of matches.now))) }
 {
-    let words: Vec<&str> = columns_text(matches).split(',').collect(alloc)?;
+    let words = between_commas(alloc, columns_text(matches))?;
     match conditions_in(alloc, &words)? {
         Some(pairs) => Ok(columns_among(&pairs)),
         None => Ok(None),
@@ -203,6 +219,28 @@ fn read_files<'a>(alloc: Global, matches: &ArgMatches<'a>) -> Result<Vec<&'a str
     Ok(files)
 }
 
+fn reads_input_twice(alloc: Global, matches: &ArgMatches<'_>) -> Result<bool, AllocError>
+    ensures { IfOk result (λ twice. twice
+        ≡ nat_lt 1 (inputs_in (read_files (rows_of (found_of matches.now))))) }
+{
+    let files = read_files(alloc, matches)?;
+    Ok(inputs_in(&files) > 1)
+}
+
+/// Whether a token is the hash of its field.
+fn has_hashes(matches: &ArgMatches<'_>) -> bool
+    ensures { result ≡ has_hashes (rows_of (found_of matches.now)) }
+{
+    is_from(matches, "tides") || flag_in(matches, "token-hash")
+}
+
+/// The device table that is read, or made.
+fn devices_in<'a>(matches: &ArgMatches<'a>) -> Option<&'a str>
+    ensures { text_in result ≡ devices_in (rows_of (found_of matches.now)) }
+{
+    value_in(matches, "validators").or(value_in(matches, "validators-make"))
+}
+
 /// The column of riders.
 fn count_in<'a>(matches: &ArgMatches<'a>) -> Option<&'a str>
     ensures { text_in result ≡ count_in (rows_of (found_of matches.now)) }
@@ -213,15 +251,51 @@ fn count_in<'a>(matches: &ArgMatches<'a>) -> Option<&'a str>
     }
 }
 
+fn rows_words<'a>(
+    matches: &ArgMatches<'a>,
+    columns: (&'a str, &'a str, &'a str),
+    separator: Separator,
+    unit: Unit,
+    fold: Fold,
+    only: Vec<Condition<'a>>,
+    without: Vec<Condition<'a>>,
+) -> RowsWords<'a>
+    ensures { rows_words_of result ≡ rows_asked (names_of columns.entry) separator unit fold
+        (map condition_of only.entry.items) (map condition_of without.entry.items)
+        (rows_of (found_of matches.now)) }
+{
+    let columns = Columns {
+        separator,
+        token: columns.0,
+        validator: columns.1,
+        moment: columns.2,
+        has_hashes: has_hashes(matches),
+        unit,
+        format: value_in(matches, "moment-format"),
+        only,
+        without,
+        count: count_in(matches),
+    };
+    RowsWords {
+        columns,
+        devices: devices_in(matches),
+        makes_devices: has_value(matches, "validators-make"),
+        key: value_in(matches, "token-key"),
+        zone: value_in(matches, "zone"),
+        fold,
+        refused: value_in(matches, "refused"),
+        out: value_in(matches, "out"),
+    }
+}
+
 pub(crate) fn rows_task<'a>(alloc: Global, matches: &ArgMatches<'a>) -> Result<Task<'a>, AllocError>
     ensures { IfOk result (λ task. request_of task ≡ rows_request (rows_of (found_of matches.now))) }
 {
     let files = files_in(alloc, matches)?;
-    let read = read_files(alloc, matches)?;
     let columns = columns_in(alloc, matches)?;
     let only = conditions_of(alloc, matches, "only", "transaction_outcome=allow")?;
     let without = conditions_of(alloc, matches, "drop", "type=off")?;
-    let Some((token, validator, moment)) = columns else {
+    let Some(columns) = columns else {
         let is_named = has_value(matches, "from");
         return Ok(Task::UsageError(if is_named {
             WRONG_EXPORT
@@ -244,30 +318,9 @@ pub(crate) fn rows_task<'a>(alloc: Global, matches: &ArgMatches<'a>) -> Result<T
     let Some(without) = without else {
         return Ok(Task::UsageError(WRONG_DROP));
     };
-    if inputs_in(&read) > 1 {
+    if reads_input_twice(alloc, matches)? {
         return Ok(Task::UsageError(INPUT_TWICE));
     }
-    let columns = Columns {
-        separator,
-        token,
-        validator,
-        moment,
-        has_hashes: is_from(matches, "tides") || flag_in(matches, "token-hash"),
-        unit,
-        format: value_in(matches, "moment-format"),
-        only,
-        without,
-        count: count_in(matches),
-    };
-    let words = RowsWords {
-        columns,
-        devices: value_in(matches, "validators").or(value_in(matches, "validators-make")),
-        makes_devices: has_value(matches, "validators-make"),
-        key: value_in(matches, "token-key"),
-        zone: value_in(matches, "zone"),
-        fold,
-        refused: value_in(matches, "refused"),
-        out: value_in(matches, "out"),
-    };
+    let words = rows_words(matches, columns, separator, unit, fold, only, without);
     Ok(Task::EncodeRows(files, words))
 }

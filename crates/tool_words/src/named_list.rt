@@ -26,8 +26,12 @@ pub fn list_words<'a>(
 
 /// The form that the words name for what `uploads` prints, if they name one.
 pub fn named_format<'a>(alloc: Global, words: &'a [String]) -> Option<&'a str> {
-    match entered(alloc, words) {
-        Ok(Some((name, found))) if name == "uploads" => value_in(&found, "format"),
-        _ => None,
+    let Ok(Some((name, found))) = entered(alloc, words) else {
+        return None;
+    };
+    if name == "uploads" {
+        value_in(&found, "format")
+    } else {
+        None
     }
 }

@@ -1,7 +1,6 @@
 //! What is given to a subcommand.
 ghost use Rattle.clap.specs.Words.{found_of, rows_of};
-ghost use Rattle.std.specs.List.{list_any};
-ghost use Rattle.std.specs.Prelude.{◌≡◌, ◌≤◌, IfOk, map};
+ghost use Rattle.std.specs.{List.list_any, Prelude.◌≡◌, Prelude.◌≤◌, Prelude.IfOk, Prelude.map};
 ghost use Rattle.tool_words.specs.Request.{has_input_twice, inputs_in, is_input, names_input};
 ghost use Rattle.tool_words.specs.ToolLine.{has_value};
 

@@ -2,6 +2,7 @@
 ghost use Rattle.std.specs.Prelude.{◌≡◌, ◌⊎◌, IfErr, IfOk, codes, length, map, nat_lt};
 ghost use Rattle.std.specs.Prelude.{option_map, string_bytes};
 ghost use Rattle.clap.specs.Words.{FailsBy, fault_of, found_of, kind_of, rows_of, subcommand_of};
+ghost use Rattle.clap.specs.Words.{subcommand_rows_of};
 ghost use Rattle.program_manners.specs.Words.{IsRequest};
 ghost use Rattle.tool_words.specs.Request.{corrections_request, encode_request};
 ghost use Rattle.tool_words.specs.Request.{merge_request, request_by, request_of_name};
@@ -196,23 +197,30 @@ pub(crate) fn entered<'a>(
         ≡ entered (map string_bytes words.now)) }
     ensures kinds { FailsBy (fault_of program (map string_bytes words.now)) result }
 {
-    match matched(alloc, words)? {
-        Some((name, found)) if !breaks_rule(name, &found) => Ok(Some((name, found))),
-        _ => Ok(None),
+    let Some((name, found)) = subcommand_in(matched(alloc, words)?) else {
+        return Ok(None);
+    };
+    if breaks_rule(name, &found) {
+        return Ok(None);
     }
+    Ok(Some((name, found)))
 }
 
 /// The words read by clap, without the rules between arguments.
-fn matched<'a>(
-    alloc: Global,
-    words: &'a [String],
-) -> Result<Option<(&'a str, ArgMatches<'a>)>, Error>
-    ensures rows { IfOk result (λ found. option_map (λ p. (p.0.now, rows_of (found_of p.1))) found
-        ≡ subcommand_of program (map string_bytes words.now)) }
-    ensures kinds { FailsBy (fault_of program (map string_bytes words.now)) result }
+fn matched<'a>(alloc: Global, words: &'a [String]) -> Result<ArgMatches<'a>, Error>
+    ensures rows { IfOk result (λ matches. subcommand_rows_of matches
+        ≡ subcommand_of program (map string_bytes words.entry.now)) }
+    ensures kinds { FailsBy (fault_of program (map string_bytes words.entry.now)) result }
 {
-    let mut matches = command(alloc, false)?.try_get_matches_from(words)?;
-    Ok(matches.remove_subcommand())
+    command(alloc, false)?.try_get_matches_from(words)
+}
+
+fn subcommand_in<'a>(matches: ArgMatches<'a>) -> Option<(&'a str, ArgMatches<'a>)>
+    ensures { option_map (λ p. (p.0.now, rows_of (found_of p.1))) result
+        ≡ subcommand_rows_of matches.entry }
+{
+    let mut matches = matches;
+    matches.remove_subcommand()
 }
 
 /// The usage error that clap finds in the words with the rules between arguments; else this one.
@@ -223,8 +231,9 @@ fn whole_error<'a>(alloc: Global, words: &'a [String], error: Error) -> Error
         return error;
     };
     match whole.try_get_matches_from(words) {
+        Ok(_taken) => error,
         Err(found) if found.use_stderr() => found,
-        _ => error,
+        Err(_) => error,
     }
 }
 
