@@ -11,4 +11,5 @@ returns c =
     c.in-Some-separator_in.separator c.in-Some-unit_in.unit c.in-Some-fold_in.fold
     (map condition_of c.in-Some-only.only.items) (map condition_of c.in-Some-without.without.items)
     c.in_ok-files.ensures c.rows_words-words.ensures (search rules) (search rules) (search rules)
-    (search rules) (search rules) (search rules) (search rules)
+    (search rules) (rw c.in-Some-only.is at c.in_ok-only.ensures)
+    (rw c.in-Some-without.is at c.in_ok-without.ensures) (search rules)
