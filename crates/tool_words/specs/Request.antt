@@ -2,7 +2,7 @@
 use Rattle.clap.specs.Words.{Row, Text, first_of}
 use Rattle.program_manners.specs.Words.{is_given}
 use Rattle.std.specs.{List.count_by, Option.option_map_or, Prelude.ℕ, Prelude.Bool, Prelude.◌&&◌}
-use Rattle.std.specs.Prelude.{◌||◌, if◌then◌else◌, nat_lt, List, [], ◌∷◌, ◌++◌, Option, Some, None}
+use Rattle.std.specs.Prelude.{◌||◌, if◌then◌else◌, nat_lt, List, [], ◌∷◌, ◌++◌, Option, Some}
 use Rattle.std.specs.{Prelude.codes, Prelude.length, Prelude.unwrap_or, Str.bytes_eq}
 use Rattle.tap_rows.specs.declared.agency.choice.{Fold.Fold, Separator.Separator, Unit.Unit}
 use Rattle.tool_words.specs.Columns.{columns_in, conditions_of, count_in, devices_in, fold_in}

@@ -1,4 +1,4 @@
-use Rattle.std.proofs.Common.{◌∙◌, Bor, ap, map, rules, sym}
+use Rattle.std.proofs.Common.{◌∙◌, Bor, ap, rules, sym}
 use Rattle.clap.specs.Words.{Text}
 use Rattle.std.proofs.lemmas.{Iterator.YieldsList-from_slice, Iterator.Search.all_from_yields_List}
 use Rattle.std.proofs.lemmas.{List.Folds.list_all-map, Simd.map-map}
