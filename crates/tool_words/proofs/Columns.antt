@@ -6,7 +6,7 @@ use Rattle.std.specs.Prelude.{codes, nat_lt, unwrap_or}
 use Rattle.tap_rows.specs.declared.agency.choice.{Fold.Fold, Separator.Separator, Unit.Unit}
 use Rattle.tool_words.specs.Columns.{columns_in, conditions_of, fold_in, separator_in, unit_in}
 use Rattle.tool_words.specs.Request.{RowsRequest, encode_rows, encoded_files, inputs_in, read_files}
-use Rattle.tool_words.specs.Request.{rows_asked, rows_by, rows_request}
+use Rattle.tool_words.specs.Request.{requested_rows, rows_by, rows_request}
 use Rattle.tool_words.specs.{Tasks.texts_of, ToolLine.has_value}
 
 -- several words have several names
@@ -19,7 +19,7 @@ many_named words names is =
 pub rows_are : (rows : List Row) (files : List Text) (words : RowsRequest)
     (columns : Text × Text × Text) (separator : Separator) (unit : Unit) (fold : Fold)
     (only without : List (Text × Text)) → files ≡ encoded_files rows
-    → words ≡ rows_asked columns separator unit fold only without rows
+    → words ≡ requested_rows columns separator unit fold only without rows
     → Some columns ≡ columns_in rows
     → Some separator ≡ separator_in (unwrap_or (first_of (codes "separator") rows) (codes ","))
     → Some unit ≡ unit_in (first_of (codes "unit") rows)

@@ -111,9 +111,9 @@ read_files rows = (encoded_files rows ++ unwrap_or (first_of (codes "validators"
 
 -- an agency's CSV with these columns, this separator, this unit and this fold, under these conditions
 -- that keep rows and leave them out
-abbrev pub rows_asked : Text × Text × Text → Separator → Unit → Fold → List (Text × Text)
+abbrev pub requested_rows : Text × Text × Text → Separator → Unit → Fold → List (Text × Text)
     → List (Text × Text) → List Row → RowsRequest
-rows_asked columns separator unit fold only without rows = record {
+requested_rows columns separator unit fold only without rows = record {
   separator = separator;
   token = columns.0;
   validator = columns.1;
@@ -138,7 +138,7 @@ abbrev pub rows_by : Option (Text × Text × Text) → Option Separator → Opti
     → Option (List (Text × Text)) → Option (List (Text × Text)) → List Row → Request
 rows_by (Some columns) (Some separator) (Some unit) (Some fold) (Some only) (Some without) rows =
     if nat_lt 1 (inputs_in (read_files rows)) then misused else encode_rows (encoded_files rows)
-    (rows_asked columns separator unit fold only without rows)
+    (requested_rows columns separator unit fold only without rows)
 rows_by _ _ _ _ _ _ rows = misused
 
 -- the rows of an agency's CSV

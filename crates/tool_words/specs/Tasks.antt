@@ -22,10 +22,6 @@ text_in word = option_map (λ w. w.now) word
 abbrev pub condition_of : Condition → Text × Text
 condition_of condition = (condition.column.now, condition.value.now)
 
--- columns of tokens, validators and moments
-abbrev pub names_of : Bor Text × Bor Text × Bor Text → Text × Text × Text
-names_of names = (names.0.now, names.1.now, names.2.now)
-
 abbrev pub rows_words_of : RowsWords → RowsRequest
 rows_words_of words = record {
   separator = words.columns.separator;

@@ -6,9 +6,10 @@ ghost use Rattle.tool_words.specs.Columns.{columns_among, columns_text, columns_
 ghost use Rattle.tool_words.specs.Columns.{conditions_of, count_in, devices_in, fold_in};
 ghost use Rattle.tool_words.specs.Columns.{has_hashes, has_parts, is_comma, is_from, parts_of};
 ghost use Rattle.tool_words.specs.Columns.{separator_in, unit_in, value_of};
-ghost use Rattle.tool_words.specs.Request.{encoded_files, inputs_in, read_files, rows_asked};
+ghost use Rattle.tool_words.specs.Request.{encoded_files, inputs_in, read_files, requested_rows};
 ghost use Rattle.tool_words.specs.{Request.rows_request, Tasks.rows_words_of};
-ghost use Rattle.tool_words.specs.Tasks.{condition_of, names_of, request_of, text_in, texts_of};
+ghost use Rattle.tool_words.specs.Tasks.{condition_of, request_of, text_in, texts_of};
+ghost use Rattle.tool_words.specs.inside.Columns.{names_of};
 
 use crate::reading::{INPUT_TWICE, has_value, inputs_in};
 use crate::task::{RowsWords, Task};
@@ -260,7 +261,7 @@ fn rows_words<'a>(
     only: Vec<Condition<'a>>,
     without: Vec<Condition<'a>>,
 ) -> RowsWords<'a>
-    ensures { rows_words_of result ≡ rows_asked (names_of columns.entry) separator unit fold
+    ensures { rows_words_of result ≡ requested_rows (names_of columns.entry) separator unit fold
         (map condition_of only.entry.items) (map condition_of without.entry.items)
         (rows_of (found_of matches.now)) }
 {

@@ -1,7 +1,8 @@
 use Rattle.std.proofs.Common.{map, rules}
 use Rattle.clap.specs.Words.{found_of, rows_of}
 use Rattle.tool_words.proofs.Columns.{rows_are}
-use Rattle.tool_words.specs.Tasks.{condition_of, names_of, rows_words_of, texts_of}
+use Rattle.tool_words.specs.Tasks.{condition_of, rows_words_of, texts_of}
+use Rattle.tool_words.specs.inside.Columns.{names_of}
 use Rattle.tool_words.proofs.encode_words.rows_task.Goals as goal
 
 pub returns : goal.returns
