@@ -17,12 +17,24 @@ use world::{
 fn flush_error<F: Write>(asks: bool, file: &mut F) -> Option<io::Error>
     ensures { Keeps (F.contents file.old) (F.contents file.new) }
 {
-    if asks { file.flush().err() } else { None }
+    if !asks {
+        return None;
+    }
+    match file.flush() {
+        Ok(()) => None,
+        Err(error) => Some(error),
+    }
 }
 
 /// Why the file cannot be written, if that is asked: what refused a write refuses the next one.
 fn write_error<F: Write>(asks: bool, file: &mut F) -> Option<io::Error> {
-    if asks { file.write(&[0]).err() } else { None }
+    if !asks {
+        return None;
+    }
+    match file.write(&[0]) {
+        Ok(_) => None,
+        Err(error) => Some(error),
+    }
 }
 
 /// The system. It shows how much is read and written, and takes that away before anything else is
@@ -32,9 +44,6 @@ pub(crate) struct Framed<'r, W, E> {
     rt: &'r HostRuntime,
     system: System<'r, HostRuntime, W, E>,
     progress: Progress<'r>,
-    /// Whether it is shown how much of the text is written.
-    shows_text: bool,
-    done: u64,
     /// Whether it is asked why a file is not made.
     asks: bool,
     unmade: Option<Unmade>,
@@ -46,7 +55,6 @@ impl<'r, W, E> Framed<'r, W, E> {
     pub(crate) fn new(
         rt: &'r HostRuntime,
         progress: Progress<'r>,
-        shows_text: bool,
         asks: bool,
         out: W,
         err: E,
@@ -55,8 +63,6 @@ impl<'r, W, E> Framed<'r, W, E> {
             rt,
             system: System::new(rt, out, err),
             progress,
-            shows_text,
-            done: 0,
             asks,
             unmade: None,
         }
@@ -114,12 +120,18 @@ impl<W, E> Counted for Framed<'_, W, E> {
         let read = read_whole(self.rt, name, &mut self.progress, &mut stream);
         self.progress.end();
         match read {
-            // the calls are dropped
-            Err(LoadFault::NoMemory) => read,
-            _ => {
+            Ok(bytes) => {
                 self.system.join(stream.into_trace());
-                read
+                Ok(bytes)
             }
+            Err(why) => match why {
+                // the calls are dropped
+                LoadFault::NoMemory => Err(why),
+                LoadFault::Unread | LoadFault::TooLong => {
+                    self.system.join(stream.into_trace());
+                    Err(why)
+                }
+            },
         }
     }
 }
@@ -128,18 +140,15 @@ impl<W: Write, E: Write> World for Framed<'_, W, E> {
     type File = NewFile<File>;
 
     fn write(&mut self, piece: &[u8]) -> Result<(), WriteFault> {
-        if !self.shows_text {
-            self.progress.end();
-        }
+        self.progress.end_counts();
         match self.system.write(piece) {
-            Ok(()) if self.shows_text => {
-                self.done = self.done.saturating_add(piece.len() as u64);
-                self.progress.report_bytes(self.done, "written");
+            Ok(()) => {
+                self.progress.report_written(piece.len());
                 Ok(())
             }
-            written => {
+            Err(why) => {
                 self.progress.end();
-                written
+                Err(why)
             }
         }
     }

@@ -199,9 +199,10 @@ pub(crate) fn report_hints<'a>(
     if has_shown(rt, words, task.as_ref(), said, failures) || !said.is_silent() {
         return;
     }
-    if let Some(task) = task
-        && let Ok(hints) = not_uploads(rt, rt.alloc(), uploads_of(&task))
-    {
+    let Some(task) = task else {
+        return;
+    };
+    if let Ok(hints) = not_uploads(rt, rt.alloc(), uploads_of(&task)) {
         let mut err = Complaints::new(rt.stderr());
         for hint in &hints {
             err.report_line(*hint);

@@ -17,10 +17,13 @@ pub(crate) struct Progress<'r> {
     started: Option<Instant>,
     /// After how many milliseconds of the run the next line is due.
     due_ms: u128,
+    /// Whether it is shown how much of the text is written.
+    shows_text: bool,
+    written: u64,
 }
 
 impl<'r> Progress<'r> {
-    pub(crate) fn new(rt: &'r HostRuntime, is_wanted: bool) -> Progress<'r> {
+    pub(crate) fn new(rt: &'r HostRuntime, is_wanted: bool, shows_text: bool) -> Progress<'r> {
         let err = rt.stderr();
         let started = if is_wanted && err.is_terminal() {
             Instant::now(rt).ok()
@@ -32,15 +35,24 @@ impl<'r> Progress<'r> {
             line: TerminalLine::new(err),
             started,
             due_ms: u128::from(QUIET_MS),
+            shows_text,
+            written: 0,
+        }
+    }
+
+    /// For how many milliseconds the run goes on; none if nothing is shown.
+    fn passed_ms(&self) -> Option<u128> {
+        match self.started.as_ref()?.elapsed(self.rt) {
+            Ok(passed) => Some(passed.as_millis()),
+            Err(_) => None,
         }
     }
 
     /// Whether a line is to be shown. If so, the next one is due a while later.
     fn is_due(&mut self) -> bool {
-        let Some(Ok(passed)) = self.started.as_ref().map(|it| it.elapsed(self.rt)) else {
+        let Some(passed) = self.passed_ms() else {
             return false;
         };
-        let passed = passed.as_millis();
         let is_due = passed >= self.due_ms;
         if is_due {
             self.due_ms = passed.saturating_add(u128::from(PACE_MS));
@@ -61,6 +73,21 @@ impl<'r> Progress<'r> {
     pub(crate) fn report_bytes(&mut self, done: u64, verb: &str) {
         let done = done / MIB;
         self.show(format_args!("{done} MiB {verb}"));
+    }
+
+    /// Shows that more bytes of the text are written, if that is shown.
+    pub(crate) fn report_written(&mut self, bytes: usize) {
+        if self.shows_text {
+            self.written = self.written.saturating_add(bytes as u64);
+            self.report_bytes(self.written, "written");
+        }
+    }
+
+    /// Takes away what is shown of what is read, before the text goes on.
+    pub(crate) fn end_counts(&mut self) {
+        if !self.shows_text {
+            self.end();
+        }
     }
 
     pub(crate) fn end(&mut self) {

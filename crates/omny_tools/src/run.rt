@@ -70,11 +70,11 @@ pub(crate) fn run<R: Threads + Sync, E: Write>(
         err.report_line(Fault::NoMemory);
         return 1;
     };
-    let progress = Progress::new(rt, shows.counts || !rt.stdout().is_terminal());
+    let progress = Progress::new(rt, shows.counts || !rt.stdout().is_terminal(), shows.text);
     let asks = rt.stderr().is_terminal();
     let mut out = Unwritten::new(out);
     let mut err = Overheard::new(rt.stderr());
-    let mut framed = Framed::new(rt, progress, shows.text, asks, &mut out, &mut err);
+    let mut framed = Framed::new(rt, progress, asks, &mut out, &mut err);
     let status = main_over(
         threads,
         rt.alloc(),
