@@ -61,7 +61,7 @@ kept_map : {X Y : Type 0} (f : X → Y) (b : Bool) (x : X) (xs : List X)
 kept_map f true x xs = refl
 kept_map f false x xs = refl
 
-filter-map : {X Y : Type 0} (p : Y → Bool) (f : X → Y) (xs : List X)
+pub filter-map : {X Y : Type 0} (p : Y → Bool) (f : X → Y) (xs : List X)
     → filter p (map f xs) ≡ map f (filter (λ x. p (f x)) xs)
 filter-map p f [] = refl
 filter-map p f (x ∷ xs) =
@@ -424,7 +424,7 @@ origins_for upload (y ∷ made) =
         (ap (λ t. taps_made (cond t (y ∷ made_for upload made) (made_for upload made))) b))
 
 -- what one test keeps, another one keeps that it implies
-filter_within : {X : Type 0} (p q : X → Bool) (xs : List X) → All (λ x. p x ≡ true → q x ≡ true) xs
+pub filter_within : {X : Type 0} (p q : X → Bool) (xs : List X) → All (λ x. p x ≡ true → q x ≡ true) xs
     → filter p xs ≡ filter p (filter q xs)
 filter_within p q [] all = refl
 filter_within p q (x ∷ xs) all =
