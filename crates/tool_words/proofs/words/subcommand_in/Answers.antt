@@ -1,5 +1,5 @@
 use Rattle.tool_words.proofs.Entered.{entered_pair}
-use Rattle.tool_words.proofs.words.entered.Goals as goal
+use Rattle.tool_words.proofs.words.subcommand_in.Goals as goal
 
 pub returns : goal.returns
 returns c =

@@ -1,5 +1,5 @@
 use Rattle.std.proofs.Common.{◌≡◌, rules}
-use Rattle.omny_cli.proofs.beside.run_beside_line.Goals as goal
+use Rattle.omny_cli.proofs.system.run_beside_line.Goals as goal
 
 -- what the closure left in what it borrowed is what it left behind
 pub returns : goal.returns
