@@ -1,8 +1,7 @@
 -- The fault lines, without their line feeds.
-use Rattle.fare_program.specs.declared.fault.Fault.{Fault}
-use Rattle.fare_program.specs.declared.fault.Fault.TheVariants.{Class, File, Gather, Late}
-use Rattle.fare_program.specs.declared.fault.Fault.TheVariants.{Tables, TooManyTaps, Unopened}
-use Rattle.fare_program.specs.declared.fault.Fault.TheVariants.{Unsorted, Uploads, Write}
+use Rattle.fare_program.specs.declared.fault.Fault.{Fault, TheVariants.Class, TheVariants.File}
+use Rattle.fare_program.specs.declared.fault.Fault.TheVariants.{Gather, Late, Tables, TooManyTaps}
+use Rattle.fare_program.specs.declared.fault.Fault.TheVariants.{Unopened, Unsorted, Uploads, Write}
 use Rattle.program_manners.specs.Lines.{follow_text, load_text, named_class_text, named_table_text}
 use Rattle.program_manners.specs.Lines.{table_text}
 use Rattle.std.specs.Prelude.{◌++◌, ℕ, List, codes, decimal, false, true}

@@ -39,7 +39,7 @@ impl fmt::Display for Word {
     }
 }
 
-/// A count beyond 64 bits is taken for want of memory.
+/// A count beyond 64 bits is reported as an allocation failure.
 fn add_one(number: &mut u64) -> Result<(), NoMemory>
     ensures { OnOk result (number.new ≡ number.old + 1) }
 {

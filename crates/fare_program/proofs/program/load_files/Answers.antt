@@ -1,13 +1,12 @@
-use Rattle.std.proofs.Common.{◌≡◌, ◌∙◌, ◌<◌, ◌++◌, ◌∷◌, [], Some, List, ℕ, length, map, take}
-use Rattle.std.proofs.Common.{ap, get_or, Bor, ◌+◌, sym, Result, Ok, Err, true, rules, subst}
-use Rattle.std.proofs.lemmas.List.{map-append, take_all, take_more}
-use Rattle.std.specs.Prelude.{IfErr, IfOk, is_ok}
-use Rattle.std.specs.Result.{IsErrAnd}
-use Rattle.fare_program.proofs.Loads.{loads_push, names_to_load_are}
+use Rattle.std.proofs.Common.{◌≡◌, ◌∙◌, ◌<◌, ◌++◌, ◌∷◌, [], Some, List, ℕ, length, map, take, ap}
+use Rattle.std.proofs.Common.{get_or, Bor, ◌+◌, sym, Result, Ok, Err, true, rules}
+use Rattle.fare_program.proofs.{Causes.named_one, Loads.loads_push, Loads.names_to_load_are}
 use Rattle.program_manners.proofs.Refusals.{has_refused, is_one_at}
 use Rattle.program_manners.specs.Refusals.{IsOneOf, Refuses}
+use Rattle.std.proofs.lemmas.List.{map-append, take_all, take_more}
+use Rattle.std.specs.Prelude.{IfErr, IfOk, is_ok}
+use Rattle.tap_views.proofs.Choices.{IfErr_handed_on}
 use Rattle.world.specs.declared.faults.LoadFault.{LoadFault}
-use Rattle.fare_program.proofs.Causes.{named_one}
 use Rattle.fare_program.proofs.program.load_files.Goals as goal
 
 abbrev no_name : Bor (List ℕ)
@@ -17,11 +16,6 @@ both_of : {A E : Type 0} (r : Result A E) (P Q : A → Type 0) → is_ok r ≡ t
     → (x : A) × P x × Q x
 both_of (Ok x) P Q ok p q = (x, p, q)
 both_of (Err e) P Q ok p q = absurd (cc)
-
-err_by : {T E : Type 0} (r : Result T E) (x : E) (P : E → Type 0) → IsErrAnd r (λ e. e ≡ x) → P x
-    → IfErr r P
-err_by (Ok t) x P is p = tt
-err_by (Err e) x P is p = subst P (sym is) p
 
 refused_by : {T : Type 0} (r : Result T LoadFault) (fault : LoadFault) (P : LoadFault → Type 0)
     → r ≡ Err fault → IfErr r P → P fault
@@ -59,7 +53,7 @@ returns-in_err-add-2-clause-fault g c =
     let refused = g.S.FileSource.refused c.load.new.self in
     let one : IsOneOf file.name.now (map (λ n. n.now) names) = rw (← c.deref-name-items.ensures.value)
     (is_one_at c.deref-name-items.result.now c.loop-name.name-index no_name _ c.loop-name-test.true named) in
-    err_by c.from_residual-in_err-add-2.result file _ c.from_residual-in_err-add-2.ensures.1
+    IfErr_handed_on c.from_residual-in_err-add-2.result file _ c.from_residual-in_err-add-2.ensures.1
     (λ other. (
       named_one _ _ one,
       rw named (has_refused refused (Some _) file.fault

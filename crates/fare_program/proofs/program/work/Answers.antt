@@ -1,12 +1,13 @@
 use Rattle.std.proofs.Common.{◌≡◌, ℕ, Bool, List, Option, Some, ap, arith, inl, length, map}
 use Rattle.std.proofs.Common.{option_map, refl}
 use Rattle.fare_program.proofs.Causes.{many_named, right_sorted, right_uploads}
-use Rattle.fare_program.proofs.Choices.{if_false, if_none, if_some, if_true}
+use Rattle.fare_program.proofs.Choices.{if_false, if_some, if_true}
 use Rattle.fare_program.proofs.Ends.{gives_by, gives_kept}
 use Rattle.fare_program.specs.{Options.Request, inside.Options.request_of}
 use Rattle.fare_program.specs.Program.{Does, DoesBy, IsTokenIn}
 use Rattle.program_manners.specs.{Loads.Loaded, TableLoads.LoadsTables, TableViews.names_of}
 use Rattle.program_manners.specs.TableWords.{TableNames}
+use Rattle.tap_views.proofs.Choices.{MatchOption_none}
 use Rattle.tap_views.specs.declared.token.Token.{Token}
 use Rattle.tariffs.specs.Fares.{Fares}
 use Rattle.world.specs.Origins.{Origin}
@@ -40,7 +41,7 @@ returns-in_default-clause-right g c =
 pub returns-in_default-clause-ends : goal.returns-in_default-clause-ends
 returns-in_default-clause-ends g c =
     gives_by _ _ _ _ _ _ c.list_files.result (λ given. tt)
-    (λ text success lists. if_none _ _ (ap (option_map names_of) c.in_default.is) lists)
+    (λ text success lists. MatchOption_none _ _ _ (ap (option_map names_of) c.in_default.is) lists)
     c.list_files.ensures.ends
 
 pub returns-then-options-clause-ends : goal.returns-then-options-clause-ends
