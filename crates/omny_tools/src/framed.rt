@@ -10,7 +10,7 @@ use std::io;
 use std::io::Write;
 use tool_program::Counted;
 use world::{
-    Fault, Inputs, LoadFault, Loaded, MakeFault, NewFile, Stream, System, Trace, World, WriteFault,
+    Inputs, LoadFault, Loaded, MakeFault, NewFile, Stream, System, Trace, World, WriteFault,
 };
 
 /// Why the file cannot be flushed, if that is asked.
@@ -161,11 +161,6 @@ impl<W: Write, E: Write> World for Framed<'_, W, E> {
     fn say(&mut self, text: &[u8]) {
         self.progress.end();
         self.system.say(text);
-    }
-
-    fn report(&mut self, why: Fault<'_>) {
-        self.progress.end();
-        self.system.report(why);
     }
 
     fn report_line<D: Display + Drop>(&mut self, line: D) -> Result<(), io::Error> {

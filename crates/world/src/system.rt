@@ -1,6 +1,6 @@
 //! The files and streams of the system, each call recorded.
 
-use crate::faults::{Fault, LoadFault, MakeFault, WriteFault};
+use crate::faults::{LoadFault, MakeFault, WriteFault};
 use crate::files::{load_file, load_input, load_into};
 use crate::loaded::Loaded;
 use crate::new_file::{NewFile, begin, discard, fail, finish};
@@ -88,10 +88,6 @@ impl<R: Files + Input + AllocGlobal + RandomSource, W: Write, E: Write> World
 
     fn say(&mut self, text: &[u8]) {
         give(&mut self.err, text, &mut self.trace);
-    }
-
-    fn report(&mut self, why: Fault<'_>) {
-        let _ = give_line(&mut self.err, why, &mut self.trace);
     }
 
     fn report_line<D: Display + Drop>(&mut self, line: D) -> Result<(), io::Error> {

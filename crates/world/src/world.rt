@@ -1,6 +1,6 @@
 //! What a program may read, and what it may do.
 
-use crate::faults::{Fault, LoadFault, MakeFault, WriteFault};
+use crate::faults::{LoadFault, MakeFault, WriteFault};
 use crate::files::LOAD_LIMIT_BYTES;
 use crate::loaded::Loaded;
 use crate::trace::Trace;
@@ -73,10 +73,6 @@ pub trait World: Inputs {
     /// Gives the text to the standard error.
     fn say(&mut self, text: &[u8])
         ensures { Self.run self.new ≡ with_said (Self.run self.old) text.now };
-
-    /// Gives the fault line to the standard error.
-    fn report(&mut self, why: Fault<'_>)
-        ensures { IsSaid (Self.run self.old) (Self.run self.new) };
 
     /// Gives the line and a line feed to the standard error, or the error of its `Display`.
     fn report_line<D: Display + Drop>(&mut self, line: D) -> Result<(), io::Error>
