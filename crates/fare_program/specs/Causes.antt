@@ -11,7 +11,7 @@ use Rattle.program_manners.specs.{Loads.Loaded, Refusals.IsOneOf, Refusals.HasRe
 use Rattle.program_manners.specs.TableLoads.{LoadsTables}
 use Rattle.program_manners.specs.TableWords.{TableNames, table_files}
 use Rattle.program_manners.specs.{TablesFaults.IsTablesFault, declared.loading.FileFault.FileFault}
-use Rattle.sorted_bills.specs.Faults.{HaveTooManyTaps}
+use Rattle.settled_bills.specs.Faults.{HaveTooManyTaps}
 use Rattle.sorted_taps.specs.Checked.{IsFirstUnsorted}
 use Rattle.std.specs.Prelude.{◌≡◌, ◌≢◌, ◌<◌, ℕ, List, [], ◌∷◌, Option, Some, true, MatchOption}
 use Rattle.std.specs.Prelude.{codes, length, map, slice_get}

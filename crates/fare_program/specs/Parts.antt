@@ -5,7 +5,7 @@ use Rattle.histories.specs.{Sums.sums, SumsByKey.sums_by_token, SumsByKey.sums_b
 use Rattle.histories.specs.declared.entry.Entry.{Entry}
 use Rattle.part_texts.specs.Heads.{part_head}
 use Rattle.report_texts.specs.Report.{report}
-use Rattle.sorted_bills.specs.Parts.{IsPartOf}
+use Rattle.settled_bills.specs.Parts.{IsPartOf}
 use Rattle.sorted_taps.specs.declared.positions.FileSpan.{FileSpan}
 use Rattle.std.specs.Prelude.{◌≡◌, ◌++◌, ℕ, Bool, List, MatchBool, MatchOption, None, Option}
 use Rattle.std.specs.Prelude.{length, map}

@@ -10,7 +10,7 @@ use Rattle.fare_texts.specs.declared.form.Form.{Form}
 use Rattle.hex.specs.Hex.{decode_sized}
 use Rattle.histories.specs.{Plain.IsPlain, declared.entry.Entry.Entry}
 use Rattle.program_manners.specs.{Loads.Loaded, TableLoads.LoadsTables, TableWords.TableNames}
-use Rattle.settled_texts.specs.Ledgers.{IsTracedLedger}
+use Rattle.settled_bills.specs.Ledgers.{IsTracedLedger}
 use Rattle.shared_books.specs.Drawing.{AllBelow, HasAll}
 use Rattle.std.specs.Prelude.{◌≡◌, ℕ, Bool, true, List, map, Option, None, Some, Ok, MatchBool}
 use Rattle.std.specs.Prelude.{MatchOption, length}

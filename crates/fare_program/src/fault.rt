@@ -3,13 +3,13 @@ ghost use Rattle.fare_program.specs.{Causes.IsRightOfSorted, Fault.class_text, F
 ghost use Rattle.fare_program.specs.inside.{Ends.IsLate, Fault.IsOfOutput, Fault.IsRightOfUploads};
 ghost use Rattle.fare_program.specs.inside.Fault.{as_remembered, ended_as, printed_as};
 ghost use Rattle.fare_service.specs.Faults.{MissesNothing};
-ghost use Rattle.sorted_bills.specs.Faults.{IsBeforeText, IsBillFault};
+ghost use Rattle.settled_bills.specs.Faults.{IsBeforeText, IsBillFault};
 ghost use Rattle.std.specs.Prelude.{◌≡◌, ◌≢◌, ℕ, List, Option, Some, IfErr, map};
 
 use crate::sorted_fault::{LateFault, UnopenedFile, UnsortedFile};
 use fare_service::{GatherFault, OpenFault, PrintFault, RunFault};
 use program_manners::{FileFault, NamedClassLine, TableLine, TablesFault, WriteEnd};
-use sorted_bills::BillFault;
+use settled_bills::BillFault;
 use std::fmt;
 
 /// Why the program fails. Its `Display` is the fault line without its line feed.

@@ -17,7 +17,7 @@ use fare_table::FareTable;
 use histories::HashSeed;
 use part_texts::write_part_head;
 use placed_files::Placed;
-use sorted_bills::{BillFault, PartBill, part_bill, part_spans, write_part_ledger};
+use settled_bills::{BillFault, PartBill, part_bill, part_spans, write_part_ledger};
 use std::alloc::Global;
 use std::io::Write;
 use std::marker::Sync;

@@ -10,7 +10,7 @@ use crate::run::are_posted;
 use crate::settled_token::write_token;
 use fare_table::FareTable;
 use file_sources::Disk;
-use settled_texts::write_settled_ledger;
+use settled_bills::write_settled_ledger;
 use settlement::{SettledTaps, Uploads, laws, settled_taps};
 use std::alloc::Global;
 use std::io::Write;

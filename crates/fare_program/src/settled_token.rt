@@ -16,7 +16,7 @@ use crate::run::are_posted;
 use fare_table::FareTable;
 use fare_texts::PrintFault;
 use file_sources::Disk;
-use settled_texts::{write_token_explained, write_token_ledger, write_token_statement};
+use settled_bills::{write_token_explained, write_token_ledger, write_token_statement};
 use settlement::{TokenTaps, Uploads, laws, settled_taps_of};
 use std::alloc::Global;
 use std::io::Write;

@@ -3,7 +3,7 @@ ghost use Rattle.std.specs.Prelude.{Some};
 ghost use Rattle.fare_program.specs.SortedFaults.{late_text, sorted_text, unopened_text};
 
 use placed_files::Unopened;
-use sorted_bills::BillFault;
+use settled_bills::BillFault;
 use sorted_taps::SortedFault;
 use std::fmt;
 

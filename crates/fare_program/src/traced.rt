@@ -4,7 +4,7 @@ ghost use Rattle.fare_program.specs.{Causes.IsRightFault, Program.Traces};
 ghost use Rattle.fare_program.specs.inside.{Ends.Gives, Fault.IsOfOutput, Options.request_of};
 ghost use Rattle.program_manners.specs.{Loads.Loaded, TableLoads.LoadsTables, TableViews.names_of};
 ghost use Rattle.program_manners.specs.TableWords.{table_files};
-ghost use Rattle.settled_texts.specs.Ledgers.{IsTracedLedger};
+ghost use Rattle.settled_bills.specs.Ledgers.{IsTracedLedger};
 ghost use Rattle.std.specs.Prelude.{◌≡◌, ◌≤◌, List, Option, Some, IfErr, IfSome, length, map};
 ghost use Rattle.std.specs.Prelude.{slice_get, true};
 
@@ -14,7 +14,7 @@ use crate::program::load_files;
 use fare_table::FareTable;
 use file_sources::{Disk, Source};
 use program_manners::{TableWord, TableWords, Tables};
-use settled_texts::{ClassFault, ClassNames, WrongNames, write_traced_ledger};
+use settled_bills::{ClassFault, ClassNames, WrongNames, write_traced_ledger};
 use std::alloc::Global;
 use std::io::Write;
 use std::marker::Sync;

@@ -1,6 +1,6 @@
 -- The key `caps`: how long the windows of caps beside `window` are, and which modes these count.
 use Rattle.fare_table.specs.Members.{are_texts, hold_tables, names_in, of_kind, text_at}
-use Rattle.fare_table.specs.{Modes.is_mode_name, Modes.mode_named, OrFault.OrFault}
+use Rattle.fare_table.specs.{Modes.is_mode_name, Modes.mode_named, OrFault.OrFault, OrFault.◌>>=◌}
 use Rattle.fare_table.specs.declared.fault.TableFault.TheVariants.{Kind, Range, Cap}
 use Rattle.std.specs.{List.list_all, Option.ok_or, Prelude.ℕ, Prelude.◌&&◌}
 use Rattle.std.specs.Prelude.{◌++◌, ◌∷◌, [], Bool, true, false, List, Option, Some, None, Ok, Err}

@@ -1,7 +1,7 @@
 -- The keys `classes` and `default_class`: what rider classes pay, and what their rides give.
 use Rattle.fare_table.specs.{Caps.cap_named, Members.hold_numbers, Members.hold_tables}
 use Rattle.fare_table.specs.Members.{number_at, number_in, number_or, of_kind, table_at, text_at}
-use Rattle.fare_table.specs.{Modes.mode_named, OrFault.OrFault}
+use Rattle.fare_table.specs.{Modes.mode_named, OrFault.OrFault, OrFault.◌>>=◌}
 use Rattle.fare_table.specs.declared.fault.TableFault.TheVariants.{Kind, Range, Rider}
 use Rattle.std.specs.{Option.ok_or, Prelude.ℕ, Prelude.suc, Prelude.◌*◌}
 use Rattle.std.specs.Prelude.{Bool, true, false, List, [], ◌∷◌, ◌++◌, Option, Some, ◌&&◌, None, Ok}

@@ -1,5 +1,5 @@
 -- The values at the keys of a TOML table.
-use Rattle.fare_table.specs.{OrFault.OrFault, declared.fault.Key.Key}
+use Rattle.fare_table.specs.{OrFault.OrFault, OrFault.◌>>=◌, declared.fault.Key.Key}
 use Rattle.fare_table.specs.declared.fault.TableFault.TheVariants.{Missing, Kind, Range}
 use Rattle.std.specs.Option.{is_some, ok_or}
 use Rattle.std.specs.Prelude.{ℕ, ℤ, pos, ◌&&◌, ◌∷◌, [], Bool, true, List, Option, None, Some, Ok}

@@ -1,6 +1,6 @@
 -- The key `riders`: the classes of single riders by their tokens.
 use Rattle.fare_table.specs.{Classes.class_named, Members.of_kind, Members.hold_strings}
-use Rattle.fare_table.specs.OrFault.{OrFault}
+use Rattle.fare_table.specs.OrFault.{OrFault, ◌>>=◌}
 use Rattle.fare_table.specs.declared.fault.TableFault.TheVariants.{Kind, Rider}
 use Rattle.hex.specs.Hex.{decode_sized}
 use Rattle.std.specs.{BTreeMap.insert_entry, BTreeMap.is_at, Cmp.Lexicographic.slice_cmp}

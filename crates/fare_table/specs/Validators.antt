@@ -1,6 +1,6 @@
 -- The key `validators`: ranges of validators and their modes.
 use Rattle.fare_table.specs.Members.{array_at, number_at, of_kind, text_at, are_tables}
-use Rattle.fare_table.specs.{Modes.mode_named, OrFault.OrFault}
+use Rattle.fare_table.specs.{Modes.mode_named, OrFault.OrFault, OrFault.◌>>=◌}
 use Rattle.fare_table.specs.declared.fault.TableFault.TheVariants.{Kind, Overlap}
 use Rattle.std.specs.{BTreeMap.insert_entry, List.list_any, Ordering.nat_cmp}
 use Rattle.std.specs.Prelude.{ℕ, ◌&&◌, Bool, List, [], Ok, Err, codes, nat_le, if◌then◌else◌}

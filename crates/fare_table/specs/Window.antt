@@ -1,5 +1,5 @@
 -- The keys `window` and `day_starts`: texts that say how long windows are, and when a day starts.
-use Rattle.fare_table.specs.{Members.of_kind, OrFault.OrFault}
+use Rattle.fare_table.specs.{Members.of_kind, OrFault.OrFault, OrFault.◌>>=◌}
 use Rattle.std.specs.Option.{ok_or}
 use Rattle.std.specs.Prelude.{ℕ, Option, Some, None, Ok, codes}
 use Rattle.tariffs.specs.WindowSpan.{length_named, minutes_named}

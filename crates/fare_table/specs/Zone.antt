@@ -1,5 +1,5 @@
 -- The key `zone`: a text, and the rule that it reads as.
-use Rattle.fare_table.specs.{Members.of_kind, OrFault.OrFault}
+use Rattle.fare_table.specs.{Members.of_kind, OrFault.OrFault, OrFault.◌>>=◌}
 use Rattle.jiff.specs.Words.{read_whole, tz_view}
 use Rattle.jiff_tz.specs.declared.posix.TimeZone.{TimeZone as PosixRule}
 use Rattle.std.specs.Option.{is_some}

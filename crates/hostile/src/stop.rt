@@ -2,7 +2,7 @@
 
 use fare_service::{GatherFault, OpenFault, RunFault};
 use fare_table::TableFault;
-use sorted_bills::BillFault;
+use settled_bills::BillFault;
 use sorted_taps::{FileFault, MergeFault, SortedFault, WriteFault};
 use std::alloc::{AllocError, AllocFailed};
 use tap_views::{EncodeFault, LayoutFault, NoMemory};

@@ -14,8 +14,8 @@ use Rattle.part_texts.specs.{LedgerParts.DoJoinUp, LedgerParts.IsPartLedger, Mer
 use Rattle.part_texts.specs.Shown.{SpanFits, part_text, sum_up}
 use Rattle.report_texts.specs.{OverHistory.IsReportOver, Report.report}
 use Rattle.settlement.proofs.TokenRuns.{posted_length}
-use Rattle.sorted_bills.specs.Parts.{ArePartsOf, AreIncreasing, IsPartOf, PartView, added}
-use Rattle.sorted_bills.specs.Parts.{numbers_of_parts}
+use Rattle.settled_bills.specs.Parts.{ArePartsOf, AreIncreasing, IsPartOf, PartView, added}
+use Rattle.settled_bills.specs.Parts.{numbers_of_parts}
 use Rattle.sorted_taps.specs.Positions.{AreSpanned, AreWhole}
 use Rattle.sorted_taps.specs.declared.positions.FileSpan.{FileSpan}
 use Rattle.std.proofs.lemmas.List.{length-map, Elements.All-cons}

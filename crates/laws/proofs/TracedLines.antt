@@ -3,8 +3,8 @@ use Rattle.std.proofs.Common.{◌≡◌, ◌∙◌, ℕ, Bool, List, [], ◌∷�
 use Rattle.std.proofs.Common.{if◌then◌else◌}
 use Rattle.laws.specs.Traced.{line_of}
 use Rattle.ledger_check.specs.{Columns.traced_text, Lines.Lacks}
-use Rattle.settled_texts.specs.Columns.{columns_of, with_columns}
-use Rattle.settled_texts.specs.declared.trace.TracedTap.{TracedTap}
+use Rattle.settled_bills.specs.Columns.{columns_of, with_columns}
+use Rattle.settled_bills.specs.declared.trace.TracedTap.{TracedTap}
 use Rattle.std.proofs.lemmas.Bool.{ne_eqb}
 use Rattle.std.specs.Fmt.{decimal}
 

@@ -2,7 +2,7 @@
 use Rattle.histories.specs.{Sums.sums, SumsByKey.sums_by_token, SumsByKey.sums_by_validator}
 use Rattle.part_texts.specs.{Heads.part_head, HistoryParts.HistoryPart, LedgerParts.IsPartLedger}
 use Rattle.report_texts.specs.Report.{report}
-use Rattle.sorted_bills.specs.Parts.{PartView}
+use Rattle.settled_bills.specs.Parts.{PartView}
 use Rattle.std.specs.Prelude.{ℕ, List, ◌++◌, length, map}
 use Rattle.tap_views.specs.declared.upload_end.UploadEnd.TheVariants.{Posted}
 use Rattle.tariffs.specs.Fares.{Fares}

@@ -1,7 +1,7 @@
 -- What numbers of 64 bits can hold.
 use Rattle.histories.specs.declared.entry.Entry.{Entry}
 use Rattle.part_texts.specs.Shown.{SpanFits}
-use Rattle.sorted_bills.specs.Parts.{PartView}
+use Rattle.settled_bills.specs.Parts.{PartView}
 use Rattle.std.specs.List.{AllByRecursion}
 use Rattle.std.specs.Prelude.{ℕ, ◌<◌, ◌^◌, List, All, IfSome, flat_map, length}
 use Rattle.tariffs.specs.Fares.{Fares, class_of, meaning_at, price_of, ride_terms}

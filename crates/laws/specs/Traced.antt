@@ -2,8 +2,8 @@
 use Rattle.std.specs.Prelude.{◌≡◌, ℕ, List, ◌∷◌, ◌++◌, Some}
 use Rattle.ledger_check.specs.Columns.{IsTraced, TracedLine, cut_line, traced_text}
 use Rattle.ledger_check.specs.Lines.{Lacks}
-use Rattle.settled_texts.specs.Columns.{columns_of, with_columns}
-use Rattle.settled_texts.specs.declared.trace.TracedTap.{TracedTap}
+use Rattle.settled_bills.specs.Columns.{columns_of, with_columns}
+use Rattle.settled_bills.specs.declared.trace.TracedTap.{TracedTap}
 
 -- the fields of a ledger's line, the class of the tap's rider, and the tap's place
 abbrev pub line_of : List ℕ → List ℕ → TracedTap → TracedLine

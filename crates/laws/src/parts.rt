@@ -7,13 +7,13 @@ ghost use Rattle.fare_texts.specs.Ledger.{IsLedgerOver};
 ghost use Rattle.part_texts.specs.Merged.{merge_of};
 ghost use Rattle.report_texts.specs.OverHistory.{IsReportOver};
 ghost use Rattle.settlement.specs.Settled.{IsSettledHistory};
-ghost use Rattle.sorted_bills.specs.Parts.{ArePartsOf, AreIncreasing, PartView};
+ghost use Rattle.settled_bills.specs.Parts.{ArePartsOf, AreIncreasing, PartView};
 ghost use Rattle.sorted_taps.specs.Positions.{AreWhole};
 ghost use Rattle.laws.specs.PartTexts.{IsLedgerText, part_report};
 ghost use Rattle.laws.specs.Sizes.{CanBeWritten, HaveBoundedTerms, HavePositions};
 
 use part_texts::laws::{ledgers_are_merged, reports_are_merged};
-use sorted_bills::laws::joined_parts_are_settled;
+use settled_bills::laws::joined_parts_are_settled;
 
 /// The reports of parts that join and rise by token are merged into that of one settled run.
 pub fn merged_reports()

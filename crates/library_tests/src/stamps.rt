@@ -3,8 +3,8 @@
 use super::sample::{SAMPLE, rides, token};
 use fare_table::{FareTable, ReadFareTable};
 use placed_files::{FileStamp, InMemory, Placed};
+use settled_bills::{BillFault, sorted_bill, sorted_taps_of, write_sorted_ledger};
 use shard_book::HashSeed;
-use sorted_bills::{BillFault, sorted_bill, sorted_taps_of, write_sorted_ledger};
 use sorted_taps::{MergeFault, have_stamps, merge_sorted, stamps_of};
 use std::alloc::Global;
 use std::io;

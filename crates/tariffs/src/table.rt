@@ -316,7 +316,7 @@ impl FareTable {
         self.first.terms_of(token)
     }
 
-    /// Kept out of `mode_of`, so that a run with one tariff has a compare there and no more.
+    /// This and `later_at` are kept out of `mode_of` and `at`: one tariff costs a compare there.
     #[cold]
     #[inline(never)]
     fn later_mode_of(&self, moment: u64, validator: u32) -> Option<Mode>
@@ -328,7 +328,6 @@ impl FareTable {
         tariff.mode_of(validator)
     }
 
-    /// Kept out of `at`, as `later_mode_of` out of `mode_of`.
     #[cold]
     #[inline(never)]
     fn later_at(&self, moment: u64) -> &Tariff

@@ -1,6 +1,6 @@
 use Rattle.std.proofs.Common.{◌∙◌, Bor, List, ap, length, option_map, refl, subst, ℕ}
 use Rattle.std.proofs.lemmas.Option.{slice_get-map, slice_get_read}
-use Rattle.sorted_bills.specs.Faults.{IsBillFault}
+use Rattle.settled_bills.specs.Faults.{IsBillFault}
 use Rattle.fare_program.proofs.fault.Fault.of_bill.Goals as goal
 
 abbrev name_in : Bor (List ℕ) → List ℕ

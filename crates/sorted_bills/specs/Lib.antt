@@ -1,4 +1,0 @@
-pub mod Faults
-pub mod Ledgers
-pub mod Parts
-pub mod inside
