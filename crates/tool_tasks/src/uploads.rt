@@ -1,6 +1,4 @@
 //! `uploads`: what each upload has.
-ghost use Rattle.std.specs.Prelude.{◌≡◌, ◌≤◌, ◌++◌, ℕ, List, OnOk, string_bytes};
-ghost use Rattle.tool_tasks.specs.Uploads.{IsMomentOrDash};
 
 use crate::counted::Counted;
 use crate::fault::Fault;
@@ -14,10 +12,7 @@ use tap_views::{Facts, LayoutFault, facts_of};
 use world::World;
 
 /// In milliseconds since 1970-01-01T00:00Z, or `-` if there is none.
-pub(crate) fn push_moment(text: &mut String, moment: Option<u64>) -> Result<(), AllocError>
-    ensures { OnOk result ((written : List ℕ) × IsMomentOrDash moment written
-        × (string_bytes text.new ≡ string_bytes text.old ++ written)) }
-{
+pub(crate) fn push_moment(text: &mut String, moment: Option<u64>) -> Result<(), AllocError> {
     match moment {
         Some(moment) => write_moment(text, moment),
         None => text.push_str("-"),
