@@ -10,6 +10,7 @@ use Rattle.ledger_changes.specs.Tokens.{corrections_of, head_of}
 use Rattle.ledger_changes.specs.declared.changes.Corrections.{Corrections}
 use Rattle.ledger_changes.specs.declared.fault.Bill.TheVariants.{New, Old}
 use Rattle.std.specs.Prelude.{Contains, IfErr, IfOk, Vec}
+use Rattle.std.specs.declared.alloc.Global.{Global}
 use Rattle.tool_tasks.proofs.Streaming.{all_read}
 use Rattle.tool_tasks.specs.Corrections.{AreRead, Corrects, IsPart, IsRemovedNote, IsWrongLedger}
 use Rattle.tool_tasks.specs.{Streams.CanStop, declared.stops.Halt.Halt}
@@ -88,7 +89,7 @@ module _ (request : CorrectionsRequest) (calls : List Calls) (old new : Calls)
   part_by text (inl none) = inl none
   part_by text (inr has) = inr (old, new, read, has)
 
-  pub corrected : (run run' : Run) (removed : ℕ) (result : Result (Vec ℕ) Halt)
+  pub corrected : (run run' : Run) (removed : ℕ) (result : Result (Vec ℕ Global) Halt)
       → IsWritten request.is_by_token old new run run' (Ok removed)
       → IfOk result (λ note. IsRemovedNote removed note.items)
       → IfErr result (λ halt. halt.0 ≡ outside.NoMemory)

@@ -12,6 +12,7 @@ use Rattle.recorded_lines.specs.Texts.{CanBe, Follows, calls_of}
 use Rattle.recorded_lines.specs.declared.text.Lines.{Lines}
 use Rattle.std.proofs.lemmas.List.{map_push, take_more, Elements.All-head, Elements.All-tail}
 use Rattle.std.specs.{List.AllZip, Prelude.All, Prelude.Contains, Prelude.Vec, Prelude.slice_get}
+use Rattle.std.specs.declared.alloc.Global.{Global}
 use Rattle.tool_tasks.proofs.Streaming.{all_read}
 use Rattle.tool_tasks.specs.Merge.{AreOf, IsPrefix, IsWrongPart, Merges}
 use Rattle.tool_tasks.specs.{Streams.CanStop, Streams.with_stop, declared.stops.Halt.Halt}
@@ -106,7 +107,7 @@ module _ (words : List (List ℕ)) (calls : List Calls) (are : AreOf words calls
   left_by (Write fault) before after is = is
   left_by NoMemory before after is = is
 
-  pub merged : (run run' : Run) (done : Result Unit MergeFault) (result : Result (Vec ℕ) Halt)
+  pub merged : (run run' : Run) (done : Result Unit MergeFault) (result : Result (Vec ℕ Global) Halt)
       → MergesAs calls run run' done → IsNoted done result
       → IsStreamed (Merges words) (IsPrefix words) (IsWrongPart words) words calls run run' result
   merged run run' (Ok done) (Ok note) (whole, text, is, wrote) none =

@@ -8,6 +8,7 @@ use Rattle.part_texts.proofs.Written.{written_none}
 use Rattle.recorded_lines.specs.Texts.{CanBe}
 use Rattle.std.proofs.lemmas.List.Elements.{Contains-append_left}
 use Rattle.std.specs.Prelude.{Vec}
+use Rattle.std.specs.declared.alloc.Global.{Global}
 use Rattle.tool_tasks.specs.Streams.{CanStop, IsKept, stream_rule, with_stop, written_of}
 use Rattle.tool_tasks.specs.declared.stops.Halt.{Halt}
 use Rattle.tool_tasks.specs.inside.Does.{Does}
@@ -46,7 +47,7 @@ module _ (Whole : List Calls → List ℕ → List ℕ → Type 0) (Part : List 
     leaves = (calls, all, can, subst (λ r. IsKept (with_stop r why) new) (gave_part old text) kept);
   }
 
-  pub streamed : (old mid new : Run) (done : Result (Vec ℕ) Halt) (result : Result ℕ Halt)
+  pub streamed : (old mid new : Run) (done : Result (Vec ℕ Global) Halt) (result : Result ℕ Halt)
       → IsStreamed Whole Part truth words calls old mid done → IsFinished done mid new result
       → Does (stream_rule Whole Part truth words before after) old new result
   streamed old mid new (Ok note) (Ok status) (text, is, part, whole) (zero, end) = record {

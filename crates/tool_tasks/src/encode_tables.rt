@@ -6,7 +6,8 @@ ghost use Rattle.tap_rows.specs.declared.agency.key.WrongKey.{WrongKey};
 ghost use Rattle.tool_tasks.specs.EncodeRows.{AreOldDevices, AreUsedDevices, Chain, HasDevices};
 ghost use Rattle.tool_tasks.specs.EncodeRows.{IsWrongTable, word_in};
 ghost use Rattle.tool_tasks.specs.EncodeTables.{HasNoZone, IsClock, IsKey};
-ghost use Rattle.tool_tasks.specs.inside.EncodeRows.{IsTable, Prepares, csvs_of, texts_in};
+ghost use Rattle.tool_tasks.specs.inside.EncodeRows.{IsMade, IsTable, Prepares, csvs_of};
+ghost use Rattle.tool_tasks.specs.inside.EncodeRows.{texts_in};
 
 use crate::encode_csvs::prepare_csvs;
 use crate::encode_loads::{Texts, is_zone_name, rule_of};
@@ -175,6 +176,24 @@ fn clock_of<'c>(words: &RowsWords<'_>, table: Option<&'c Tzif>) -> Option<LocalC
     }
 }
 
+/// The choice that the words make, with what was read.
+fn choice<'c>(
+    words: &'c RowsWords<'_>,
+    devices: Option<&'c DeviceTable>,
+    key: Option<&'c TokenKey>,
+    clock: Option<LocalClock<'c>>,
+) -> Choice<'c>
+    ensures { IsMade words.entry.now (option_map (λ d. devices_of d.now) devices.entry)
+        (option_map (λ k. k.now.block) key.entry) clock.entry result }
+{
+    Choice {
+        columns: &words.columns,
+        devices,
+        key,
+        clock,
+    }
+}
+
 /// What is written, made and noted of these texts, the CSVs being of these names. What else there is
 /// to say of a wrong one goes to `more`.
 pub(crate) fn prepare<'a>(
@@ -200,11 +219,7 @@ pub(crate) fn prepare<'a>(
         Ok(table) => table,
         Err(halt) => return Err(halt),
     };
-    let choice = Choice {
-        columns: &words.columns,
-        devices: devices.as_ref(),
-        key: key.as_ref(),
-        clock: clock_of(words, table.as_ref()),
-    };
+    let clock = clock_of(words, table.as_ref());
+    let choice = choice(words, devices.as_ref(), key.as_ref(), clock);
     prepare_csvs(alloc, words, names, is_there, &choice, &texts.csvs, more)
 }

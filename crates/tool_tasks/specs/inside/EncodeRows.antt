@@ -2,8 +2,10 @@
 use Rattle.frame.specs.Outsides.{Stops}
 use Rattle.jiff_tz.specs.{PosixReader.read_whole, declared.tzif.Tzif.Tzif}
 use Rattle.std.specs.Prelude.{◌≡◌, ◌≢◌, ⊤, ℕ, Bool, Contains, Err, List, [], None, Ok, Option, Result}
-use Rattle.std.specs.Prelude.{Some, Vec, map}
-use Rattle.tap_rows.specs.declared.agency.choice.Choice.{Choice}
+use Rattle.std.specs.Prelude.{Some, Vec, map, option_map}
+use Rattle.std.specs.declared.alloc.Global.{Global}
+use Rattle.tap_rows.specs.Devices.{Device, devices_of}
+use Rattle.tap_rows.specs.declared.agency.choice.{Choice.Choice, LocalClock.LocalClock}
 use Rattle.tool_tasks.specs.EncodeRows.{AddsCsv, Chain, Encoded, HasTried, IsChoice, IsGivenOf}
 use Rattle.tool_tasks.specs.EncodeRows.{IsWrongCsv, IsWrongText, Texts, nothing_encoded, rows_rule}
 use Rattle.tool_tasks.specs.{EncodeRows.word_in, EncodeTables.IsTableOf}
@@ -15,7 +17,7 @@ use Rattle.tool_words.specs.declared.task.RowsWords.{RowsWords}
 use Rattle.world.specs.Run.{Run}
 
 -- ---- values, as contracts see them
-abbrev pub csvs_of : List (Vec ℕ) → List (List ℕ)
+abbrev pub csvs_of : List (Vec ℕ Global) → List (List ℕ)
 csvs_of csvs = map (λ csv. csv.items) csvs
 
 abbrev pub texts_in : HeldTexts → Texts
@@ -39,6 +41,14 @@ abbrev pub IsTable : Option (List ℕ) → List ℕ → Option Tzif → Type 0
 IsTable None text table = ⊤
 IsTable (Some word) text None = read_whole word ≢ None
 IsTable (Some word) text (Some table) = IsTableOf word text table
+
+-- the choice has the columns of the words, these devices, the key of this block, and this clock
+pub record IsMade (words : RowsWords) (devices : Option (List Device)) (block : Option (List ℕ))
+    (clock : Option LocalClock) (choice : Choice) : Type 0 where
+  pub columns : choice.columns.now ≡ words.columns
+  pub has_devices : option_map (λ table. devices_of table.now) choice.devices ≡ devices
+  pub has_key : option_map (λ key. key.now.block) choice.key ≡ block
+  pub has_clock : choice.clock ≡ clock
 
 -- ---- what is prepared
 -- the file, if there is one, has the name of this word

@@ -2,6 +2,7 @@
 use Rattle.frame.specs.declared.outside.Outside.{Outside}
 use Rattle.frame.specs.declared.outside.Outside.TheVariants.{NoMemory, Unread, Unwritten}
 use Rattle.std.specs.Prelude.{◌≡◌, ◌⊎◌, ⊤, ℕ, List, [], Result, Ok, Err, Vec}
+use Rattle.std.specs.declared.alloc.Global.{Global}
 use Rattle.tool_tasks.specs.Streams.{CanStop, HasFailed, IsKept, with_stop}
 use Rattle.tool_tasks.specs.declared.stops.Halt.{Halt}
 use Rattle.world.specs.Run.{Calls, Run, with_cut, with_flushed, with_said, with_written}
@@ -15,7 +16,7 @@ IsUnopened words calls _ = ⊥
 
 -- a text was written, and the note is right with it; or a part of one
 abbrev pub IsStreamed : (List Calls → List ℕ → List ℕ → Type 0) → (List Calls → List ℕ → Type 0)
-    → (List Calls → Type 0) → List (List ℕ) → List Calls → Run → Run → Result (Vec ℕ) Halt → Type 0
+    → (List Calls → Type 0) → List (List ℕ) → List Calls → Run → Run → Result (Vec ℕ Global) Halt → Type 0
 IsStreamed Whole Part truth words calls old new (Ok note) = (text : List ℕ)
     × (new ≡ with_written old text) × ((text ≡ []) ⊎ Part calls text)
     × Whole calls text note.items
@@ -28,7 +29,7 @@ abbrev pub IsCutBy : Outside → Run → Run → Type 0
 IsCutBy why old new = (fault : WriteFault) × (why ≡ Unwritten fault) × (new ≡ with_cut old fault)
 
 -- the output was flushed, and the note given
-abbrev pub IsFinished : Result (Vec ℕ) Halt → Run → Run → Result ℕ Halt → Type 0
+abbrev pub IsFinished : Result (Vec ℕ Global) Halt → Run → Run → Result ℕ Halt → Type 0
 IsFinished (Ok note) old new (Ok status) =
     (status ≡ 0) × (new ≡ with_said (with_flushed old) note.items)
 IsFinished (Ok note) old new (Err halt) = IsCutBy halt.0 old new
