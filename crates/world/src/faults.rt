@@ -1,6 +1,5 @@
 //! Why a load, a write or a file failed, and the fault line.
 ghost use Rattle.std.specs.{IoError.error_kind, Prelude.◌≡◌, Prelude.◌↔◌, Prelude.Some};
-ghost use Rattle.world.specs.Faults.{fault_text};
 
 use std::alloc::AllocError;
 use std::io::ErrorKind;
@@ -86,8 +85,6 @@ pub enum Fault<'a> {
 }
 
 impl fmt::Display for Fault<'_> {
-    ghost output = { λ fault. Some (fault_text fault) };
-
     fn fmt<W: fmt::Write>(&self, f: &mut fmt::Formatter<W>) -> fmt::Result {
         match self {
             Fault::File(name, LoadFault::Unread) => write!(f, "fault: cannot read {name}"),

@@ -53,7 +53,6 @@ pub trait Inputs {
 pub trait World: Inputs {
     ghost use Rattle.std.specs.Prelude.{◌≡◌, ◌++◌, [], IfErr, IfOk, IfSome, OnOk, Some, codes};
     ghost use Rattle.world.specs.Run.{with_cut, with_flushed, with_made, with_said, with_written};
-    ghost use Rattle.world.specs.Faults.{fault_text};
     ghost use Rattle.world.specs.Writes.{IsCut, IsSaid, IsUnmade};
 
     /// A file that is being made.
@@ -77,8 +76,7 @@ pub trait World: Inputs {
 
     /// Gives the fault line to the standard error.
     fn report(&mut self, why: Fault<'_>)
-        ensures { Self.run self.new
-            ≡ with_said (Self.run self.old) (fault_text why.entry ++ codes "\n") };
+        ensures { IsSaid (Self.run self.old) (Self.run self.new) };
 
     /// Gives the line and a line feed to the standard error, or the error of its `Display`.
     fn report_line<D: Display + Drop>(&mut self, line: D) -> Result<(), io::Error>
