@@ -1,6 +1,7 @@
 use Rattle.std.proofs.Common.{◌∙◌, ◌++◌, [], List, None, Option, ap, inl, inr, subst, sym, refl, ℕ}
 use Rattle.ledger_changes.specs.{Given.IsGivenAfter, Tokens.head_of}
 use Rattle.part_texts.proofs.Written.{cut_on, written_none, written_on}
+use Rattle.recorded_lines.proofs.Reading.{follows_on}
 use Rattle.tool_tasks.proofs.Corrected.{after_started, started_part, given_head}
 use Rattle.world.specs.Run.{with_written}
 use Rattle.tool_tasks.proofs.corrections.write_all.Goals as goal
@@ -39,15 +40,27 @@ loop-init g c = record {
   );
 }
 
+pub returns-in-Err-next-clause-follow : goal.returns-in-Err-next-clause-follow
+returns-in-Err-next-clause-follow g c = (
+  follows_on _ _ _ c.loop.invariant.follow_old c.next.ensures.follow.0,
+  follows_on _ _ _ c.loop.invariant.follow_new c.next.ensures.follow.1,
+)
+
 pub returns-in-Err-next-clause-written : goal.returns-in-Err-next-clause-written
 returns-in-Err-next-clause-written g c =
     let by_token = c.args.words.now.is_by_token in
     let (text, run, has) = c.loop.invariant.given in (
       text,
       inr (c.next.ensures.started by_token text has),
-      c.halt_of.ensures.stop _ _ (c.in-Err-next.ensures.wrong by_token text has),
-      rw c.halt_of.ensures.uncut run,
+      c.halt_of-in-Err-next.ensures.stop _ _ (c.in-Err-next.ensures.wrong by_token text has),
+      rw c.halt_of-in-Err-next.ensures.uncut run,
     )
+
+pub returns-in-Err-write-2-clause-follow : goal.returns-in-Err-write-2-clause-follow
+returns-in-Err-write-2-clause-follow g c = (
+  follows_on _ _ _ c.loop.invariant.follow_old c.next.ensures.follow.0,
+  follows_on _ _ _ c.loop.invariant.follow_new c.next.ensures.follow.1,
+)
 
 pub returns-in-Err-write-2-clause-written : goal.returns-in-Err-write-2-clause-written
 returns-in-Err-write-2-clause-written g c =
@@ -64,6 +77,12 @@ returns-in-Err-write-2-clause-written g c =
           c.deref.result.now c.in-Err-write-2.why run cut,
     )
 
+pub returns-in-Some-clause-follow : goal.returns-in-Some-clause-follow
+returns-in-Some-clause-follow g c = (
+  follows_on _ _ _ c.loop.invariant.follow_old c.next.ensures.follow.0,
+  follows_on _ _ _ c.loop.invariant.follow_new c.next.ensures.follow.1,
+)
+
 pub returns-in-Some-clause-written : goal.returns-in-Some-clause-written
 returns-in-Some-clause-written g c =
     let by_token = c.args.words.now.is_by_token in
@@ -78,19 +97,23 @@ returns-in-Some-clause-written g c =
           (c.in-Ok-next.ensures.given by_token text has),
     )
 
-pub loop-preserved-field-given : goal.loop-preserved-field-given
-loop-preserved-field-given g c =
-    let by_token = c.args.words.now.is_by_token in
-    let (text, run, has) = c.loop.invariant.given in (
-      text ++ c.next.new.piece.items,
-      written_on (g.W.Inputs.run c.args.world.now) (g.W.Inputs.run c.loop.world) _ text
-          c.next.new.piece.items run (c.in-Ok-write-2.ensures.whole
-          ∙ ap (λ (t : List ℕ). with_written (g.W.Inputs.run c.loop.world) t)
-          c.deref.ensures.value),
-      subst (λ (end : Option ℕ). IsGivenAfter c.next.new.self by_token end
-          (text ++ c.next.new.piece.items)) c.in_default.is
-          (c.in-Ok-next.ensures.given by_token text has),
-    )
+pub loop-preserved : goal.loop-preserved
+loop-preserved g c = record {
+  follow_old = follows_on _ _ _ c.loop.invariant.follow_old c.next.ensures.follow.0;
+  follow_new = follows_on _ _ _ c.loop.invariant.follow_new c.next.ensures.follow.1;
+  given =
+      let by_token = c.args.words.now.is_by_token in
+      let (text, run, has) = c.loop.invariant.given in (
+        text ++ c.next.new.piece.items,
+        written_on (g.W.Inputs.run c.args.world.now) (g.W.Inputs.run c.loop.world) _ text
+            c.next.new.piece.items run (c.in-Ok-write-2.ensures.whole
+            ∙ ap (λ (t : List ℕ). with_written (g.W.Inputs.run c.loop.world) t)
+            c.deref.ensures.value),
+        subst (λ (end : Option ℕ). IsGivenAfter c.next.new.self by_token end
+            (text ++ c.next.new.piece.items)) c.in_default.is
+            (c.in-Ok-next.ensures.given by_token text has),
+      );
+}
 
 pub returns-clause-written : goal.returns-clause-written
 returns-clause-written g c =

@@ -14,10 +14,12 @@ returns-in-Err-clause-stopped g c =
       true,
       old,
       refl,
-      [],
-      subst (λ (r : Run). Leaves names c.in-Err.halt.0 r (g.W.Inputs.run c.load_devices.new.world))
-          (sym (no_loads old)) (c.in-Err.ensures.stopped names
-          (is_in names (word_in words.devices) (0, omega arith, refl))),
+      (
+        [],
+        subst (λ (r : Run). Leaves names c.in-Err.halt.0 r (g.W.Inputs.run c.load_devices.new.world))
+            (sym (no_loads old)) (c.in-Err.ensures.stopped names
+            (is_in names (word_in words.devices) (0, omega arith, refl))),
+      ),
     )
 
 pub returns-in-Err-load_named-clause-stopped : goal.returns-in-Err-load_named-clause-stopped
@@ -28,11 +30,13 @@ returns-in-Err-load_named-clause-stopped g c =
       c.in-Ok.found.0,
       started,
       tried,
-      loads_in (devices_word words c.in-Ok.found.0) c.in-Ok.found.1.items,
-      subst (λ (r : Run). Leaves names (Unread c.in-Err-load_named.why) r
-          (g.W.Inputs.run c.load_named.new.world)) was
-          (c.in-Err-load_named.ensures.refused names
-          (is_in names (word_in words.key) (2, omega arith, refl))),
+      (
+        loads_in (devices_word words c.in-Ok.found.0) c.in-Ok.found.1.items,
+        subst (λ (r : Run). Leaves names (Unread c.in-Err-load_named.why) r
+            (g.W.Inputs.run c.load_named.new.world)) was
+            (c.in-Err-load_named.ensures.refused names
+            (is_in names (word_in words.key) (2, omega arith, refl))),
+      ),
     )
 
 pub returns-in_default-clause-stopped : goal.returns-in_default-clause-stopped
@@ -44,9 +48,11 @@ returns-in_default-clause-stopped g c =
       c.in-Ok.found.0,
       started,
       tried,
-      first ++ key,
-      c.in-Ok-load_named.ensures.loaded ∙ ap (λ (r : Run). with_loads r key) was
-          ∙ more_loads started first key,
+      (
+        first ++ key,
+        c.in-Ok-load_named.ensures.loaded ∙ ap (λ (r : Run). with_loads r key) was
+            ∙ more_loads started first key,
+      ),
     )
 
 pub returns-in-Err-load_named-2-clause-stopped : goal.returns-in-Err-load_named-2-clause-stopped
@@ -63,11 +69,13 @@ returns-in-Err-load_named-2-clause-stopped g c =
       c.in-Ok.found.0,
       started,
       tried,
-      first ++ key,
-      subst (λ (r : Run). Leaves names (Unread c.in-Err-load_named-2.why) r
-          (g.W.Inputs.run c.load_named-2.new.world)) then
-          (c.in-Err-load_named-2.ensures.refused names
-          (zone_in names (word_in words.zone) (word_in c.name_in.result) is (3, omega arith, refl))),
+      (
+        first ++ key,
+        subst (λ (r : Run). Leaves names (Unread c.in-Err-load_named-2.why) r
+            (g.W.Inputs.run c.load_named-2.new.world)) then
+            (c.in-Err-load_named-2.ensures.refused names (zone_in names (word_in words.zone)
+            (word_in c.name_in.result) is (3, omega arith, refl))),
+      ),
     )
 
 pub returns-in-Ok-load_all-clause-loaded : goal.returns-in-Ok-load_all-clause-loaded
@@ -113,8 +121,10 @@ returns-clause-stopped g c =
       c.in-Ok.found.0,
       started,
       tried,
-      ((first ++ key) ++ zone) ++ more,
-      subst (λ (r : Run). Leaves names c.in-Err-load_all.halt.0 r
-          (g.W.Inputs.run c.load_all.new.files)) (ap (λ (r : Run). with_loads r more) last
-          ∙ more_loads started ((first ++ key) ++ zone) more) leaves,
+      (
+        ((first ++ key) ++ zone) ++ more,
+        subst (λ (r : Run). Leaves names c.in-Err-load_all.halt.0 r
+            (g.W.Inputs.run c.load_all.new.files)) (ap (λ (r : Run). with_loads r more) last
+            ∙ more_loads started ((first ++ key) ++ zone) more) leaves,
+      ),
     )

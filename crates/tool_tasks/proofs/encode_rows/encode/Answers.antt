@@ -1,4 +1,4 @@
-use Rattle.std.proofs.Common.{map}
+use Rattle.std.proofs.Common.{map, refl}
 use Rattle.frame.proofs.Outcomes.{halted_by, halted_loading, stops_weaker}
 use Rattle.tool_tasks.proofs.{EncodingRows.rows_named, Preparing.carried}
 use Rattle.tool_tasks.specs.EncodeRows.{EncodesRows, LoadsWrong, names_of}
@@ -8,7 +8,7 @@ use Rattle.tool_tasks.proofs.encode_rows.encode.Goals as goal
 pub returns-in-Err : goal.returns-in-Err
 returns-in-Err g c =
     let words = c.args.words.now in let csvs = map (λ w. w.now) c.args.csvs.now in
-    let (is_there, started, tried, loads, leaves) = c.in-Err.ensures.stopped in (
+    let (is_there, started, tried, (loads, leaves)) = c.in-Err.ensures.stopped in (
       is_there,
       started,
       tried,
@@ -22,7 +22,7 @@ returns-in-Ok-prepare g c =
     let is_there = c.in-Ok.found.0 in let names = names_of words csvs in
     let (started, loads, tried, was, read) = c.in-Ok.ensures.loaded in
     let prepared = c.in-Ok-prepare.prepared in
-    let (choice, is_choice, named, all, encoded, given) = c.in-Ok-prepare.ensures in (
+    let (choice, is_choice, (named, all, encoded, given)) = c.in-Ok-prepare.ensures in (
       is_there,
       started,
       tried,

@@ -33,9 +33,10 @@ pub returns-in-Err : goal.returns-in-Err
 returns-in-Err g c =
     let words = map (λ w. w.now) c.args.words.now in
     let (calls, all, is) = c.in-Err.ensures.stopped in
-    let more = map calls_of c.open_all.new.parts.items in (
+    let more = map calls_of c.open_all.new.parts.items in
+    let (can, left) = unopened _ words calls more c.in-Err.halt.0 _ is in (
       calls ++ more,
       c.close_all-in-Err.ensures ∙ ap (λ (l : List Calls). l ++ more) all
           ∙ append_assoc (g.F.Streams.readings c.args.files.now) calls more,
-      ([], inl refl, unopened _ words calls more c.in-Err.halt.0 _ is),
+      ([], inl refl, can, left),
     )
