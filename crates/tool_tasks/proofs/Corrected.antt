@@ -4,10 +4,9 @@ use Rattle.std.proofs.Common.{Some, ℕ, List, ap, append-nil, append_assoc, ari
 use Rattle.std.proofs.Common.{subst, sym}
 use Rattle.frame.specs.declared.outside.Outside.{Outside}
 use Rattle.ledger_changes.proofs.Walking.{started}
-use Rattle.ledger_changes.specs.Given.{HasStarted, HasGiven, IsAllGiven, IsStarted}
-use Rattle.ledger_changes.specs.Given.{IsGivenAfter, new_calls, old_calls}
-use Rattle.ledger_changes.specs.Tokens.{corrections_of, head_of}
-use Rattle.ledger_changes.specs.declared.changes.Corrections.{Corrections}
+use Rattle.ledger_changes.specs.Given.{HasStarted, HasGiven, IsAllGiven, IsStarted, IsGivenAfter}
+use Rattle.ledger_changes.specs.{Given.new_calls, Given.old_calls, Tokens.corrections_of}
+use Rattle.ledger_changes.specs.{Tokens.head_of, declared.changes.Corrections.Corrections}
 use Rattle.ledger_changes.specs.declared.fault.Bill.TheVariants.{New, Old}
 use Rattle.std.specs.Prelude.{Contains, IfErr, IfOk, Vec}
 use Rattle.std.specs.declared.alloc.Global.{Global}

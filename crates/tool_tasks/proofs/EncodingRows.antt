@@ -70,7 +70,7 @@ pub prepared_so : (words : RowsWords) (is_there : Bool) (texts : Texts) (choice 
     → PreparesCsvs words choice texts.csvs result → Prepares words is_there texts result
 prepared_so words is_there texts choice (Ok prepared) is_choice is = (choice, is_choice, is)
 prepared_so words is_there texts choice (Err halt) is_choice stops =
-    stops_weaker (λ wrong. inl (choice, is_choice, wrong)) halt.0 stops
+    stops_weaker (λ wrong. inl (choice, is_choice, wrong.0, wrong.1, wrong.2)) halt.0 stops
 
 -- ---- the names of the files
 is_named : (names : List (List ℕ)) (word : Option (List ℕ)) (file : Option NewFile)

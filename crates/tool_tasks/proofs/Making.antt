@@ -58,7 +58,7 @@ pub ends_given : (request : SortRequest) (ends : List UploadEnd) (loads : List L
 ends_given request ends loads note text file first known none is whole =
     rw (none, whole, append-nil (files_in first), is) refl
 
-name_in : List Named → List ℕ
+abbrev name_in : List Named → List ℕ
 name_in [] = []
 name_in (file ∷ files) = file.name
 

@@ -4,9 +4,8 @@ use Rattle.std.proofs.Common.{Result, Some, ap, append-nil, arith, get_or, inl, 
 use Rattle.std.proofs.Common.{refl, subst, suc, sym, take, zero, ℕ}
 use Rattle.frame.specs.Names.{file_named}
 use Rattle.part_texts.proofs.Parts.{can_be_read}
-use Rattle.part_texts.specs.Merged.{merge_of}
-use Rattle.part_texts.specs.Reads.{HasStarted, IsFaultOf, Leaves, MergesAs, read_by}
-use Rattle.part_texts.specs.declared.fault.MergeFault.{MergeFault}
+use Rattle.part_texts.specs.{Merged.merge_of, Reads.HasStarted, Reads.IsFaultOf, Reads.Leaves}
+use Rattle.part_texts.specs.{Reads.MergesAs, Reads.read_by, declared.fault.MergeFault.MergeFault}
 use Rattle.part_texts.specs.declared.fault.MergeFault.TheVariants.{Line, Unread, Write, NoMemory}
 use Rattle.recorded_lines.specs.Texts.{CanBe, Follows, calls_of}
 use Rattle.recorded_lines.specs.declared.text.Lines.{Lines}
@@ -16,8 +15,7 @@ use Rattle.std.specs.declared.alloc.Global.{Global}
 use Rattle.tool_tasks.proofs.Streaming.{all_read}
 use Rattle.tool_tasks.specs.Merge.{AreOf, IsPrefix, IsWrongPart, Merges}
 use Rattle.tool_tasks.specs.{Streams.CanStop, Streams.with_stop, declared.stops.Halt.Halt}
-use Rattle.tool_tasks.specs.inside.{Merge.IsNoted, Merge.names_of, Merge.why_of}
-use Rattle.tool_tasks.specs.inside.Streams.{IsStreamed}
+use Rattle.tool_tasks.specs.inside.{Merge.IsNoted, Merge.names_of, Merge.why_of, Streams.IsStreamed}
 use Rattle.world.specs.{Run.Calls, Run.Run, Run.with_written, Streams.IsWhole}
 
 -- ---- names

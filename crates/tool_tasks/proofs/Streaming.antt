@@ -7,11 +7,9 @@ use Rattle.frame.specs.declared.outside.Outside.TheVariants.{Unread, Untraced, U
 use Rattle.part_texts.proofs.Written.{written_none}
 use Rattle.recorded_lines.specs.Texts.{CanBe}
 use Rattle.std.proofs.lemmas.List.Elements.{Contains-append_left}
-use Rattle.std.specs.Prelude.{Vec}
-use Rattle.std.specs.declared.alloc.Global.{Global}
+use Rattle.std.specs.{Prelude.Vec, declared.alloc.Global.Global}
 use Rattle.tool_tasks.specs.Streams.{CanStop, IsKept, stream_rule, with_stop, written_of}
-use Rattle.tool_tasks.specs.declared.stops.Halt.{Halt}
-use Rattle.tool_tasks.specs.inside.Does.{Does}
+use Rattle.tool_tasks.specs.{declared.stops.Halt.Halt, inside.Does.Does}
 use Rattle.tool_tasks.specs.inside.Streams.{IsFinished, IsStreamed, IsUnopened}
 use Rattle.world.specs.Run.{Calls, Run, with_cut, with_flushed, with_said, with_written}
 

@@ -2,10 +2,9 @@
 -- how they are read.
 use Rattle.frame.specs.{Given.Given, Given.file_of, Given.load_of, Names.file_named}
 use Rattle.frame.specs.Outcome.{Ends, Rule, rule_of}
-use Rattle.std.specs.Borrow.{Bor}
-use Rattle.std.specs.Prelude.{◌≡◌, ◌≢◌, ◌⊎◌, ◌==◌, ◌||◌, ℕ, Bool, Contains, Err, List, [], ◌∷◌, ◌++◌}
-use Rattle.std.specs.Prelude.{Option, None, Some, if◌then◌else◌, false, map}
-use Rattle.std.specs.Prelude.{not, option_map, true, unwrap_or}
+use Rattle.std.specs.{Borrow.Bor, Prelude.◌≡◌, Prelude.◌≢◌, Prelude.◌⊎◌}
+use Rattle.std.specs.Prelude.{◌==◌, ◌||◌, ℕ, Bool, Contains, Err, List, [], ◌∷◌, ◌++◌, Option, None}
+use Rattle.std.specs.Prelude.{Some, if◌then◌else◌, false, map, not, option_map, true, unwrap_or}
 use Rattle.tap_rows.specs.Agencies.{IsFirstRefused, IsRowsEncoded, IsWanting}
 use Rattle.tap_rows.specs.AgencyTexts.{first_record}
 use Rattle.tap_rows.specs.Devices.{AreDevices, Device, IsDevicesFault, devices_of}

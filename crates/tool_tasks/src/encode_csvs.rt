@@ -52,7 +52,10 @@ fn push_summary(
 ) -> Result<(), AllocError> {
     let (read, taps) = (summary.rows(), summary.taps);
     let (left_out, refused) = (summary.left_out, summary.refused);
-    write!(text, "read {read} taps {taps} left out {left_out} refused {refused} first ")?;
+    write!(
+        text,
+        "read {read} taps {taps} left out {left_out} refused {refused} first "
+    )?;
     push_moment(text, summary.span.map(|span| span.first))?;
     text.push_str(" last ")?;
     push_moment(text, summary.span.map(|span| span.last))?;

@@ -1,13 +1,11 @@
 //! What `encode` of an agency's own CSVs loads, in order: a device table, a key, a zone, the CSVs.
-ghost use Rattle.jiff_tz.specs.{PosixReader.read_whole, PosixText.tz_view};
 ghost use Rattle.frame.specs.Outsides.{Leaves};
-ghost use Rattle.std.specs.Prelude.{◌≡◌, ℕ, Bool, IfErr, IfOk, List, map, option_map};
-ghost use Rattle.std.specs.Prelude.{string_bytes};
+ghost use Rattle.jiff_tz.specs.{PosixReader.read_whole, PosixText.tz_view};
+ghost use Rattle.std.specs.Prelude.{◌≡◌, ℕ, Bool, IfErr, IfOk, List, map, option_map, string_bytes};
 ghost use Rattle.tool_tasks.specs.EncodeRows.{AreRead, HasTried, devices_word, loads_in, names_of};
-ghost use Rattle.tool_tasks.specs.{EncodeRows.word_in, EncodeTables.is_name_byte};
-ghost use Rattle.tool_tasks.specs.EncodeTables.{is_zone_name, zone_file, zone_loaded};
-ghost use Rattle.tool_tasks.specs.inside.{EncodeRows.texts_in, Loads.IsNameIn};
-ghost use Rattle.tool_tasks.specs.inside.Loads.{StopsLoading};
+ghost use Rattle.tool_tasks.specs.EncodeRows.{word_in};
+ghost use Rattle.tool_tasks.specs.EncodeTables.{is_name_byte, is_zone_name, zone_file, zone_loaded};
+ghost use Rattle.tool_tasks.specs.inside.{EncodeRows.texts_in, Loads.IsNameIn, Loads.StopsLoading};
 ghost use Rattle.world.specs.{Origins.with_loads, Run.Load, Run.Run};
 
 use crate::counted::Counted;

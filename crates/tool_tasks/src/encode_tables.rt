@@ -6,8 +6,7 @@ ghost use Rattle.tap_rows.specs.declared.agency.key.WrongKey.{WrongKey};
 ghost use Rattle.tool_tasks.specs.EncodeRows.{AreOldDevices, AreUsedDevices, Chain, HasDevices};
 ghost use Rattle.tool_tasks.specs.EncodeRows.{IsWrongTable, word_in};
 ghost use Rattle.tool_tasks.specs.EncodeTables.{HasNoZone, IsClock, IsKey};
-ghost use Rattle.tool_tasks.specs.inside.EncodeRows.{IsMade, IsTable, Prepares, csvs_of};
-ghost use Rattle.tool_tasks.specs.inside.EncodeRows.{texts_in};
+ghost use Rattle.tool_tasks.specs.inside.EncodeRows.{IsMade, IsTable, Prepares, csvs_of, texts_in};
 
 use crate::encode_csvs::prepare_csvs;
 use crate::encode_loads::{Texts, is_zone_name, rule_of};
@@ -130,11 +129,7 @@ fn key_in<'a>(words: &RowsWords<'a>, text: &[u8]) -> Result<Option<TokenKey>, Ha
 }
 
 /// The table of the zone, if it has a word that is no rule.
-fn table_in<'a>(
-    alloc: Global,
-    words: &RowsWords<'a>,
-    text: &[u8],
-) -> Result<Option<Tzif>, Halt<'a>>
+fn table_in<'a>(alloc: Global, words: &RowsWords<'a>, text: &[u8]) -> Result<Option<Tzif>, Halt<'a>>
     ensures table { IfOk result (IsTable (word_in words.now.zone) text.now) }
     ensures stopped { IfErr result
         (λ halt. Stops (HasNoZone (word_in words.now.zone) text.now) halt.0) }

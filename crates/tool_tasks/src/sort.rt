@@ -4,9 +4,8 @@ ghost use Rattle.report_texts.specs.Report.{upload_lines};
 ghost use Rattle.std.specs.Prelude.{◌≡◌, [], ℕ, Contains, IfOk, List, Some, if◌then◌else◌, map};
 ghost use Rattle.std.specs.Prelude.{string_bytes};
 ghost use Rattle.tap_views.specs.UploadEnds.{are_posted, is_posted};
-ghost use Rattle.tool_tasks.specs.Sort.{names_of, sort_rule};
-ghost use Rattle.tool_tasks.specs.inside.{Does.Does, Loads.LoadsAll, Prepared.Carries};
-ghost use Rattle.tool_tasks.specs.inside.Sort.{sorted_given};
+ghost use Rattle.tool_tasks.specs.{Sort.names_of, Sort.sort_rule, inside.Does.Does};
+ghost use Rattle.tool_tasks.specs.inside.{Loads.LoadsAll, Prepared.Carries, Sort.sorted_given};
 ghost use Rattle.tool_words.specs.Tasks.{sorting_of};
 ghost use Rattle.world.specs.{Origins.with_loads, Run.Load, Run.Run};
 

@@ -77,7 +77,6 @@ pub fn uploads_over<W: World + Counted>(
     words: Vec<&str>,
     has_tokens: bool,
     world: &mut W,
-) -> u8
-{
+) -> u8 {
     ended_informing(list_uploads(alloc, &words, has_tokens, world), world)
 }

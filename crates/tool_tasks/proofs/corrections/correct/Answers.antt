@@ -48,8 +48,8 @@ returns-in-Ok-write_closed g c =
           c.removed_line.ensures.line c.removed_line.ensures.stopped,
     )
 
-pub returns : goal.returns
-returns g c =
+pub returns-in-Err-write_closed : goal.returns-in-Err-write_closed
+returns-in-Err-write_closed g c =
     let request = corrections_of c.args.words.now in
     let (old, new, all, old_name, new_name, written) = c.in-Err-write_closed.ensures in (
       old ∷ new ∷ [],

@@ -64,8 +64,7 @@ returns-in-Err-load_named-2-clause-stopped g c =
     let key = loads_in (word_in words.key) c.in-Ok-load_named.key.items in
     let is = c.name_in.ensures ∙ c.in-Ok-zone_loaded.ensures in
     let then = c.in-Ok-load_named.ensures.loaded ∙ ap (λ (r : Run). with_loads r key) was
-    ∙ more_loads started first key in
-    (
+    ∙ more_loads started first key in (
       c.in-Ok.found.0,
       started,
       tried,

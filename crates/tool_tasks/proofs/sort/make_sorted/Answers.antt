@@ -1,6 +1,7 @@
 use Rattle.std.proofs.Common.{◌∙◌, [], List, ap, arith, refl, string_bytes, subst, ℕ}
 use Rattle.frame.proofs.Outcomes.{gave_loads, loaded_of}
 use Rattle.frame.specs.{Given.Given}
+use Rattle.std.specs.{Prelude.Vec, declared.alloc.Global.Global}
 use Rattle.tool_tasks.proofs.Making.{ends_given, first_named}
 use Rattle.tool_tasks.specs.{Files.named_files, Sort.names_of}
 use Rattle.tool_tasks.specs.inside.{Prepared.Carries, Sort.sorted_given}
@@ -25,7 +26,7 @@ pub returns : goal.returns
 returns g c = λ start loads bytes was known.
     let request = sorting_of c.args.words.now in
     let made = c.new_file.ensures ∙ ap (λ (t : List ℕ). named_files request.ends t)
-    (c.into_bytes.ensures ∙ c.in-Ok.ensures) in
+    (ap (λ (v : Vec ℕ Global). v.items) c.into_bytes.ensures.value ∙ c.in-Ok.ensures) in
     subst (λ (whole : Given). Carries (names_of request) start whole c.args.status
     (g.W.Inputs.run c.carry.new.world) c.carry.result)
     (ends_given request c.args.ends.now loads (string_bytes c.args.note) _ bytes
