@@ -4,22 +4,19 @@ use Rattle.std.proofs.Common.{Some, ℕ, List, ap, append-nil, append_assoc, ari
 use Rattle.std.proofs.Common.{subst, sym}
 use Rattle.frame.specs.declared.outside.Outside.{Outside}
 use Rattle.ledger_changes.proofs.Walking.{started}
-use Rattle.ledger_changes.specs.Given.{HasStarted, HasGiven, IsAllGiven, IsStarted, IsFaultOf}
-use Rattle.ledger_changes.specs.Given.{IsGivenAfter, new_calls, old_calls}
-use Rattle.ledger_changes.specs.Tokens.{corrections_of, head_of}
-use Rattle.ledger_changes.specs.declared.{changes.Corrections.Corrections, fault.Bill.Bill}
+use Rattle.ledger_changes.specs.Given.{HasStarted, HasGiven, IsAllGiven, IsStarted, IsGivenAfter}
+use Rattle.ledger_changes.specs.{Given.new_calls, Given.old_calls, Tokens.corrections_of}
+use Rattle.ledger_changes.specs.{Tokens.head_of, declared.changes.Corrections.Corrections}
 use Rattle.ledger_changes.specs.declared.fault.Bill.TheVariants.{New, Old}
-use Rattle.ledger_changes.specs.declared.fault.CorrectionsFault.TheVariants.{Line, Unread, NoMemory}
-use Rattle.std.specs.Prelude.{Contains}
+use Rattle.std.specs.Prelude.{Contains, IfErr, IfOk, Vec}
+use Rattle.std.specs.declared.alloc.Global.{Global}
 use Rattle.tool_tasks.proofs.Streaming.{all_read}
-use Rattle.tool_tasks.specs.Corrections.{AreRead, Corrects, IsPart, IsWrongLedger}
-use Rattle.tool_tasks.specs.Streams.{HasFailed, LeavesOf}
-use Rattle.tool_tasks.specs.declared.corrections.Stopped.{Stopped}
-use Rattle.tool_tasks.specs.declared.corrections.Stopped.TheVariants.{Fault, Write}
-use Rattle.tool_tasks.specs.declared.{stops.Halt.Halt, streams.Noted.Noted}
-use Rattle.tool_tasks.specs.inside.{Corrections.IsNoted, Corrections.IsWritten, Streams.IsStreamed}
+use Rattle.tool_tasks.specs.Corrections.{AreRead, Corrects, IsPart, IsRemovedNote, IsWrongLedger}
+use Rattle.tool_tasks.specs.{Streams.CanStop, declared.stops.Halt.Halt}
+use Rattle.tool_tasks.specs.inside.{Corrections.IsStop, Corrections.IsWritten, Streams.IsStreamed}
 use Rattle.tool_words.specs.Request.{CorrectionsRequest}
-use Rattle.world.specs.Run.{Calls, Run, with_written}
+use Rattle.world.specs.Run.{Calls, Run}
+use Rattle.frame.specs.declared.outside.Outside.TheVariants as outside
 
 -- ---- what was started
 pub started_part : (by_token : Bool) (text piece front rest : List ℕ) (old new : Calls)
@@ -61,62 +58,58 @@ pub given_head : (c : Corrections) (is by_token : Bool) → is ≡ by_token
     → HasGiven c is (head_of is) → HasGiven c by_token (head_of by_token)
 given_head c is by_token same has = subst (λ (b : Bool). HasGiven c b (head_of b)) same has
 
--- ---- what is noted
+-- ---- how a run ends
 module _ (request : CorrectionsRequest) (calls : List Calls) (old new : Calls)
     (read : AreRead request calls old new) where
-  has_failed : (bill : Bill) → IsFaultOf (Unread bill) old new
-      → HasFailed (request.old ∷ request.new ∷ []) calls
-  has_failed Old unread = (
+  can_stop : (why : Outside) → IsStop old new why
+      → CanStop (IsWrongLedger request calls) (request.old ∷ request.new ∷ []) calls why
+  can_stop (outside.Unread why) (Old, unread) = (
     request.old,
     (0, omega arith, refl),
     old,
     subst (λ cs. Contains cs old) (sym read.all) (0, omega arith, refl),
     unread ∙ ap (λ (name : Option (List ℕ)). name ∷ []) read.old_name,
   )
-  has_failed New unread = (
+  can_stop (outside.Unread why) (New, unread) = (
     request.new,
     (1, omega arith, refl),
     new,
     subst (λ cs. Contains cs new) (sym read.all) (1, omega arith, refl),
     unread ∙ ap (λ (name : Option (List ℕ)). name ∷ []) read.new_name,
   )
+  can_stop (outside.Unwritten why) is = tt
+  can_stop (outside.Unmade why is_partial) bad = absurd bad
+  can_stop outside.Wrong (bill, number, why, first) = (old, new, read, bill, number, why, first)
+  can_stop outside.Untraced bad = absurd bad
+  can_stop outside.NoMemory is = tt
 
   part_by : (text : List ℕ) → (text ≡ []) ⊎ HasStarted request.is_by_token text old new
       → (text ≡ []) ⊎ IsPart request calls text
   part_by text (inl none) = inl none
   part_by text (inr has) = inr (old, new, read, has)
 
-  left_by : (run run' : Run) (text : List ℕ) (why is : Outside) → is ≡ why
-      → (text ≡ []) ⊎ HasStarted request.is_by_token text old new
-      → LeavesOf (IsWrongLedger request calls) (request.old ∷ request.new ∷ []) calls why
-      (with_written run text) run' → (text' : List ℕ) × ((text' ≡ []) ⊎ IsPart request calls text')
-      × LeavesOf (IsWrongLedger request calls) (request.old ∷ request.new ∷ []) calls is
-      (with_written run text') run'
-  left_by run run' text why is same has leaves = (
-    text,
-    part_by text has,
-    subst (λ w. LeavesOf (IsWrongLedger request calls) (request.old ∷ request.new ∷ []) calls w
-        (with_written run text) run') (sym same) leaves,
-  )
-
-  pub corrected : (run run' : Run) (written : Result ℕ Stopped) (result : Result Noted Halt)
-      → IsWritten request.is_by_token old new run run' written → IsNoted written result
+  pub corrected : (run run' : Run) (removed : ℕ) (result : Result (Vec ℕ Global) Halt)
+      → IsWritten request.is_by_token old new run run' (Ok removed)
+      → IfOk result (λ note. IsRemovedNote removed note.items)
+      → IfErr result (λ halt. halt.0 ≡ outside.NoMemory)
       → IsStreamed (Corrects request) (IsPart request) (IsWrongLedger request)
       (request.old ∷ request.new ∷ []) calls run run' result
-  corrected run run' (Ok removed) (Ok noted) (text, is, all) note = (
+  corrected run run' removed (Ok note) (text, is, all) noted none = (
     text,
     is,
     inr (old, new, read, all_started request.is_by_token old new text removed all),
-    (old, new, read, removed, all, note),
+    (old, new, read, removed, all, noted),
   )
-  corrected run run' (Ok removed) (Err halt) (text, is, all) none = left_by run run' text _ halt.0 none
-      (inr (all_started request.is_by_token old new text removed all)) (inl is)
-  corrected run run' (Err stopped) (Ok noted) w bad = absurd bad
-  corrected run run' (Err (Fault (Line bill number why))) (Err halt) (text, part, (same, first)) is =
-      left_by run run' text _ halt.0 is part ((old, new, read, bill, number, why, first), inl same)
-  corrected run run' (Err (Fault (Unread bill))) (Err halt) (text, part, (same, unread)) is =
-      left_by run run' text _ halt.0 is part (has_failed bill unread, inl same)
-  corrected run run' (Err (Fault NoMemory)) (Err halt) (text, part, (same, none)) is =
-      left_by run run' text _ halt.0 is part (inl same)
-  corrected run run' (Err (Write fault)) (Err halt) (text, part, cut) is =
-      left_by run run' text _ halt.0 is part (inl cut)
+  corrected run run' removed (Err halt) (text, is, all) noted none = (
+    text,
+    inr (old, new, read, all_started request.is_by_token old new text removed all),
+    rw none tt,
+    rw none is,
+  )
+
+  pub stopped : (run run' : Run) (halt : Halt)
+      → IsWritten request.is_by_token old new run run' (Err halt)
+      → IsStreamed (Corrects request) (IsPart request) (IsWrongLedger request)
+      (request.old ∷ request.new ∷ []) calls run run' (Err halt)
+  stopped run run' halt (text, part, stop, left) =
+      (text, part_by text part, can_stop halt.0 stop, left)

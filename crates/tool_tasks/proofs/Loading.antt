@@ -14,13 +14,10 @@ word_contained words number d within =
     (Contains-get_or (map text words) number d.now
     (subst (λ n. number < n) (sym (length-map words text)) within))
 
--- the word of this number is that of an upload
-pub upload_contained : (request : SortRequest) (words : List (Bor (List ℕ))) (number : ℕ)
-    (d : Bor (List ℕ)) → number < length words → (word : Bor (List ℕ))
-    → word ≡ get_or words number d → request.uploads ≡ map (λ w. w.now) words
-    → Contains (names_of request) word.now
-upload_contained request words number d within word is are =
-    subst (λ (w : Bor (List ℕ)). Contains (names_of request) w.now) (sym is)
-    (Contains-append_right (request.out ∷ unwrap_or request.ends request.out ∷ []) request.uploads
-    (get_or words number d).now (subst (λ (ws : List (List ℕ)). Contains ws (get_or words number d).now)
-    (sym are) (word_contained words number d within)))
+-- the word of an upload is one of the words
+pub upload_named : (request : SortRequest) (words : List (Bor (List ℕ)))
+    → request.uploads ≡ map (λ w. w.now) words → (word : List ℕ)
+    → Contains (map (λ w. w.now) words) word → Contains (names_of request) word
+upload_named request words are word has =
+    Contains-append_right (request.out ∷ unwrap_or request.ends request.out ∷ []) request.uploads word
+    (subst (λ (ws : List (List ℕ)). Contains ws word) (sym are) has)

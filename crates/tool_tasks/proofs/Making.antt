@@ -1,19 +1,18 @@
 -- Uploads that are sorted or merged: what was loaded, and what is made of them.
 use Rattle.std.proofs.Common.{◌≡◌, ◌∙◌, ◌++◌, ◌∷◌, ◌<◌, ◌+◌, [], Bor, ℕ, List, None, Option, Some}
 use Rattle.std.proofs.Common.{append-nil, append_assoc, ap, arith, get_or, if◌then◌else◌, length, map}
-use Rattle.std.proofs.Common.{refl, subst, sym, take, true, unwrap_or}
+use Rattle.std.proofs.Common.{refl, subst, sym, take, unwrap_or}
 use Rattle.std.proofs.lemmas.List.{map-append, take_more}
-use Rattle.std.specs.Prelude.{Contains, option_map}
 use Rattle.frame.specs.Names.{file_named}
 use Rattle.report_texts.specs.Report.{upload_lines}
 use Rattle.tap_views.specs.UploadEnds.{ArePlainEnds, are_posted}
 use Rattle.tap_views.specs.declared.upload_end.UploadEnd.{UploadEnd}
-use Rattle.world.specs.Run.{Load, Run, with_load}
+use Rattle.world.specs.Run.{Load, Named, Run, with_load}
 use Rattle.tool_words.specs.Request.{SortRequest}
-use Rattle.tool_tasks.specs.Sort.{IsSortedOf, Sorts, ends_files, names_of}
+use Rattle.tool_tasks.specs.{Files.named_files, Sort.IsSortedOf, Sort.Sorts}
 use Rattle.tool_tasks.specs.declared.prepared.NewFile.{NewFile}
 use Rattle.tool_tasks.specs.inside.Prepared.{IsNamedIn, files_in, known_file}
-use Rattle.tool_tasks.specs.inside.Sort.{LoadsAll, sorted_given}
+use Rattle.tool_tasks.specs.inside.{Loads.LoadsAll, Sort.sorted_given}
 
 -- ---- uploads that were loaded before
 -- one more upload
@@ -49,7 +48,7 @@ loads_next words n d old mid new texts bytes within all is =
 -- what is given of uploads that ended so, with their file
 pub ends_given : (request : SortRequest) (ends : List UploadEnd) (loads : List Load)
     (note text file : List ℕ) (first : Option NewFile) (known : Option (List ℕ)) → text ≡ []
-    → files_in first ≡ ends_files request.ends (upload_lines 0 ends) → known ≡ Some file
+    → files_in first ≡ named_files request.ends (upload_lines 0 ends) → known ≡ Some file
     → record {
       loads = loads;
       text = text;
@@ -59,19 +58,23 @@ pub ends_given : (request : SortRequest) (ends : List UploadEnd) (loads : List L
 ends_given request ends loads note text file first known none is whole =
     rw (none, whole, append-nil (files_in first), is) refl
 
-pub first_named : (request : SortRequest) (file : Option NewFile)
-    → option_map (λ f. f.name.now) file ≡ request.ends → IsNamedIn (names_of request) file
-first_named request None is = tt
-first_named request (Some file) is = subst (λ (e : Option (List ℕ)). Contains
-    (request.out ∷ unwrap_or e request.out ∷ request.uploads) file.name.now) is (1, omega arith, refl)
+abbrev name_in : List Named → List ℕ
+name_in [] = []
+name_in (file ∷ files) = file.name
+
+pub first_named : (out : List ℕ) (ends : Option (List ℕ)) (uploads : List (List ℕ)) (lines : List ℕ)
+    (file : Option NewFile) → files_in file ≡ named_files ends lines
+    → IsNamedIn (out ∷ unwrap_or ends out ∷ uploads) file
+first_named out ends uploads lines None is = tt
+first_named out None uploads lines (Some file) is = absurd (cc)
+first_named out (Some name) uploads lines (Some file) is = (1, omega arith, sym (ap name_in is))
 
 pub sorts_so : (request : SortRequest) (start mid : Run) (texts : List (List ℕ))
     (ends : List UploadEnd) (note file : List ℕ) (status : ℕ)
     (all : LoadsAll request.uploads start mid texts) → ArePlainEnds texts ends
-    → IsSortedOf texts file → (are_posted ends ≡ true → note ≡ [])
-    → status ≡ (if are_posted ends then 0 else 3)
+    → IsSortedOf texts file → status ≡ (if are_posted ends then 0 else 3)
     → Sorts request (sorted_given request all.loads note ends file) status
-sorts_so request start mid texts ends note file status all plain sorted quiet success = record {
+sorts_so request start mid texts ends note file status all plain sorted success = record {
   named = all.named;
   ends = ends;
   plain = subst (λ (ts : List (List ℕ)). ArePlainEnds ts ends) (sym all.bytes) plain;
@@ -79,6 +82,5 @@ sorts_so request start mid texts ends note file status all plain sorted quiet su
   sorted = subst (λ (ts : List (List ℕ)). IsSortedOf ts file) (sym all.bytes) sorted;
   made = refl;
   text = refl;
-  note = quiet;
   success = success;
 }

@@ -2,20 +2,20 @@
 use Rattle.std.proofs.Common.{◌≡◌, ◌∙◌, ◌⊎◌, ◌+◌, ◌<◌, ◌++◌, ◌∷◌, [], Bor, Err, List, Ok, Option}
 use Rattle.std.proofs.Common.{Result, Some, ap, append-nil, arith, get_or, inl, inr, length, map}
 use Rattle.std.proofs.Common.{refl, subst, suc, sym, take, zero, ℕ}
-use Rattle.frame.specs.{Names.file_named, declared.outside.Outside.Outside}
+use Rattle.frame.specs.Names.{file_named}
 use Rattle.part_texts.proofs.Parts.{can_be_read}
-use Rattle.part_texts.specs.{Merged.merge_of, Reads.HasStarted, Reads.MergesAs, Reads.read_by}
-use Rattle.part_texts.specs.declared.fault.MergeFault.{MergeFault}
+use Rattle.part_texts.specs.{Merged.merge_of, Reads.HasStarted, Reads.IsFaultOf, Reads.Leaves}
+use Rattle.part_texts.specs.{Reads.MergesAs, Reads.read_by, declared.fault.MergeFault.MergeFault}
 use Rattle.part_texts.specs.declared.fault.MergeFault.TheVariants.{Line, Unread, Write, NoMemory}
 use Rattle.recorded_lines.specs.Texts.{CanBe, Follows, calls_of}
 use Rattle.recorded_lines.specs.declared.text.Lines.{Lines}
 use Rattle.std.proofs.lemmas.List.{map_push, take_more, Elements.All-head, Elements.All-tail}
-use Rattle.std.specs.{List.AllZip, Prelude.All, Prelude.Contains, Prelude.slice_get}
+use Rattle.std.specs.{List.AllZip, Prelude.All, Prelude.Contains, Prelude.Vec, Prelude.slice_get}
+use Rattle.std.specs.declared.alloc.Global.{Global}
 use Rattle.tool_tasks.proofs.Streaming.{all_read}
 use Rattle.tool_tasks.specs.Merge.{AreOf, IsPrefix, IsWrongPart, Merges}
-use Rattle.tool_tasks.specs.Streams.{LeavesOf}
-use Rattle.tool_tasks.specs.declared.{stops.Halt.Halt, streams.Noted.Noted}
-use Rattle.tool_tasks.specs.inside.{Merge.IsNoted, Merge.names_of, Streams.IsStreamed}
+use Rattle.tool_tasks.specs.{Streams.CanStop, Streams.with_stop, declared.stops.Halt.Halt}
+use Rattle.tool_tasks.specs.inside.{Merge.IsNoted, Merge.names_of, Merge.why_of, Streams.IsStreamed}
 use Rattle.world.specs.{Run.Calls, Run.Run, Run.with_written, Streams.IsWhole}
 
 -- ---- names
@@ -85,36 +85,36 @@ whole_started calls text whole merged = λ texts can all is.
     sym merged ∙ ap merge_of (sym (whole_read calls texts whole can)) ∙ is in
     ([], (let e : all ≡ text = cc in e) ∙ sym (append-nil text))
 
--- ---- what is noted
+-- ---- how a run ends
 module _ (words : List (List ℕ)) (calls : List Calls) (are : AreOf words calls) where
-  left_by : (run run' : Run) (text : List ℕ) (why is : Outside) → is ≡ why → HasStarted calls text
-      → LeavesOf (IsWrongPart words calls) words calls why (with_written run text) run'
-      → (text' : List ℕ) × ((text' ≡ []) ⊎ IsPrefix words calls text')
-      × LeavesOf (IsWrongPart words calls) words calls is (with_written run text') run'
-  left_by run run' text why is same has leaves = (
-    text,
-    inr (are, has),
-    subst (λ w. LeavesOf (IsWrongPart words calls) words calls w (with_written run text) run')
-        (sym same) leaves,
-  )
-
-  pub merged : (run run' : Run) (done : Result Unit MergeFault) (result : Result Noted Halt)
-      → MergesAs calls run run' done → IsNoted done result
-      → IsStreamed (Merges words) (IsPrefix words) (IsWrongPart words) words calls run run' result
-  merged run run' (Ok done) (Ok noted) (whole, text, is, wrote) note =
-      (text, wrote, inr (are, whole_started calls text whole is), (are, whole, is, note))
-  merged run run' (Ok done) (Err halt) m bad = absurd bad
-  merged run run' (Err fault) (Ok noted) m bad = absurd bad
-  merged run run' (Err (Line part number why)) (Err halt) (text, has, same, said) is =
-      left_by run run' text _ halt.0 is has ((are, part, number, why, said), inl same)
-  merged run run' (Err (Unread part)) (Err halt) (text, has, same, said) is =
+  can_stop : (fault : MergeFault) → ((texts : List (List ℕ)) → AllZip CanBe calls texts
+      → IsFaultOf (merge_of texts) calls fault)
+      → CanStop (IsWrongPart words calls) words calls (why_of fault)
+  can_stop (Line part number why) said = (are, part, number, why, said)
+  can_stop (Unread part) said =
       let (c, at, unread) = said (read_by calls) (can_be_read calls) in
       let (name, in_words, named, in_calls) = named_at words calls part c are at in
-      left_by run run' text _ halt.0 is has (
-        (name, in_words, c, in_calls, unread ∙ ap (λ (n : Option (List ℕ)). n ∷ []) named),
-        inl same,
-      )
-  merged run run' (Err (Write fault)) (Err halt) (text, has, cut, said) is =
-      left_by run run' text _ halt.0 is has (inl cut)
-  merged run run' (Err NoMemory) (Err halt) (text, has, same, said) is =
-      left_by run run' text _ halt.0 is has (inl same)
+      (name, in_words, c, in_calls, unread ∙ ap (λ (n : Option (List ℕ)). n ∷ []) named)
+  can_stop (Write fault) said = tt
+  can_stop NoMemory said = tt
+
+  left_by : (fault : MergeFault) (before after : Run) → Leaves fault before after
+      → after ≡ with_stop before (why_of fault)
+  left_by (Line part number why) before after is = is
+  left_by (Unread part) before after is = is
+  left_by (Write fault) before after is = is
+  left_by NoMemory before after is = is
+
+  pub merged : (run run' : Run) (done : Result Unit MergeFault) (result : Result (Vec ℕ Global) Halt)
+      → MergesAs calls run run' done → IsNoted done result
+      → IsStreamed (Merges words) (IsPrefix words) (IsWrongPart words) words calls run run' result
+  merged run run' (Ok done) (Ok note) (whole, text, is, wrote) none =
+      (text, wrote, inr (are, whole_started calls text whole is), (are, whole, is, none))
+  merged run run' (Ok done) (Err halt) m bad = absurd bad
+  merged run run' (Err fault) (Ok note) m bad = absurd bad
+  merged run run' (Err fault) (Err halt) (text, has, leaves, said) same = (
+    text,
+    inr (are, has),
+    rw same (can_stop fault said),
+    rw same (left_by fault (with_written run text) run' leaves),
+  )

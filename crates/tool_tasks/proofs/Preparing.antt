@@ -1,12 +1,12 @@
 -- What was prepared is done, or a part of it.
-use Rattle.std.proofs.Common.{◌≡◌, ℕ, List, [], Err, Ok, Result, subst, sym}
+use Rattle.std.proofs.Common.{◌≡◌, ℕ, List, [], Err, Ok, Result, inl, inr, subst, sym}
 use Rattle.frame.proofs.Giving.{part_files, part_text, stopped_at}
 use Rattle.frame.proofs.Outcomes.{halted_in, halted_loading, stopped_early}
 use Rattle.frame.specs.Given.{Given, gave, with_files, with_text}
-use Rattle.frame.specs.Outcome.{IsHalted, rule_of}
+use Rattle.frame.specs.Outcome.{Ends, IsHalted, Rule, rule_of}
 use Rattle.frame.specs.{Outsides.IsStoppedIn, Outsides.Leaves, declared.outside.Outside.Outside}
 use Rattle.tool_tasks.specs.declared.{prepared.Prepared.Prepared, stops.Halt.Halt}
-use Rattle.tool_tasks.specs.inside.Does.{Does}
+use Rattle.tool_tasks.specs.inside.Does.{Does, IsEnded}
 use Rattle.tool_tasks.specs.inside.Prepared.{Carries, files_in, with_prepared}
 use Rattle.world.proofs.Laws.{no_loads}
 use Rattle.world.specs.Run.{Load, Run}
@@ -41,3 +41,15 @@ carried right wrong words start new whole status (Ok given) (same, all) is = rec
 }
 carried right wrong words start new whole status (Err halt) stopped is =
     halted_in right wrong words start new whole status halt.0 is stopped
+
+-- what was done, or what stopped it, ends so
+pub ends : (rule : Rule) (old mid new : Run) (done : Result ℕ Halt) (result : ℕ)
+    → Does rule old mid done → IsEnded done mid new result → Ends rule old new result
+ends rule old mid new (Ok status) result is (same, kept) = inl (rw (same, kept) is)
+ends rule old mid new (Err halt) result is (reported, failed) = inr (record {
+  why = halt.0;
+  before = mid;
+  halted = is;
+  reported = reported;
+  failed = failed;
+})

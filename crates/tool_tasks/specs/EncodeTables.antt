@@ -2,6 +2,7 @@
 use Rattle.jiff_core.specs.declared.error.{Error.TheVariants.Tzif as TzifError, TzifFault.TzifFault}
 use Rattle.jiff_tz.specs.{PosixReader.read_whole, PosixText.tz_view, Tzif.IsParseFailure}
 use Rattle.jiff_tz.specs.{Tzif.tzif_view, TzifReader.read_tzif, declared.timezone.TimeZone.TimeZone}
+use Rattle.jiff_tz.specs.declared.tzif.Tzif.{Tzif}
 use Rattle.std.specs.{Char.is_ascii_alphanumeric, List.list_all}
 use Rattle.std.specs.Prelude.{◌≡◌, ◌⊎◌, ◌==◌, ◌||◌, ◌&&◌, ◌++◌, ℕ, Bool, List, None, Ok, Option}
 use Rattle.std.specs.Prelude.{Some, codes, false, if◌then◌else◌, is_none, true}
@@ -33,12 +34,15 @@ zone_loaded None = None
 zone_loaded (Some word) =
     if is_none (read_whole word) && is_zone_name word then Some (zone_file word) else None
 
--- The zone is the rule that the word writes; or the word is no rule but a name, and the zone is what
--- the text of its file has.
+-- the word is no rule but a name, and the text of its file has this table
+abbrev pub IsTableOf : (word text : List ℕ) → Tzif → Type 0
+IsTableOf word text table = (read_whole word ≡ None) × (is_zone_name word ≡ true)
+    × (read_tzif text ≡ Ok (tzif_view table))
+
+-- the zone is the rule that the word writes, or that table
 abbrev pub IsZone : (word text : List ℕ) → TimeZone → Type 0
 IsZone word text (zones.Posix rule) = read_whole word ≡ Some (tz_view rule)
-IsZone word text (zones.Tzif table) = (read_whole word ≡ None) × (is_zone_name word ≡ true)
-    × (read_tzif text ≡ Ok (tzif_view table.now))
+IsZone word text (zones.Tzif table) = IsTableOf word text table.now
 IsZone word text zone = ⊥
 
 -- the clock, if its zone has a word, is of this fold and of that zone
@@ -47,7 +51,8 @@ IsClock None fold text None = Unit {0}
 IsClock (Some word) fold text (Some clock) = (clock.fold ≡ fold) × IsZone word text clock.zone
 IsClock word fold text clock = ⊥
 
--- the word has no zone: it is neither a rule nor a name, or its file is none
-abbrev pub IsNoZone : (word text : List ℕ) → Type 0
-IsNoZone word text = (read_whole word ≡ None) × ((is_zone_name word ≡ false)
+-- there is a word, and it has no zone: it is neither a rule nor a name, or its file is none
+abbrev pub HasNoZone : Option (List ℕ) → List ℕ → Type 0
+HasNoZone None text = ⊥
+HasNoZone (Some word) text = (read_whole word ≡ None) × ((is_zone_name word ≡ false)
     ⊎ ((is_zone_name word ≡ true) × (fault : TzifFault) × IsParseFailure (TzifError fault) text))

@@ -3,10 +3,10 @@ pub mod Decode
 pub mod Encode
 pub mod EncodeRows
 pub mod EncodeTables
+pub mod Files
 pub mod ValidPrefix
 pub mod Merge
 pub mod MergeSorted
 pub mod Sort
 pub mod Streams
-pub mod Uploads
 pub mod inside

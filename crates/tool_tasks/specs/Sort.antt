@@ -3,10 +3,10 @@ use Rattle.frame.specs.{Given.Given, Given.file_of, Names.file_named, Outcome.Ru
 use Rattle.report_texts.specs.Report.{upload_lines}
 use Rattle.settlement.specs.SettledTaps.{AreSettledTaps}
 use Rattle.sorted_taps.specs.Written.{IsInBatchesOf512}
-use Rattle.std.specs.Prelude.{◌≡◌, ℕ, List, [], ◌∷◌, ◌++◌, Option, None, Some, if◌then◌else◌, map}
-use Rattle.std.specs.Prelude.{true, unwrap_or}
+use Rattle.std.specs.Prelude.{◌≡◌, ℕ, List, [], ◌∷◌, ◌++◌, if◌then◌else◌, map, unwrap_or}
 use Rattle.tap_views.specs.UploadEnds.{ArePlainEnds, are_posted}
 use Rattle.tap_views.specs.declared.{encoder.TapFields.TapFields, upload_end.UploadEnd.UploadEnd}
+use Rattle.tool_tasks.specs.Files.{named_files}
 use Rattle.tool_words.specs.Request.{SortRequest}
 use Rattle.world.specs.Run.{Named}
 
@@ -21,17 +21,12 @@ pub record IsSortedOf (uploads : List (List ℕ)) (file : List ℕ) : Type 0 whe
 abbrev pub names_of : SortRequest → List (List ℕ)
 names_of request = request.out ∷ unwrap_or request.ends request.out ∷ request.uploads
 
--- the file of these lines of uploads' ends, if it has a name
-abbrev pub ends_files : Option (List ℕ) → List ℕ → List Named
-ends_files None lines = []
-ends_files (Some name) lines = file_of name lines ∷ []
-
 -- the file of the lines of the uploads' ends, if it has a name, and then that of their taps
 abbrev pub files_of : SortRequest → List ℕ → List ℕ → List Named
-files_of request lines file = ends_files request.ends lines ++ file_of request.out file ∷ []
+files_of request lines file = named_files request.ends lines ++ file_of request.out file ∷ []
 
 -- The uploads were loaded. The file of the lines of their ends is made, if it has a name, and then the
--- file of exactly their valid taps. Nothing is noted if there is no layout fault.
+-- file of exactly their valid taps.
 pub record Sorts (request : SortRequest) (given : Given) (status : ℕ) : Type 0 where
   pub named : map (λ load. load.name) given.loads ≡ map file_named request.uploads
   pub ends : List UploadEnd
@@ -40,7 +35,6 @@ pub record Sorts (request : SortRequest) (given : Given) (status : ℕ) : Type 0
   pub sorted : IsSortedOf (map (λ load. load.bytes) given.loads) file
   pub made : given.files ≡ files_of request (upload_lines 0 ends) file
   pub text : given.text ≡ []
-  pub note : are_posted ends ≡ true → given.note ≡ []
   pub success : status ≡ (if are_posted ends then 0 else 3)
 
 -- THE rule of `sort`

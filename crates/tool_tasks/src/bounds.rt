@@ -1,5 +1,4 @@
 //! `bounds`: the tokens at which to divide a run over sorted uploads into parts.
-ghost use Rattle.std.specs.Prelude.{◌≤◌};
 
 use crate::fault::Fault;
 use crate::informs::ended_informing;
@@ -44,9 +43,6 @@ pub fn bounds_over<D: PlacedFiles, W: World>(
     words: &BoundsWords<'_>,
     disk: &D,
     world: &mut W,
-) -> u8
-    ensures { result ≤ 1 }
-{
-    let done = list_bounds(alloc, words, disk, world);
-    ended_informing(done, world)
+) -> u8 {
+    ended_informing(list_bounds(alloc, words, disk, world), world)
 }

@@ -8,7 +8,7 @@ ghost use Rattle.tool_tasks.specs.inside.{Decode.StopsDecoding, Decode.with_deco
 use crate::counted::Counted;
 use crate::fault::Fault;
 use crate::loads::load;
-use crate::stops::{Halt, line_of, stopped};
+use crate::stops::{Halt, ended, line_of};
 use frame::{Outside, write};
 use std::alloc::Global;
 use world::World;
@@ -89,8 +89,6 @@ pub fn decode_over<W: World + Counted>(alloc: Global, words: Vec<&str>, world: &
     ensures { Ends (decode_rule (map (λ w. w.now) words.entry.items)) (W.run world.old)
         (W.run world.new) result }
 {
-    match decode(alloc, &words, world) {
-        Ok(status) => status,
-        Err(halt) => stopped(halt, world),
-    }
+    let done = decode(alloc, &words, world);
+    ended(done, "", world)
 }

@@ -6,7 +6,7 @@ use crate::counted::Counted;
 use crate::fault::Fault;
 use crate::loads::load_whole;
 use crate::prepared::{Prepared, carry_out};
-use crate::stops::{Halt, stopped};
+use crate::stops::{Halt, ended};
 use frame::Outside;
 use std::alloc::Global;
 use tap_rows::RowsFault;
@@ -45,11 +45,10 @@ fn encode<'a, W: World + Counted>(
 /// Encodes the tap table that the word names, `-` being standard input: reads it whole, and writes
 /// its upload. If it is wrong, its first wrong line is reported and nothing is written. The status
 /// is 0 if the upload is written, else 1.
+#[tactic(auto, using(crate::proofs::Preparing::ends))]
 pub fn encode_over<W: World + Counted>(alloc: Global, word: &str, world: &mut W) -> u8
     ensures { Ends (encode_rule word.now) (W.run world.old) (W.run world.new) result }
 {
-    match encode(alloc, word, world) {
-        Ok(status) => status,
-        Err(halt) => stopped(halt, world),
-    }
+    let done = encode(alloc, word, world);
+    ended(done, "", world)
 }

@@ -1,19 +1,16 @@
 //! What `encode` makes of an agency's own CSVs, once they are loaded and it is known how they are read.
 ghost use Rattle.frame.specs.Outsides.{Stops};
-ghost use Rattle.std.specs.Prelude.{◌≡◌, ◌++◌, [], ℕ, IfErr, IfOk, List, OnOk, map, option_map};
-ghost use Rattle.std.specs.Prelude.{string_bytes};
+ghost use Rattle.std.specs.Prelude.{◌≡◌, [], IfErr, IfOk, OnOk, option_map};
 ghost use Rattle.tap_rows.specs.Devices.{devices_of};
-ghost use Rattle.tool_tasks.specs.EncodeRows.{AddsCsv, IsSummaryLine, IsWrongCsv, device_files};
-ghost use Rattle.tool_tasks.specs.EncodeRows.{files_made, nothing_encoded, refused_files};
-ghost use Rattle.tool_tasks.specs.EncodeRows.{rows_status, upload_files, upload_text, with_csv};
-ghost use Rattle.tool_tasks.specs.EncodeRows.{word_in};
-ghost use Rattle.tool_tasks.specs.inside.EncodeRows.{AreOf, PreparesCsvs, csv_of, encoded_of};
+ghost use Rattle.tool_tasks.specs.EncodeRows.{AddsCsv, IsGivenOf, IsWrongCsv, device_files};
+ghost use Rattle.tool_tasks.specs.EncodeRows.{nothing_encoded, rows_status, upload_files};
+ghost use Rattle.tool_tasks.specs.EncodeRows.{upload_text, with_csv, word_in};
+ghost use Rattle.tool_tasks.specs.inside.EncodeRows.{AreOf, PreparesCsvs, csvs_of, encoded_of};
 ghost use Rattle.tool_tasks.specs.inside.Prepared.{files_in, whole_of};
 
-use crate::encode_loads::Csv;
 use crate::fault::Fault;
-use crate::names::Name;
-use crate::prepared::{NewFile, Prepared};
+use crate::names::{Name, word_at};
+use crate::prepared::{NewFile, Prepared, new_file};
 use crate::quotes::open_quote;
 use crate::stops::Halt;
 use crate::uploads::push_moment;
@@ -45,32 +42,27 @@ fn name_of<'a>(columns: &Columns<'a>, wanted: Wanted) -> &'a str {
     }
 }
 
-/// The line of how many rows there are of each kind, and of the first and the last moment, without
-/// its line feed.
-fn summary_line(alloc: Global, summary: &Summary) -> Result<String, AllocError>
-    ensures { IfOk result (λ line. IsSummaryLine summary.now (string_bytes line)) }
-{
-    let read = summary.rows();
-    let taps = summary.taps;
-    let left_out = summary.left_out;
-    let refused = summary.refused;
-    let mut line = format!(in alloc;
+/// Appends how many rows there are of each kind, and the first and the last moment; of several CSVs
+/// also what this one is called. No clause says what is appended.
+fn push_summary(
+    text: &mut String,
+    is_many: bool,
+    word: &str,
+    summary: &Summary,
+) -> Result<(), AllocError> {
+    let (read, taps) = (summary.rows(), summary.taps);
+    let (left_out, refused) = (summary.left_out, summary.refused);
+    write!(
+        text,
         "read {read} taps {taps} left out {left_out} refused {refused} first "
     )?;
-    push_moment(&mut line, summary.span.map(|span| span.first))?;
-    line.push_str(" last ")?;
-    push_moment(&mut line, summary.span.map(|span| span.last))?;
-    Ok(line)
-}
-
-/// The end of a line; with several CSVs it says first what its own is called.
-fn line_end(alloc: Global, is_many: bool, word: &str) -> Result<String, AllocError> {
+    push_moment(text, summary.span.map(|span| span.first))?;
+    text.push_str(" last ")?;
+    push_moment(text, summary.span.map(|span| span.last))?;
     if is_many {
-        let name = Name(word);
-        format!(in alloc; " {name}\n")
-    } else {
-        format!(in alloc; "\n")
+        write!(text, " {}", Name(word))?;
     }
+    text.push_str("\n")
 }
 
 /// What CSVs are encoded as.
@@ -97,24 +89,15 @@ impl Encoded {
     }
 
     /// Appends one more CSV, and its line.
-    fn add(
-        &mut self,
-        alloc: Global,
-        is_many: bool,
-        word: &str,
-        csv: &EncodedRows,
-    ) -> Result<(), AllocError>
-        ensures { OnOk result ((line : List ℕ) × IsSummaryLine csv.now.summary line
-            × (end : List ℕ) × (encoded_of self.new ≡ with_csv (encoded_of self.old)
-            csv.now.upload.items csv.now.refused.items (line ++ end) csv.now.summary)) }
+    fn add(&mut self, is_many: bool, word: &str, csv: &EncodedRows) -> Result<(), AllocError>
+        ensures { OnOk result (encoded_of self.new ≡ with_csv (encoded_of self.old)
+            csv.now.upload.items csv.now.refused.items csv.now.summary) }
     {
-        let line = summary_line(alloc, &csv.summary)?;
         self.upload.extend_from_slice(&csv.upload)?;
         self.rows.extend_from_slice(&csv.refused)?;
-        self.note.push_str(&line)?;
-        self.note.push_str(&line_end(alloc, is_many, word)?)?;
         self.has_taps |= csv.summary.taps != 0;
         self.has_refused |= csv.summary.refused != 0;
+        push_summary(&mut self.note, is_many, word, &csv.summary)?;
         Ok(())
     }
 }
@@ -125,54 +108,38 @@ fn encode_csv<'a>(
     words: &RowsWords<'a>,
     is_many: bool,
     choice: &Choice<'_>,
-    csv: &Csv<'a>,
+    word: &'a str,
+    text: &Vec<u8>,
     more: &mut String,
     all: &mut Encoded,
 ) -> Result<(), Halt<'a>>
-    ensures added { OnOk result (AddsCsv words.now choice.now (csv_of csv.now)
+    ensures added { OnOk result (AddsCsv words.now choice.now text.now.items
         (encoded_of all.old) (encoded_of all.new)) }
     ensures stopped { IfErr result
-        (λ halt. Stops (IsWrongCsv words.now choice.now csv.now.text.items) halt.0) }
+        (λ halt. Stops (IsWrongCsv words.now choice.now text.now.items) halt.0) }
 {
     more.clear();
-    if let Some(line) = open_quote(&csv.text, words.columns.separator.byte) {
-        let name = Name(csv.word);
-        write!(more, "\nfault: cannot read {name}")?;
-        return Err(Halt(
-            Outside::Untraced,
-            Fault::Rows(csv.word, WrongRows::Quote(line)),
-        ));
+    if let Some(line) = open_quote(text, words.columns.separator.byte) {
+        write!(more, "\nfault: cannot read {}", Name(word))?;
+        let wrong = WrongRows::Quote(line);
+        return Err(Halt(Outside::Untraced, Fault::Rows(word, wrong)));
     }
-    match encode_rows(alloc, choice, &csv.text, more) {
+    match encode_rows(alloc, choice, text, more) {
         Err(AgencyFault::NoMemory) => Err(Halt(Outside::NoMemory, Fault::NoMemory)),
         Err(AgencyFault::Column(wanted)) => {
             let wrong = WrongRows::Column(name_of(&words.columns, wanted));
-            Err(Halt(Outside::Wrong, Fault::Rows(csv.word, wrong)))
+            Err(Halt(Outside::Wrong, Fault::Rows(word, wrong)))
         }
         Ok(encoded) => match (words.refused, encoded.summary.first_refused) {
             (None, Some((number, reason))) => {
                 let wrong = WrongRows::Row(number, reason);
-                Err(Halt(Outside::Wrong, Fault::Rows(csv.word, wrong)))
+                Err(Halt(Outside::Wrong, Fault::Rows(word, wrong)))
             }
             _ => {
-                all.add(alloc, is_many, csv.word, &encoded)?;
+                all.add(is_many, word, &encoded)?;
                 Ok(())
             }
         },
-    }
-}
-
-fn refused_file<'a>(name: Option<&'a str>, rows: Vec<u8>) -> Option<NewFile<'a>>
-    ensures { files_in result ≡ refused_files (word_in name.entry) rows.items }
-{
-    match name {
-        Some(name) => Some(NewFile {
-            name,
-            bytes: rows,
-            is_new: true,
-            unmade: Fault::Write,
-        }),
-        None => None,
     }
 }
 
@@ -245,15 +212,8 @@ fn prepare_encoded<'a>(
     choice: &Choice<'_>,
     all: Encoded,
 ) -> Result<Prepared<'a>, AllocError>
-    ensures named { IfOk result (AreOf words.now) }
-    ensures text { IfOk result (λ prepared. (whole_of [] prepared).text
-        ≡ upload_text (word_in words.now.out) (encoded_of all).upload) }
-    ensures note { IfOk result
-        (λ prepared. (whole_of [] prepared).note ≡ (encoded_of all).note) }
-    ensures made { IfOk result (λ prepared. (whole_of [] prepared).files
-        ≡ files_made words.now choice.now (encoded_of all)) }
-    ensures status { IfOk result
-        (λ prepared. prepared.status ≡ rows_status (encoded_of all)) }
+    ensures { IfOk result (λ prepared. AreOf words.now prepared × IsGivenOf words.now choice.now
+        (encoded_of all) (whole_of [] prepared) prepared.status) }
 {
     let status = status_of(&all);
     let devices = device_file(alloc, words, is_there, choice)?;
@@ -269,28 +229,31 @@ fn prepare_encoded<'a>(
         text,
         first: devices,
         upload,
-        held: refused_file(words.refused, rows),
+        held: new_file(words.refused, rows, true, Fault::Write),
         note,
         status,
     })
 }
 
-/// What is written, made and noted of CSVs. What else there is to say of a wrong one goes to `more`.
+/// What is written, made and noted of CSVs of these names. What else there is to say of a wrong one
+/// goes to `more`.
 pub(crate) fn prepare_csvs<'a>(
     alloc: Global,
     words: &RowsWords<'a>,
+    names: &[&'a str],
     is_there: bool,
     choice: &Choice<'_>,
-    csvs: &[Csv<'a>],
+    csvs: &[Vec<u8>],
     more: &mut String,
 ) -> Result<Prepared<'a>, Halt<'a>>
-    ensures { PreparesCsvs words.now choice.now (map csv_of csvs.now) result }
+    ensures { PreparesCsvs words.now choice.now (csvs_of csvs.now) result }
 {
     let is_many = csvs.len() > 1;
     let mut all = Encoded::new(alloc);
     for number in 0..csvs.len() {
         let csv = &csvs[number];
-        match encode_csv(alloc, words, is_many, choice, csv, more, &mut all) {
+        let word = word_at(names, number).unwrap_or("");
+        match encode_csv(alloc, words, is_many, choice, word, csv, more, &mut all) {
             Ok(()) => {}
             Err(halt) => return Err(halt),
         }

@@ -1,17 +1,16 @@
 //! What `encode` of an agency's own CSVs loads, in order: a device table, a key, a zone, the CSVs.
 ghost use Rattle.frame.specs.Outsides.{Leaves};
 ghost use Rattle.jiff_tz.specs.{PosixReader.read_whole, PosixText.tz_view};
-ghost use Rattle.std.specs.Prelude.{◌≡◌, ◌∷◌, ◌++◌, ℕ, Contains, IfErr, IfOk, List, OnOk, [], map};
-ghost use Rattle.std.specs.Prelude.{option_map, string_bytes};
-ghost use Rattle.tool_tasks.specs.EncodeRows.{HasTried, devices_word, loads_in, names_of, word_in};
+ghost use Rattle.std.specs.Prelude.{◌≡◌, ℕ, Bool, IfErr, IfOk, List, map, option_map, string_bytes};
+ghost use Rattle.tool_tasks.specs.EncodeRows.{AreRead, HasTried, devices_word, loads_in, names_of};
+ghost use Rattle.tool_tasks.specs.EncodeRows.{word_in};
 ghost use Rattle.tool_tasks.specs.EncodeTables.{is_name_byte, is_zone_name, zone_file, zone_loaded};
-ghost use Rattle.tool_tasks.specs.inside.EncodeRows.{AreLoaded, HasLoaded, csv_of, texts_in};
-ghost use Rattle.tool_tasks.specs.inside.Loads.{IsNameIn, StopsLoading};
-ghost use Rattle.world.specs.{Origins.with_loads, Run.Run};
+ghost use Rattle.tool_tasks.specs.inside.{EncodeRows.texts_in, Loads.IsNameIn, Loads.StopsLoading};
+ghost use Rattle.world.specs.{Origins.with_loads, Run.Load, Run.Run};
 
 use crate::counted::Counted;
 use crate::fault::Fault;
-use crate::loads::{load_whole, load_word};
+use crate::loads::{load_all, load_word};
 use crate::stops::Halt;
 use frame::Outside;
 use jiff_tz::posix;
@@ -19,24 +18,17 @@ use std::alloc::{AllocError, Global};
 use tool_words::RowsWords;
 use world::{LoadFault, World};
 
-/// A CSV that was loaded.
-#[derive(Drop)]
-pub(crate) struct Csv<'a> {
-    pub(crate) word: &'a str,
-    pub(crate) text: Vec<u8>,
-}
-
 /// What was loaded; empty texts of what has no word, and of a device table that is not there.
 #[derive(Drop)]
-pub(crate) struct Texts<'a> {
+pub(crate) struct Texts {
     pub(crate) devices: Vec<u8>,
     pub(crate) key: Vec<u8>,
     pub(crate) zone: Vec<u8>,
-    pub(crate) csvs: Vec<Csv<'a>>,
+    pub(crate) csvs: Vec<Vec<u8>>,
 }
 
 /// The device table, and whether it is there: one that is made need not be.
-pub(crate) fn load_devices<'a, W: World>(
+fn load_devices<'a, W: World>(
     alloc: Global,
     words: &RowsWords<'a>,
     world: &mut W,
@@ -134,81 +126,49 @@ fn load_named<W: World>(
     }
 }
 
-fn push<'a>(csvs: &mut Vec<Csv<'a>>, word: &'a str, text: Vec<u8>) -> Result<(), AllocError>
-    ensures { OnOk result (map csv_of csvs.new.items
-        ≡ map csv_of csvs.old.items ++ (word.entry.now, text.items) ∷ []) }
-{
-    csvs.push(Csv { word, text })?;
-    Ok(())
-}
-
-fn load_csvs<'a, W: Counted>(
-    alloc: Global,
-    words: &[&'a str],
-    world: &mut W,
-) -> Result<Vec<Csv<'a>>, Halt<'a>>
-    ensures loaded { IfOk result (λ csvs. AreLoaded (map (λ w. w.now) words.now)
-        (map csv_of csvs.items) (W.run world.old) (W.run world.new)) }
-    ensures stopped { (names : List (List ℕ)) → ((word : List ℕ)
-        → Contains (map (λ w. w.now) words.now) word → Contains names word) → IfErr result
-        (λ halt. StopsLoading names halt.0 (W.run world.old) (W.run world.new)) }
-{
-    let mut csvs = Vec::new(alloc);
-    for number in 0..words.len() {
-        let word = words[number];
-        let text = match load_whole(world, word) {
-            Ok(text) => text,
-            Err(halt) => return Err(halt),
-        };
-        if let Err(AllocError) = push(&mut csvs, word, text) {
-            return Err(Halt(Outside::NoMemory, Fault::NoMemory));
-        }
-    }
-    Ok(csvs)
-}
-
-/// What is loaded after this device table.
-pub(crate) fn load_later<'a, W: World + Counted>(
+/// All that the words name, and whether the device table is there.
+pub(crate) fn load_texts<'a, W: World + Counted>(
     alloc: Global,
     words: &RowsWords<'a>,
     csvs: &[&'a str],
-    devices: Vec<u8>,
     world: &mut W,
-) -> Result<Texts<'a>, Halt<'a>>
-    ensures loaded { IfOk result (λ texts. HasLoaded words.now (map (λ w. w.now) csvs.now)
-        devices.items (texts_in texts) (W.run world.old) (W.run world.new)) }
-    ensures stopped { IfErr result (λ halt. StopsLoading
-        (names_of words.now (map (λ w. w.now) csvs.now)) halt.0 (W.run world.old)
-        (W.run world.new)) }
+) -> Result<(bool, Texts), Halt<'a>>
+    ensures loaded { IfOk result (λ found. (started : Run) × (loads : List Load)
+        × HasTried words.now found.0 (W.run world.old) started × (W.run world.new
+        ≡ with_loads started loads) × AreRead words.now (map (λ w. w.now) csvs.now) found.0
+        (texts_in found.1) loads) }
+    ensures stopped { IfErr result (λ halt. (is_there : Bool) × (started : Run)
+        × HasTried words.now is_there (W.run world.old) started × StopsLoading
+        (names_of words.now (map (λ w. w.now) csvs.now)) halt.0 started (W.run world.new)) }
 {
-    let path = match zone_loaded(alloc, words.zone) {
-        Ok(path) => path,
-        Err(AllocError) => {
-            return Err(Halt(Outside::NoMemory, Fault::NoMemory));
-        }
+    let (is_there, devices) = match load_devices(alloc, words, world) {
+        Ok(found) => found,
+        Err(halt) => return Err(halt),
     };
     let key = match load_named(alloc, words.key, world) {
         Ok(key) => key,
         Err(why) => {
-            return Err(Halt(
-                Outside::Unread(why),
-                Fault::of_load(words.key.unwrap_or(""), why),
-            ));
+            let line = Fault::of_load(words.key.unwrap_or(""), why);
+            return Err(Halt(Outside::Unread(why), line));
         }
+    };
+    let Ok(path) = zone_loaded(alloc, words.zone) else {
+        return Err(Halt(Outside::NoMemory, Fault::NoMemory));
     };
     let zone = match load_named(alloc, name_in(&path), world) {
         Ok(zone) => zone,
-        Err(why) => {
-            return Err(Halt(Outside::Unread(why), zone_line(words.zone, why)));
-        }
+        Err(why) => return Err(Halt(Outside::Unread(why), zone_line(words.zone, why))),
     };
-    match load_csvs(alloc, csvs, world) {
-        Ok(csvs) => Ok(Texts {
-            devices,
-            key,
-            zone,
-            csvs,
-        }),
+    match load_all(alloc, csvs, true, world) {
+        Ok(csvs) => Ok((
+            is_there,
+            Texts {
+                devices,
+                key,
+                zone,
+                csvs,
+            },
+        )),
         Err(halt) => Err(halt),
     }
 }

@@ -1,14 +1,15 @@
 //! How `encode` reads an agency's own CSVs: the devices, the key and the zone of what it loaded.
-ghost use Rattle.jiff_tz.specs.PosixReader.{read_whole};
-ghost use Rattle.std.specs.Prelude.{◌≡◌, None, OnOk, Some, map, option_map};
-ghost use Rattle.tap_rows.specs.Devices.{devices_of};
-ghost use Rattle.tool_tasks.specs.EncodeRows.{AreNumbered, AreOldDevices, AreUsedDevices};
-ghost use Rattle.tool_tasks.specs.EncodeRows.{HasDevices, word_in};
-ghost use Rattle.tool_tasks.specs.{EncodeTables.IsKey, inside.EncodeRows.IsMade};
-ghost use Rattle.tool_tasks.specs.inside.EncodeRows.{IsTableClock, Prepares, csv_of, texts_in};
+ghost use Rattle.frame.specs.Outsides.{Stops};
+ghost use Rattle.std.specs.Prelude.{◌≡◌, ℕ, Err, IfErr, IfOk, List, OnOk, option_map};
+ghost use Rattle.tap_rows.specs.{Devices.devices_of, Keys.key_of, Numbering.IsNumbered};
+ghost use Rattle.tap_rows.specs.declared.agency.key.WrongKey.{WrongKey};
+ghost use Rattle.tool_tasks.specs.EncodeRows.{AreOldDevices, AreUsedDevices, Chain, HasDevices};
+ghost use Rattle.tool_tasks.specs.EncodeRows.{IsWrongTable, word_in};
+ghost use Rattle.tool_tasks.specs.EncodeTables.{HasNoZone, IsClock, IsKey};
+ghost use Rattle.tool_tasks.specs.inside.EncodeRows.{IsMade, IsTable, Prepares, csvs_of, texts_in};
 
 use crate::encode_csvs::prepare_csvs;
-use crate::encode_loads::{Csv, Texts, is_zone_name, rule_of};
+use crate::encode_loads::{Texts, is_zone_name, rule_of};
 use crate::fault::Fault;
 use crate::prepared::Prepared;
 use crate::stops::Halt;
@@ -18,19 +19,159 @@ use jiff_tz::{TimeZone, Tzif};
 use std::alloc::{AllocError, Global};
 use std::hash::RandomState;
 use tap_rows::{
-    Choice, Columns, DeviceTable, DevicesFault, Fold, LocalClock, TokenKey, number_devices,
-    read_devices,
+    Choice, DeviceTable, DevicesFault, LocalClock, TokenKey, number_devices, read_devices,
 };
 use tool_words::RowsWords;
 
-fn clock_of<'c>(table: &'c Tzif, fold: Fold) -> LocalClock<'c>
-    ensures { IsTableClock table.entry.now fold result }
+/// The devices of the table, if it is there.
+fn old_devices<'a>(
+    alloc: Global,
+    seed: RandomState,
+    words: &RowsWords<'a>,
+    is_there: bool,
+    name: &'a str,
+    text: &[u8],
+) -> Result<DeviceTable, Halt<'a>>
+    ensures old { IfOk result (λ table.
+        AreOldDevices is_there words.now.columns.separator text.now (devices_of table)) }
+    ensures stopped { IfErr result (λ halt.
+        Stops (IsWrongTable is_there words.now.columns.separator text.now) halt.0) }
 {
-    let zone = TimeZone::Tzif(table);
-    LocalClock { zone, fold }
+    if !is_there {
+        return Ok(DeviceTable::new(alloc, seed));
+    }
+    match read_devices(alloc, seed, words.columns.separator, text) {
+        Ok(table) => Ok(table),
+        Err(DevicesFault::NoMemory) => Err(Halt(Outside::NoMemory, Fault::NoMemory)),
+        Err(fault) => Err(Halt(Outside::Wrong, Fault::Devices(name, fault))),
+    }
 }
 
-/// The choice that the words make, with what was loaded.
+fn number_each(
+    alloc: Global,
+    choice: &Choice<'_>,
+    csvs: &[Vec<u8>],
+    devices: &mut DeviceTable,
+) -> Result<(), AllocError>
+    ensures { OnOk result (Chain (IsNumbered choice.now) (csvs_of csvs.now)
+        (devices_of devices.old) (devices_of devices.new)) }
+{
+    for number in 0..csvs.len() {
+        let csv = &csvs[number];
+        number_devices(alloc, choice, csv, devices)?;
+    }
+    Ok(())
+}
+
+/// Numbers the devices of the rows, if the device table is made.
+fn number_if_made(
+    alloc: Global,
+    words: &RowsWords<'_>,
+    csvs: &[Vec<u8>],
+    devices: &mut DeviceTable,
+) -> Result<(), AllocError>
+    ensures { OnOk result (AreUsedDevices words.now.makes_devices words.now.columns
+        (csvs_of csvs.now) (devices_of devices.old) (devices_of devices.new)) }
+{
+    if !words.makes_devices {
+        return Ok(());
+    }
+    let choice = Choice {
+        columns: &words.columns,
+        devices: None,
+        key: None,
+        clock: None,
+    };
+    number_each(alloc, &choice, csvs, devices)
+}
+
+/// The devices, if they have a word. `seed` is random, so that no file can choose names of devices
+/// that are found slowly.
+fn used_devices<'a>(
+    alloc: Global,
+    seed: RandomState,
+    words: &RowsWords<'a>,
+    is_there: bool,
+    texts: &Texts,
+) -> Result<Option<DeviceTable>, Halt<'a>>
+    ensures used { IfOk result (λ table. HasDevices words.now is_there (texts_in texts.now)
+        (option_map devices_of table)) }
+    ensures stopped { IfErr result (λ halt. Stops (IsWrongTable is_there
+        words.now.columns.separator texts.now.devices.items) halt.0) }
+{
+    let Some(name) = words.devices else {
+        return Ok(None);
+    };
+    match old_devices(alloc, seed, words, is_there, name, &texts.devices) {
+        Ok(old) => {
+            let mut table = old;
+            number_if_made(alloc, words, &texts.csvs, &mut table)?;
+            Ok(Some(table))
+        }
+        Err(halt) => Err(halt),
+    }
+}
+
+/// The key, if it has a word.
+fn key_in<'a>(words: &RowsWords<'a>, text: &[u8]) -> Result<Option<TokenKey>, Halt<'a>>
+    ensures key { IfOk result (λ key.
+        IsKey (word_in words.now.key) text.now (option_map (λ k. k.block) key)) }
+    ensures stopped { IfErr result
+        (λ halt. Stops ((wrong : WrongKey) × (key_of text.now ≡ Err wrong)) halt.0) }
+{
+    match words.key {
+        None => Ok(None),
+        Some(name) => match TokenKey::of_file(text) {
+            Ok(key) => Ok(Some(key)),
+            Err(wrong) => Err(Halt(Outside::Wrong, Fault::Key(name, wrong))),
+        },
+    }
+}
+
+/// The table of the zone, if it has a word that is no rule.
+fn table_in<'a>(alloc: Global, words: &RowsWords<'a>, text: &[u8]) -> Result<Option<Tzif>, Halt<'a>>
+    ensures table { IfOk result (IsTable (word_in words.now.zone) text.now) }
+    ensures stopped { IfErr result
+        (λ halt. Stops (HasNoZone (word_in words.now.zone) text.now) halt.0) }
+{
+    match words.zone {
+        None => Ok(None),
+        Some(name) => match rule_of(name) {
+            Some(_) => Ok(None),
+            None if !is_zone_name(name) => Err(Halt(Outside::Wrong, Fault::Zone(name))),
+            None => match Tzif::parse(alloc, None, text) {
+                Ok(table) => Ok(Some(table)),
+                Err(Error::Tzif(_)) => Err(Halt(Outside::Wrong, Fault::ZoneFile(name))),
+                Err(_) => Err(Halt(Outside::NoMemory, Fault::NoMemory)),
+            },
+        },
+    }
+}
+
+/// The clock of the zone, if it has a word: of this table if that is no rule.
+fn clock_of<'c>(words: &RowsWords<'_>, table: Option<&'c Tzif>) -> Option<LocalClock<'c>>
+    ensures { (text : List ℕ) → IsTable (word_in words.now.zone) text
+        (option_map (λ t. t.now) table.entry)
+        → IsClock (word_in words.now.zone) words.now.fold text result }
+{
+    let fold = words.fold;
+    match (words.zone, table) {
+        (None, _) => None,
+        (Some(_), Some(table)) => {
+            let zone = TimeZone::Tzif(table);
+            Some(LocalClock { zone, fold })
+        }
+        (Some(name), None) => match rule_of(name) {
+            Some(rule) => {
+                let zone = TimeZone::Posix(rule);
+                Some(LocalClock { zone, fold })
+            }
+            None => None,
+        },
+    }
+}
+
+/// The choice that the words make, with what was read.
 fn choice<'c>(
     words: &'c RowsWords<'_>,
     devices: Option<&'c DeviceTable>,
@@ -48,187 +189,32 @@ fn choice<'c>(
     }
 }
 
-/// With the zone whose file was loaded.
-fn prepare_by_zone_file<'a>(
-    alloc: Global,
-    words: &RowsWords<'a>,
-    is_there: bool,
-    texts: &Texts<'a>,
-    name: &'a str,
-    devices: Option<&DeviceTable>,
-    key: Option<&TokenKey>,
-    more: &mut String,
-) -> Result<Prepared<'a>, Halt<'a>>
-    requires named { word_in words.now.zone ≡ Some name.now }
-    requires no_rule { read_whole name.now ≡ None }
-    requires devices { HasDevices words.now is_there (texts_in texts.now)
-        (option_map (λ d. devices_of d.now) devices) }
-    requires key { IsKey (word_in words.now.key) (texts_in texts.now).key
-        (option_map (λ k. k.now.block) key) }
-    ensures { Prepares words.now is_there (texts_in texts.now) result }
-{
-    if !is_zone_name(name) {
-        return Err(Halt(Outside::Wrong, Fault::Zone(name)));
-    }
-    match Tzif::parse(alloc, None, &texts.zone) {
-        Ok(table) => {
-            let clock = clock_of(&table, words.fold);
-            let choice = choice(words, devices, key, Some(clock));
-            prepare_csvs(alloc, words, is_there, &choice, &texts.csvs, more)
-        }
-        Err(Error::Tzif(_)) => Err(Halt(Outside::Wrong, Fault::ZoneFile(name))),
-        Err(_) => Err(Halt(Outside::NoMemory, Fault::NoMemory)),
-    }
-}
-
-/// With the zone that the words name, by its rule or its name.
-fn prepare_by_zone<'a, 'c>(
-    alloc: Global,
-    words: &'c RowsWords<'a>,
-    is_there: bool,
-    texts: &Texts<'a>,
-    devices: Option<&'c DeviceTable>,
-    key: Option<&'c TokenKey>,
-    more: &mut String,
-) -> Result<Prepared<'a>, Halt<'a>>
-    requires devices { HasDevices words.now is_there (texts_in texts.now)
-        (option_map (λ d. devices_of d.now) devices) }
-    requires key { IsKey (word_in words.now.key) (texts_in texts.now).key
-        (option_map (λ k. k.now.block) key) }
-    ensures { Prepares words.now is_there (texts_in texts.now) result }
-{
-    match words.zone {
-        None => {
-            let choice = choice(words, devices, key, None);
-            prepare_csvs(alloc, words, is_there, &choice, &texts.csvs, more)
-        }
-        Some(name) => match rule_of(name) {
-            None => prepare_by_zone_file(alloc, words, is_there, texts, name, devices, key, more),
-            Some(rule) => {
-                let zone = TimeZone::Posix(rule);
-                let clock = LocalClock {
-                    zone,
-                    fold: words.fold,
-                };
-                let choice = choice(words, devices, key, Some(clock));
-                prepare_csvs(alloc, words, is_there, &choice, &texts.csvs, more)
-            }
-        },
-    }
-}
-
-/// With the key that the words name.
-fn prepare_by_key<'a>(
-    alloc: Global,
-    words: &RowsWords<'a>,
-    is_there: bool,
-    texts: &Texts<'a>,
-    devices: Option<&DeviceTable>,
-    more: &mut String,
-) -> Result<Prepared<'a>, Halt<'a>>
-    requires { HasDevices words.now is_there (texts_in texts.now)
-        (option_map (λ d. devices_of d.now) devices) }
-    ensures { Prepares words.now is_there (texts_in texts.now) result }
-{
-    match words.key {
-        None => prepare_by_zone(alloc, words, is_there, texts, devices, None, more),
-        Some(name) => match TokenKey::of_file(&texts.key) {
-            Ok(key) => { prepare_by_zone(alloc, words, is_there, texts, devices, Some(&key), more) }
-            Err(wrong) => Err(Halt(Outside::Wrong, Fault::Key(name, wrong))),
-        },
-    }
-}
-
-fn number_each(
-    alloc: Global,
-    choice: &Choice<'_>,
-    csvs: &[Csv<'_>],
-    devices: &mut DeviceTable,
-) -> Result<(), AllocError>
-    ensures { OnOk result (AreNumbered choice.now (map csv_of csvs.now)
-        (devices_of devices.old) (devices_of devices.new)) }
-{
-    for number in 0..csvs.len() {
-        let csv = &csvs[number];
-        number_devices(alloc, choice, &csv.text, devices)?;
-    }
-    Ok(())
-}
-
-/// Numbers the devices of the rows, if the device table is made.
-fn number_if_made(
-    alloc: Global,
-    makes: bool,
-    columns: &Columns<'_>,
-    csvs: &[Csv<'_>],
-    devices: &mut DeviceTable,
-) -> Result<(), AllocError>
-    ensures { OnOk result (AreUsedDevices makes columns.now (map csv_of csvs.now)
-        (devices_of devices.old) (devices_of devices.new)) }
-{
-    if !makes {
-        return Ok(());
-    }
-    let choice = Choice {
-        columns,
-        devices: None,
-        key: None,
-        clock: None,
-    };
-    number_each(alloc, &choice, csvs, devices)
-}
-
-/// With these devices, and those of the rows.
-fn prepare_by_devices<'a>(
-    alloc: Global,
-    words: &RowsWords<'a>,
-    is_there: bool,
-    texts: &Texts<'a>,
-    name: &'a str,
-    old: DeviceTable,
-    more: &mut String,
-) -> Result<Prepared<'a>, Halt<'a>>
-    requires named { word_in words.now.devices ≡ Some name.now }
-    requires old { AreOldDevices is_there words.now.columns.separator (texts_in texts.now).devices
-        (devices_of old) }
-    ensures { Prepares words.now is_there (texts_in texts.now) result }
-{
-    let _ = name;
-    let mut devices = old;
-    number_if_made(
-        alloc,
-        words.makes_devices,
-        &words.columns,
-        &texts.csvs,
-        &mut devices,
-    )?;
-    prepare_by_key(alloc, words, is_there, texts, Some(&devices), more)
-}
-
-/// What is written, made and noted of these texts. What else there is to say of a wrong one goes to
-/// `more`. `seed` is random, so that no file can choose names of devices that are found slowly.
+/// What is written, made and noted of these texts, the CSVs being of these names. What else there is
+/// to say of a wrong one goes to `more`.
 pub(crate) fn prepare<'a>(
     alloc: Global,
     seed: RandomState,
     words: &RowsWords<'a>,
+    names: &[&'a str],
     is_there: bool,
-    texts: &Texts<'a>,
+    texts: &Texts,
     more: &mut String,
 ) -> Result<Prepared<'a>, Halt<'a>>
     ensures { Prepares words.now is_there (texts_in texts.now) result }
 {
-    match words.devices {
-        None => prepare_by_key(alloc, words, is_there, texts, None, more),
-        Some(name) if !is_there => {
-            let none = DeviceTable::new(alloc, seed);
-            prepare_by_devices(alloc, words, is_there, texts, name, none, more)
-        }
-        Some(name) => match read_devices(alloc, seed, words.columns.separator, &texts.devices) {
-            Ok(old) => prepare_by_devices(alloc, words, is_there, texts, name, old, more),
-            Err(fault) => match fault {
-                DevicesFault::NoMemory => Err(Halt(Outside::NoMemory, Fault::NoMemory)),
-                _ => Err(Halt(Outside::Wrong, Fault::Devices(name, fault))),
-            },
-        },
-    }
+    let devices = match used_devices(alloc, seed, words, is_there, texts) {
+        Ok(devices) => devices,
+        Err(halt) => return Err(halt),
+    };
+    let key = match key_in(words, &texts.key) {
+        Ok(key) => key,
+        Err(halt) => return Err(halt),
+    };
+    let table = match table_in(alloc, words, &texts.zone) {
+        Ok(table) => table,
+        Err(halt) => return Err(halt),
+    };
+    let clock = clock_of(words, table.as_ref());
+    let choice = choice(words, devices.as_ref(), key.as_ref(), clock);
+    prepare_csvs(alloc, words, names, is_there, &choice, &texts.csvs, more)
 }

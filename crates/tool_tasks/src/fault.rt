@@ -1,7 +1,5 @@
 //! Why a subcommand is given up, and the line that says so.
-ghost use Rattle.std.specs.Prelude.{◌≡◌};
-
-use crate::layout::{Cause, Remedy};
+use crate::layout::Meaning;
 use crate::names::{Escaped, Name};
 use crate::wrong_tables::{WrongDevices, WrongFareTable, WrongRows, WrongTapTable};
 use fare_table::TableFault;
@@ -74,30 +72,18 @@ impl<'a> Fault<'a> {
 }
 
 impl From<AllocError> for Fault<'_> {
-    ghost use Rattle.tool_tasks.specs.declared.fault.Fault.TheVariants.{NoMemory};
-
-    ghost from_gives = { λ _ fault. fault ≡ NoMemory };
-
     fn from(_refused: AllocError) -> Self {
         Fault::NoMemory
     }
 }
 
 impl<T: Drop> From<AllocFailed<T>> for Fault<'_> {
-    ghost use Rattle.tool_tasks.specs.declared.fault.Fault.TheVariants.{NoMemory};
-
-    ghost from_gives = { λ _ fault. fault ≡ NoMemory };
-
     fn from(_refused: AllocFailed<T>) -> Self {
         Fault::NoMemory
     }
 }
 
 impl From<NoMemory> for Fault<'_> {
-    ghost use Rattle.tool_tasks.specs.declared.fault.Fault.TheVariants.{NoMemory};
-
-    ghost from_gives = { λ _ fault. fault ≡ NoMemory };
-
     fn from(_refused: NoMemory) -> Self {
         Fault::NoMemory
     }
@@ -112,30 +98,6 @@ impl From<WriteFault> for Fault<'_> {
     }
 }
 
-/// What is wrong with a line of a part's text.
-fn wrong_text(wrong: Wrong) -> &'static str {
-    match wrong {
-        Wrong::Form => "no such line stands there",
-        Wrong::NotPosted => "the upload of a part was not posted",
-        Wrong::Order => "it does not follow the line or the part before it",
-        Wrong::Totals => "the sums do not add up to the totals",
-    }
-}
-
-fn line_text(wrong: WrongLine) -> &'static str {
-    match wrong {
-        WrongLine::Form => "no such line stands there",
-        WrongLine::Order => "out of order; is the ledger settled?",
-    }
-}
-
-fn wrong_key_text(wrong: WrongKey) -> &'static str {
-    match wrong {
-        WrongKey::Empty => "the key is empty",
-        WrongKey::Long => "the key has more than 65536 bytes",
-    }
-}
-
 impl fmt::Display for Fault<'_> {
     fn fmt<W: fmt::Write>(&self, f: &mut fmt::Formatter<W>) -> fmt::Result {
         match self {
@@ -143,17 +105,13 @@ impl fmt::Display for Fault<'_> {
             Fault::SomeUnread => f.write_str("fault: cannot read a file"),
             Fault::TooLong(word) => write!(f, "fault: {} is too long", Name(word)),
             Fault::TooManyOpen(word) => {
-                write!(
-                    f,
-                    "fault: cannot open {}: too many files are open",
-                    Name(word)
-                )
+                let name = Name(word);
+                write!(f, "fault: cannot open {name}: too many files are open")
             }
             Fault::Exists(word) => write!(f, "fault: {} is there already", Name(word)),
             Fault::Unmade(word) => write!(f, "fault: cannot make {}", Name(word)),
             Fault::Layout(word, offset, fault) => {
-                let (cause, remedy) = (Cause(*fault), Remedy(*fault));
-                write!(f, "fault: {} at {offset}: {cause}; {remedy}", Name(word))
+                write!(f, "fault: {} at {offset}: {}", Name(word), Meaning(*fault))
             }
             Fault::OutOfOrder(word, tap) => {
                 write!(f, "fault: {}: tap {tap} is out of order", Name(word))
@@ -166,7 +124,10 @@ impl fmt::Display for Fault<'_> {
                 write!(f, "fault: {} {}", Name(word), WrongDevices(*wrong))
             }
             Fault::Key(word, wrong) => {
-                let why = wrong_key_text(*wrong);
+                let why = match wrong {
+                    WrongKey::Empty => "the key is empty",
+                    WrongKey::Long => "the key has more than 65536 bytes",
+                };
                 write!(f, "fault: {}: {why}", Name(word))
             }
             Fault::Zone(word) => {
@@ -185,20 +146,20 @@ impl fmt::Display for Fault<'_> {
                 write!(f, "fault: {}: {why}", Name(word))
             }
             Fault::Part(word, number, wrong) => {
-                write!(
-                    f,
-                    "fault: {} line {number}: {}",
-                    Name(word),
-                    wrong_text(*wrong)
-                )
+                let why = match wrong {
+                    Wrong::Form => "no such line stands there",
+                    Wrong::NotPosted => "the upload of a part was not posted",
+                    Wrong::Order => "it does not follow the line or the part before it",
+                    Wrong::Totals => "the sums do not add up to the totals",
+                };
+                write!(f, "fault: {} line {number}: {why}", Name(word))
             }
             Fault::Ledger(word, number, wrong) => {
-                write!(
-                    f,
-                    "fault: {} line {number}: {}",
-                    Name(word),
-                    line_text(*wrong)
-                )
+                let why = match wrong {
+                    WrongLine::Form => "no such line stands there",
+                    WrongLine::Order => "out of order; is the ledger settled?",
+                };
+                write!(f, "fault: {} line {number}: {why}", Name(word))
             }
             Fault::SomeChanged => f.write_str("fault: a file changed while it was read"),
             Fault::Write | Fault::Closed => f.write_str("fault: cannot write"),

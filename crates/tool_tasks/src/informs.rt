@@ -1,5 +1,5 @@
 //! Subcommands that only inform: no clause says what they print.
-ghost use Rattle.std.specs.Prelude.{◌<◌, ◌≤◌, length};
+ghost use Rattle.std.specs.Prelude.{◌<◌, length};
 
 use crate::counted::Counted;
 use crate::fault::Fault;
@@ -27,9 +27,7 @@ pub(crate) fn load_upload<'a, I: Counted>(
 }
 
 /// The status of what was printed and flushed. A fault is reported.
-pub(crate) fn ended_informing<W: World>(done: Result<bool, Fault<'_>>, world: &mut W) -> u8
-    ensures { result ≤ 1 }
-{
+pub(crate) fn ended_informing<W: World>(done: Result<bool, Fault<'_>>, world: &mut W) -> u8 {
     match done {
         Ok(true) => 0,
         Ok(false) | Err(Fault::Closed) => 1,

@@ -2,11 +2,11 @@
 use std::fmt;
 use tap_views::LayoutFault;
 
-/// The name of a layout fault, from L1 to L6, with its cause.
+/// The name of a layout fault, from L1 to L6, its cause, and what to do.
 #[derive(Clone, Copy, Debug)]
-pub(crate) struct Cause(pub(crate) LayoutFault);
+pub(crate) struct Meaning(pub(crate) LayoutFault);
 
-impl fmt::Display for Cause {
+impl fmt::Display for Meaning {
     fn fmt<W: fmt::Write>(&self, f: &mut fmt::Formatter<W>) -> fmt::Result {
         let name = self.0.name();
         let cause = match self.0 {
@@ -17,17 +17,7 @@ impl fmt::Display for Cause {
             LayoutFault::Length { .. } => "the file ends inside a batch's taps",
             LayoutFault::Moment { .. } => "a tap is dated 2100 or later",
         };
-        write!(f, "{name}, {cause}")
-    }
-}
-
-/// What to do at a layout fault.
-#[derive(Clone, Copy, Debug)]
-pub(crate) struct Remedy(pub(crate) LayoutFault);
-
-impl fmt::Display for Remedy {
-    fn fmt<W: fmt::Write>(&self, f: &mut fmt::Formatter<W>) -> fmt::Result {
-        f.write_str(match self.0 {
+        let remedy = match self.0 {
             LayoutFault::Short { .. } => "send the upload again, whole",
             LayoutFault::Magic => {
                 "look at the file's first four bytes, then at the count of the batch before"
@@ -38,20 +28,7 @@ impl fmt::Display for Remedy {
             LayoutFault::Moment { .. } => {
                 "look at the validator's clock and at its unit, which is milliseconds"
             }
-        })
-    }
-}
-
-/// The number of the tap that a layout fault names, counted from 0 in its batch, as ` tap N`;
-/// nothing if it names none.
-#[derive(Clone, Copy, Debug)]
-pub(crate) struct AtTap(pub(crate) LayoutFault);
-
-impl fmt::Display for AtTap {
-    fn fmt<W: fmt::Write>(&self, f: &mut fmt::Formatter<W>) -> fmt::Result {
-        match self.0 {
-            LayoutFault::Moment { index } => write!(f, " tap {index}"),
-            _ => Ok(()),
-        }
+        };
+        write!(f, "{name}, {cause}; {remedy}")
     }
 }

@@ -1,5 +1,4 @@
 //! `uploads --look`: what uploads have, and what is found in them.
-ghost use Rattle.std.specs.Prelude.{◌≤◌};
 
 use crate::counted::Counted;
 use crate::fault::Fault;
@@ -107,9 +106,6 @@ pub fn look_over<W: World + Counted>(
     words: &LookWords<'_>,
     names: &[&str],
     world: &mut W,
-) -> u8
-    ensures { result ≤ 1 }
-{
-    let done = look_at(alloc, words, names, world);
-    ended_informing(done, world)
+) -> u8 {
+    ended_informing(look_at(alloc, words, names, world), world)
 }

@@ -3,14 +3,14 @@ ghost use Rattle.frame.specs.{Names.file_named, Outcome.Ends};
 ghost use Rattle.recorded_lines.specs.Texts.{IsFresh, calls_of};
 ghost use Rattle.std.specs.Prelude.{◌≡◌, ◌++◌, [], List, IfErr, OnOk, All, map};
 ghost use Rattle.tool_tasks.specs.Merge.{IsPrefix, IsWrongPart, Merges, merge_rule};
-ghost use Rattle.tool_tasks.specs.inside.Merge.{IsNoted, names_of, why_of};
-ghost use Rattle.tool_tasks.specs.inside.Streams.{IsStreamed, IsUnopenedIn};
+ghost use Rattle.tool_tasks.specs.inside.{Merge.IsNoted, Merge.names_of, Streams.IsStreamed};
+ghost use Rattle.tool_tasks.specs.inside.Streams.{IsUnopened};
 ghost use Rattle.world.specs.Run.{Calls};
 
 use crate::fault::Fault;
 use crate::names::word_at;
-use crate::stops::{Halt, stopped};
-use crate::streams::{Noted, Streams, finish, open};
+use crate::stops::{Halt, ended};
+use crate::streams::{Streams, finish, open};
 use frame::Outside;
 use part_texts::MergeFault;
 use recorded_lines::Lines;
@@ -30,7 +30,7 @@ fn open_all<'a, F: Streams>(
     ensures unchanged { OnOk result (F.readings files.new ≡ F.readings files.old) }
     ensures stopped { IfErr result (λ halt. (calls : List Calls)
         × (F.readings files.new ≡ F.readings files.old ++ calls)
-        × IsUnopenedIn (map (λ w. w.now) words.now) calls halt.0) }
+        × IsUnopened (map (λ w. w.now) words.now) calls halt.0) }
 {
     for word in words {
         match open(files, word) {
@@ -53,35 +53,26 @@ fn close_all<F: Streams>(parts: Vec<Lines>, files: &mut F)
     }
 }
 
-/// What stopped a merge.
-fn halt_of<'a>(words: &[&'a str], fault: MergeFault) -> Halt<'a>
-    ensures { result.0 ≡ why_of fault }
-{
-    match fault {
-        MergeFault::Line { text, number, why } => {
-            let word = word_at(words, text).unwrap_or("");
-            Halt(Outside::Wrong, Fault::Part(word, number, why))
-        }
-        MergeFault::Unread(text) => {
-            let word = word_at(words, text).unwrap_or("");
-            Halt(Outside::Unread(LoadFault::Unread), Fault::Unread(word))
-        }
-        MergeFault::Write(why) => Halt(Outside::Unwritten(why), Fault::from(why)),
-        MergeFault::NoMemory => Halt(Outside::NoMemory, Fault::NoMemory),
-    }
-}
-
-/// Nothing is noted of what was merged.
+/// Nothing is noted of what was merged; or what stopped the merge.
 fn noted<'a>(
     alloc: Global,
     words: &[&'a str],
     merged: Result<(), MergeFault>,
-) -> Result<Noted, Halt<'a>>
+) -> Result<Vec<u8>, Halt<'a>>
     ensures { IsNoted merged result }
 {
     match merged {
-        Ok(()) => Ok(Noted(Vec::new(alloc))),
-        Err(fault) => Err(halt_of(words, fault)),
+        Ok(()) => Ok(Vec::new(alloc)),
+        Err(MergeFault::Line { text, number, why }) => {
+            let word = word_at(words, text).unwrap_or("");
+            Err(Halt(Outside::Wrong, Fault::Part(word, number, why)))
+        }
+        Err(MergeFault::Unread(text)) => {
+            let word = word_at(words, text).unwrap_or("");
+            Err(Halt(Outside::Unread(LoadFault::Unread), Fault::Unread(word)))
+        }
+        Err(MergeFault::Write(why)) => Err(Halt(Outside::Unwritten(why), Fault::from(why))),
+        Err(MergeFault::NoMemory) => Err(Halt(Outside::NoMemory, Fault::NoMemory)),
     }
 }
 
@@ -90,7 +81,7 @@ fn merge_parts<'a, F: Streams, W: World>(
     words: &[&'a str],
     files: &mut F,
     world: &mut W,
-) -> Result<Noted, Halt<'a>>
+) -> Result<Vec<u8>, Halt<'a>>
     ensures { (calls : List Calls) × (F.readings files.new ≡ F.readings files.old ++ calls)
         × IsStreamed (Merges (map (λ w. w.now) words.now)) (IsPrefix (map (λ w. w.now) words.now))
         (IsWrongPart (map (λ w. w.now) words.now)) (map (λ w. w.now) words.now) calls
@@ -123,8 +114,6 @@ pub fn merge_over<F: Streams, W: World>(
         (F.readings files.new)) (W.run world.old) (W.run world.new) result }
 {
     let streamed = merge_parts(alloc, words, files, world);
-    match finish(streamed, world) {
-        Ok(status) => status,
-        Err(halt) => stopped(halt, world),
-    }
+    let done = finish(streamed, world);
+    ended(done, "", world)
 }

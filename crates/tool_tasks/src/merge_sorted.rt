@@ -12,7 +12,7 @@ use crate::known::Known;
 use crate::names::word_at;
 use crate::placed::{PlacedFiles, open_placed};
 use crate::sort::{failed, make_sorted};
-use crate::stops::{Halt, line_of, stopped};
+use crate::stops::{Halt, ended, line_of};
 use frame::Outside;
 use sorted_taps::{MergeFault, SortedFault, merge_sorted};
 use std::alloc::{AllocError, Global};
@@ -129,6 +129,7 @@ fn merge<'a, D: PlacedFiles, W: World>(
 /// canonical order, and before it that of a line for each upload, if it has a name. The uploads are
 /// read at any offset. A fault is reported. Gives the status: 0 if the files are made, 1 after a
 /// fault.
+#[tactic(auto, using(crate::proofs::Preparing::ends))]
 pub fn merge_sorted_over<D: PlacedFiles, W: World>(
     alloc: Global,
     words: &SortingWords<'_>,
@@ -139,8 +140,6 @@ pub fn merge_sorted_over<D: PlacedFiles, W: World>(
         (map (D.bytes_under disk.now) (sorting_of words.now).uploads)) (W.run world.old)
         (W.run world.new) result }
 {
-    match merge(alloc, words, disk, world) {
-        Ok(status) => status,
-        Err(halt) => stopped(halt, world),
-    }
+    let done = merge(alloc, words, disk, world);
+    ended(done, "", world)
 }

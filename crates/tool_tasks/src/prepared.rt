@@ -1,6 +1,7 @@
 //! What a subcommand prepared, before any of it is done.
 ghost use Rattle.frame.specs.{Given.Adds, Given.with_files, Outsides.Leaves, Outsides.StopsIn};
-ghost use Rattle.std.specs.Prelude.{◌≡◌, ℕ, List, IfErr, OnOk};
+ghost use Rattle.std.specs.Prelude.{◌≡◌, ℕ, List, IfErr, OnOk, option_map};
+ghost use Rattle.tool_tasks.specs.Files.{named_files};
 ghost use Rattle.tool_tasks.specs.inside.Prepared.{AreNamed, Carries, IsPartialIn, IsKnown};
 ghost use Rattle.tool_tasks.specs.inside.Prepared.{IsNamedIn, partial_files, files_in, given_of};
 ghost use Rattle.tool_tasks.specs.inside.Prepared.{with_prepared};
@@ -19,6 +20,26 @@ pub(crate) struct NewFile<'a> {
     pub(crate) is_new: bool,
     /// The line if it is begun and not made.
     pub(crate) unmade: Fault<'a>,
+}
+
+/// The file of these bytes, if it has a name.
+pub(crate) fn new_file<'a>(
+    name: Option<&'a str>,
+    bytes: Vec<u8>,
+    is_new: bool,
+    unmade: Fault<'a>,
+) -> Option<NewFile<'a>>
+    ensures { files_in result ≡ named_files (option_map (λ n. n.now) name.entry) bytes.items }
+{
+    match name {
+        Some(name) => Some(NewFile {
+            name,
+            bytes,
+            is_new,
+            unmade,
+        }),
+        None => None,
+    }
 }
 
 /// A file that was begun: it has its name once all else but the note is given.

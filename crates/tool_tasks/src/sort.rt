@@ -1,22 +1,20 @@
 //! `sort` of uploads that are loaded.
 ghost use Rattle.frame.specs.{Outcome.Ends, Outsides.Leaves};
 ghost use Rattle.report_texts.specs.Report.{upload_lines};
-ghost use Rattle.std.specs.Prelude.{◌≡◌, ◌++◌, [], ℕ, Contains, IfErr, IfOk, List, OnOk, Some};
-ghost use Rattle.std.specs.Prelude.{if◌then◌else◌, map, option_map, string_bytes, true};
+ghost use Rattle.std.specs.Prelude.{◌≡◌, [], ℕ, Contains, IfOk, List, Some, if◌then◌else◌, map};
+ghost use Rattle.std.specs.Prelude.{string_bytes};
 ghost use Rattle.tap_views.specs.UploadEnds.{are_posted, is_posted};
-ghost use Rattle.tool_tasks.specs.Sort.{ends_files, names_of, sort_rule};
-ghost use Rattle.tool_tasks.specs.inside.{Does.Does, Loads.StopsLoading, Prepared.Carries};
-ghost use Rattle.tool_tasks.specs.inside.{Prepared.files_in, Sort.LoadsAll, Sort.sorted_given};
+ghost use Rattle.tool_tasks.specs.{Sort.names_of, Sort.sort_rule, inside.Does.Does};
+ghost use Rattle.tool_tasks.specs.inside.{Loads.LoadsAll, Prepared.Carries, Sort.sorted_given};
 ghost use Rattle.tool_words.specs.Tasks.{sorting_of};
 ghost use Rattle.world.specs.{Origins.with_loads, Run.Load, Run.Run};
 
 use crate::counted::Counted;
 use crate::fault::Fault;
-use crate::loads::load;
+use crate::loads::load_all;
 use crate::names::word_at;
-use crate::placed::push;
-use crate::prepared::{NewFile, Partial, Prepared, carry};
-use crate::stops::{Halt, line_of, stopped};
+use crate::prepared::{Partial, Prepared, carry, new_file};
+use crate::stops::{Halt, ended, line_of};
 use frame::Outside;
 use report_texts::write_upload;
 use sorted_uploads::sort_uploads;
@@ -30,45 +28,14 @@ use world::World;
 /// How many threads put taps into order.
 const WORKERS: u32 = 4;
 
-fn load_uploads<'a, W: Counted>(
-    alloc: Global,
-    words: &SortingWords<'a>,
-    world: &mut W,
-) -> Result<Vec<Vec<u8>>, Halt<'a>>
-    ensures loaded { IfOk result (λ files. LoadsAll (sorting_of words.now).uploads
-        (W.run world.old) (W.run world.new) (map (λ f. f.items) files.items)) }
-    ensures stopped { IfErr result (λ halt. StopsLoading (names_of (sorting_of words.now)) halt.0
-        (W.run world.old) (W.run world.new)) }
-{
-    let mut files = Vec::new(alloc);
-    for number in 0..words.uploads.len() {
-        world.show_count(number, words.uploads.len());
-        let upload = match load(world, words.uploads[number]) {
-            Ok(upload) => upload,
-            Err(halt) => return Err(halt),
-        };
-        if let Err(AllocError) = push(&mut files, upload) {
-            return Err(Halt(Outside::NoMemory, Fault::NoMemory));
-        }
-    }
-    Ok(files)
-}
-
-fn push_lines(text: &mut String, ends: &[UploadEnd]) -> Result<(), AllocError>
-    ensures { OnOk result (string_bytes text.new ≡ string_bytes text.old
-        ++ upload_lines 0 ends.now) }
-{
-    for (number, end) in ends.iter().enumerate() {
-        write_upload(text, number as u64, end)?;
-    }
-    Ok(())
-}
-
+/// A line for each upload.
 fn lines_of(alloc: Global, ends: &[UploadEnd]) -> Result<String, AllocError>
     ensures { IfOk result (λ text. string_bytes text ≡ upload_lines 0 ends.now) }
 {
     let mut text = String::new(alloc);
-    push_lines(&mut text, ends)?;
+    for (number, end) in ends.iter().enumerate() {
+        write_upload(&mut text, number as u64, end)?;
+    }
     Ok(text)
 }
 
@@ -84,23 +51,6 @@ fn are_posted(ends: &[UploadEnd]) -> bool
     ends.iter().all(|end| is_posted(*end))
 }
 
-fn ends_file<'a>(name: Option<&'a str>, lines: String) -> Option<NewFile<'a>>
-    ensures files { files_in result
-        ≡ ends_files (option_map (λ n. n.now) name.entry) (string_bytes lines) }
-    ensures named { option_map (λ file. file.name.now) result
-        ≡ option_map (λ n. n.now) name.entry }
-{
-    match name {
-        None => None,
-        Some(name) => Some(NewFile {
-            name,
-            bytes: lines.into_bytes(),
-            is_new: false,
-            unmade: Fault::Unmade(name),
-        }),
-    }
-}
-
 fn status_of(ends: &[UploadEnd]) -> u8
     ensures { result ≡ (if are_posted ends.now then 0 else 3) }
 {
@@ -108,13 +58,8 @@ fn status_of(ends: &[UploadEnd]) -> u8
 }
 
 /// A line for each layout fault; nothing if there is none.
-fn note_of(alloc: Global, uploads: &[&str], ends: &[UploadEnd]) -> Result<String, AllocError>
-    ensures { IfOk result (λ note. are_posted ends.now ≡ true → string_bytes note ≡ []) }
-{
+fn note_of(alloc: Global, uploads: &[&str], ends: &[UploadEnd]) -> Result<String, AllocError> {
     let mut note = String::new(alloc);
-    if are_posted(ends) {
-        return Ok(note);
-    }
     for (number, end) in ends.iter().enumerate() {
         if let (UploadEnd::Refused { offset, fault, .. }, Some(word)) = (
             end,
@@ -151,7 +96,12 @@ pub(crate) fn make_sorted<'a, W: World>(
     };
     let prepared = Prepared {
         text: Vec::new(alloc),
-        first: ends_file(words.ends, lines),
+        first: new_file(
+            words.ends,
+            lines.into_bytes(),
+            false,
+            Fault::Unmade(words.ends.unwrap_or("")),
+        ),
         upload: None,
         held: None,
         note,
@@ -217,7 +167,7 @@ fn sort<'a, R: Threads + Sync, W: World + Counted>(
             return Err(Halt(why, line_of(why, words.out, Fault::Unmade(words.out))));
         }
     };
-    let loaded = load_uploads(alloc, words, world);
+    let loaded = load_all(alloc, &words.uploads, false, world);
     world.end_count();
     match loaded {
         Ok(uploads) => write_sorted(threads, alloc, words, uploads, file, world),
@@ -231,6 +181,7 @@ fn sort<'a, R: Threads + Sync, W: World + Counted>(
 /// Makes the file of the valid taps of the uploads that the words name, `-` being standard input,
 /// in canonical order, and before it that of the upload ends, if it has a name. The status is 0, or
 /// 3 if an upload has a layout fault, or 1 after a fault. Each fault is reported.
+#[tactic(auto, using(crate::proofs::Preparing::ends))]
 pub fn sort_over<R: Threads + Sync, W: World + Counted>(
     threads: &R,
     alloc: Global,
@@ -239,8 +190,6 @@ pub fn sort_over<R: Threads + Sync, W: World + Counted>(
 ) -> u8
     ensures { Ends (sort_rule (sorting_of words.now)) (W.run world.old) (W.run world.new) result }
 {
-    match sort(threads, alloc, words, world) {
-        Ok(status) => status,
-        Err(halt) => stopped(halt, world),
-    }
+    let done = sort(threads, alloc, words, world);
+    ended(done, "", world)
 }

@@ -1,6 +1,5 @@
 //! What stops a subcommand, and its fault line.
-ghost use Rattle.std.specs.Prelude.{◌≡◌};
-ghost use Rattle.frame.specs.Outsides.{IsReported};
+ghost use Rattle.tool_tasks.specs.inside.Does.{IsEnded};
 
 use crate::fault::Fault;
 use frame::{Outside, report};
@@ -35,12 +34,20 @@ pub(crate) fn line_of<'a>(why: Outside, word: &'a str, partial: Fault<'a>) -> Fa
     }
 }
 
-/// Reports what stopped a run, and gives the status.
-pub(crate) fn stopped<W: World>(halt: Halt<'_>, world: &mut W) -> u8
-    ensures reported { IsReported halt.entry.0 (W.run world.old) (W.run world.new) }
-    ensures failed { result ≡ 1 }
+/// The status of what was done; or reports what stopped it, of a wrong file with more to say.
+pub(crate) fn ended<W: World>(done: Result<u8, Halt<'_>>, more: &str, world: &mut W) -> u8
+    ensures { IsEnded done.entry (W.run world.old) (W.run world.new) result }
 {
-    let Halt(why, line) = halt;
-    report(why, line, world);
-    1
+    match done {
+        Ok(status) => status,
+        Err(Halt(why, line)) => {
+            match why {
+                Outside::Wrong | Outside::Untraced => {
+                    report(why, format_args!("{line}{more}"), world)
+                }
+                _ => report(why, line, world),
+            }
+            1
+        }
+    }
 }

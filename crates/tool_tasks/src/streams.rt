@@ -1,5 +1,5 @@
 //! Files that are read in pieces, and texts that are made of them.
-ghost use Rattle.std.specs.Prelude.{◌≡◌, ◌++◌, ◌∷◌, [], IfErr, IfOk, OnOk};
+ghost use Rattle.std.specs.Prelude.{◌≡◌, ◌++◌, ℕ, Contains, IfErr, IfOk, List, OnOk};
 ghost use Rattle.frame.specs.Names.{file_named};
 ghost use Rattle.recorded_lines.specs.Texts.{IsFresh, calls_of};
 ghost use Rattle.tool_tasks.specs.inside.Streams.{IsFinished, IsUnopened};
@@ -42,9 +42,9 @@ pub(crate) fn open<'a, F: Streams>(files: &mut F, word: &'a str) -> Result<Lines
     ensures named { IfOk result
         (λ lines. (calls_of lines).reading.name ≡ file_named word.entry.now) }
     ensures unchanged { OnOk result (F.readings files.new ≡ F.readings files.old) }
-    ensures stopped { IfErr result (λ halt. (calls : Calls)
-        × (F.readings files.new ≡ F.readings files.old ++ calls ∷ [])
-        × IsUnopened word.entry.now calls halt.0) }
+    ensures stopped { (words : List (List ℕ)) → Contains words word.entry.now → IfErr result
+        (λ halt. (calls : List Calls) × (F.readings files.new ≡ F.readings files.old ++ calls)
+        × IsUnopened words calls halt.0) }
 {
     match files.open(file_of(word)) {
         Ok(lines) => Ok(lines),
@@ -55,21 +55,17 @@ pub(crate) fn open<'a, F: Streams>(files: &mut F, word: &'a str) -> Result<Lines
     }
 }
 
-/// What is noted after a text.
-#[derive(Drop)]
-pub(crate) struct Noted(pub(crate) Vec<u8>);
-
 /// Flushes what was written, also if something stopped the run, and gives the note.
 pub(crate) fn finish<'a, W: World>(
-    streamed: Result<Noted, Halt<'a>>,
+    streamed: Result<Vec<u8>, Halt<'a>>,
     world: &mut W,
 ) -> Result<u8, Halt<'a>>
     ensures { IsFinished streamed.entry (W.run world.old) (W.run world.new) result }
 {
     match streamed {
-        Ok(noted) => match world.flush() {
+        Ok(note) => match world.flush() {
             Ok(()) => {
-                world.say(&noted.0);
+                world.say(&note);
                 Ok(0)
             }
             Err(why) => Err(Halt(Outside::Unwritten(why), Fault::from(why))),

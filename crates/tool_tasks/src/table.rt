@@ -1,5 +1,4 @@
 //! `table`: fare tables as they are understood, what their rules ignore, and their faults.
-ghost use Rattle.std.specs.Prelude.{◌≤◌};
 
 mod following;
 mod texts;
@@ -12,7 +11,7 @@ use following::{joined, spans_of};
 use jiff::Timestamp;
 use std::alloc::{AllocError, Global};
 use table_report::{ReportFault, SeenValidators, TableText, Wanted};
-use tap_views::{MomentSpan, NoMemory, facts_of};
+use tap_views::{MomentSpan, facts_of};
 use texts::read_texts;
 use tool_words::TableQuestion;
 use world::{Inputs, World};
@@ -40,17 +39,6 @@ fn load_texts<'a, I: Inputs>(
     Ok(texts)
 }
 
-fn add_validators(
-    upload: &[u8],
-    spans: &[MomentSpan],
-    seen: &mut [SeenValidators],
-) -> Result<(), NoMemory> {
-    for (seen, span) in seen.iter_mut().zip(spans.iter()) {
-        seen.add(upload, *span)?;
-    }
-    Ok(())
-}
-
 /// The validators before the first layout fault of each upload, which is noted, at the moments of
 /// each table; none if there is no upload. Gives also whether there is no layout fault.
 fn seen_in<'a, W: World + Counted>(
@@ -69,7 +57,9 @@ fn seen_in<'a, W: World + Counted>(
     }
     for number in 0..uploads.len() {
         let upload = load_upload(uploads, number, world)?;
-        add_validators(&upload, spans, &mut seen)?;
+        for (seen, span) in seen.iter_mut().zip(spans.iter()) {
+            seen.add(&upload, *span)?;
+        }
         if let Some((offset, fault)) = facts_of(&upload).fault {
             are_whole = false;
             let _ = world.report_line(Fault::Layout(uploads[number], offset, fault));
@@ -176,9 +166,6 @@ pub fn table_over<W: World + Counted>(
     question: &TableQuestion<'_>,
     now: Timestamp,
     world: &mut W,
-) -> u8
-    ensures { result ≤ 1 }
-{
-    let done = show_tables(alloc, question, now, world);
-    ended_informing(done, world)
+) -> u8 {
+    ended_informing(show_tables(alloc, question, now, world), world)
 }

@@ -1,23 +1,18 @@
 //! `uploads`: what each upload has.
-ghost use Rattle.std.specs.Prelude.{◌≡◌, ◌≤◌, ◌++◌, ℕ, List, OnOk, string_bytes};
-ghost use Rattle.tool_tasks.specs.Uploads.{IsMomentOrDash};
 
 use crate::counted::Counted;
 use crate::fault::Fault;
 use crate::informs::{ended_informing, load_upload};
-use crate::layout::{AtTap, Cause, Remedy};
+use crate::layout::Meaning;
 use crate::names::Name;
 use crate::upload_tokens::{add_tokens, no_tokens, tokens_text};
 use fare_texts::write_moment;
 use std::alloc::{AllocError, Global};
-use tap_views::{Facts, facts_of};
+use tap_views::{Facts, LayoutFault, facts_of};
 use world::World;
 
 /// In milliseconds since 1970-01-01T00:00Z, or `-` if there is none.
-pub(crate) fn push_moment(text: &mut String, moment: Option<u64>) -> Result<(), AllocError>
-    ensures { OnOk result ((written : List ℕ) × IsMomentOrDash moment written
-        × (string_bytes text.new ≡ string_bytes text.old ++ written)) }
-{
+pub(crate) fn push_moment(text: &mut String, moment: Option<u64>) -> Result<(), AllocError> {
     match moment {
         Some(moment) => write_moment(text, moment),
         None => text.push_str("-"),
@@ -39,13 +34,11 @@ pub(crate) fn upload_text(
     push_moment(&mut text, facts.span.map(|span| span.last))?;
     write!(text, " {name}\n")?;
     if let Some((offset, fault)) = facts.fault {
-        let at_tap = AtTap(fault);
-        let cause = Cause(fault);
-        let remedy = Remedy(fault);
-        write!(
-            text,
-            "fault {number} batch {batches}{at_tap} at {offset} {cause}; {remedy}\n"
-        )?;
+        write!(text, "fault {number} batch {batches}")?;
+        if let LayoutFault::Moment { index } = fault {
+            write!(text, " tap {index}")?;
+        }
+        write!(text, " at {offset} {}\n", Meaning(fault))?;
     }
     Ok(text)
 }
@@ -84,9 +77,6 @@ pub fn uploads_over<W: World + Counted>(
     words: Vec<&str>,
     has_tokens: bool,
     world: &mut W,
-) -> u8
-    ensures { result ≤ 1 }
-{
-    let done = list_uploads(alloc, &words, has_tokens, world);
-    ended_informing(done, world)
+) -> u8 {
+    ended_informing(list_uploads(alloc, &words, has_tokens, world), world)
 }

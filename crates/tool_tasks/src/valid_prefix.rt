@@ -8,7 +8,7 @@ ghost use Rattle.tool_words.specs.Tasks.{valid_prefix_of};
 use crate::fault::Fault;
 use crate::loads::load;
 use crate::prepared::{NewFile, Prepared, carry_out};
-use crate::stops::{Halt, stopped};
+use crate::stops::{Halt, ended};
 use crate::upload_tokens::{add_tokens, no_tokens, tokens_text};
 use crate::uploads::upload_text;
 use frame::Outside;
@@ -99,12 +99,11 @@ fn keep<'a, W: World>(
 /// Writes what the upload has, `-` being standard input: its lines, and if requested, how many
 /// different tokens it has. Then makes the file of its batches before its first layout fault. A
 /// fault is reported. The status is 0 if all is done and there is no layout fault, else 1.
+#[tactic(auto, using(crate::proofs::Preparing::ends))]
 pub fn valid_prefix_over<W: World>(alloc: Global, words: &ValidPrefixWords<'_>, world: &mut W) -> u8
     ensures { Ends (valid_prefix_rule (valid_prefix_of words.now)) (W.run world.old)
         (W.run world.new) result }
 {
-    match keep(alloc, words, world) {
-        Ok(status) => status,
-        Err(halt) => stopped(halt, world),
-    }
+    let done = keep(alloc, words, world);
+    ended(done, "", world)
 }

@@ -1,60 +1,46 @@
 -- What an encoding of CSVs has loaded and made so far: what private functions alone cite.
 use Rattle.frame.specs.Outsides.{Stops}
-use Rattle.jiff_tz.specs.declared.{timezone.TimeZone.TimeZone, tzif.Tzif.Tzif}
-use Rattle.std.specs.Prelude.{◌≡◌, ⊤, ℕ, Bool, Contains, Err, List, [], None, Ok, Option, Result}
-use Rattle.std.specs.Prelude.{Some, map, option_map, string_bytes}
+use Rattle.jiff_tz.specs.{PosixReader.read_whole, declared.tzif.Tzif.Tzif}
+use Rattle.std.specs.Prelude.{◌≡◌, ◌≢◌, ⊤, ℕ, Bool, Contains, Err, List, [], None, Ok, Option, Result}
+use Rattle.std.specs.Prelude.{Some, Vec, map, option_map}
+use Rattle.std.specs.declared.alloc.Global.{Global}
 use Rattle.tap_rows.specs.Devices.{Device, devices_of}
-use Rattle.tap_rows.specs.declared.agency.choice.{Choice.Choice, Fold.Fold, LocalClock.LocalClock}
-use Rattle.tool_tasks.specs.EncodeRows.{Csv, Encoded, IsChoice, IsRowsUpload, IsWrongCsv}
-use Rattle.tool_tasks.specs.EncodeRows.{IsWrongText, Texts, later_loads, load_csv, word_in}
+use Rattle.tap_rows.specs.declared.agency.choice.{Choice.Choice, LocalClock.LocalClock}
+use Rattle.tool_tasks.specs.EncodeRows.{AddsCsv, Chain, Encoded, HasTried, IsChoice, IsGivenOf}
+use Rattle.tool_tasks.specs.EncodeRows.{IsWrongCsv, IsWrongText, Texts, nothing_encoded, rows_rule}
+use Rattle.tool_tasks.specs.{EncodeRows.word_in, EncodeTables.IsTableOf}
 use Rattle.tool_tasks.specs.declared.encode_csvs.Encoded.{Encoded as Held}
-use Rattle.tool_tasks.specs.declared.encode_loads.{Csv.Csv as HeldCsv, Texts.Texts as HeldTexts}
+use Rattle.tool_tasks.specs.declared.encode_loads.Texts.{Texts as HeldTexts}
 use Rattle.tool_tasks.specs.declared.prepared.{NewFile.NewFile, Prepared.Prepared}
-use Rattle.tool_tasks.specs.{declared.stops.Halt.Halt, inside.Prepared.whole_of}
+use Rattle.tool_tasks.specs.{declared.stops.Halt.Halt, inside.Does.Does, inside.Prepared.whole_of}
 use Rattle.tool_words.specs.declared.task.RowsWords.{RowsWords}
-use Rattle.world.specs.{Origins.with_loads, Run.Run}
-use Rattle.jiff_tz.specs.declared.timezone.TimeZone.TheVariants as zones
+use Rattle.world.specs.Run.{Run}
 
 -- ---- values, as contracts see them
-abbrev pub csv_of : HeldCsv → Csv
-csv_of csv = (csv.word.now, csv.text.items)
+abbrev pub csvs_of : List (Vec ℕ Global) → List (List ℕ)
+csvs_of csvs = map (λ csv. csv.items) csvs
 
 abbrev pub texts_in : HeldTexts → Texts
 texts_in texts = record {
   devices = texts.devices.items;
   key = texts.key.items;
   zone = texts.zone.items;
-  csvs = map csv_of texts.csvs.items;
+  csvs = csvs_of texts.csvs.items;
 }
 
 abbrev pub encoded_of : Held → Encoded
 encoded_of all = record {
   upload = all.upload.items;
   rows = all.rows.items;
-  note = string_bytes all.note;
   has_taps = all.has_taps;
   has_refused = all.has_refused;
 }
 
--- ---- loads
--- these CSVs were loaded, each by its word
-abbrev pub AreLoaded : List (List ℕ) → List Csv → Run → Run → Type 0
-AreLoaded words csvs old new =
-    (map (λ csv. csv.0) csvs ≡ words) × (new ≡ with_loads old (map load_csv csvs))
-
--- the texts after this device table were loaded
-abbrev pub HasLoaded : RowsWords → List (List ℕ) → List ℕ → Texts → Run → Run → Type 0
-HasLoaded words csvs devices texts old new = (map (λ csv. csv.0) texts.csvs ≡ csvs)
-    × (texts.devices ≡ devices) × (new ≡ with_loads old (later_loads words texts))
-
--- ---- how rows are read
--- the zone is this table
-abbrev pub IsTable : Tzif → TimeZone → Type 0
-IsTable table (zones.Tzif held) = held.now ≡ table
-IsTable table zone = ⊥
-
-abbrev pub IsTableClock : Tzif → Fold → LocalClock → Type 0
-IsTableClock table fold clock = (clock.fold ≡ fold) × IsTable table clock.zone
+-- the table of a zone whose word is no rule
+abbrev pub IsTable : Option (List ℕ) → List ℕ → Option Tzif → Type 0
+IsTable None text table = ⊤
+IsTable (Some word) text None = read_whole word ≢ None
+IsTable (Some word) text (Some table) = IsTableOf word text table
 
 -- the choice has the columns of the words, these devices, the key of this block, and this clock
 pub record IsMade (words : RowsWords) (devices : Option (List Device)) (block : Option (List ℕ))
@@ -64,6 +50,7 @@ pub record IsMade (words : RowsWords) (devices : Option (List Device)) (block : 
   pub has_key : option_map (λ key. key.now.block) choice.key ≡ block
   pub has_clock : choice.clock ≡ clock
 
+-- ---- what is prepared
 -- the file, if there is one, has the name of this word
 abbrev pub IsOf : Option (List ℕ) → Option NewFile → Type 0
 IsOf word None = ⊤
@@ -75,16 +62,25 @@ pub record AreOf (words : RowsWords) (prepared : Prepared) : Type 0 where
   pub upload : IsOf (word_in words.out) prepared.upload
   pub refused : IsOf (word_in words.refused) prepared.held
 
--- what was prepared is of the CSVs, if they are read so; or one of them is wrong
-abbrev pub PreparesCsvs : RowsWords → Choice → List Csv → Result Prepared Halt → Type 0
-PreparesCsvs words choice csvs (Ok prepared) = AreOf words prepared
-    × IsRowsUpload words choice csvs (whole_of [] prepared) prepared.status
-PreparesCsvs words choice csvs (Err halt) =
-    Stops ((csv : Csv) × Contains csvs csv × IsWrongCsv words choice csv.1) halt.0
+-- what was prepared is of all CSVs, if they are read so
+abbrev pub IsPrepared : RowsWords → Choice → List (List ℕ) → Prepared → Type 0
+IsPrepared words choice csvs prepared = AreOf words prepared × (all : Encoded)
+    × Chain (AddsCsv words choice) csvs nothing_encoded all
+    × IsGivenOf words choice all (whole_of [] prepared) prepared.status
 
--- what was prepared is of the texts; or one of them is wrong
+-- the same; or one of them is wrong
+abbrev pub PreparesCsvs : RowsWords → Choice → List (List ℕ) → Result Prepared Halt → Type 0
+PreparesCsvs words choice csvs (Ok prepared) = IsPrepared words choice csvs prepared
+PreparesCsvs words choice csvs (Err halt) =
+    Stops ((csv : List ℕ) × Contains csvs csv × IsWrongCsv words choice csv) halt.0
+
+-- the same of the texts
 abbrev pub Prepares : RowsWords → Bool → Texts → Result Prepared Halt → Type 0
-Prepares words is_there texts (Ok prepared) = AreOf words prepared × (choice : Choice)
-    × IsChoice words is_there texts choice
-    × IsRowsUpload words choice texts.csvs (whole_of [] prepared) prepared.status
+Prepares words is_there texts (Ok prepared) = (choice : Choice)
+    × IsChoice words is_there texts choice × IsPrepared words choice texts.csvs prepared
 Prepares words is_there texts (Err halt) = Stops (IsWrongText words is_there texts) halt.0
+
+-- what was done after the device table was looked for
+abbrev pub DoesRows : RowsWords → List (List ℕ) → Run → Run → Result ℕ Halt → Type 0
+DoesRows words csvs old new result = (is_there : Bool) × (started : Run)
+    × HasTried words is_there old started × Does (rows_rule words csvs is_there) started new result

@@ -2,8 +2,9 @@
 use Rattle.frame.specs.declared.outside.Outside.{Outside}
 use Rattle.part_texts.specs.declared.fault.MergeFault.{MergeFault}
 use Rattle.part_texts.specs.declared.fault.MergeFault.TheVariants.{Line, Unread, Write, NoMemory}
-use Rattle.std.specs.Prelude.{◌≡◌, ℕ, List, [], Option, Result, Ok, Err, map}
-use Rattle.tool_tasks.specs.declared.{stops.Halt.Halt, streams.Noted.Noted}
+use Rattle.std.specs.Prelude.{◌≡◌, ℕ, List, [], Option, Result, Ok, Err, Vec, map}
+use Rattle.std.specs.declared.alloc.Global.{Global}
+use Rattle.tool_tasks.specs.declared.stops.Halt.{Halt}
 use Rattle.world.specs.Run.{Calls}
 use Rattle.frame.specs.declared.outside.Outside.TheVariants as outside
 use Rattle.world.specs.declared.faults.LoadFault.TheVariants as load
@@ -18,7 +19,7 @@ why_of (Unread part) = outside.Unread load.Unread
 why_of (Write why) = outside.Unwritten why
 why_of NoMemory = outside.NoMemory
 
-abbrev pub IsNoted : Result Unit MergeFault → Result Noted Halt → Type 0
-IsNoted (Ok done) (Ok noted) = noted.0.items ≡ []
+abbrev pub IsNoted : Result Unit MergeFault → Result (Vec ℕ Global) Halt → Type 0
+IsNoted (Ok done) (Ok note) = note.items ≡ []
 IsNoted (Err fault) (Err halt) = halt.0 ≡ why_of fault
 IsNoted merged noted = ⊥

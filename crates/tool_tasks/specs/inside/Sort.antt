@@ -10,13 +10,6 @@ use Rattle.world.specs.{Origins.with_loads, Run.Load, Run.Run}
 use Rattle.frame.specs.declared.outside.Outside.TheVariants as outside
 use Rattle.sorted_taps.specs.declared.fault.SortedFault.TheVariants as sorted
 
--- these texts were loaded, each under the name that its word names, one after the other
-pub record LoadsAll (words : List (List ℕ)) (old new : Run) (texts : List (List ℕ)) : Type 0 where
-  pub loads : List Load
-  pub named : map (λ load. load.name) loads ≡ map file_named words
-  pub bytes : map (λ load. load.bytes) loads ≡ texts
-  pub all : new ≡ with_loads old loads
-
 -- what is given of uploads that ended so, with the file of their taps
 abbrev pub sorted_given : SortRequest → List Load → (note : List ℕ) → List UploadEnd → List ℕ → Given
 sorted_given request loads note ends file = record {

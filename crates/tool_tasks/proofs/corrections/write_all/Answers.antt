@@ -1,4 +1,4 @@
-use Rattle.std.proofs.Common.{◌∙◌, ◌++◌, [], List, None, Option, ap, inl, inr, refl, subst, sym, ℕ}
+use Rattle.std.proofs.Common.{◌∙◌, ◌++◌, [], List, None, Option, ap, inl, inr, subst, sym, refl, ℕ}
 use Rattle.ledger_changes.specs.{Given.IsGivenAfter, Tokens.head_of}
 use Rattle.part_texts.proofs.Written.{cut_on, written_none, written_on}
 use Rattle.recorded_lines.proofs.Reading.{follows_on}
@@ -6,27 +6,24 @@ use Rattle.tool_tasks.proofs.Corrected.{after_started, started_part, given_head}
 use Rattle.world.specs.Run.{with_written}
 use Rattle.tool_tasks.proofs.corrections.write_all.Goals as goal
 
-pub begin-requires : goal.begin-requires
-begin-requires g c = c.requires.unbegun
-
-pub returns-in-Err-clause-follow : goal.returns-in-Err-clause-follow
-returns-in-Err-clause-follow g c = c.begin.ensures.follow
-
 pub returns-in-Err-clause-written : goal.returns-in-Err-clause-written
-returns-in-Err-clause-written g c =
-    ([], inl refl, (written_none (g.W.Inputs.run c.args.world.now), c.in-Err.ensures.wrong))
-
-pub returns-in-Err-write-clause-follow : goal.returns-in-Err-write-clause-follow
-returns-in-Err-write-clause-follow g c = c.begin.ensures.follow
+returns-in-Err-clause-written g c = (
+  [],
+  inl refl,
+  c.halt_of.ensures.stop _ _ c.in-Err.ensures.wrong,
+  rw c.halt_of.ensures.uncut (written_none (g.W.Inputs.run c.args.world.now)),
+)
 
 pub returns-in-Err-write-clause-written : goal.returns-in-Err-write-clause-written
 returns-in-Err-write-clause-written g c =
+    let by_token = c.args.words.now.is_by_token in
     let cut = c.in-Err-write.ensures.cut in (
       cut.front,
-      inr (started_part c.args.is_by_token [] (head_of c.args.is_by_token) cut.front cut.rest _ _
+      inr (started_part by_token [] (head_of by_token) cut.front cut.rest _ _
           (sym c.corrections_head.ensures ∙ cut.whole)
-          (after_started c.begin.new.self c.args.is_by_token None _
-          (given_head c.begin.new.self _ c.args.is_by_token c.requires.by c.in-Ok.ensures.given))),
+          (after_started c.begin.new.self by_token None _
+          (given_head c.begin.new.self _ by_token c.requires.by c.in-Ok.ensures.given))),
+      tt,
       cut.prefix,
     )
 
@@ -35,16 +32,13 @@ loop-init g c = record {
   follow_old = c.begin.ensures.follow.0;
   follow_new = c.begin.ensures.follow.1;
   given = (
-    head_of c.args.is_by_token,
+    head_of c.args.words.now.is_by_token,
     c.in-Ok-write.ensures.whole
         ∙ ap (λ (t : List ℕ). with_written (g.W.Inputs.run c.args.world.now) t)
         c.corrections_head.ensures,
-    given_head c.begin.new.self _ c.args.is_by_token c.requires.by c.in-Ok.ensures.given,
+    given_head c.begin.new.self _ c.args.words.now.is_by_token c.requires.by c.in-Ok.ensures.given,
   );
 }
-
-pub next-requires : goal.next-requires
-next-requires g c = c.clear.ensures.items
 
 pub returns-in-Err-next-clause-follow : goal.returns-in-Err-next-clause-follow
 returns-in-Err-next-clause-follow g c = (
@@ -54,10 +48,12 @@ returns-in-Err-next-clause-follow g c = (
 
 pub returns-in-Err-next-clause-written : goal.returns-in-Err-next-clause-written
 returns-in-Err-next-clause-written g c =
+    let by_token = c.args.words.now.is_by_token in
     let (text, run, has) = c.loop.invariant.given in (
       text,
-      inr (c.next.ensures.started c.args.is_by_token text has),
-      (run, c.in-Err-next.ensures.wrong c.args.is_by_token text has),
+      inr (c.next.ensures.started by_token text has),
+      c.halt_of-in-Err-next.ensures.stop _ _ (c.in-Err-next.ensures.wrong by_token text has),
+      rw c.halt_of-in-Err-next.ensures.uncut run,
     )
 
 pub returns-in-Err-write-2-clause-follow : goal.returns-in-Err-write-2-clause-follow
@@ -68,13 +64,15 @@ returns-in-Err-write-2-clause-follow g c = (
 
 pub returns-in-Err-write-2-clause-written : goal.returns-in-Err-write-2-clause-written
 returns-in-Err-write-2-clause-written g c =
+    let by_token = c.args.words.now.is_by_token in
     let (text, run, has) = c.loop.invariant.given in
     let cut = c.in-Err-write-2.ensures.cut in (
       text ++ cut.front,
-      inr (started_part c.args.is_by_token text c.next.new.piece.items cut.front cut.rest _ _
+      inr (started_part by_token text c.next.new.piece.items cut.front cut.rest _ _
           (sym c.deref.ensures.value ∙ cut.whole)
-          (after_started c.next.new.self c.args.is_by_token c.in-Ok-next.next _
-          (c.in-Ok-next.ensures.given c.args.is_by_token text has))),
+          (after_started c.next.new.self by_token c.in-Ok-next.next _
+          (c.in-Ok-next.ensures.given by_token text has))),
+      tt,
       cut_on (g.W.Inputs.run c.args.world.now) (g.W.Inputs.run c.loop.world) _ text
           c.deref.result.now c.in-Err-write-2.why run cut,
     )
@@ -87,15 +85,16 @@ returns-in-Some-clause-follow g c = (
 
 pub returns-in-Some-clause-written : goal.returns-in-Some-clause-written
 returns-in-Some-clause-written g c =
+    let by_token = c.args.words.now.is_by_token in
     let (text, run, has) = c.loop.invariant.given in (
       text ++ c.next.new.piece.items,
       written_on (g.W.Inputs.run c.args.world.now) (g.W.Inputs.run c.loop.world) _ text
           c.next.new.piece.items run (c.in-Ok-write-2.ensures.whole
           ∙ ap (λ (t : List ℕ). with_written (g.W.Inputs.run c.loop.world) t)
           c.deref.ensures.value),
-      subst (λ (end : Option ℕ). IsGivenAfter c.next.new.self c.args.is_by_token end
+      subst (λ (end : Option ℕ). IsGivenAfter c.next.new.self by_token end
           (text ++ c.next.new.piece.items)) c.in-Some.is
-          (c.in-Ok-next.ensures.given c.args.is_by_token text has),
+          (c.in-Ok-next.ensures.given by_token text has),
     )
 
 pub loop-preserved : goal.loop-preserved
@@ -103,22 +102,20 @@ loop-preserved g c = record {
   follow_old = follows_on _ _ _ c.loop.invariant.follow_old c.next.ensures.follow.0;
   follow_new = follows_on _ _ _ c.loop.invariant.follow_new c.next.ensures.follow.1;
   given =
+      let by_token = c.args.words.now.is_by_token in
       let (text, run, has) = c.loop.invariant.given in (
         text ++ c.next.new.piece.items,
         written_on (g.W.Inputs.run c.args.world.now) (g.W.Inputs.run c.loop.world) _ text
             c.next.new.piece.items run (c.in-Ok-write-2.ensures.whole
             ∙ ap (λ (t : List ℕ). with_written (g.W.Inputs.run c.loop.world) t)
             c.deref.ensures.value),
-        subst (λ (end : Option ℕ). IsGivenAfter c.next.new.self c.args.is_by_token end
+        subst (λ (end : Option ℕ). IsGivenAfter c.next.new.self by_token end
             (text ++ c.next.new.piece.items)) c.in_default.is
-            (c.in-Ok-next.ensures.given c.args.is_by_token text has),
+            (c.in-Ok-next.ensures.given by_token text has),
       );
 }
-
-pub returns-clause-follow : goal.returns-clause-follow
-returns-clause-follow g c = (c.loop.invariant.follow_old, c.loop.invariant.follow_new)
 
 pub returns-clause-written : goal.returns-clause-written
 returns-clause-written g c =
     let (text, run, has) = c.loop.invariant.given in
-    (text, inr (after_started _ _ None text has), (run, tt))
+    (text, inr (after_started _ _ None text has), tt, run)

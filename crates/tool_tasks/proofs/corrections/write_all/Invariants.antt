@@ -10,5 +10,5 @@ invariant-loop g l = record {
   follow_new : Follows l.fn.corrections.new.from l.corrections.new.from;
   given : (text : List ℕ)
       × (g.W.Inputs.run l.world ≡ with_written (g.W.Inputs.run l.fn.world) text)
-      × HasGiven l.corrections l.fn.is_by_token text;
+      × HasGiven l.corrections l.fn.words.is_by_token text;
 }

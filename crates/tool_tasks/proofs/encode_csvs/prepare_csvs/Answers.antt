@@ -1,7 +1,9 @@
-use Rattle.std.proofs.Common.{◌≡◌, List, [], arith, drop, map, refl, subst, sym}
-use Rattle.tool_tasks.proofs.EncodingRows.{added_on, none_after, wrong_csv}
-use Rattle.tool_tasks.specs.{EncodeRows.AddsCsvs, declared.encode_loads.Csv.Csv}
-use Rattle.tool_tasks.specs.inside.EncodeRows.{csv_of, encoded_of}
+use Rattle.std.proofs.Common.{◌≡◌, List, [], arith, drop, refl, subst, sym, ℕ}
+use Rattle.std.proofs.Math.ListN.{drop_of_length-le}
+use Rattle.std.specs.{Prelude.Vec, declared.alloc.Global.Global}
+use Rattle.tool_tasks.proofs.EncodingRows.{chain_on, wrong_csv}
+use Rattle.tool_tasks.specs.EncodeRows.{AddsCsv, Chain}
+use Rattle.tool_tasks.specs.inside.EncodeRows.{csvs_of, encoded_of}
 use Rattle.tool_tasks.proofs.encode_csvs.prepare_csvs.Goals as goal
 
 pub returns-in-Err : goal.returns-in-Err
@@ -12,28 +14,20 @@ returns-in-Err c =
 
 pub loop-number-preserved : goal.loop-number-preserved
 loop-number-preserved c = λ final rest.
-    c.loop-number.invariant final (added_on c.args.words.now c.args.choice.now c.args.csvs.now
-    c.loop-number.number c.index-csvs-number.result (encoded_of c.loop-number.all)
+    c.loop-number.invariant final (chain_on (AddsCsv c.args.words.now c.args.choice.now)
+    c.args.csvs.now c.loop-number.number c.index-csvs-number.result (encoded_of c.loop-number.all)
     (encoded_of c.encode_csv.new.all) final c.loop-number-test.true c.index-csvs-number.is
     c.in-Ok.ensures.added rest)
 
 pub returns-in-Ok-prepare_encoded : goal.returns-in-Ok-prepare_encoded
 returns-in-Ok-prepare_encoded c =
-    let csvs = c.args.csvs.now in
     let all = encoded_of c.loop-number.all in
     let past = c.loop-number-test.false in
-    let none : drop c.loop-number.number csvs ≡ [] =
-    none_after csvs c.loop-number.number (omega (arith, past)) in
-    let is = c.in-Ok-prepare_encoded.ensures in (
-      is.named,
-      record {
-        all = all;
-        encoded = c.loop-number.invariant all
-            (subst (λ (cs : List Csv). AddsCsvs c.args.words.now c.args.choice.now (map csv_of cs) all all)
-            (sym none) refl);
-        text = is.text;
-        note = is.note;
-        made = is.made;
-        status_is = is.status;
-      },
+    let none : drop c.loop-number.number c.args.csvs.now ≡ [] =
+    drop_of_length-le c.args.csvs.now (omega (arith, past)) in (
+      c.in-Ok-prepare_encoded.ensures.0,
+      all,
+      c.loop-number.invariant all (subst (λ (cs : List (Vec ℕ Global)).
+          Chain (AddsCsv c.args.words.now c.args.choice.now) (csvs_of cs) all all) (sym none) refl),
+      c.in-Ok-prepare_encoded.ensures.1,
     )

@@ -3,7 +3,7 @@ use Rattle.std.proofs.Common.{refl}
 use Rattle.part_texts.proofs.Parts.{follow_length}
 use Rattle.recorded_lines.specs.{Texts.calls_of, declared.text.Lines.Lines}
 use Rattle.std.proofs.lemmas.List.{take_at}
-use Rattle.tool_tasks.proofs.{PartsRead.merged, PartsRead.names_kept, Streaming.unopened_leaves}
+use Rattle.tool_tasks.proofs.{PartsRead.merged, PartsRead.names_kept, Streaming.unopened}
 use Rattle.tool_tasks.specs.inside.Merge.{names_of}
 use Rattle.world.specs.Run.{Calls}
 use Rattle.tool_tasks.proofs.merge.merge_parts.Goals as goal
@@ -32,10 +32,11 @@ returns-in-Ok g c =
 pub returns-in-Err : goal.returns-in-Err
 returns-in-Err g c =
     let words = map (λ w. w.now) c.args.words.now in
-    let (calls, all, unopened) = c.in-Err.ensures.stopped in
-    let more = map calls_of c.open_all.new.parts.items in (
+    let (calls, all, is) = c.in-Err.ensures.stopped in
+    let more = map calls_of c.open_all.new.parts.items in
+    let (can, left) = unopened _ words calls more c.in-Err.halt.0 _ is in (
       calls ++ more,
       c.close_all-in-Err.ensures ∙ ap (λ (l : List Calls). l ++ more) all
           ∙ append_assoc (g.F.Streams.readings c.args.files.now) calls more,
-      ([], inl refl, unopened_leaves _ words calls more c.in-Err.halt.0 _ unopened),
+      ([], inl refl, can, left),
     )

@@ -3,7 +3,7 @@ use Rattle.std.proofs.Common.{take_all, ℕ}
 use Rattle.frame.specs.Names.{file_named}
 use Rattle.recorded_lines.specs.Texts.{IsFresh, calls_of}
 use Rattle.std.proofs.lemmas.List.Elements.{All-nil, All-push, All-same}
-use Rattle.tool_tasks.proofs.{Loading.word_contained, PartsRead.opened_more, Streaming.unopened_in}
+use Rattle.tool_tasks.proofs.{Loading.word_contained, PartsRead.opened_more}
 use Rattle.tool_tasks.specs.inside.Merge.{names_of}
 use Rattle.tool_tasks.proofs.merge.open_all.Goals as goal
 
@@ -38,13 +38,9 @@ returns-in_default-clause-stopped g c = (
 pub returns-in-Err-clause-stopped : goal.returns-in-Err-clause-stopped
 returns-in-Err-clause-stopped g c =
     let no_word : Bor (List ℕ) = record { ref_ptr = (0, 0); now = [] } in
-    let (calls, all, unopened) = c.in-Err.ensures.stopped in (
-      calls ∷ [],
-      all ∙ ap (λ l. l ++ calls ∷ []) c.loop-word.invariant.unchanged,
-      unopened_in (map (λ w. w.now) c.args.words.now) _ calls c.in-Err.halt.0
-          (word_contained c.args.words.now c.loop-word.word-index no_word c.loop-word-test.true)
-          unopened,
-    )
+    let (calls, all, unopened) = c.in-Err.ensures.stopped (map (λ w. w.now) c.args.words.now)
+    (word_contained c.args.words.now c.loop-word.word-index no_word c.loop-word-test.true) in
+    (calls, all ∙ ap (λ l. l ++ calls) c.loop-word.invariant.unchanged, unopened)
 
 pub returns-clause-fresh : goal.returns-clause-fresh
 returns-clause-fresh g c = c.loop-word.invariant.fresh

@@ -1,8 +1,8 @@
-use Rattle.std.proofs.Common.{◌∙◌, ap, arith, map, refl, subst, sym}
+use Rattle.std.proofs.Common.{◌∙◌, Bor, List, ap, arith, map, refl, subst, sym, ℕ}
 use Rattle.frame.proofs.Outcomes.{halted_loading}
 use Rattle.frame.specs.{Outsides.Leaves}
-use Rattle.tool_tasks.proofs.Preparing.{halted_early}
-use Rattle.tool_tasks.specs.{Sort.Sorts, Sort.names_of, inside.Sort.LoadsAll}
+use Rattle.tool_tasks.proofs.{Loading.upload_named, Preparing.halted_early}
+use Rattle.tool_tasks.specs.{Sort.Sorts, Sort.names_of, inside.Loads.LoadsAll}
 use Rattle.tool_words.specs.Tasks.{sorting_of}
 use Rattle.world.specs.{Origins.with_loads, Run.Run}
 use Rattle.tool_tasks.proofs.sort.sort.Goals as goal
@@ -19,10 +19,13 @@ returns-in-Ok-loaded g c =
     let run = g.W.Inputs.run in
     let old = run c.args.world.now in
     let texts = map (λ upload. upload.items) c.in-Ok-loaded.uploads.items in
+    let loaded = subst (λ (ws : List (Bor (List ℕ))). LoadsAll (map (λ w. w.now) ws)
+    (run c.begin.new.self) (run c.load_all-loaded.new.files) texts) c.deref.ensures.value
+    c.in-Ok-loaded.ensures.loaded in
     c.write_sorted.ensures old
     (subst (λ (r : Run). LoadsAll request.uploads old r texts) (sym c.end_count.ensures)
-    (subst (λ (r : Run). LoadsAll request.uploads r (run c.load_uploads-loaded.new.world) texts)
-    c.in-Ok.ensures.unchanged c.in-Ok-loaded.ensures.loaded))
+    (subst (λ (r : Run). LoadsAll request.uploads r (run c.load_all-loaded.new.files) texts)
+    c.in-Ok.ensures.unchanged loaded))
 
 pub returns-in-Err-loaded : goal.returns-in-Err-loaded
 returns-in-Err-loaded g c =
@@ -30,7 +33,8 @@ returns-in-Err-loaded g c =
     let run = g.W.Inputs.run in
     let old = run c.args.world.now in
     let why = c.in-Err-loaded.halt.0 in
-    let (loads, leaves) = c.in-Err-loaded.ensures.stopped in
+    let (loads, leaves) = c.in-Err-loaded.ensures.stopped (names_of request)
+    (upload_named request c.deref.result.now (ap (map (λ w. w.now)) (sym c.deref.ensures.value))) in
     halted_loading (Sorts request) (λ loads. ⊥) (names_of request) old (with_loads (run c.begin.new.self) loads) _
     loads why (ap (λ (r : Run). with_loads r loads) c.in-Ok.ensures.unchanged)
     (subst (λ (r : Run). Leaves (names_of request) why (with_loads (run c.begin.new.self) loads) r)

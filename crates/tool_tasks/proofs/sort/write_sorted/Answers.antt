@@ -36,8 +36,7 @@ returns-in-Ok-note_of g c = λ start all.
       order = sorted.order;
       settled = sorted.settled;
       in_batches = sorted.written.is_file;
-    }) (subst (λ (es : List UploadEnd). are_posted es ≡ true → note ≡ []) (c.deref-2.ensures.value ∙ sym same)
-    c.in-Ok-note_of.ensures)
+    })
     (subst (λ (es : List UploadEnd). c.status_of.result ≡ (if are_posted es then 0 else 3))
     (c.deref-in-Ok-note_of-2.ensures.value ∙ sym same) c.status_of.ensures))
 

@@ -1,6 +1,0 @@
-use Rattle.std.proofs.Common.{arith}
-use Rattle.report_texts.proofs.Parts.{lines_more}
-use Rattle.tool_tasks.proofs.sort.push_lines.Goals as goal
-
-pub loop-number-preserved : goal.loop-number-preserved
-loop-number-preserved c = grind (arith, lines_more)
