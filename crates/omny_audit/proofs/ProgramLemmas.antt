@@ -43,27 +43,6 @@ posted_push uploads valid upload taps (lists, each, all) one = (
   ap (λ (xs : List TapFields). xs ++ taps) all ∙ flat_map_more (λ list. list) [] lists taps,
 )
 
-not_zero : (n : ℕ) → nat_eq (suc n) 0 ≡ false
-not_zero n = grind (arith, nat_tests)
-
--- taps are compared if uploads are named
-pub compared_is : {A : Type 0} (names : List (Bor Text)) (valid : A) (has : Bool)
-    → has ≡ not (nat_eq (length names) 0)
-    → (if has then Some valid else None) ≡ compared (map (λ n. n.now) names) valid
-compared_is [] valid has is = rw is refl
-compared_is (name ∷ names) valid has is =
-    let some : nat_eq (length (name ∷ names)) 0 ≡ false = not_zero (length names) in
-    ap (λ (b : Bool). if b then Some valid else None) (is ∙ ap not some)
-
--- the same names, lent twice
-pub loads_same : (names same : List (Bor Text)) (loaded loaded' : List Load)
-    (files : List (List ℕ)) → names ≡ same
-    → LoadsNamedFiles (map (λ n. n.now) names) loaded loaded' files
-    → LoadsNamedFiles (map (λ n. n.now) same) loaded loaded' files
-loads_same names same loaded loaded' files is loads =
-    subst (λ (ns : List (Bor Text)). LoadsNamedFiles (map (λ n. n.now) ns) loaded loaded' files) is
-    loads
-
 -- a file is a traced ledger exactly if its first bytes say so
 still_head : (head rest : List ℕ) → length traced_head ≤ length head
     → has_traced_head head ≡ has_traced_head (head ++ rest)
@@ -100,23 +79,14 @@ pub provided_name : (name : Option (Bor Text)) (usual : Bor Text)
 provided_name None usual = refl
 provided_name (Some n) usual = refl
 
--- what is kept, seen otherwise
-pub kept_as : {A B : Type 0} (f : A → B) (kept : Bool) (x : A)
-    → option_map f (if kept then Some x else None) ≡ (if kept then Some (f x) else None)
-kept_as f true x = refl
-kept_as f false x = refl
+-- what is compared, seen otherwise
+pub compared_as : {A B : Type 0} (f : A → B) (named : Bool) (x : A)
+    → option_map f (compared named x) ≡ compared named (f x)
+compared_as f true x = refl
+compared_as f false x = refl
 
 -- no place was named
-pub named_none : (kept : Bool) (positions : Positions) (lists : List (List TapFields))
-    → HasUploads positions lists → HaveNamed (if kept then Some positions else None) []
+pub named_none : (named : Bool) (positions : Positions) (lists : List (List TapFields))
+    → HasUploads positions lists → HaveNamed (compared named positions) []
 named_none true positions lists has = has.none
 named_none false positions lists has = tt
-
-pub given_is : (given : Given) (all : Bool) (valid : Option (List TapFields))
-    (ends : Option (List UploadEnd)) → given.all ≡ all → given.valid ≡ valid → given.ends ≡ ends
-    → given ≡ record given { all = all; valid = valid; ends = ends }
-given_is given all valid ends same_all same_valid same_ends =
-    ap (λ (a : Bool). record given { all = a }) same_all
-    ∙ ap (λ (g : Option (List TapFields)). record given { all = all; valid = g }) same_valid
-    ∙ ap (λ (e : Option (List UploadEnd)). record given { all = all; valid = valid; ends = e })
-    same_ends

@@ -1,6 +1,6 @@
 -- The command line, and what its words ask for.
 use Rattle.std.specs.Prelude.{Bool, List, [], ◌∷◌, ◌++◌, Option, None, Some, codes}
-use Rattle.std.specs.Prelude.{option_and_then, true, unwrap_or}
+use Rattle.std.specs.Prelude.{length, nat_eq, not, option_and_then, true, unwrap_or}
 use Rattle.clap.specs.Words.{App, Rule, Text, all_of, first_of, matches_of, with_rule}
 use Rattle.clap.specs.declared.builder.action.ArgAction.TheVariants.{Set}
 use Rattle.frame.specs.Names.{file_named}
@@ -43,6 +43,10 @@ audit_request_by words = record {
   report = first_of (codes "report") (matches_of audit_program words);
   ledger = option_and_then file_named (first_of (codes "LEDGER") (matches_of audit_program words));
 }
+
+-- whether uploads are named
+abbrev pub has_uploads : AuditRequest → Bool
+has_uploads request = not (nat_eq (length request.uploads) 0)
 
 -- what the ledger is called: standard input, if no file of it is named
 abbrev pub ledger_name : AuditRequest → Text

@@ -66,15 +66,13 @@ report_text (Taps line uploads ledger) =
     codes "wrong report line " ++ (decimal line ++ (codes ": the uploads have "
     ++ (decimal uploads ++ (codes " taps, the ledger " ++ (decimal ledger ++ codes "\n")))))
 
--- the line that says that the report's lines of uploads were not compared, since none are named
-unfoldable pub uncompared_text : Option (List UploadEnd) → List ℕ
-uncompared_text None = codes "upload lines not compared\n"
-uncompared_text (Some ends) = []
-
--- what is said of the report, if there is a verdict on it
+-- What is said of the report, if there is a verdict on it; and that its lines of uploads were not
+-- compared, if none are named.
 abbrev pub verdict_lines : Option (List UploadEnd) → Option ReportVerdict → List ℕ
 verdict_lines ends None = []
-verdict_lines ends (Some verdict) = report_text verdict ++ uncompared_text ends
+verdict_lines None (Some verdict) =
+    report_text verdict ++ codes "upload lines not compared\n"
+verdict_lines (Some ends) (Some verdict) = report_text verdict
 
 -- The verdict on the report beside a ledger that is right or not. There is none without a report, or
 -- on one beside a ledger that is not; else it is true beside whatever entries the ledger has.
