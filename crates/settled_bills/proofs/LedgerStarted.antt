@@ -84,7 +84,8 @@ known_started fares known all own numbers started readers least start after are 
             over = ledger_along fares (posted fares taps) lines
                 (posted_nondecreasing fares least taps
                 (canonical_nondecreasing least taps is_least named canonical.sorted))
-                (lines_both fares [] has.taps rest (has.taps ++ rest) has.lines more refl has.are along);
+                (lines_both fares [] has.taps rest (has.taps ++ rest) has.lines more refl has.are
+                along);
           }),
       begins_longer start after head_text has.lines more has.holds,
     )

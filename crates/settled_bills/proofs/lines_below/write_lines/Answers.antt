@@ -1,5 +1,5 @@
 -- Each turn explains the taps that were taken last.
-use Rattle.std.proofs.Common.{ℕ, List, [], ◌++◌, All, length, map, string_bytes, sym, ap, subst}
+use Rattle.std.proofs.Common.{refl, ℕ, List, [], ◌++◌, All, length, map, string_bytes, sym, ap, subst}
 use Rattle.std.proofs.Common.{◌∙◌, arith}
 use Rattle.fare_texts.proofs.Beginnings.{goes_begins, goes_last, goes_nothing, goes_on, goes_then}
 use Rattle.fare_texts.proofs.PieceWriting.{consumed_first}
@@ -148,7 +148,8 @@ returns-in-Err-write_by_workers-clause-started g c = λ is_write.
             (subst (λ (t : Token). TapsNondecreasingFrom t taps) inv.token
             c.in_ok-take.ensures.nondecreasing);
         lines = inv.lines ++ more;
-        are = lines_both fares [] inv.done taps (inv.done ++ taps) inv.lines more refl inv.explained.are along;
+        are = lines_both fares [] inv.done taps (inv.done ++ taps) inv.lines more refl
+            inv.explained.are along;
         holds = goes_begins (g.W.Write.contents c.args.out.now) out after head_text waits inv.lines
             more inv.gone begins;
       },
