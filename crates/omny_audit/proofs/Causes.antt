@@ -1,6 +1,6 @@
 -- The causes of faults.
-use Rattle.std.proofs.Common.{◌≡◌, ◌++◌, ◌∷◌, [], ℕ, Bool, List, Option, Some, Result, Ok, Err}
-use Rattle.std.proofs.Common.{◌∙◌, ap, append-nil, arith, inl, inr, map, refl, subst, sym}
+use Rattle.std.proofs.Common.{◌≡◌, ◌++◌, ◌∷◌, [], ℕ, Bool, List, Option, Some, Result, Ok, Err, ◌∙◌}
+use Rattle.std.proofs.Common.{ap, append-nil, arith, inl, inr, map, refl, subst, sym}
 use Rattle.frame.specs.Failing.{HasStarted}
 use Rattle.omny_audit.proofs.Audits.{started_weaker}
 use Rattle.omny_audit.specs.Ends.{Did, IsRightFault, did_by}
@@ -11,12 +11,10 @@ use Rattle.omny_audit.specs.declared.fault.Fault.TheVariants.{Class, File, Given
 use Rattle.omny_audit.specs.declared.fault.Fault.TheVariants.{NoMemory, Unwritten}
 use Rattle.omny_audit.specs.inside.{Audits.EndsAs, Ends.EndsAudit}
 use Rattle.omny_audit.specs.inside.Fault.{IsClassFault, IsLoadFault, IsStreamFault, IsUnopened}
-use Rattle.program_manners.specs.Refusals.{IsShown}
-use Rattle.program_manners.specs.{TableLoads.LoadsTables, TableWords.table_files}
+use Rattle.program_manners.specs.{Refusals.IsShown, TableLoads.LoadsTables, TableWords.table_files}
 use Rattle.program_manners.specs.declared.recorded_loads.RecordedLoads.{RecordedLoads}
-use Rattle.std.proofs.lemmas.List.Elements.{Contains-append_left, Contains-append_right}
-use Rattle.std.proofs.lemmas.List.Elements.{Contains-push}
-use Rattle.std.proofs.lemmas.List.{length-map}
+use Rattle.std.proofs.lemmas.List.{length-map, Elements.Contains-append_left}
+use Rattle.std.proofs.lemmas.List.Elements.{Contains-append_right, Contains-push}
 use Rattle.std.proofs.lemmas.Option.{get_or_from_slice_get, slice_get-map, slice_get_within}
 use Rattle.std.specs.{List.slice_get, Prelude.Contains, Prelude.option_map, Result.IsErrAnd}
 use Rattle.tariffs.specs.Fares.{Fares}
@@ -34,19 +32,18 @@ contained f xs k x is = (
 module _ (request : AuditRequest) where
   pub among_uploads : (name : List ℕ) → Contains request.uploads name
       → Contains (files_of request) name
-  among_uploads name is = Contains-append_right (table_files request.table) _ name
-      (Contains-append_left (request.uploads ++ named_file request.report) _ name
-      (Contains-append_left request.uploads (named_file request.report) name is))
+  among_uploads name is = Contains-append_left request.uploads _ name is
 
   pub among_reports : (name : List ℕ) → Contains (named_file request.report) name
       → Contains (files_of request) name
-  among_reports name is = Contains-append_right (table_files request.table) _ name
-      (Contains-append_left (request.uploads ++ named_file request.report) _ name
-      (Contains-append_right request.uploads (named_file request.report) name is))
+  among_reports name is = Contains-append_right request.uploads _ name
+      (Contains-append_left (named_file request.report) _ name is)
 
   among_ledgers : Contains (files_of request) (ledger_name request)
-  among_ledgers = Contains-append_right (table_files request.table) _ (ledger_name request)
-      (Contains-push (request.uploads ++ named_file request.report) (ledger_name request))
+  among_ledgers = Contains-append_right request.uploads _ (ledger_name request)
+      (Contains-append_right (named_file request.report) _ (ledger_name request)
+      (Contains-append_left (ledger_name request ∷ []) (table_files request.table) _
+      (Contains-push [] (ledger_name request))))
 
   pub load_cause : (start loads : RecordedLoads) (ledger : Calls) (old new : Run)
       (names : List (List ℕ)) (fault : Fault)

@@ -57,8 +57,7 @@ abbrev pub named_file : Option Text → List Text
 named_file None = []
 named_file (Some name) = name ∷ []
 
--- the files that are asked for: the tables, the uploads in order, the report and the ledger
+-- the files that are asked for: the uploads in order, the report, the ledger and the tables
 abbrev pub files_of : AuditRequest → List Text
-files_of request =
-    table_files request.table ++ ((request.uploads ++ named_file request.report)
-    ++ ledger_name request ∷ [])
+files_of request = request.uploads
+    ++ (named_file request.report ++ ledger_name request ∷ table_files request.table)

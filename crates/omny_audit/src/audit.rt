@@ -83,7 +83,7 @@ impl Audit<'_> {
         let mut text = reported.into_bytes();
         let is_whole = found.is_legal & is_right;
         let verdict = verdict_on(alloc, is_whole, &self.report, &found.sums, self.ends)?;
-        let Ok(()) = write_last_lines(&mut text, &verdict, self.ends) else {
+        let Ok(()) = write_last_lines(alloc, &mut text, &verdict, self.ends) else {
             return Err(NoMemory);
         };
         let is_last = fits(&self.report, &verdict) & are_whole(self.ends);
@@ -99,7 +99,8 @@ impl Audit<'_> {
     {
         let mut reported = String::new(alloc);
         self.read(alloc, piece, &mut reported)?;
-        if piece.is_empty() | self.check.is_decided() {
+        let is_last = piece.is_empty() | self.check.is_decided();
+        if is_last {
             let ended = self.end(alloc, reported)?;
             return Ok((ended.0, Some(ended.1)));
         }

@@ -2,6 +2,17 @@
 
 use std::alloc::{AllocError, Global};
 
+/// The word with the system's name of the standard input, if it represents it as a file.
+fn replacement(word: &str, is_file: bool) -> Option<&'static str> {
+    match word {
+        "-" if is_file => Some("/dev/stdin"),
+        "--table=-" => Some("--table=/dev/stdin"),
+        "--report=-" => Some("--report=/dev/stdin"),
+        "--uploads=-" => Some("--uploads=/dev/stdin"),
+        _ => None,
+    }
+}
+
 /// The words with the system's name of the standard input for each `-` that is a fare table, an
 /// upload or a report; how many were replaced; and how many represent it as a list of files.
 pub(crate) fn input_words(
@@ -20,14 +31,7 @@ pub(crate) fn input_words(
             continue;
         }
         let is_file = before == "--table" || before == "--report" || is_upload;
-        let input = match name {
-            "-" if is_file => "/dev/stdin",
-            "--table=-" => "--table=/dev/stdin",
-            "--report=-" => "--report=/dev/stdin",
-            "--uploads=-" => "--uploads=/dev/stdin",
-            _ => "",
-        };
-        if !input.is_empty() {
+        if let Some(input) = replacement(name, is_file) {
             name = input;
             replaced = replaced.saturating_add(1);
         } else if name == "--files-from=-" || (name == "-" && before == "--files-from") {

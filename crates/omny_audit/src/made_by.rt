@@ -28,7 +28,11 @@ fn given_files<'a>(
 ) -> Result<Vec<(String, &'a str)>, Fault<'a>> {
     let mut files = Vec::new(rt.alloc());
     files.push((sum_of(rt, options.table.first)?, options.table.first))?;
-    let later = options.table.later.iter().map(|word| TableWord::of(word).name);
+    let later = options
+        .table
+        .later
+        .iter()
+        .map(|word| TableWord::of(word).name);
     for name in later.chain(options.uploads.iter().copied()) {
         files.push((sum_of(rt, name)?, name))?;
     }
@@ -55,28 +59,29 @@ fn is_text<'a>(
 
 /// A line for each file of the one list that is not in the other, both in order of sums.
 fn push_differences(
-    mut given: &[(String, &str)],
-    mut made_of: &[(&str, &str)],
+    given: &[(String, &str)],
+    made_of: &[(&str, &str)],
     has_uploads: bool,
     lines: &mut String,
 ) -> Result<(), AllocError> {
+    let (mut given_at, mut made_at) = (0usize, 0usize);
     for _ in 0..given.len().saturating_add(made_of.len()) {
-        match (given.split_first(), made_of.split_first()) {
-            (Some((one, rest)), Some((made, more))) if one.0.as_str() == made.0 => {
-                given = rest;
-                made_of = more;
+        match (given.get(given_at), made_of.get(made_at)) {
+            (Some(one), Some(made)) if one.0.as_str() == made.0 => {
+                given_at = given_at.saturating_add(1);
+                made_at = made_at.saturating_add(1);
             }
-            (Some((one, rest)), made) if made.is_none_or(|made| one.0.as_str() < made.0.0) => {
+            (Some(one), made) if made.is_none_or(|made| one.0.as_str() < made.0) => {
                 let name = Escaped(one.1);
                 write!(lines, "not made of {name}\n")?;
-                given = rest;
+                given_at = given_at.saturating_add(1);
             }
-            (_, Some((made, more))) => {
+            (_, Some(made)) => {
                 if has_uploads {
                     let name = made.1;
                     write!(lines, "made of {name}\n")?;
                 }
-                made_of = more;
+                made_at = made_at.saturating_add(1);
             }
             _ => break,
         }

@@ -16,7 +16,7 @@ mod text;
 mod traced;
 
 use file_sources::Host;
-use hints::{Named, Overheard, Unwritten, hint_on_fault, hint_on_list};
+use hints::{Named, Overheard, Said, Unwritten, hint_on_fault, hint_on_list};
 use input_words::input_words;
 use made_by::compare;
 use options::{Options, list_words, reads_input};
@@ -76,6 +76,21 @@ fn compare_made_by<W: Write, E: Write>(
     u8::from(!is_same || out.end().is_some())
 }
 
+/// Says on a terminal what to do about the fault that was reported.
+fn report_hint(rt: &HostRuntime, options: &Options<'_>, said: &Said, error: Option<io::Error>) {
+    let named = Named {
+        charges: false,
+        table: Some(options.table.first),
+        error,
+    };
+    if rt.stderr().is_terminal()
+        && let Some(line) = said.line()
+        && let Some(hint) = hint_on_fault(rt, rt.alloc(), line, named)
+    {
+        Complaints::new(rt.stderr()).report_line(hint);
+    }
+}
+
 /// The form of the findings that the words name; else the line of a usage error.
 fn form_of(options: &Options<'_>) -> Result<Form, &'static str> {
     match Form::of(options.format.unwrap_or("text")) {
@@ -90,9 +105,12 @@ fn form_of(options: &Options<'_>) -> Result<Form, &'static str> {
 /// Runs the words, of which the list's names are arguments, and returns the status. On a terminal it
 /// says that the ledger is waited for, and what to do about the fault that was reported.
 fn run(rt: &HostRuntime, words: &[String], mut err: Escaping<io::Stderr>) -> u8 {
-    let options = Options::read(rt.alloc(), words).ok();
-    let options = options.as_ref();
-    let form = match options.map_or(Ok(Form::Text), form_of) {
+    let options = Options::read(rt.alloc(), words);
+    let form = match &options {
+        Ok(options) => form_of(options),
+        Err(_) => Ok(Form::Text),
+    };
+    let form = match form {
         Ok(form) => form,
         Err(line) => {
             Complaints::new(&mut err).report_line(line);
@@ -100,7 +118,10 @@ fn run(rt: &HostRuntime, words: &[String], mut err: Escaping<io::Stderr>) -> u8 
             return 2;
         }
     };
-    if rt.reader().is_terminal() && options.is_some_and(|options| options.ledger.is_none()) {
+    if let Ok(options) = &options
+        && options.ledger.is_none()
+        && rt.reader().is_terminal()
+    {
         Complaints::new(rt.stderr()).report_line("reading the ledger from the standard input");
     }
     let out = Shaped::new(rt.alloc(), rt.stdout(), FINDINGS, form);
@@ -113,26 +134,18 @@ fn run(rt: &HostRuntime, words: &[String], mut err: Escaping<io::Stderr>) -> u8 
         &mut Stream::new(),
         &mut System::new(rt, &mut out, &mut err),
     );
-    if let Some(options) = options
+    if let Ok(options) = &options
         && status < 2
         && err.said().is_silent()
         && out.error().is_none()
     {
         status = status.max(compare_made_by(rt, options, &mut out, &mut err));
     }
-    let named = Named {
-        charges: false,
-        table: options.map(|options| options.table.first),
-        error: out.error(),
-    };
+    let error = out.error();
     let (escaping, said) = err.into_parts();
     escaping.finish();
-    if options.is_some()
-        && rt.stderr().is_terminal()
-        && let Some(line) = said.line()
-        && let Some(hint) = hint_on_fault(rt, rt.alloc(), line, named)
-    {
-        Complaints::new(rt.stderr()).report_line(hint);
+    if let Ok(options) = &options {
+        report_hint(rt, options, &said, error);
     }
     status
 }

@@ -1,18 +1,18 @@
 //! The command line.
 ghost use Rattle.clap.specs.Words.{FailsBy, app_of, fault_of, found_of, matches_of, rows_of};
+ghost use Rattle.clap.specs.Words.{rule_of};
 ghost use Rattle.frame.specs.Names.{file_named};
-ghost use Rattle.omny_audit.specs.Options.{audit_program, audit_request_by};
+ghost use Rattle.omny_audit.specs.Options.{audit_program, audit_request_by, required_table_option};
 ghost use Rattle.omny_audit.specs.inside.Options.{audit_request_of};
 ghost use Rattle.program_manners.specs.{TableViews.names_of, TableWords.tables_in};
-ghost use Rattle.std.specs.Prelude.{◌≡◌, IfOk, Some, map, option_and_then, option_map};
+ghost use Rattle.std.specs.Prelude.{◌≡◌, IfOk, Some, false, map, option_and_then, option_map};
 ghost use Rattle.std.specs.Prelude.{string_bytes};
 
-use clap::{ArgAction, ArgMatches, Command, Error};
+use clap::{Arg, ArgAction, ArgMatches, Command, Error};
 use frame::file_of;
 use program_manners::{
     ListFault, ListWords, TableWords, add_list_args, files_arg, flag_arg, flag_in, names_in,
-    new_command, option_arg, positional_arg, repeated_arg,
-    with_arg,
+    new_command, option_arg, positional_arg, repeated_arg, value_in,
 };
 use std::alloc::{AllocError, Global};
 
@@ -153,22 +153,33 @@ const FORMAT_HELP: &str = "Print them as text, json or csv [default: text]";
 
 const LEDGER_HELP: &str = "A ledger of any length [default: standard input, as -]";
 
-#[tactic(auto, unfolding(crate::specs::Options::audit_program))]
+fn table_arg<'a>(alloc: Global) -> Arg<'a>
+    ensures rule { rule_of result ≡ required_table_option }
+    ensures local { result.global ≡ false }
+{
+    repeated_arg(alloc, "table", "F", TABLE_HELP).required(true)
+}
+
 fn command<'a>(alloc: Global) -> Result<Command<'a>, AllocError>
     ensures { IfOk result (λ command. app_of command ≡ audit_program) }
 {
-    let table = repeated_arg(alloc, "table", "F", TABLE_HELP).required(true);
+    let table = table_arg(alloc);
+    let all = flag_arg(alloc, "all", ALL_HELP);
     let live = flag_arg(alloc, "live", "Take a ledger of a run without --settle");
     let uploads = files_arg(alloc, "uploads", UPLOADS_HELP);
     let report = option_arg(alloc, "report", "REPORT", REPORT_HELP);
     let made_by = option_arg(alloc, "made-by", "FILE", MADE_BY_HELP);
     let format = option_arg(alloc, "format", "FORM", FORMAT_HELP);
     let ledger = positional_arg(alloc, "LEDGER", ArgAction::Set, LEDGER_HELP);
-    let command = new_command(alloc, "omny_audit", ABOUT, NOTES);
-    let command = with_arg(with_arg(command, table)?, flag_arg(alloc, "all", ALL_HELP))?;
-    let command = with_arg(with_arg(command, live)?, uploads)?;
-    let command = with_arg(with_arg(command, report)?, made_by)?;
-    with_arg(add_list_args(alloc, with_arg(command, format)?)?, ledger)
+    let command = new_command(alloc, "omny_audit", ABOUT, NOTES)
+        .arg(table)?
+        .arg(all)?
+        .arg(live)?
+        .arg(uploads)?
+        .arg(report)?
+        .arg(made_by)?
+        .arg(format)?;
+    add_list_args(alloc, command)?.arg(ledger)
 }
 
 fn matched<'a>(alloc: Global, words: &'a [String]) -> Result<ArgMatches<'a>, Error>
@@ -215,10 +226,10 @@ impl<'a> Options<'a> {
             all: flag_in(&matches, "all"),
             live: flag_in(&matches, "live"),
             uploads: names_in(alloc, &matches, "uploads")?,
-            report: matches.get_str("report"),
-            ledger: ledger_in(matches.get_str("LEDGER")),
-            made_by: matches.get_str("made-by"),
-            format: matches.get_str("format"),
+            report: value_in(&matches, "report"),
+            ledger: ledger_in(value_in(&matches, "LEDGER")),
+            made_by: value_in(&matches, "made-by"),
+            format: value_in(&matches, "format"),
         })
     }
 }

@@ -12,9 +12,9 @@ ghost use Rattle.omny_audit.specs.inside.{Traced.uploads_in, Traced.wanted_by, U
 ghost use Rattle.program_manners.specs.Refusals.{IsShown, refusal_of};
 ghost use Rattle.program_manners.specs.{TableLoads.LoadsTables, TableViews.names_of};
 ghost use Rattle.program_manners.specs.{TableWords.wrong_word, Words.IsRequest};
-ghost use Rattle.std.specs.Prelude.{◌≡◌, ◌<◌, ◌++◌, ◌∷◌, [], List, ℕ, IfErr, IfOk};
-ghost use Rattle.std.specs.Prelude.{None, OnOk, Option, Some, false, length, map};
-ghost use Rattle.std.specs.Prelude.{option_map, string_bytes};
+ghost use Rattle.std.specs.{List.slice_get, Prelude.◌≡◌};
+ghost use Rattle.std.specs.Prelude.{◌<◌, ◌++◌, ◌∷◌, [], List, ℕ, IfErr, IfOk, None, OnOk, Option};
+ghost use Rattle.std.specs.Prelude.{Some, false, length, map, IfSome, option_map, string_bytes};
 ghost use Rattle.tap_views.specs.declared.encoder.TapFields.{TapFields};
 ghost use Rattle.world.specs.{Run.Load, Run.no_calls, Streams.HasRead, Writes.IsSaid};
 
@@ -120,6 +120,15 @@ fn load_report<'a, R: RandomSource>(
     Ok(Some(HeldReport { text, seed }))
 }
 
+fn word_at<'a>(words: &[&'a str], at: usize) -> Option<&'a str>
+    ensures { IfSome result (λ word. slice_get (map (λ w. w.now) words.now) at ≡ Some word.now) }
+{
+    match words.get(at) {
+        Some(word) => Some(*word),
+        None => None,
+    }
+}
+
 /// The texts were read as fare tables before, so each is TOML and names a default class.
 fn of_names<'a>(words: &TableWords<'a>, wrong: WrongNames) -> Fault<'a>
     ensures { (texts : List (List ℕ)) → IsWrongAt texts wrong
@@ -128,7 +137,7 @@ fn of_names<'a>(words: &TableWords<'a>, wrong: WrongNames) -> Fault<'a>
     let ClassFault::Name = wrong.fault else {
         return Fault::NoMemory;
     };
-    match words.later.as_slice().get(wrong.position.wrapping_sub(1)) {
+    match word_at(&words.later, wrong.position.wrapping_sub(1)) {
         Some(word) => Fault::Class(TableWord::of(word).name, false),
         None => Fault::Class(words.first, words.later.is_empty()),
     }
@@ -204,11 +213,12 @@ fn audit<'a, W: World>(
     let Ok(clock) = tables.fares.clock(alloc) else {
         return Err(Fault::NoMemory);
     };
-    let uploads = load_uploads(alloc, options.uploads.as_slice(), files)?;
+    let names = options.uploads.as_slice();
+    let uploads = load_uploads(alloc, names, files)?;
     let report = load_report(rt, options.report, files)?;
     open_ledger(rt, options.ledger, ledger)?;
     let head = read_head(alloc, ledger)?;
-    let has_uploads = !options.uploads.is_empty();
+    let has_uploads = !names.is_empty();
     let Uploads {
         balance,
         positions,

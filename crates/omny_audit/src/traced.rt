@@ -12,7 +12,7 @@ ghost use Rattle.omny_audit.specs.inside.Traced.{HasLines, HasPositions, HasRead
 ghost use Rattle.omny_audit.specs.inside.Traced.{HasReadAs, HasTraced, HaveNamed, IsKeptOf};
 ghost use Rattle.omny_audit.specs.inside.Traced.{placed_of, uploads_in, wanted_by, wanted_of};
 ghost use Rattle.std.specs.Prelude.{◌≡◌, ◌+◌, ◌==◌, ◌<◌, ◌++◌, ◌∷◌, [], ℕ, List, IfOk, None, OnOk};
-ghost use Rattle.std.specs.Prelude.{Option, Some, false, is_some, length, not, option_map};
+ghost use Rattle.std.specs.Prelude.{Option, false, is_some, length, not, option_map};
 ghost use Rattle.std.specs.Prelude.{string_bytes, true};
 ghost use Rattle.tap_views.specs.declared.encoder.TapFields.{TapFields as ATap};
 
@@ -22,7 +22,6 @@ use ledger_check::{
     CutLine, PositionFinding, Positions, cut_line, split_line, tap_of_line, traced_head_line,
 };
 use std::alloc::{AllocError, Global};
-use std::fmt;
 use tap_views::TapFields;
 
 /// The most bytes of a traced ledger's line, with its line feed.
@@ -48,21 +47,23 @@ pub(crate) enum PositionFault {
     NoLine(u64, u64),
 }
 
-impl fmt::Display for PositionFault {
-    ghost output = { λ fault. Some (fault_text fault) };
-
-    fn fmt<W: fmt::Write>(&self, f: &mut fmt::Formatter<W>) -> fmt::Result {
-        match self {
-            PositionFault::OtherTap(line, upload, position) => write!(
-                f,
-                "line {line} has another tap than upload {upload} has at place {position}"
-            ),
-            PositionFault::Repeated(line, upload, position) => {
-                write!(f, "line {line} has upload {upload} place {position} again")
-            }
-            PositionFault::NoLine(upload, position) => {
-                write!(f, "no line has upload {upload} place {position}")
-            }
+#[tactic(auto, unfolding(crate::specs::Traced::fault_text))]
+fn write_fault(text: &mut String, fault: &PositionFault) -> Result<(), AllocError>
+    ensures { OnOk result (string_bytes text.new ≡ string_bytes text.old ++ fault_text fault.now) }
+{
+    match fault {
+        PositionFault::OtherTap(line, upload, position) => write!(
+            text,
+            "line {line} has another tap than upload {upload} has at place {position}\n"
+        ),
+        PositionFault::Repeated(line, upload, position) => {
+            write!(
+                text,
+                "line {line} has upload {upload} place {position} again\n"
+            )
+        }
+        PositionFault::NoLine(upload, position) => {
+            write!(text, "no line has upload {upload} place {position}\n")
         }
     }
 }
@@ -222,7 +223,12 @@ impl LinesRead {
         };
         let fault = class_fault(&self.names, number, &named);
         self.wrong_class = self.wrong_class.or(fault);
-        look_at_position(&mut self.positions, &mut self.wrong_position, number, &named);
+        look_at_position(
+            &mut self.positions,
+            &mut self.wrong_position,
+            number,
+            &named,
+        );
         self.lines = number;
         Ok(())
     }
@@ -368,7 +374,7 @@ impl TracedPieces {
             text.push_str("all places of the uploads\n")?;
             return Ok(true);
         };
-        write!(text, "{fault}\n")?;
+        write_fault(text, &fault)?;
         Ok(false)
     }
 }

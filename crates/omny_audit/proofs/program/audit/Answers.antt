@@ -1,5 +1,5 @@
-use Rattle.std.proofs.Common.{◌∙◌, ℕ, Bor, List, Option, [], ap, map, not, option_map, refl, subst}
-use Rattle.std.proofs.Common.{sym}
+use Rattle.std.proofs.Common.{◌≡◌, ◌∙◌, ℕ, Bor, List, Option, [], ap, length, map, not, option_map}
+use Rattle.std.proofs.Common.{refl, subst, sym}
 use Rattle.ledger_check.specs.{Columns.has_traced_head, Positions.uploads_of}
 use Rattle.omny_audit.proofs.Causes.{among_reports, among_uploads, class_cause, ends_audit}
 use Rattle.omny_audit.proofs.Causes.{load_cause, started_none, stopped_before, stream_cause}
@@ -30,7 +30,7 @@ returns-in_err-uploads g c =
     c.from_residual.result c.in_err-uploads.field-0.0 c.from_residual.ensures.1 refl
     (load_cause request c.args.files.now.loads loads c.args.ledger.now.trace run run
     request.uploads c.in_err-uploads.field-0.0 (among_uploads request)
-    (rw c.as_slice.ensures.value at c.in_err-uploads.ensures.fault))
+    (rw c.as_slice-names.ensures.value at c.in_err-uploads.ensures.fault))
 
 pub returns-in_err-report : goal.returns-in_err-report
 returns-in_err-report g c =
@@ -113,9 +113,10 @@ returns g c =
     let request = audit_request_of options in
     let tables = c.in-Ok.tables in
     let uploads = c.in_ok-uploads.uploads in
-    let loaded = rw c.as_slice.ensures.value at c.in_ok-uploads.ensures.ok in
+    let loaded = rw c.as_slice-names.ensures.value at c.in_ok-uploads.ensures.ok in
     let has = not c.is_empty-has_uploads.result in
     let same : has ≡ has_uploads request = ap not (c.is_empty-has_uploads.ensures
+    ∙ ap (λ (ns : List (Bor (List ℕ))). nat_eq (length ns) 0) c.as_slice-names.ensures.value
     ∙ ap (λ n. nat_eq n 0) (sym (length-map options.uploads.items (λ (n : Bor (List ℕ)). n.now))))
     in
     let texts = map (λ t. t.items) tables.texts.items in
@@ -126,8 +127,8 @@ returns g c =
     ∙ ap (λ b. compared b loaded.2) same in
     let known = ap (λ (e : Option (Bor (List UploadEnd))). option_map (λ e. e.now) e)
     c.kept_if.ensures
-    ∙ compared_as (λ (e : Bor (List UploadEnd)). e.now) has c.as_slice-2.result
-    ∙ ap (λ (e : List UploadEnd). compared has e) c.as_slice-2.ensures.value
+    ∙ compared_as (λ (e : Bor (List UploadEnd)). e.now) has c.as_slice.result
+    ∙ ap (λ (e : List UploadEnd). compared has e) c.as_slice.ensures.value
     ∙ ap (λ b. compared b uploads.ends.items) same in
     let goes = c.audit_over.ensures.goes in
     let did = did_by c.args.files.now.loads c.load_report.new.files.loads

@@ -1,6 +1,5 @@
 use Rattle.std.proofs.Common.{[], refl}
-use Rattle.omny_audit.specs.Options.{named_file}
-use Rattle.omny_audit.specs.declared.fault.Fault.TheVariants.{File}
+use Rattle.omny_audit.specs.{Options.named_file, declared.fault.Fault.TheVariants.File}
 use Rattle.omny_audit.specs.inside.Fault.{IsLoadFault}
 use Rattle.program_manners.proofs.Refusals.{has_refused}
 use Rattle.program_manners.specs.Refusals.{refusal_of}

@@ -53,7 +53,7 @@ loop-name-preserved c =
       rw (map_more (λ (n : Bor (List ℕ)). n.now) names k no_name c.loop-name-test.true)
           (loads_push _ _ _ _ _ _ _ before.3 c.in_ok-upload.ensures.ok),
       subst (λ (u : List ℕ). AreUploads (before.0 ++ u ∷ []) (before.1 ++ added.0)
-          (before.2 ++ added.1 ∷ []) c.add_upload.new.uploads) c.deref.ensures.value added.2,
+          (before.2 ++ added.1 ∷ []) c.add_upload.new.uploads) c.deref-in-loop-name.ensures.value added.2,
     )
 
 pub returns-clause-ok : goal.returns-clause-ok
