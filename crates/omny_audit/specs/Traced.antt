@@ -115,24 +115,31 @@ IsPositionFault None read fault = fault ≡ None
 IsPositionFault (Some uploads) read fault =
     IsFaultAfter uploads (have_position read) (wrong_position uploads read) fault
 
+-- `upload 0 place 2`
+abbrev pub upload_position_text : ℕ → ℕ → List ℕ
+upload_position_text upload position =
+    codes "upload " ++ (decimal upload ++ (codes " place " ++ decimal position))
+
 -- `line 3 has another tap than upload 0 has at place 2`, `line 4 has upload 0 place 2 again` or `no
 -- line has upload 0 place 3`
-unfoldable pub fault_text : PositionFault → List ℕ
+abbrev pub fault_text : PositionFault → List ℕ
 fault_text (OtherTap line upload position) =
     codes "line " ++ (decimal line ++ (codes " has another tap than upload " ++ (decimal upload
-    ++ (codes " has at place " ++ (decimal position ++ codes "\n")))))
+    ++ (codes " has at place " ++ decimal position))))
 fault_text (Repeated line upload position) =
-    codes "line " ++ (decimal line ++ (codes " has upload " ++ (decimal upload
-    ++ (codes " place " ++ (decimal position ++ codes " again\n")))))
+    codes "line " ++ (decimal line ++ (codes " has " ++ (upload_position_text upload position
+    ++ codes " again")))
 fault_text (NoLine upload position) =
-    codes "no line has upload " ++ (decimal upload ++ (codes " place "
-    ++ (decimal position ++ codes "\n")))
+    codes "no line has upload " ++ (decimal upload ++ (codes " place " ++ decimal position))
+
+abbrev pub positions_text : Option PositionFault → List ℕ
+positions_text None = codes "all places of the uploads\n"
+positions_text (Some fault) = fault_text fault ++ codes "\n"
 
 -- what is reported of the places, if there are uploads
 abbrev pub position_text : Option (List (List TapFields)) → Option PositionFault → List ℕ
 position_text None fault = []
-position_text (Some uploads) None = codes "all places of the uploads\n"
-position_text (Some uploads) (Some fault) = fault_text fault
+position_text (Some uploads) fault = positions_text fault
 
 -- what the columns of a traced ledger are compared with: the class of each token at a moment, and
 -- the valid taps of each upload, if there are uploads
