@@ -1,5 +1,5 @@
 -- The causes of faults.
-use Rattle.std.proofs.Common.{◌≡◌, ◌++◌, ◌∷◌, [], ℕ, Bool, List, Option, Some, Result, Ok, Err, ◌∙◌}
+use Rattle.std.proofs.Common.{◌≡◌, ◌∷◌, [], ℕ, Bool, List, Option, Some, Result, Ok, Err, ◌∙◌}
 use Rattle.std.proofs.Common.{ap, append-nil, arith, inl, inr, map, refl, subst, sym}
 use Rattle.frame.specs.Failing.{HasStarted}
 use Rattle.omny_audit.proofs.Audits.{started_weaker}

@@ -1,18 +1,17 @@
 -- What was loaded, one more each time, what was read of the ledger, and what the program compares.
-use Rattle.std.proofs.Common.{◌≡◌, ◌∙◌, ℕ, Bool, true, false, not, List, [], ◌∷◌, ◌++◌, length, map}
-use Rattle.std.proofs.Common.{refl, sym, ap, subst, append-nil, append_assoc, nat_eq, Option, Some}
-use Rattle.std.proofs.Common.{None, if◌then◌else◌, Bor, ◌≤◌, ◌⊎◌, inl, inr, suc, arith, option_map}
+use Rattle.std.proofs.Common.{◌≡◌, ◌∙◌, ℕ, Bool, true, false, List, [], ◌∷◌, ◌++◌, length}
+use Rattle.std.proofs.Common.{refl, sym, ap, subst, append-nil, append_assoc, Option, Some}
+use Rattle.std.proofs.Common.{None, Bor, ◌≤◌, ◌⊎◌, inl, inr, option_map}
 use Rattle.clap.specs.Words.{Text}
 use Rattle.ledger_check.specs.Balances.{AreValidFields}
 use Rattle.ledger_check.specs.Columns.{has_traced_head, traced_head}
 use Rattle.ledger_check.specs.{Positions.HasUploads, declared.positions.Positions.Positions}
 use Rattle.omny_audit.specs.Program.{AreValidFieldsOfAll, HoldsOfRead, LoadsNamedFiles, compared}
-use Rattle.omny_audit.specs.{Reports.Given, inside.Audits.GoesOn, inside.Traced.HaveNamed}
-use Rattle.std.proofs.lemmas.Bool.Decides.{nat_tests}
+use Rattle.omny_audit.specs.{inside.Audits.GoesOn, inside.Traced.HaveNamed}
 use Rattle.std.proofs.lemmas.List.{flat_map_more, map-append, take-append-le}
 use Rattle.std.specs.{Prelude.unwrap_or, Str.bytes_eq}
 use Rattle.tap_views.proofs.Lists.{AllZip-append}
-use Rattle.tap_views.specs.declared.{encoder.TapFields.TapFields, upload_end.UploadEnd.UploadEnd}
+use Rattle.tap_views.specs.declared.{encoder.TapFields.TapFields}
 use Rattle.world.proofs.Streams.{whole_at_end}
 use Rattle.world.specs.{Run.Load, Streams.HasRead, Streams.IsWhole, declared.stream.Stream.Stream}
 

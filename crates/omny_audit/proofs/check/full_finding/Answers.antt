@@ -1,4 +1,4 @@
-use Rattle.std.proofs.Common.{◌≡◌, ◌∙◌, ◌++◌, ℕ, Bool, List, ap, append_assoc, string_bytes, subst}
+use Rattle.std.proofs.Common.{◌≡◌, ◌∙◌, ◌++◌, ℕ, List, ap, append_assoc, string_bytes, subst}
 use Rattle.std.proofs.Common.{None, Some, eqb-true, if◌then◌else◌, sym, true}
 use Rattle.histories.specs.declared.entry.Entry.{Entry}
 use Rattle.ledger_check.specs.FullChecks.{taps_from, wrong_count}

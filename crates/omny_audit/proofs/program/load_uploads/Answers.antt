@@ -1,4 +1,4 @@
-use Rattle.std.proofs.Common.{◌≡◌, ◌∙◌, ◌++◌, ◌∷◌, ◌+◌, ◌<◌, [], Bor, List, Some, ℕ, ap, append-nil}
+use Rattle.std.proofs.Common.{◌≡◌, ◌∙◌, ◌++◌, ◌∷◌, ◌<◌, [], Bor, List, Some, ℕ, ap, append-nil}
 use Rattle.std.proofs.Common.{get_or, length, map, refl, subst, sym, take}
 use Rattle.ledger_check.specs.Columns.{has_ledger_head}
 use Rattle.omny_audit.proofs.{Causes.contained, ProgramLemmas.loads_push}

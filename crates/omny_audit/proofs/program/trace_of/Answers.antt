@@ -1,4 +1,4 @@
-use Rattle.std.proofs.Common.{◌≡◌, ◌∙◌, Bool, Global, List, Some, Vec, ap, arith, length, map, refl}
+use Rattle.std.proofs.Common.{◌≡◌, ◌∙◌, Bool, Global, List, Some, Vec, ap, length, map, refl}
 use Rattle.std.proofs.Common.{rules, subst, sym, tests, true, ℕ}
 use Rattle.class_names.proofs.Classes.{class_kept}
 use Rattle.class_names.specs.{ClassFaults.IsWrongAt, Classes.AreTrees}

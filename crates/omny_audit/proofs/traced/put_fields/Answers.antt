@@ -1,4 +1,4 @@
-use Rattle.std.proofs.Common.{◌≡◌, ◌∙◌, ◌++◌, ◌∷◌, ◌-◌, ◌≤◌, [], List, ap, append_assoc, arith, drop}
+use Rattle.std.proofs.Common.{◌≡◌, ◌∙◌, ◌++◌, ◌∷◌, ◌-◌, [], List, ap, append_assoc, arith, drop}
 use Rattle.std.proofs.Common.{length, length-append, length-drop, subst, sym, take, ℕ}
 use Rattle.ledger_check.specs.Taps.{IsTapOfLine}
 use Rattle.std.proofs.lemmas.List.{drop_at, take_all}

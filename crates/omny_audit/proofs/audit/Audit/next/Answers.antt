@@ -1,5 +1,5 @@
 use Rattle.std.proofs.Common.{◌≡◌, ◌∙◌, ◌++◌, ◌==◌, ℕ, Bool, List, ap, ap₂, false, length}
-use Rattle.std.proofs.Common.{Global, Vec, refl, string_bytes, subst, sym, true, ⊎_elim}
+use Rattle.std.proofs.Common.{Global, Vec, string_bytes, subst, sym, true, ⊎_elim}
 use Rattle.omny_audit.specs.{Reports.IsAudit, inside.Audits.HasAudited, inside.Checks.is_decided}
 use Rattle.std.proofs.lemmas.Bool.{eqb-true, or_cases, or_parts, true≢false}
 use Rattle.std.proofs.lemmas.List.{nil_from_length}
