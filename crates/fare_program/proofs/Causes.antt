@@ -6,7 +6,7 @@ use Rattle.fare_program.specs.{FilesLoaded.names_to_load, Options.Request}
 use Rattle.fare_program.specs.declared.fault.Fault.{Fault}
 use Rattle.fare_program.specs.declared.fault.Fault.TheVariants.{Gather, Late, NoMemory, TooManyTaps}
 use Rattle.fare_program.specs.declared.fault.Fault.TheVariants.{Unopened, Unsorted, Uploads, Write}
-use Rattle.fare_program.specs.declared.sorted_fault.LateFault.{LateFault}
+use Rattle.fare_program.specs.declared.fault.LateFault.{LateFault}
 use Rattle.fare_program.specs.inside.{Ends.IsLate, Fault.IsOfOutput, Fault.IsRightOfUploads}
 use Rattle.program_manners.specs.{Loads.Loaded, Refusals.IsOneOf}
 use Rattle.std.proofs.lemmas.{Bool.Decides.nat_tests, List.length-map}
@@ -51,8 +51,8 @@ module _ (request : Request) (under : List ℕ → Option (List ℕ))
 
   pub right_sorted : request.sorted ≡ true → (fault : Fault)
       → IsRightOfSorted request.files (map under request.files) fault → IsRight fault
-  right_sorted sorted (Unopened file) is = (sorted, is)
-  right_sorted sorted (Unsorted file) is = (sorted, is)
+  right_sorted sorted (Unopened name why) is = (sorted, is)
+  right_sorted sorted (Unsorted name why) is = (sorted, is)
   right_sorted sorted TooManyTaps is = (sorted, is)
   right_sorted sorted (Late why) is = (sorted, is)
   right_sorted sorted Write is = tt

@@ -1,13 +1,9 @@
-pub mod Appends
 pub mod Billed
 pub mod Causes
+pub mod Choices
 pub mod Drawn
 pub mod Ends
-pub mod Going
-pub mod LastMoments
 pub mod Ledgers
 pub mod Loads
 pub mod PostedTexts
 pub mod Prefetched
-pub mod Usable
-pub mod Works

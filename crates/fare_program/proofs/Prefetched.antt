@@ -2,8 +2,7 @@
 use Rattle.std.proofs.Common.{◌≡◌, ◌∙◌, ◌+◌, ◌<◌, ◌++◌, ◌∷◌, [], ℕ, zero, suc, List, Bool, Bor}
 use Rattle.std.proofs.Common.{Option, None, Some, All, length, map, flat_map, arith, ap, ap₂}
 use Rattle.std.proofs.Common.{get_or, inl, inr, refl, subst, sym}
-use Rattle.fare_program.specs.FilesLoaded.{LoadsDrawn, LoadsFiles, load_at, loads_under}
-use Rattle.fare_program.specs.FilesLoaded.{names_to_load, text_at}
+use Rattle.fare_program.specs.FilesLoaded.{LoadsDrawn, LoadsFiles, load_at, names_to_load, text_at}
 use Rattle.fare_program.specs.{Options.Request, Program.Charges}
 use Rattle.fare_program.specs.inside.PostedFiles.{AreProvided, unless_memory}
 use Rattle.fare_service.proofs.UploadFileSource.{provided_number}
@@ -57,23 +56,29 @@ to_load (name ∷ names) some = refl
 
 module _ (origin : List ℕ → Origin) (of_system : (name : List ℕ) → origin name ≡ file name) where
   -- the loads by number are those by name
-  in_order : (name_of : ℕ → List ℕ) (start : ℕ) (names files : List (List ℕ))
+  bytes_in_order : (name_of : ℕ → List ℕ) (start : ℕ) (files : List (List ℕ))
+      → map (λ load. load.bytes) (loads_in_order (λ number. origin (name_of number)) start files)
+      ≡ files
+  bytes_in_order name_of start [] = refl
+  bytes_in_order name_of start (bytes ∷ files) =
+      rw of_system (ap (λ fs. bytes ∷ fs) (bytes_in_order name_of (suc start) files))
+
+  names_in_order : (name_of : ℕ → List ℕ) (start : ℕ) (names files : List (List ℕ))
       → length files ≡ length names
       → ((position : ℕ) → position < length names
       → name_of (start + position) ≡ text_at names position)
-      → loads_in_order (λ number. origin (name_of number)) start files
-      ≡ loads_under (map Some names) files
-  in_order name_of start [] [] same named = refl
-  in_order name_of start [] (bytes ∷ files) same named = absurd (omega (arith, same))
-  in_order name_of start (name ∷ names) [] same named = absurd (omega (arith, same))
-  in_order name_of start (name ∷ names) (bytes ∷ files) same named =
+      → map (λ load. load.name) (loads_in_order (λ number. origin (name_of number)) start files)
+      ≡ map Some names
+  names_in_order name_of start [] [] same named = refl
+  names_in_order name_of start [] (bytes ∷ files) same named = absurd (omega (arith, same))
+  names_in_order name_of start (name ∷ names) [] same named = absurd (omega (arith, same))
+  names_in_order name_of start (name ∷ names) (bytes ∷ files) same named =
       let first : start ≡ start + 0 = omega arith in
-      ap₂ (λ (o : Origin) (more : List Load). loads_from o bytes ++ more)
-      (of_system (name_of start) ∙ ap (λ n. file (name_of n)) first ∙ ap file (named 0 (omega arith)))
-      (in_order name_of (suc start) names files (omega (arith, same))
+      rw of_system (ap₂ (λ (n : List ℕ) ns. Some n ∷ ns) (ap name_of first ∙ named 0 (omega arith))
+      (names_in_order name_of (suc start) names files (omega (arith, same))
       (λ position within.
       let next : suc start + position ≡ start + suc position = omega arith in
-      ap name_of next ∙ named (suc position) (omega (arith, within))))
+      ap name_of next ∙ named (suc position) (omega (arith, within)))))
 
   abbrev origins : List (Bor (List ℕ)) → List Origin
   origins words = map (λ w. unless_memory (origin w.now)) words
@@ -105,13 +110,13 @@ module _ (origin : List ℕ → Origin) (of_system : (name : List ℕ) → origi
         let named = length-map words (λ (w : Bor (List ℕ)). w.now) in
         let number : length files ≡ length (names_in words) = omega (arith, read.number, named) in
         rw (to_load (names_in words) (omega (arith, some, named))) (record {
-          number = number ∙ sym (length-map (names_in words) Some);
-          loads = ap (λ (r : Run). r.loads) read.loads
-              ∙ ap (λ (more : List Load). old.loads ++ more)
-              (in_order (text_at (names_in words)) 0 (names_in words) files number
+          loads = loads_in_order (λ number. origin (text_at (names_in words) number)) 0 files;
+          under = names_in_order (text_at (names_in words)) 0 (names_in words) files number
               (λ position within.
               let here : 0 + position ≡ position = omega arith in
-              ap (text_at (names_in words)) here));
+              ap (text_at (names_in words)) here);
+          bytes = bytes_in_order (text_at (names_in words)) 0 files;
+          are_all = ap (λ (r : Run). r.loads) read.loads;
         })
 
     pub drawn_files : (drawn : List ℕ) → AreProvided (origins words) files drawn old new
@@ -143,7 +148,12 @@ charged_joined request origin fares token loaded loaded' calls after text succes
   files = is.files;
   drawn = is.drawn;
   loads_files = λ of_system. elim (is.loads_files of_system) [
-    | inl all ↦ inl (record { number = all.number; loads = grown _ all.loads })
+    | inl all ↦ inl (record {
+      loads = all.loads;
+      under = all.under;
+      bytes = all.bytes;
+      are_all = grown _ all.are_all;
+    })
     | inr part ↦ inr (
       part.0,
       record { number = part.1.number; loads = grown _ part.1.loads },

@@ -33,9 +33,8 @@ IsFileFault names refused file = file.fault ≢ load.NoMemory
 -- is named is one of them, and is refused for this reason, or all have too many taps. Any may have
 -- changed after it was checked, and a write or an allocation may fail at any time.
 abbrev pub IsRightOfSorted : List (List ℕ) → List (Option (List ℕ)) → Fault → Type 0
-IsRightOfSorted names known (AtOpening file) = IsOneOf file.name.now names
-IsRightOfSorted names known (Unsorted file) =
-    IsFirstUnsorted names known file.name.now file.fault
+IsRightOfSorted names known (AtOpening name why) = IsOneOf name.now names
+IsRightOfSorted names known (Unsorted name why) = IsFirstUnsorted names known name.now why
 IsRightOfSorted names known TooManyTaps =
     (files : List (List ℕ)) → known ≡ map Some files → HaveTooManyTaps files
 IsRightOfSorted names known (Late fault) = Unit {0}
@@ -65,8 +64,8 @@ IsRightFault request under loaded loaded' refused (File file) =
     IsFileFault (names_reported request.files) refused file
 IsRightFault request under loaded loaded' refused (Tables fault) =
     MatchOption request.table ⊥ (λ tables. IsTablesFault tables loaded loaded' refused fault)
-IsRightFault request under loaded loaded' refused (Class line) = (request.traced ≡ true)
-    × MatchOption request.table ⊥ (RefusesClass loaded loaded' line.file.now)
+IsRightFault request under loaded loaded' refused (Class file alone) = (request.traced ≡ true)
+    × MatchOption request.table ⊥ (RefusesClass loaded loaded' file.now)
 IsRightFault request under loaded loaded' refused Uploads = 65535 < length request.files
 IsRightFault request under loaded loaded' refused (Gather fault) = IsForMemory fault
 IsRightFault request under loaded loaded' refused Write = Unit {0}

@@ -1,37 +1,43 @@
 -- The fault lines, without their line feeds.
-use Rattle.fare_program.specs.SortedFaults.{late_text, sorted_text, unopened_text}
-use Rattle.fare_program.specs.declared.fault.{ClassLine.ClassLine, Fault.Fault}
-use Rattle.fare_program.specs.declared.fault.Fault.TheVariants.{Class, File, Gather, Late, NoMemory}
-use Rattle.fare_program.specs.declared.fault.Fault.TheVariants.{Tables, TooManyTaps, Unopened}
-use Rattle.fare_program.specs.declared.fault.Fault.TheVariants.{Unsorted, Uploads, Write}
+use Rattle.fare_program.specs.declared.fault.Fault.{Fault, TheVariants.Class, TheVariants.File}
+use Rattle.fare_program.specs.declared.fault.Fault.TheVariants.{Gather, Late, Tables, TooManyTaps}
+use Rattle.fare_program.specs.declared.fault.Fault.TheVariants.{Unopened, Unsorted, Uploads, Write}
 use Rattle.program_manners.specs.Lines.{follow_text, load_text, named_class_text, named_table_text}
 use Rattle.program_manners.specs.Lines.{table_text}
-use Rattle.std.specs.Prelude.{ℕ, List, codes, if◌then◌else◌}
+use Rattle.std.specs.Prelude.{◌++◌, ℕ, List, codes, decimal, false, true}
+use Rattle.tap_views.specs.Names.{fault_name}
+use Rattle.fare_program.specs.declared.fault.LateFault.TheVariants as late
 use Rattle.fare_service.specs.declared.faults.GatherFault.TheVariants as gather
+use Rattle.placed_files.specs.declared.unopened.Unopened.TheVariants as unopened
 use Rattle.program_manners.specs.declared.table_loads.TablesFault.TheVariants as tables
+use Rattle.sorted_taps.specs.declared.fault.SortedFault.TheVariants as sorted
 
--- a fare table with a class that cannot be in a ledger
-abbrev pub class_text : ClassLine → List ℕ
-class_text line =
-    if line.is_alone then codes "fault: table has a class name that no ledger can have"
-    else named_class_text line.file.now
-
--- the line that the program writes of a fault
+-- The line that the program writes of a fault. Of a file that is not read as taps in canonical order
+-- it has the number of the first tap that is before its predecessor, from 0, or the offset and the
+-- name of the layout fault.
 abbrev pub fault_text : Fault → List ℕ
 fault_text (File file) = load_text file.name.now file.fault
 fault_text (Tables (tables.File file)) = load_text file.name.now file.fault
 fault_text (Tables (tables.Table fault)) = table_text fault
 fault_text (Tables (tables.NamedTable line)) = named_table_text line.name.now line.fault
 fault_text (Tables (tables.Follow line)) = follow_text line.word.now line.fault
-fault_text (Tables tables.NoMemory) = codes "fault: out of memory"
-fault_text (Class line) = class_text line
-fault_text (Unopened file) = unopened_text file.name.now file.fault
-fault_text (Unsorted file) = sorted_text file.name.now file.fault
+fault_text (Class file true) = codes "fault: table has a class name that no ledger can have"
+fault_text (Class file false) = named_class_text file.now
+fault_text (Unopened name unopened.Unread) = codes "fault: cannot read " ++ name.now
+fault_text (Unopened name unopened.NotRegular) =
+    codes "fault: " ++ (name.now ++ codes " is no regular file")
+fault_text (Unopened name unopened.TooManyOpen) =
+    codes "fault: cannot open " ++ (name.now ++ codes ": too many files are open")
+fault_text (Unsorted name (sorted.OutOfOrder tap)) = codes "fault: " ++ (name.now
+    ++ (codes ": tap " ++ (decimal tap ++ codes " is out of order")))
+fault_text (Unsorted name (sorted.Layout offset fault)) = codes "fault: " ++ (name.now
+    ++ (codes " at " ++ (decimal offset ++ (codes " " ++ fault_name fault))))
+fault_text (Unsorted name sorted.Unread) = codes "fault: cannot read " ++ name.now
 fault_text TooManyTaps = codes "fault: too many taps"
-fault_text (Late fault) = late_text fault
+fault_text (Late late.Changed) = codes "fault: a file changed while it was read"
+fault_text (Late late.Unread) = codes "fault: a file cannot be read again"
 fault_text Uploads = codes "fault: too many uploads"
 fault_text (Gather (gather.Missing shard held kept)) = codes "fault: run U3 G1"
 fault_text (Gather (gather.Drawn held drawn)) = codes "fault: run U3 G4"
-fault_text (Gather gather.NoMemory) = codes "fault: out of memory"
 fault_text Write = codes "fault: cannot write"
-fault_text NoMemory = codes "fault: out of memory"
+fault_text _ = codes "fault: out of memory"

@@ -10,18 +10,13 @@ abbrev pub names_to_load : List (List ℕ) → List (Option (List ℕ))
 names_to_load [] = None ∷ []
 names_to_load (name ∷ names) = map Some (name ∷ names)
 
--- a load of each of these files under its name, in their order
-abbrev pub loads_under : List (Option (List ℕ)) → List (List ℕ) → List Loaded
-loads_under [] files = []
-loads_under (name ∷ names) [] = []
-loads_under (name ∷ names) (bytes ∷ files) =
-    record { name = name; bytes = bytes } ∷ loads_under names files
-
 -- A file of each of these names was loaded, once and to its end, in their order.
 pub record LoadsFiles (names : List (Option (List ℕ))) (loaded loaded' : Option (List Loaded))
     (files : List (List ℕ)) : Type 0 where
-  pub number : length files ≡ length names
-  pub loads : LoadsAll loaded loaded' (loads_under names files)
+  pub loads : List Loaded
+  pub under : map (λ load. load.name) loads ≡ names
+  pub bytes : map (λ load. load.bytes) loads ≡ files
+  pub are_all : LoadsAll loaded loaded' loads
 
 -- the file at this place, or its name
 abbrev pub text_at : List (List ℕ) → ℕ → List ℕ

@@ -2,14 +2,11 @@ pub mod Causes
 pub mod Ends
 pub mod Fault
 pub mod FilesLoaded
-pub mod Lines
 pub mod Listing
 pub mod Options
 pub mod Parts
 pub mod Program
 pub mod Settling
-pub mod SortedFaults
 pub mod TokenRanges
-pub mod Uploads
 pub mod Usage
 pub mod inside

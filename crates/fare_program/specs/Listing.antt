@@ -1,46 +1,54 @@
--- What a list of taps says of each of them: live, stale or unknown.
+-- The text of a listing: what it says of each tap, live, stale or unknown.
 use Rattle.fare_program.specs.declared.listing.{ListCounts.ListCounts, Word.Word}
 use Rattle.fare_program.specs.declared.listing.Word.TheVariants.{Live, Stale, Unknown}
-use Rattle.std.specs.{List.list_all, Map.lookup, Prelude.◌≡◌, Prelude.◌+◌}
-use Rattle.std.specs.Prelude.{ℕ, Bool, true, ◌&&◌, if◌then◌else◌, List, [], ◌∷◌, ◌++◌, Option, Some}
-use Rattle.std.specs.{Prelude.None, Prelude.filter, Prelude.fold, Prelude.nat_lt, Str.bytes_eq}
-use Rattle.tap_views.specs.Layout.{Tap, num}
+use Rattle.hex.specs.Hex.{encode_lower}
+use Rattle.std.specs.{List.list_all, Prelude.◌≡◌, Prelude.◌+◌, Prelude.◌&&◌, Str.bytes_eq}
+use Rattle.std.specs.Prelude.{ℕ, Bool, true, if◌then◌else◌, List, [], ◌∷◌, ◌++◌, Option, None, Some}
+use Rattle.std.specs.Prelude.{codes, decimal, filter, fold, is_none, is_some, map, nat_lt}
+use Rattle.tap_views.specs.Files.{IsReadAs, taps_of_batches}
+use Rattle.tap_views.specs.{Layout.Tap, Layout.num, Names.fault_name}
+use Rattle.tap_views.specs.declared.fault.LayoutFault.{LayoutFault}
+use Rattle.tariffs.specs.Fares.{Fares, mode_at}
 
--- a tap, and whether its validator is known
-pub record Listed : Type 0 where
-  pub tap : Tap
-  pub known : Bool
+-- Without a table every validator is known; with one, those that have a mode.
+abbrev pub is_known : Option Fares → Tap → Bool
+is_known None tap = true
+is_known (Some fares) tap = is_some (mode_at fares (num tap.moment) (num tap.validator))
 
--- a tap, and whether its validator is known
-abbrev pub listed_of : Tap → Bool → Listed
-listed_of tap known = record { tap = tap; known = known }
+-- whether each known tap of this token is before this moment
+abbrev pub are_before : Option Fares → List Tap → List ℕ → ℕ → Bool
+are_before fares taps token moment = list_all (λ t. nat_lt (num t.moment) moment)
+    (filter (λ t. is_known fares t && bytes_eq t.token token) taps)
 
--- the moment of a listed tap
-abbrev pub listed_moment : Listed → ℕ
-listed_moment listed = num listed.tap.moment
+-- What is said of a tap after others, in any order: a known tap is live if it is later than every
+-- known tap of its token among them.
+abbrev pub liveness_of : Option Fares → List Tap → Tap → Word
+liveness_of fares before tap =
+    if is_known fares tap then (if are_before fares before tap.token (num tap.moment) then Live
+    else Stale) else Unknown
 
--- the known taps of this token
-abbrev pub known_of : List ℕ → List Listed → List Listed
-known_of token taps = filter (λ t. t.known && bytes_eq t.tap.token token) taps
+-- the liveness as it is printed
+abbrev pub word_text : Word → List ℕ
+word_text Live = codes "live"
+word_text Stale = codes "stale"
+word_text Unknown = codes "unknown"
 
--- whether all these taps have moments before this one
-abbrev pub are_before : ℕ → List Listed → Bool
-are_before moment taps = list_all (λ t. nat_lt (listed_moment t) moment) taps
+-- the number of the upload and of the tap in it, token, validator, moment and liveness
+unfoldable pub tap_line : ℕ → ℕ → Tap → Word → List ℕ
+tap_line upload number tap liveness = decimal upload ++ (codes " " ++ (decimal number ++ (codes " "
+    ++ (encode_lower tap.token ++ (codes " " ++ (decimal (num tap.validator) ++ (codes " "
+    ++ (decimal (num tap.moment) ++ (codes " " ++ (word_text liveness ++ codes "\n"))))))))))
 
--- A known tap is live if it is later than every known tap of its token before it.
-abbrev pub is_live : List Listed → Listed → Bool
-is_live before tap = are_before (listed_moment tap) (known_of tap.tap.token before)
+-- the number of the upload, the offset of the batch that was refused, and the name of its fault
+unfoldable pub refused_line : ℕ → ℕ → LayoutFault → List ℕ
+refused_line upload offset fault = decimal upload ++ (codes " refused " ++ (decimal offset
+    ++ (codes " " ++ (fault_name fault ++ codes "\n"))))
 
--- what the listing says of a tap, after the taps before it
-abbrev pub liveness_of : List Listed → Listed → Word
-liveness_of before tap =
-    if tap.known then (if is_live before tap then Live else Stale) else Unknown
-
--- the livenesses of taps that follow those before
-abbrev pub livenesses_after : List Listed → List Listed → List Word
-livenesses_after before [] = []
-livenesses_after before (tap ∷ taps) =
-    liveness_of before tap ∷ livenesses_after (before ++ tap ∷ []) taps
+-- `taps 5 live 3 stale 1 unknown 1`
+unfoldable pub counts_line : ListCounts → List ℕ
+counts_line counts = codes "taps " ++ (decimal counts.taps ++ (codes " live "
+    ++ (decimal counts.live ++ (codes " stale " ++ (decimal counts.stale ++ (codes " unknown "
+    ++ (decimal counts.unknown ++ codes "\n")))))))
 
 -- the counts with one tap more, of which the listing says this
 abbrev pub counted : ListCounts → Word → ListCounts
@@ -48,34 +56,70 @@ counted counts Live = record counts { taps = counts.taps + 1; live = counts.live
 counted counts Stale = record counts { taps = counts.taps + 1; stale = counts.stale + 1 }
 counted counts Unknown = record counts { taps = counts.taps + 1; unknown = counts.unknown + 1 }
 
-abbrev pub no_counts : ListCounts
-no_counts = record { taps = 0; live = 0; stale = 0; unknown = 0 }
-
--- how many taps there are, and how many of each liveness
-abbrev pub counts_of : List Listed → ListCounts
-counts_of taps = fold counted no_counts (livenesses_after [] taps)
-
--- what a listing keeps: the last known moment of each token, and the counts
-pub record KeptListing : Type 0 where
-  pub last : List (List ℕ × ℕ)
+-- What was listed so far: the taps, the last one first, how many there are of each liveness, the
+-- number of the upload and of its next tap, whether no layout fault ended an upload, and the lines.
+pub record Listed : Type 0 where
+  pub taps : List Tap
   pub counts : ListCounts
+  pub upload : ℕ
+  pub number : ℕ
+  pub is_clean : Bool
+  pub text : List ℕ
 
--- the last moment that is kept of the token, if there is one
-abbrev pub last_of : List (List ℕ × ℕ) → List ℕ → Option ℕ
-last_of last token = lookup (bytes_eq token) last
+-- nothing was listed
+abbrev pub nothing : Listed
+nothing = record {
+  taps = [];
+  counts = record { taps = 0; live = 0; stale = 0; unknown = 0 };
+  upload = 0;
+  number = 0;
+  is_clean = true;
+  text = [];
+}
 
--- whether the moment is after the last one, if there is one
-abbrev pub is_after_last : Option ℕ → ℕ → Bool
-is_after_last None moment = true
-is_after_last (Some last) moment = nat_lt last moment
+-- one tap more
+abbrev pub with_tap : Option Fares → Listed → Tap → Listed
+with_tap fares listed tap = record listed {
+  taps = tap ∷ listed.taps;
+  counts = counted listed.counts (liveness_of fares listed.taps tap);
+  number = listed.number + 1;
+  text = listed.text
+      ++ tap_line listed.upload listed.number tap (liveness_of fares listed.taps tap);
+}
 
--- What is kept answers for the taps of this list: a moment is later than the last known one of a
--- token if it is later than each known tap of that token, and the counts are those of the list.
-pub record RepresentsListing (kept : KeptListing) (taps : List Listed) : Type 0 where
-  pub last : (token : List ℕ) (moment : ℕ)
-      → is_after_last (last_of kept.last token) moment ≡ are_before moment (known_of token taps)
-  pub counts : kept.counts ≡ counts_of taps
+-- the line of a layout fault, if there is one
+abbrev pub fault_lines : ℕ → Option (ℕ × LayoutFault) → List ℕ
+fault_lines upload None = []
+fault_lines upload (Some (offset, fault)) = refused_line upload offset fault
 
--- the three livenesses make up the taps
-abbrev pub AddsUp : ListCounts → Type 0
-AddsUp counts = counts.taps ≡ counts.live + counts.stale + counts.unknown
+-- the end of an upload, with its layout fault, if it has one
+abbrev pub with_end : Listed → Option (ℕ × LayoutFault) → Listed
+with_end listed fault = record listed {
+  upload = listed.upload + 1;
+  number = 0;
+  is_clean = listed.is_clean && is_none fault;
+  text = listed.text ++ fault_lines listed.upload fault;
+}
+
+-- a reading of a file
+pub record Reading : Type 0 where
+  pub file : List ℕ
+  pub batches : List (List Tap)
+  pub fault : Option (ℕ × LayoutFault)
+  pub read : IsReadAs file batches fault
+
+-- one upload more: the taps of all its batches, and its layout fault
+abbrev pub with_upload : Option Fares → Listed → Reading → Listed
+with_upload fares listed reading =
+    with_end (fold (with_tap fares) listed (taps_of_batches reading.batches)) reading.fault
+
+-- The text lists the files: the lines of each in their order, of all their batches up to the first
+-- layout fault, and then the counts. It is clean if no file has a layout fault.
+pub record IsListing (fares : Option Fares) (files : List (List ℕ)) (text : List ℕ) (clean : Bool)
+    : Type 0 where
+  pub readings : List Reading
+  pub of_files : map (λ reading. reading.file) readings ≡ files
+  pub all : Listed
+  pub listed : all ≡ fold (with_upload fares) nothing readings
+  pub lines : text ≡ all.text ++ counts_line all.counts
+  pub is_clean : clean ≡ all.is_clean

@@ -1,35 +1,25 @@
 -- The command line, and what its words ask for.
-use Rattle.clap.specs.Words.{App, IsAmong, Row, Rule, Text, all_of, fault_of, first_of, matches_of}
+use Rattle.clap.specs.Words.{App, IsAmong, Row, Text, all_of, fault_of, first_of, matches_of}
 use Rattle.clap.specs.{Words.with_rule, declared.builder.action.ArgAction.TheVariants.Append}
 use Rattle.clap.specs.declared.error.kind.ErrorKind.TheVariants.{DisplayHelp, DisplayVersion}
 use Rattle.fare_texts.specs.declared.form.Form.{Form, TheVariants.Text as Words, TheVariants.Json}
 use Rattle.program_manners.specs.TableWords.{TableNames, tables_in}
 use Rattle.program_manners.specs.Words.{flag_rule, is_given, list_option, named_app, null_flag}
 use Rattle.program_manners.specs.Words.{number_rule, option_rule, positional_rule, repeated_rule}
-use Rattle.std.specs.Prelude.{◌≡◌, ◌⊎◌, ◌∷◌, ℕ, Bool, false, List, [], Option, None, Some, codes}
+use Rattle.std.specs.Prelude.{◌≡◌, ◌⊎◌, ◌∷◌, ℕ, Bool, false, List, [], Option, None, Some, codes, fold}
 use Rattle.std.specs.Prelude.{pos, true, unwrap_or}
 
-abbrev pub with_rules : App → List Rule → App
-with_rules app [] = app
-with_rules app (rule ∷ rules) = with_rules (with_rule app rule) rules
-
--- the first options. Of workers there are 1 to 16, by default 2, and of shards 1 to 64, by default 8
-abbrev pub run_rules : List Rule
-run_rules = repeated_rule (codes "table") ∷ flag_rule (codes "settle") ∷ flag_rule (codes "live")
-    ∷ flag_rule (codes "sorted") ∷ flag_rule (codes "list")
-    ∷ number_rule (codes "workers") (pos 16) (codes "2")
-    ∷ number_rule (codes "shards") (pos 64) (codes "8") ∷ option_rule (codes "token") ∷ []
-
--- the options of texts and lists, and the files
-abbrev pub text_rules : List Rule
-text_rules = flag_rule (codes "ledger") ∷ flag_rule (codes "explain") ∷ flag_rule (codes "json")
+-- all words that the program takes: of workers there are 1 to 16, by default 2, and of shards 1 to
+-- 64, by default 8
+unfoldable pub program : App
+program = fold with_rule (named_app (codes "omny_cli")) (repeated_rule (codes "table")
+    ∷ flag_rule (codes "settle") ∷ flag_rule (codes "live") ∷ flag_rule (codes "sorted")
+    ∷ flag_rule (codes "list") ∷ number_rule (codes "workers") (pos 16) (codes "2")
+    ∷ number_rule (codes "shards") (pos 64) (codes "8") ∷ option_rule (codes "token")
+    ∷ flag_rule (codes "ledger") ∷ flag_rule (codes "explain") ∷ flag_rule (codes "json")
     ∷ flag_rule (codes "traced") ∷ option_rule (codes "tokens") ∷ option_rule (codes "made-by")
     ∷ option_rule (codes "format") ∷ list_option ∷ null_flag
-    ∷ positional_rule (codes "FILE") Append ∷ []
-
--- all words that the program takes
-unfoldable pub program : App
-program = with_rules (with_rules (named_app (codes "omny_cli")) run_rules) text_rules
+    ∷ positional_rule (codes "FILE") Append ∷ [])
 
 -- the words after the program's name are a command line of the program
 abbrev pub Parses : List Text → Type 0

@@ -2,7 +2,7 @@
 use Rattle.class_names.specs.Classes.{AreTrees, class_of_token, tree_at}
 use Rattle.fare_program.specs.FilesLoaded.{AreLoaded, LoadsFiles, names_to_load}
 use Rattle.fare_program.specs.{Options.Request, Options.form_of, Parts.ShowsSorted}
-use Rattle.fare_program.specs.{Settling.ShowsOver, Settling.ShowsSettled, Uploads.IsListing}
+use Rattle.fare_program.specs.{Listing.IsListing, Settling.ShowsOver, Settling.ShowsSettled}
 use Rattle.fare_service.specs.{Explained.IsExplainedOf, Headline.HasRun, Headline.drawn_by}
 use Rattle.fare_service.specs.{Ledger.IsLedgerOfBooks, Outcomes.OutcomeView, Plain.AreApart}
 use Rattle.fare_service.specs.Printed.{IsStatementOf, report_with}

@@ -1,6 +1,6 @@
 -- The word of `--tokens`, a range of tokens, and what is wrong with it.
-use Rattle.fare_program.specs.declared.token_range.RangeFault.{RangeFault}
-use Rattle.fare_program.specs.declared.token_range.RangeFault.TheVariants.{Digits, Form, Order}
+use Rattle.fare_program.specs.declared.usage.RangeFault.{RangeFault}
+use Rattle.fare_program.specs.declared.usage.RangeFault.TheVariants.{Digits, Form, Order}
 use Rattle.hex.specs.Hex.{decode_sized}
 use Rattle.std.specs.{Cmp.Lexicographic.slice_cmp, List.after_first, List.before_first}
 use Rattle.std.specs.Ordering.{is_lt, nat_cmp}

@@ -4,4 +4,3 @@ pub mod Fault
 pub mod Listing
 pub mod Options
 pub mod PostedFiles
-pub mod Uploads

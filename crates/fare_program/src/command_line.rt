@@ -1,8 +1,8 @@
 //! The command line.
 ghost use Rattle.clap.specs.Words.{FailsBy, app_of, fault_of, found_of, matches_of, rows_of};
 ghost use Rattle.clap.specs.Words.{rule_of};
-ghost use Rattle.fare_program.specs.Options.{form_of, program, request_by, request_in, text_rules};
-ghost use Rattle.fare_program.specs.{Options.with_rules, inside.Options.request_of};
+ghost use Rattle.fare_program.specs.Options.{form_of, program, request_by, request_in};
+ghost use Rattle.fare_program.specs.inside.Options.{request_of};
 ghost use Rattle.std.specs.Prelude.{◌≡◌, ◌≤◌, IfOk, map, string_bytes};
 
 use crate::options::Options;
@@ -10,7 +10,7 @@ use clap::{Arg, ArgAction, ArgMatches, Command, Error};
 use fare_texts::Form;
 use program_manners::{
     TableWords, add_list_args, flag_arg, flag_in, names_in, new_command, number_arg, option_arg,
-    positional_arg, repeated_arg, value_in,
+    positional_arg, repeated_arg, value_in, with_arg,
 };
 use std::alloc::{AllocError, Global};
 
@@ -123,51 +123,32 @@ fn hidden<'a>(arg: Arg<'a>) -> Arg<'a>
 }
 
 /// The command line, as clap reads it.
+#[tactic(auto, unfolding(crate::specs::Options::program))]
 fn command<'a>(alloc: Global) -> Result<Command<'a>, AllocError>
     ensures { IfOk result (λ command. app_of command ≡ program) }
 {
-    let table = repeated_arg(alloc, "table", "F", TABLE_HELP);
-    let settle = flag_arg(alloc, "settle", SETTLE_HELP);
-    let live = flag_arg(alloc, "live", LIVE_HELP);
-    let sorted = flag_arg(alloc, "sorted", SORTED_HELP);
-    let list = flag_arg(alloc, "list", LIST_HELP);
+    let command = new_command(alloc, "omny_cli", ABOUT, NOTES);
+    let command = with_arg(command, repeated_arg(alloc, "table", "F", TABLE_HELP))?;
+    let command = with_arg(command, flag_arg(alloc, "settle", SETTLE_HELP))?;
+    let command = with_arg(command, hidden(flag_arg(alloc, "live", LIVE_HELP)))?;
+    let command = with_arg(command, flag_arg(alloc, "sorted", SORTED_HELP))?;
+    let command = with_arg(command, hidden(flag_arg(alloc, "list", LIST_HELP)))?;
     let workers = number_arg(alloc, "workers", 16, "2", WORKERS_HELP);
+    let command = with_arg(command, hidden(workers))?;
     let shards = number_arg(alloc, "shards", 64, "8", SHARDS_HELP);
-    let token = option_arg(alloc, "token", "HEX", TOKEN_HELP);
-    let command = new_command(alloc, "omny_cli", ABOUT, NOTES)
-        .arg(table)?
-        .arg(settle)?
-        .arg(hidden(live))?
-        .arg(sorted)?
-        .arg(hidden(list))?
-        .arg(hidden(workers))?
-        .arg(hidden(shards))?
-        .arg(token)?;
-    with_texts(alloc, command)
-}
-
-/// The command line with the options of the ledger, of the explained statement and of a part, the
-/// list of files and the files.
-fn with_texts<'a>(alloc: Global, command: Command<'a>) -> Result<Command<'a>, AllocError>
-    ensures { IfOk result (λ more. app_of more ≡ with_rules (app_of command.entry) text_rules) }
-{
-    let ledger = flag_arg(alloc, "ledger", LEDGER_HELP);
-    let explain = flag_arg(alloc, "explain", EXPLAIN_HELP);
-    let json = flag_arg(alloc, "json", JSON_HELP);
-    let traced = flag_arg(alloc, "traced", TRACED_HELP);
+    let command = with_arg(command, hidden(shards))?;
+    let command = with_arg(command, option_arg(alloc, "token", "HEX", TOKEN_HELP))?;
+    let command = with_arg(command, flag_arg(alloc, "ledger", LEDGER_HELP))?;
+    let command = with_arg(command, flag_arg(alloc, "explain", EXPLAIN_HELP))?;
+    let command = with_arg(command, hidden(flag_arg(alloc, "json", JSON_HELP)))?;
+    let command = with_arg(command, hidden(flag_arg(alloc, "traced", TRACED_HELP)))?;
     let tokens = option_arg(alloc, "tokens", "RANGE", TOKENS_HELP);
-    let made_by = option_arg(alloc, "made-by", "FILE", MADE_BY_HELP);
-    let format = option_arg(alloc, "format", "FORM", FORMAT_HELP);
+    let command = with_arg(command, hidden(tokens))?;
+    let command = with_arg(command, option_arg(alloc, "made-by", "FILE", MADE_BY_HELP))?;
+    let command = with_arg(command, option_arg(alloc, "format", "FORM", FORMAT_HELP))?;
+    let command = add_list_args(alloc, command)?;
     let file = positional_arg(alloc, "FILE", ArgAction::Append, FILE_HELP);
-    let command = command
-        .arg(ledger)?
-        .arg(explain)?
-        .arg(hidden(json))?
-        .arg(hidden(traced))?
-        .arg(hidden(tokens))?
-        .arg(made_by)?
-        .arg(format)?;
-    add_list_args(alloc, command)?.arg(file)
+    with_arg(command, file)
 }
 
 /// The words read by clap.

@@ -1,16 +1,47 @@
 //! Why the program fails, with the line that says so.
-ghost use Rattle.fare_program.specs.{Causes.IsRightOfSorted, Fault.class_text, Fault.fault_text};
-ghost use Rattle.fare_program.specs.inside.{Ends.IsLate, Fault.IsOfOutput, Fault.IsRightOfUploads};
-ghost use Rattle.fare_program.specs.inside.Fault.{as_remembered, ended_as, printed_as};
-ghost use Rattle.fare_service.specs.Faults.{MissesNothing};
+ghost use Rattle.fare_program.specs.{Causes.IsRightOfSorted, Fault.fault_text, inside.Ends.IsLate};
+ghost use Rattle.fare_program.specs.inside.Fault.{IsOfOutput, as_remembered, ended_as, printed_as};
 ghost use Rattle.settled_bills.specs.Faults.{IsBeforeText, IsBillFault};
 ghost use Rattle.std.specs.Prelude.{◌≡◌, ◌≢◌, ℕ, List, Option, Some, IfErr, map};
 
-use crate::sorted_fault::{LateFault, UnopenedFile, UnsortedFile};
-use fare_service::{GatherFault, OpenFault, PrintFault, RunFault};
+use fare_service::{GatherFault, PrintFault};
+use placed_files::Unopened;
 use program_manners::{FileFault, NamedClassLine, TableLine, TablesFault, WriteEnd};
 use settled_bills::BillFault;
+use sorted_taps::SortedFault;
 use std::fmt;
+
+/// Why the text of sorted files was aborted: each file was checked before the first byte was
+/// written.
+#[derive(Clone, Copy, Debug)]
+pub(crate) enum LateFault {
+    /// A file does not have the taps that it had when it was checked.
+    Changed,
+    /// A file that was checked cannot be read again.
+    Unread,
+    /// An allocation failed.
+    NoMemory,
+}
+
+impl LateFault {
+    fn of(fault: SortedFault) -> LateFault {
+        match fault {
+            SortedFault::OutOfOrder { .. } | SortedFault::Layout { .. } => LateFault::Changed,
+            SortedFault::Unread => LateFault::Unread,
+            SortedFault::NoMemory => LateFault::NoMemory,
+        }
+    }
+
+    /// Why the rest of a part was not written, if no write failed.
+    pub(crate) fn of_bill(fault: BillFault) -> LateFault {
+        match fault {
+            BillFault::File(refused) => LateFault::of(refused.fault),
+            BillFault::TooManyTaps | BillFault::Changed | BillFault::Write => LateFault::Changed,
+            BillFault::Late(fault) => LateFault::of(fault),
+            BillFault::NoMemory => LateFault::NoMemory,
+        }
+    }
+}
 
 /// Why the program fails. Its `Display` is the fault line without its line feed.
 #[derive(Clone, Copy, Debug)]
@@ -19,12 +50,13 @@ pub(crate) enum Fault<'a> {
     File(FileFault<'a>),
     /// The fare tables were not loaded.
     Tables(TablesFault<'a>),
-    /// A fare table has a class whose name cannot be in a ledger.
-    Class(ClassLine<'a>),
-    /// A sorted file was not opened.
-    Unopened(UnopenedFile<'a>),
-    /// A file is not read as taps in canonical order, and each file before it is.
-    Unsorted(UnsortedFile<'a>),
+    /// The fare table of this file has a class whose name cannot be in a ledger. If it is the only
+    /// table, the line does not name it.
+    Class(&'a str, bool),
+    /// The sorted file of this name was not opened.
+    Unopened(&'a str, Unopened),
+    /// The file of this name is not read as taps in canonical order, and each before it is.
+    Unsorted(&'a str, SortedFault),
     /// Sorted files have more than 2^46 taps.
     TooManyTaps,
     /// A sorted file was refused after all were checked. A prefix of a text may be written.
@@ -60,10 +92,7 @@ impl<'a> Fault<'a> {
     {
         match fault {
             BillFault::File(refused) => match names.get(refused.index) {
-                Some(name) => Fault::Unsorted(UnsortedFile {
-                    name,
-                    fault: refused.fault,
-                }),
+                Some(name) => Fault::Unsorted(name, refused.fault),
                 None => Fault::Late(LateFault::of(refused.fault)),
             },
             BillFault::TooManyTaps => Fault::TooManyTaps,
@@ -71,35 +100,6 @@ impl<'a> Fault<'a> {
             BillFault::Changed => Fault::Late(LateFault::Changed),
             BillFault::Late(fault) => Fault::Late(LateFault::of(fault)),
             BillFault::Write => Fault::Write,
-        }
-    }
-
-    /// Why the service was not opened, with a number of shards that it takes.
-    pub(crate) fn of_open(fault: OpenFault) -> Fault<'a>
-        requires { fault ≢ OpenFault.Shards }
-        ensures uploads { fault ≡ OpenFault.Uploads → result ≡ Fault.Uploads }
-        ensures memory { fault ≡ OpenFault.NoMemory → result ≡ Fault.NoMemory }
-    {
-        match fault {
-            OpenFault::Shards => unreachable!(),
-            OpenFault::Uploads => Fault::Uploads,
-            OpenFault::NoMemory => Fault::NoMemory,
-        }
-    }
-
-    /// Why the service was not run, with a number of workers that it takes and all its claims.
-    pub(crate) fn of_run(fault: RunFault) -> Fault<'a>
-        requires workers { fault ≢ RunFault.Workers }
-        requires claims { MissesNothing fault }
-        ensures right { (uploads : ℕ) → IsRightOfUploads uploads result }
-        ensures unwritten { result ≢ Fault.Write }
-    {
-        match fault {
-            RunFault::Workers => unreachable!(),
-            RunFault::NoMemory => Fault::NoMemory,
-            RunFault::Gather(fault) => Fault::Gather(fault),
-            // Loaded files are lent. If another file is not, all are loaded in their turns.
-            RunFault::Unavailable(_) => Fault::NoMemory,
         }
     }
 
@@ -127,25 +127,6 @@ pub(crate) fn ended<'a>(written: Result<(), PrintFault>, success: bool) -> Resul
     }
 }
 
-/// A fare table with a class whose name cannot be in a ledger, shown as its fault line.
-#[derive(Clone, Copy, Debug)]
-pub(crate) struct ClassLine<'a> {
-    pub(crate) file: &'a str,
-    /// It is the only table, and the line does not name it.
-    pub(crate) is_alone: bool,
-}
-
-impl fmt::Display for ClassLine<'_> {
-    ghost output = { λ line. Some (class_text line) };
-
-    fn fmt<W: fmt::Write>(&self, f: &mut fmt::Formatter<W>) -> fmt::Result {
-        if self.is_alone {
-            return f.write_str("fault: table has a class name that no ledger can have");
-        }
-        NamedClassLine(self.file).fmt(f)
-    }
-}
-
 impl fmt::Display for Fault<'_> {
     ghost output = { λ fault. Some (fault_text fault) };
 
@@ -155,16 +136,38 @@ impl fmt::Display for Fault<'_> {
             Fault::Tables(TablesFault::Table(fault)) => TableLine(*fault).fmt(f),
             Fault::Tables(TablesFault::NamedTable(line)) => line.fmt(f),
             Fault::Tables(TablesFault::Follow(line)) => line.fmt(f),
-            Fault::Class(line) => line.fmt(f),
-            Fault::Unopened(fault) => fault.fmt(f),
-            Fault::Unsorted(fault) => fault.fmt(f),
+            Fault::Class(_, true) => {
+                f.write_str("fault: table has a class name that no ledger can have")
+            }
+            Fault::Class(file, false) => NamedClassLine(file).fmt(f),
+            Fault::Unopened(name, Unopened::Unread) | Fault::Unsorted(name, SortedFault::Unread) =>
+                { write!(f, "fault: cannot read {name}") }
+            Fault::Unopened(name, Unopened::NotRegular) => {
+                write!(f, "fault: {name} is no regular file")
+            }
+            Fault::Unopened(name, Unopened::TooManyOpen) => {
+                write!(f, "fault: cannot open {name}: too many files are open")
+            }
+            Fault::Unsorted(name, SortedFault::OutOfOrder { tap }) => {
+                write!(f, "fault: {name}: tap {tap} is out of order")
+            }
+            Fault::Unsorted(name, SortedFault::Layout { offset, fault }) => {
+                let why = fault.name();
+                write!(f, "fault: {name} at {offset} {why}")
+            }
             Fault::TooManyTaps => f.write_str("fault: too many taps"),
-            Fault::Late(fault) => fault.fmt(f),
+            Fault::Late(LateFault::Changed) => {
+                f.write_str("fault: a file changed while it was read")
+            }
+            Fault::Late(LateFault::Unread) => f.write_str("fault: a file cannot be read again"),
             Fault::Uploads => f.write_str("fault: too many uploads"),
             Fault::Gather(GatherFault::Missing { .. }) => f.write_str("fault: run U3 G1"),
             Fault::Gather(GatherFault::Drawn { .. }) => f.write_str("fault: run U3 G4"),
             Fault::Write => f.write_str("fault: cannot write"),
             Fault::Tables(TablesFault::NoMemory)
+            | Fault::Unopened(_, Unopened::NoMemory)
+            | Fault::Unsorted(_, SortedFault::NoMemory)
+            | Fault::Late(LateFault::NoMemory)
             | Fault::Gather(GatherFault::NoMemory)
             | Fault::NoMemory => f.write_str("fault: out of memory"),
         }

@@ -1,9 +1,9 @@
-//! The files that the words name, and what they say of the form of the text.
+//! The files that the words name, also in a list, and what they say of the form of the text.
 
 use crate::command_line::matched;
 use clap::ArgMatches;
 use clap::error::ErrorKind;
-use program_manners::{TableWord, flag_in, names_in};
+use program_manners::{ListFault, ListWords, TableWord, flag_in, names_in};
 use std::alloc::Global;
 use tap_views::NoMemory;
 
@@ -86,5 +86,17 @@ impl<'a> FileWords<'a> {
                 },
             }),
         }
+    }
+}
+
+/// The list of files that the words name; words that are not a command line name none. An error is
+/// `NullAlone`, if they only say what ends its names, or `NoMemory`.
+pub fn list_words<'a>(
+    alloc: Global,
+    words: &'a [String],
+) -> Result<Option<ListWords<'a>>, ListFault> {
+    match matched(alloc, words) {
+        Ok(matches) => ListWords::of(&matches),
+        Err(error) => ListWords::unread(&error),
     }
 }

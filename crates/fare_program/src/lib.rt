@@ -3,35 +3,23 @@
 //! unknown.
 #![tactic(auto)]
 
-mod bill;
 mod command_line;
 mod fault;
 mod file_words;
-mod lines;
 mod listing;
 mod named_files;
-mod named_list;
 mod note;
 mod noting;
 mod options;
-mod part;
 mod posting;
 mod program;
-mod remarks;
-mod run;
 mod settle;
-mod settled_token;
 mod sorted;
-mod sorted_fault;
-mod token_range;
 mod traced;
-mod uploads;
 mod usage;
 
 pub use file_sources::{Amount, Disk, Host, Source, prefetch_files};
-pub use file_words::{FileWords, FormatWords};
-pub use listing::{ListCounts, Listing, Word};
-pub use named_list::list_words;
+pub use file_words::{FileWords, FormatWords, list_words};
 pub use note::Note;
 pub use program::main_over;
 pub use program_manners::{

@@ -1,19 +1,23 @@
-//! The liveness of each tap of a listing, from the taps before it.
-ghost use Rattle.fare_program.specs.Listing.{AddsUp, Listed, RepresentsListing, counted, counts_of};
-ghost use Rattle.fare_program.specs.Listing.{is_after_last, last_of, listed_of, liveness_of};
-ghost use Rattle.fare_program.specs.inside.Listing.{last_after, liveness_by};
-ghost use Rattle.std.specs.Prelude.{◌≡◌, ◌+◌, ◌^◌, ◌<◌, ℕ, List, [], ◌∷◌, ◌++◌, IfOk, OnOk, OnErr};
-ghost use Rattle.std.specs.{Prelude.◌&&◌, Prelude.if◌then◌else◌, Str.bytes_eq};
-ghost use Rattle.tap_views.specs.Layout.{num};
+//! The text of a listing of whole files: whether each tap is live, stale or unknown.
+ghost use Rattle.fare_program.specs.Listing.{IsListing, Listed, Reading, counted, counts_line};
+ghost use Rattle.fare_program.specs.Listing.{is_known, liveness_of, refused_line, tap_line};
+ghost use Rattle.fare_program.specs.Listing.{with_end, with_upload, word_text};
+ghost use Rattle.fare_program.specs.inside.Listing.{HasLast, IsAt, Lists, is_after, last_of};
+ghost use Rattle.std.specs.{Option.option_copied, Prelude.◌≡◌, Prelude.◌+◌, Prelude.◌++◌};
+ghost use Rattle.std.specs.Prelude.{◌∷◌, [], List, Option, Some, IfOk, OnOk, map, string_bytes};
+ghost use Rattle.tap_views.specs.Layout.{Tap};
+ghost use Rattle.tariffs.specs.Fares.{Fares};
 
+use fare_table::FareTable;
+use fare_texts::Digits;
 use std::alloc::Global;
 use std::collections::BTreeMap;
-use std::marker::Model;
-use tap_views::{NoMemory, TapView};
+use std::fmt;
+use tap_views::{Batch, LayoutFault, NoMemory, TapView, Token, valid_batches};
 
 /// What a listing says of a tap.
-#[derive(Clone, Copy, Debug, PartialEq, Eq)]
-pub enum Word {
+#[derive(Clone, Copy, Debug)]
+pub(crate) enum Word {
     /// The validator is known, and the tap is later than every known tap of its token before it.
     Live,
     /// The validator is known, and an earlier known tap of the token has this moment or a later
@@ -23,64 +27,70 @@ pub enum Word {
     Unknown,
 }
 
+impl fmt::Display for Word {
+    ghost output = { λ liveness. Some (word_text liveness) };
+
+    fn fmt<W: fmt::Write>(&self, f: &mut fmt::Formatter<W>) -> fmt::Result {
+        f.write_str(match self {
+            Word::Live => "live",
+            Word::Stale => "stale",
+            Word::Unknown => "unknown",
+        })
+    }
+}
+
+/// A count beyond 64 bits is reported as an allocation failure.
+fn add_one(number: &mut u64) -> Result<(), NoMemory>
+    ensures { OnOk result (number.new ≡ number.old + 1) }
+{
+    let Some(more) = number.checked_add(1) else {
+        return Err(NoMemory);
+    };
+    *number = more;
+    Ok(())
+}
+
 /// How many taps were listed, and how many with each liveness.
-#[derive(Clone, Copy, Debug, PartialEq, Eq)]
-pub struct ListCounts {
+#[derive(Clone, Copy, Debug)]
+pub(crate) struct ListCounts {
     /// All taps; the other three add up to it.
-    pub taps: u128,
-    pub live: u128,
-    pub stale: u128,
-    pub unknown: u128,
+    taps: u64,
+    live: u64,
+    stale: u64,
+    unknown: u64,
 }
 
 impl ListCounts {
-    const NONE: ListCounts = ListCounts {
-        taps: 0,
-        live: 0,
-        stale: 0,
-        unknown: 0,
-    };
-
-    fn count(&mut self, liveness: Word)
-        requires sums { AddsUp self.old }
-        requires room { self.old.taps < 2 ^ 127 }
-        ensures { self.new ≡ counted self.old liveness }
+    fn count(&mut self, liveness: Word) -> Result<(), NoMemory>
+        ensures { OnOk result (self.new ≡ counted self.old liveness) }
     {
-        self.taps += 1;
+        add_one(&mut self.taps)?;
         match liveness {
-            Word::Live => self.live += 1,
-            Word::Stale => self.stale += 1,
-            Word::Unknown => self.unknown += 1,
+            Word::Live => add_one(&mut self.live),
+            Word::Stale => add_one(&mut self.stale),
+            Word::Unknown => add_one(&mut self.unknown),
         }
     }
 }
 
+fn is_known(table: Option<&FareTable>, tap: &TapView) -> bool
+    ensures { result ≡ is_known (option_copied table.entry) tap.now }
+{
+    match table {
+        None => true,
+        Some(table) => table
+            .mode_of(tap.moment_ms(), tap.validator_number())
+            .is_some(),
+    }
+}
+
 fn is_later(last: &BTreeMap<[u8; 16], u64>, token: &[u8; 16], moment: u64) -> bool
-    ensures { result ≡ is_after_last (last_of last.now.entries token.now) moment }
+    ensures { result ≡ is_after (last_of last.now.entries token.now) moment }
 {
     match last.get(token) {
         Some(latest) => *latest < moment,
         None => true,
     }
-}
-
-/// A later moment becomes the token's last one. Returns whether it is later.
-fn advance(
-    last: &mut BTreeMap<[u8; 16], u64>,
-    token: [u8; 16],
-    moment: u64,
-) -> Result<bool, NoMemory>
-    ensures live { IfOk result (λ live.
-        live ≡ is_after_last (last_of last.old.entries token) moment) }
-    ensures last { IfOk result (λ live. (other : List ℕ) → last_of last.new.entries other
-        ≡ (if live && bytes_eq token other then Some moment else last_of last.old.entries other)) }
-    ensures err { OnErr result (last.new.entries ≡ last.old.entries) }
-{
-    let is_live = is_later(last, &token, moment);
-    if is_live {
-        last.insert(token, moment)?;
-    }
-    Ok(is_live)
 }
 
 /// A live tap's moment becomes its token's last one.
@@ -89,73 +99,139 @@ fn liveness_next(
     tap: &TapView,
     known: bool,
 ) -> Result<Word, NoMemory>
-    ensures liveness { IfOk result (λ liveness. liveness
-        ≡ liveness_by last.old.entries (listed_of tap.now known)) }
-    ensures last { IfOk result (λ liveness. (other : List ℕ) → last_of last.new.entries other
-        ≡ last_after liveness tap.now.token (num tap.now.moment) last.old.entries other) }
-    ensures err { OnErr result (last.new.entries ≡ last.old.entries) }
+    ensures { IfOk result (λ liveness. (fares : Option Fares) (taps : List Tap)
+        → known ≡ is_known fares tap.now → HasLast fares last.old.entries taps
+        → (liveness ≡ liveness_of fares taps tap.now)
+        × HasLast fares last.new.entries (tap.now ∷ taps)) }
 {
     if !known {
         return Ok(Word::Unknown);
     }
     let mut token = [0u8; 16];
     token.copy_from_slice(tap.token());
-    if advance(last, token, tap.moment_ms())? {
-        return Ok(Word::Live);
+    let moment = tap.moment_ms();
+    if !is_later(last, &token, moment) {
+        return Ok(Word::Stale);
     }
-    Ok(Word::Stale)
+    last.insert(token, moment)?;
+    Ok(Word::Live)
 }
 
-/// A listing of taps: it says whether each is live, stale or unknown, from those before it.
+/// A listing that is under way.
 #[derive(Drop)]
-pub struct Listing {
+pub(crate) struct Listing {
     /// The moment of the last live tap of each token.
     last: BTreeMap<[u8; 16], u64>,
     counts: ListCounts,
-}
-
-impl Model for Listing {
-    ghost use Rattle.fare_program.specs.Listing.{AddsUp, KeptListing};
-
-    ghost Value = { KeptListing };
-
-    ghost view = { λ l. record { last = l.last.entries; counts = l.counts } };
-
-    ghost invariant = { λ l. AddsUp l.counts };
+    upload: u64,
+    /// The number of the next tap in its upload.
+    number: u64,
+    is_clean: bool,
+    text: String,
 }
 
 impl Listing {
-    /// A listing of no taps.
-    pub fn new(alloc: Global) -> Listing
-        ensures { RepresentsListing result [] }
+    #[tactic(auto, unfolding(crate::specs::Listing::tap_line))]
+    fn list_tap(&mut self, table: Option<&FareTable>, tap: &TapView) -> Result<(), NoMemory>
+        ensures { OnOk result
+            (Lists (option_copied table.entry) self.old self.new (tap.now ∷ [])) }
     {
-        Listing {
-            last: BTreeMap::new(alloc),
-            counts: ListCounts::NONE,
+        let liveness = liveness_next(&mut self.last, tap, is_known(table, tap))?;
+        self.counts.count(liveness)?;
+        let (upload, number) = (self.upload, self.number);
+        let token = Digits(Token::of(tap.token()));
+        let validator = tap.validator_number();
+        let moment = tap.moment_ms();
+        write!(
+            self.text,
+            "{upload} {number} {token} {validator} {moment} {liveness}\n"
+        )?;
+        add_one(&mut self.number)
+    }
+
+    fn list_batch(&mut self, table: Option<&FareTable>, batch: &Batch) -> Result<(), NoMemory>
+        ensures { OnOk result (Lists (option_copied table.entry) self.old self.new batch.now) }
+    {
+        for tap in batch.taps() {
+            self.list_tap(table, &tap)?;
         }
+        Ok(())
     }
 
-    /// Lists a tap, `known` if its validator is, and returns its liveness. If an allocation fails,
-    /// the listing is unchanged. The taps so far are below 2 to the power of 127.
-    pub fn add(&mut self, tap: &TapView, known: bool) -> Result<Word, NoMemory>
-        requires { self.old.counts.taps < 2 ^ 127 }
-        ensures liveness { IfOk result (λ liveness. (taps : List Listed) → RepresentsListing self.old taps
-            → liveness ≡ liveness_of taps (listed_of tap.now known)) }
-        ensures holds { OnOk result ((taps : List Listed) → RepresentsListing self.old taps
-            → RepresentsListing self.new (taps ++ listed_of tap.now known ∷ [])) }
-        ensures taps { OnOk result (self.new.counts.taps ≡ self.old.counts.taps + 1) }
-        ensures err { OnErr result (self.new ≡ self.old) }
+    #[tactic(auto, unfolding(crate::specs::Listing::refused_line))]
+    fn end_upload(&mut self, fault: Option<(u64, LayoutFault)>) -> Result<(), NoMemory>
+        ensures { OnOk result ((fares : Option Fares) (listed : Listed)
+            → IsAt fares self.old listed → IsAt fares self.new (with_end listed fault)) }
     {
-        let liveness = liveness_next(&mut self.last, tap, known)?;
-        self.counts.count(liveness);
-        Ok(liveness)
+        let upload = self.upload;
+        add_one(&mut self.upload)?;
+        self.number = 0;
+        let Some((offset, fault)) = fault else {
+            return Ok(());
+        };
+        self.is_clean = false;
+        let name = fault.name();
+        write!(self.text, "{upload} refused {offset} {name}\n")?;
+        Ok(())
     }
 
-    /// How many taps were listed, and how many with each liveness.
-    pub fn counts(&self) -> ListCounts
-        ensures kept { result ≡ self.now.counts }
-        ensures counts { (taps : List Listed) → RepresentsListing self.now taps → result ≡ counts_of taps }
+    /// Lists the taps up to the first layout fault, and that.
+    fn list_upload(&mut self, table: Option<&FareTable>, file: &[u8]) -> Result<(), NoMemory>
+        ensures { OnOk result ((reading : Reading) × (reading.file ≡ file.now)
+            × ((listed : Listed) → IsAt (option_copied table.entry) self.old listed
+            → IsAt (option_copied table.entry) self.new
+            (with_upload (option_copied table.entry) listed reading))) }
     {
-        self.counts
+        let mut valid = valid_batches(file);
+        while let Some(batch) = valid.next() {
+            self.list_batch(table, &batch)?;
+        }
+        self.end_upload(valid.fault())
     }
+}
+
+/// The text of a listing, and whether no file has a layout fault. Without a table all validators
+/// are known.
+#[tactic(auto, unfolding(crate::specs::Listing::counts_line))]
+pub(crate) fn listing_text(
+    alloc: Global,
+    table: Option<&FareTable>,
+    files: &[Vec<u8>],
+) -> Result<(String, bool), NoMemory>
+    ensures { IfOk result (λ answer. IsListing (option_copied table.entry)
+        (map (λ f. f.items) files.now) (string_bytes answer.0) answer.1) }
+{
+    let mut listing = Listing {
+        last: BTreeMap::new(alloc),
+        counts: ListCounts {
+            taps: 0,
+            live: 0,
+            stale: 0,
+            unknown: 0,
+        },
+        upload: 0,
+        number: 0,
+        is_clean: true,
+        text: String::new(alloc),
+    };
+    for file in files {
+        listing.list_upload(table, file)?;
+    }
+    let Listing {
+        mut text,
+        counts,
+        is_clean,
+        ..
+    } = listing;
+    let ListCounts {
+        taps,
+        live,
+        stale,
+        unknown,
+    } = counts;
+    write!(
+        text,
+        "taps {taps} live {live} stale {stale} unknown {unknown}\n"
+    )?;
+    Ok((text, is_clean))
 }

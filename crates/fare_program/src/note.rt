@@ -1,11 +1,14 @@
-//! What a person should know of a run.
+//! What a person should know of a run, and what is noted of it on the disk.
 
 use crate::options::Options;
 use crate::usage::checked;
 use clap::error::ErrorKind;
+use fare_service::Outcome;
+use file_sources::Disk;
+use shard_book::{ShardBook, late_taps};
 use std::alloc::Global;
 use std::fmt;
-use tap_views::NoMemory;
+use tap_views::{NoMemory, TapFields, Token};
 
 /// What a person should know of a run. Its `Display` is the line without its line feed. No run
 /// prints it itself.
@@ -69,5 +72,51 @@ impl fmt::Display for Note {
             ),
             Note::UnknownToken => f.write_str("note: no tap of the token was found"),
         }
+    }
+}
+
+/// How many taps of the outcome came after a tap of their token that is as late or later; none if
+/// an allocation fails.
+fn late_in(alloc: Global, outcome: &Outcome) -> Option<u64> {
+    if outcome.totals().stale == 0 {
+        return Some(0);
+    }
+    late_taps(alloc, outcome.books()).ok()
+}
+
+fn have_token(books: &[ShardBook], token: Token) -> bool {
+    for book in books {
+        for i in 0..book.len() {
+            if book.entry(i).token == token {
+                return true;
+            }
+        }
+    }
+    false
+}
+
+/// Notes of a live run that the order of its files counts, if none is meant, and that no file has
+/// the requested token.
+pub(crate) fn note_outcome<D: Disk>(
+    alloc: Global,
+    disk: &D,
+    options: &Options<'_>,
+    outcome: &Outcome,
+    token: Option<Token>,
+) {
+    if follows_order(options) {
+        disk.note_live(late_in(alloc, outcome));
+    }
+    if let Some(token) = token
+        && !have_token(outcome.books(), token)
+    {
+        disk.note_absent();
+    }
+}
+
+/// Notes that no file has the requested token, if these are all its taps.
+pub(crate) fn note_taps<D: Disk>(disk: &D, taps: &[TapFields]) {
+    if taps.is_empty() {
+        disk.note_absent();
     }
 }

@@ -1,28 +1,36 @@
 //! The text that is asked for of files, which are posted as they are or settled.
-ghost use Rattle.fare_program.specs.Program.{ShowsOf, ShowsRequest};
+ghost use Rattle.fare_program.specs.Options.{Request};
+ghost use Rattle.fare_program.specs.Program.{ShowsOf, ShowsPlain, ShowsRequest};
 ghost use Rattle.fare_program.specs.inside.{Ends.Gives, Fault.IsRightOfUploads, Options.request_of};
 ghost use Rattle.fare_program.specs.inside.PostedFiles.{Posts};
+ghost use Rattle.fare_service.specs.Headline.{HasRun, HasRunOver};
 ghost use Rattle.fare_texts.specs.{PrintFaults.UnchangedUnlessWrite, WrittenOut.Begins};
-ghost use Rattle.std.specs.Io.KnownBytes.{Appends};
-ghost use Rattle.std.specs.Prelude.{◌≡◌, ℕ, List, IfErr, OnOk, false, length, map};
+ghost use Rattle.std.specs.{Io.KnownBytes.Appends, Prelude.◌≡◌, Prelude.◌≢◌};
+ghost use Rattle.std.specs.Prelude.{IfErr, IfOk, List, OnOk, Option, false, length, map, true, ℕ};
+ghost use Rattle.tap_views.specs.UploadEnds.{are_posted, is_posted};
+ghost use Rattle.tap_views.specs.declared.token.Token.{Token};
+ghost use Rattle.tariffs.specs.Fares.{Fares};
 
 use crate::fault::{Fault, ended};
+use crate::note::note_outcome;
 use crate::noting::{NotedUploads, NotingGatekeeper, sizes_in};
 use crate::options::Options;
-use crate::remarks::note_outcome;
-use crate::run::{are_posted, outcome_of, shows_plain};
 use crate::settle::charge_settled;
-use fare_service::{Gatekeeper, Outcome, UploadSource, write_explained, write_ledger};
+use fare_service::{
+    Gatekeeper, OpenFault, Outcome, RunFault, Service, UploadSource, laws, write_explained,
+    write_ledger,
+};
 use fare_table::FareTable;
 use fare_texts::PrintFault;
 use file_sources::Disk;
+use histories::laws::one_increasing_list;
 use std::alloc::Global;
 use std::io::Write;
 use std::marker::Sync;
 use std::random::RandomSource;
 use std::sync::Wait;
 use std::thread::Threads;
-use tap_views::Token;
+use tap_views::{Token, UploadEnd};
 use world::Trace;
 
 /// Prints what is asked for: the ledger, or that of the token; else the report, or the statement of
@@ -82,9 +90,18 @@ pub(crate) fn charge_provided<
         calls.old.run calls.new.run) (W.contents out.old) (W.contents out.new) result }
     ensures right { IfErr result (IsRightOfUploads (length (U.origins uploads))) }
 {
-    let outcome = match outcome_of(rt, alloc, table, options, uploads, keeper) {
+    let (service, share) = match Service::open(rt, alloc, table, options.shards, uploads) {
+        Ok(opened) => opened,
+        Err(OpenFault::Uploads) => return Err(Fault::Uploads),
+        Err(OpenFault::NoMemory) => return Err(Fault::NoMemory),
+        Err(OpenFault::Shards) => unreachable!(),
+    };
+    let outcome = match service.run(rt, alloc, share, options.workers, keeper) {
         Ok(outcome) => outcome,
-        Err(fault) => return Err(fault),
+        Err(RunFault::Gather(fault)) => return Err(Fault::Gather(fault)),
+        Err(RunFault::Workers) => unreachable!(),
+        // Loaded files are lent. If another file is not, all are loaded in their turns.
+        Err(RunFault::NoMemory | RunFault::Unavailable(_)) => return Err(Fault::NoMemory),
     };
     // proof: if no token has taps in two files, what is shown does not depend on the schedule
     shows_plain(&outcome);
@@ -136,4 +153,30 @@ pub(crate) fn charge<'a, R: Threads + Wait + RandomSource + Sync, D: Disk + Sync
         &mut calls,
         out,
     )
+}
+
+/// proof: if no token has taps in two files, what is shown of an outcome is shown over the
+/// sequential history of the files. Reads no tap and no entry.
+pub(crate) fn shows_plain(outcome: &Outcome)
+    ensures { (files : List (List ℕ)) (fares : Fares) (shards workers : ℕ) (request : Request)
+        (token : Option Token) (text : List ℕ) → HasRun fares shards files workers outcome.now
+        → are_posted outcome.now.ends ≡ true
+        → ShowsOf request token outcome.now.ends outcome.now text
+        → ShowsPlain request fares files token text }
+{
+    let _ = outcome.shards();
+    laws::tokens_are_named(outcome);
+    one_increasing_list();
+}
+
+fn is_posted(end: UploadEnd) -> bool
+    ensures { result ≡ is_posted end }
+{
+    matches!(end, UploadEnd::Posted { .. })
+}
+
+pub(crate) fn are_posted(ends: &[UploadEnd]) -> bool
+    ensures { result ≡ are_posted ends.now }
+{
+    ends.iter().all(|end| is_posted(*end))
 }

@@ -2,23 +2,22 @@
 ghost use Rattle.fare_program.specs.Causes.{IsFileFault, IsRightFault, names_reported};
 ghost use Rattle.fare_program.specs.{Ends.Ends, Ends.IsPartLedger, Ends.did_over, Fault.fault_text};
 ghost use Rattle.fare_program.specs.FilesLoaded.{LoadsFiles, names_to_load};
-ghost use Rattle.fare_program.specs.Program.{Charges, Does, DoesBy, IsTokenIn, Lists};
+ghost use Rattle.fare_program.specs.Program.{Does, IsTokenIn, Lists};
 ghost use Rattle.fare_program.specs.TokenRanges.{range_fault};
 ghost use Rattle.fare_program.specs.inside.{Ends.Gives, Ends.GivesIf, Options.request_of};
-ghost use Rattle.program_manners.specs.{LineWritten.LineWritten, Loads.Loaded, Loads.LoadsOne};
-ghost use Rattle.program_manners.specs.{Refusals.HasRefused, TableLoads.LoadsTables};
-ghost use Rattle.program_manners.specs.{TableViews.names_of, TableWords.wrong_word};
+ghost use Rattle.program_manners.specs.{LineWritten.LineWritten, Loads.Loaded};
+ghost use Rattle.program_manners.specs.TableWords.{wrong_word};
 ghost use Rattle.std.specs.Option.{option_and_then, option_copied};
-ghost use Rattle.std.specs.Prelude.{◌≡◌, ◌++◌, ◌∷◌, [], List, Option, None, Some, IfErr, IfOk};
-ghost use Rattle.std.specs.Prelude.{OnOk, codes, map, string_bytes};
+ghost use Rattle.std.specs.Prelude.{◌≡◌, ◌≢◌, ◌++◌, ◌∷◌, [], List, Option, None, Err, IfErr, IfOk};
+ghost use Rattle.std.specs.Prelude.{OnOk, is_ok, map, string_bytes, true};
 
 use crate::fault::Fault;
+use crate::listing::listing_text;
 use crate::named_files::charge_prefetched;
 use crate::options::Options;
 use crate::posting::charge;
 use crate::sorted::work_sorted;
 use crate::traced::write_traced;
-use crate::uploads::listing_text;
 use crate::usage::checked;
 use fare_table::FareTable;
 use fare_texts::write_bytes;
@@ -39,77 +38,32 @@ use tap_views::{NoMemory, Token};
 /// loaded does not depend on it.
 const READERS: u32 = 4;
 
-/// All bytes of standard input.
-fn load_input<'a, S: Source>(source: &mut S) -> Result<Vec<u8>, FileFault<'a>>
-    ensures ok { IfOk result (λ bytes. LoadsOne (S.loaded source.old) (S.loaded source.new)
-        None bytes.items) }
-    ensures fault { IfErr result (λ file. (file.name.now ≡ codes "standard input")
-        × HasRefused (S.refused source.new) file.name.now file.fault) }
+/// Adds the file of this name, if it was loaded.
+fn add<'a>(
+    files: &mut Vec<Vec<u8>>,
+    name: &'a str,
+    loaded: Result<Vec<u8>, LoadFault>,
+) -> Result<(), FileFault<'a>>
+    ensures ok { OnOk result (IfOk loaded (λ bytes.
+        files.new.items ≡ files.old.items ++ bytes ∷ []) × (is_ok loaded ≡ true)) }
+    ensures fault { IfErr result (λ file. (file.name.now ≡ name.entry.now)
+        × (file.fault ≢ LoadFault.NoMemory → loaded ≡ Err file.fault)) }
 {
-    match source.input() {
-        Ok(bytes) => Ok(bytes),
-        Err(fault) => Err(FileFault {
-            name: STANDARD_INPUT,
-            fault,
-        }),
-    }
-}
-
-pub(crate) fn push<F: Drop>(files: &mut Vec<F>, file: F) -> Result<(), NoMemory>
-    ensures { OnOk result (files.new.items ≡ files.old.items ++ file ∷ []) }
-{
-    files.push(file)?;
-    Ok(())
-}
-
-/// The files of these names, in their order, or standard input if there is none. Several files may
-/// be read at once.
-fn load_all<'a, R: Threads + Sync, D: Disk + Sync, S: Source>(
-    rt: &R,
-    alloc: Global,
-    disk: &D,
-    names: &[&'a str],
-    threads: usize,
-    source: &mut S,
-) -> Result<Vec<Vec<u8>>, FileFault<'a>>
-    ensures ok { IfOk result (λ files. LoadsFiles (names_to_load (map (λ n. n.now) names.now))
-        (S.loaded source.old) (S.loaded source.new) (map (λ f. f.items) files.items)) }
-    ensures fault { IfErr result (IsFileFault (names_reported (map (λ n. n.now) names.now))
-        (S.refused source.new)) }
-{
-    let mut files = Vec::new(alloc);
-    if names.is_empty() {
-        let bytes = match load_input(source) {
-            Ok(bytes) => bytes,
-            Err(file) => return Err(file),
-        };
-        let Ok(()) = push(&mut files, bytes) else {
-            return Err(FileFault {
-                name: STANDARD_INPUT,
-                fault: LoadFault::NoMemory,
-            });
-        };
-        return Ok(files);
-    }
-    let ahead = prefetch_files(rt, alloc, disk, names, threads);
-    source.keep_prefetched(ahead);
-    for name in names {
-        let bytes = match load_named(source, name) {
-            Ok(bytes) => bytes,
-            Err(file) => return Err(file),
-        };
-        let Ok(()) = push(&mut files, bytes) else {
-            return Err(FileFault {
+    match loaded {
+        Ok(bytes) => match files.push(bytes) {
+            Ok(()) => Ok(()),
+            Err(_) => Err(FileFault {
                 name,
                 fault: LoadFault::NoMemory,
-            });
-        };
+            }),
+        },
+        Err(fault) => Err(FileFault { name, fault }),
     }
-    Ok(files)
 }
 
-/// The files that are asked for, in their order. Settled files are loaded in their turns, if they
-/// were not read while they were settled.
+/// The files that are asked for, in their order, or standard input if none is named. Settled files
+/// are loaded in their turns, if they were not read while they were settled. Else several may be
+/// read at once.
 pub(crate) fn load_files<'a, R: Threads + Sync, D: Disk + Sync, S: Source>(
     rt: &R,
     alloc: Global,
@@ -122,12 +76,21 @@ pub(crate) fn load_files<'a, R: Threads + Sync, D: Disk + Sync, S: Source>(
     ensures fault { IfErr result (IsFileFault (names_reported (request_of options.now).files)
         (S.refused source.new)) }
 {
+    let mut files = Vec::new(alloc);
+    if options.files.is_empty() {
+        add(&mut files, STANDARD_INPUT, source.input())?;
+        return Ok(files);
+    }
     let threads = if options.settle && !options.traced {
         1
     } else {
         options.workers.max(READERS) as usize
     };
-    load_all(rt, alloc, disk, &options.files, threads, source)
+    source.keep_prefetched(prefetch_files(rt, alloc, disk, &options.files, threads));
+    for name in &options.files {
+        add(&mut files, name, source.load(name))?;
+    }
+    Ok(files)
 }
 
 /// Lists the files, and says whether none of them has a layout fault. The whole text is made before
@@ -162,78 +125,10 @@ fn list_files<'a, R: Threads + Sync, D: Disk + Sync, S: Source, W: Write>(
     }
 }
 
-/// Loads the files, and posts them by the table, or settles them. Says whether each was posted whole.
-fn charge_loaded<'a, R: Threads + Wait + RandomSource + Sync, D: Disk + Sync, S: Source, W: Write>(
-    rt: &R,
-    alloc: Global,
-    disk: &D,
-    options: &Options<'a>,
-    table: FareTable,
-    token: Option<Token>,
-    source: &mut S,
-    out: &mut W,
-) -> Result<bool, Fault<'a>>
-    ensures ends { Gives (Charges (request_of options.now) (D.origin disk.now) table token
-        (S.loaded source.old) (S.loaded source.new)) (W.contents out.old) (W.contents out.new)
-        result }
-    ensures right { IfErr result (λ fault. (loaded : Option (List Loaded))
-        → IsRightFault (request_of options.now) (D.bytes_under disk.now) loaded
-        (S.loaded source.new) (S.refused source.new) fault) }
-{
-    match load_files(rt, alloc, disk, options, source) {
-        Ok(files) => charge(rt, alloc, disk, options, table, token, files, out),
-        Err(file) => Err(Fault::File(file)),
-    }
-}
-
-/// Does what is asked for by tables that were loaded, and says whether each upload was listed without
-/// a layout fault, or posted whole. Files may be charged while they are read. Else they are loaded,
-/// and all memory is taken, before the first byte is written. Sorted files are opened, and read in
-/// pieces.
-fn work_by<'a, R: Threads + Wait + RandomSource + Sync, D: Disk + Sync, S: Source, W: Write>(
-    rt: &R,
-    alloc: Global,
-    disk: &D,
-    options: &Options<'a>,
-    words: &TableWords<'a>,
-    tables: Tables,
-    token: Option<Token>,
-    source: &mut S,
-    out: &mut W,
-) -> Result<bool, Fault<'a>>
-    requires range { option_and_then range_fault (request_of options.now).tokens ≡ None }
-    requires token { IsTokenIn (request_of options.now).token token }
-    requires named { (request_of options.now).table ≡ Some (names_of words.now) }
-    requires loaded { (before : Option (List Loaded)) × LoadsTables (names_of words.now) before
-        (S.loaded source.old) (map (λ t. t.items) tables.texts.items) tables.fares }
-    ensures ends { GivesIf (¬ IsPartLedger (request_of options.now))
-        (DoesBy (request_of options.now) (D.bytes_under disk.now) (D.origin disk.now)
-        (map (λ t. t.items) tables.texts.items) tables.fares token (S.loaded source.old)
-        (S.loaded source.new)) (W.contents out.old) (W.contents out.new) result }
-    ensures right { IfErr result (λ fault. (loaded : Option (List Loaded))
-        → LoadsTables (names_of words.now) loaded (S.loaded source.old)
-        (map (λ t. t.items) tables.texts.items) tables.fares
-        → IsRightFault (request_of options.now) (D.bytes_under disk.now) loaded
-        (S.loaded source.new) (S.refused source.new) fault) }
-{
-    if options.list {
-        let table = Some(&tables.fares);
-        return list_files(rt, alloc, disk, options, table, source, out);
-    }
-    if options.traced {
-        return write_traced(rt, alloc, disk, options, words, &tables, source, out);
-    }
-    let table = tables.fares;
-    if options.sorted {
-        return work_sorted(rt, alloc, disk, options, &table, token, out);
-    }
-    match charge_prefetched(rt, alloc, disk, options, &table, token, source, out) {
-        Some(ended) => ended,
-        None => charge_loaded(rt, alloc, disk, options, table, token, source, out),
-    }
-}
-
-/// Loads the tables, if some are named, and does what is asked for.
+/// Loads the tables, if some are named, and does what is asked for. Says whether each upload was
+/// listed without a layout fault, or posted whole. Files may be charged while they are read. Else they
+/// are loaded, and all memory is taken, before the first byte is written. Sorted files are opened, and
+/// read in pieces.
 fn work<'a, R: Threads + Wait + RandomSource + Sync, D: Disk + Sync, S: Source, W: Write>(
     rt: &R,
     alloc: Global,
@@ -256,9 +151,27 @@ fn work<'a, R: Threads + Wait + RandomSource + Sync, D: Disk + Sync, S: Source, 
     let Some(words) = &options.table else {
         return list_files(rt, alloc, disk, options, None, source, out);
     };
-    match load_tables(alloc, words, source) {
-        Ok(tables) => work_by(rt, alloc, disk, options, words, tables, token, source, out),
-        Err(fault) => Err(Fault::Tables(fault)),
+    let tables = match load_tables(alloc, words, source) {
+        Ok(tables) => tables,
+        Err(fault) => return Err(Fault::Tables(fault)),
+    };
+    if options.list {
+        let table = Some(&tables.fares);
+        return list_files(rt, alloc, disk, options, table, source, out);
+    }
+    if options.traced {
+        return write_traced(rt, alloc, disk, options, words, &tables, source, out);
+    }
+    let table = tables.fares;
+    if options.sorted {
+        return work_sorted(rt, alloc, disk, options, &table, token, out);
+    }
+    match charge_prefetched(rt, alloc, disk, options, &table, token, source, out) {
+        Some(ended) => ended,
+        None => match load_files(rt, alloc, disk, options, source) {
+            Ok(files) => charge(rt, alloc, disk, options, table, token, files, out),
+            Err(file) => Err(Fault::File(file)),
+        },
     }
 }
 

@@ -1,24 +1,30 @@
-//! What is requested of sorted files, which are read in pieces and merged.
+//! What is requested of sorted files, which are read in pieces and merged, or of a part of them.
 ghost use Rattle.fare_program.specs.{Causes.IsRightOfSorted, Ends.IsPartLedger, Parts.ShowsSorted};
-ghost use Rattle.fare_program.specs.{Program.IsTokenIn, TokenRanges.range_fault};
-ghost use Rattle.fare_program.specs.inside.{Ends.GivesKnown, Ends.GivesSettled, Options.request_of};
+ghost use Rattle.fare_program.specs.{Parts.report_over, Program.IsTokenIn, TokenRanges.range_fault};
+ghost use Rattle.fare_program.specs.inside.Ends.{Gives, GivesKnown, GivesPart, GivesSettled};
+ghost use Rattle.fare_program.specs.inside.Options.{request_of};
+ghost use Rattle.histories.specs.declared.entry.Entry.{Entry};
+ghost use Rattle.part_texts.specs.Heads.{part_head};
 ghost use Rattle.program_manners.specs.Refusals.{IsOneOf};
+ghost use Rattle.settlement.specs.Bills.{IsBillOf};
 ghost use Rattle.std.specs.Option.{option_and_then};
-ghost use Rattle.std.specs.Prelude.{◌≡◌, Option, None, Some, IfErr, IfOk, false, map, true};
+ghost use Rattle.std.specs.Prelude.{◌++◌, ◌^◌, ◌≡◌, ◌≤◌, IfErr, IfOk, List, None, Option, Some};
+ghost use Rattle.std.specs.Prelude.{false, length, map, true, ℕ};
 
-use crate::bill::write_billed;
-use crate::fault::{Fault, ended};
+use crate::fault::{Fault, LateFault, ended};
+use crate::note::note_taps;
 use crate::options::Options;
-use crate::part::charge_part;
-use crate::program::push;
-use crate::remarks::note_taps;
-use crate::settled_token::write_text;
-use crate::sorted_fault::UnopenedFile;
+use crate::settle::{write_billed, write_text};
+use crate::usage::TokenRange;
 use fare_table::FareTable;
 use file_sources::Disk;
 use histories::HashSeed;
+use part_texts::write_part_head;
 use placed_files::{Placed, Unopened};
-use settled_bills::{sorted_bill, sorted_taps_of, write_sorted_ledger};
+use settled_bills::{
+    BillFault, PartBill, part_bill, part_spans, sorted_bill, sorted_taps_of, write_part_ledger,
+    write_sorted_ledger,
+};
 use settlement::laws;
 use std::alloc::Global;
 use std::io::Write;
@@ -31,22 +37,19 @@ fn open_files<'a, D: Disk>(
     alloc: Global,
     disk: &D,
     names: &[&'a str],
-) -> Result<Vec<D::File>, UnopenedFile<'a>>
+) -> Result<Vec<D::File>, (&'a str, Unopened)>
     ensures opened { IfOk result (λ files. map D.File.bytes files.items
         ≡ map (D.bytes_under disk.now) (map (λ n. n.now) names.now)) }
-    ensures fault { IfErr result (λ file. IsOneOf file.name.now (map (λ n. n.now) names.now)) }
+    ensures fault { IfErr result (λ file. IsOneOf file.0.now (map (λ n. n.now) names.now)) }
 {
     let mut files = Vec::new(alloc);
     for name in names {
         let file = match disk.open_placed(name) {
             Ok(file) => file,
-            Err(fault) => return Err(UnopenedFile { name, fault }),
+            Err(fault) => return Err((name, fault)),
         };
-        let Ok(()) = push(&mut files, file) else {
-            return Err(UnopenedFile {
-                name,
-                fault: Unopened::NoMemory,
-            });
+        let Ok(()) = files.push(file) else {
+            return Err((name, Unopened::NoMemory));
         };
     }
     Ok(files)
@@ -170,10 +173,110 @@ pub(crate) fn work_sorted<'a, R: Threads + RandomSource + Sync, D: Disk, W: Writ
 {
     let files = match open_files(alloc, disk, &options.files) {
         Ok(files) => files,
-        Err(file) => return Err(Fault::Unopened(file)),
+        Err((name, fault)) => return Err(Fault::Unopened(name, fault)),
     };
     match options.tokens {
         Some(word) => charge_part(rt, alloc, options, table, word, &files, out),
         None => charge_sorted(rt, alloc, disk, options, table, token, &files, out),
     }
+}
+
+/// Memory that is refused after the first lines is reported as late.
+fn write_made<'a, W: Write>(alloc: Global, made: PartBill, out: &mut W) -> Result<bool, Fault<'a>>
+    requires { (history : List Entry) × IsBillOf history made.billed.bill
+        × (length history ≤ 2 ^ 95) }
+    ensures ends { (history : List Entry) → IsBillOf history made.billed.bill
+        → Gives (λ text success. (success ≡ true)
+        × (text ≡ part_head made.spans.items ++ report_over made.billed.ends.items history))
+        (W.contents out.old) (W.contents out.new) result }
+    ensures right { IfErr result (λ fault. (names : List (List ℕ)) (known : List (Option (List ℕ)))
+        → IsRightOfSorted names known fault) }
+{
+    let PartBill { spans, billed } = made;
+    if let Err(fault) = write_part_head(alloc, &spans, out) {
+        return Err(Fault::of_print(fault));
+    }
+    match write_billed(alloc, billed, out) {
+        Ok(_) => Ok(true),
+        Err(Fault::Write) => Err(Fault::Write),
+        Err(_) => Err(Fault::Late(LateFault::NoMemory)),
+    }
+}
+
+fn write_report_of_part<'a, R: RandomSource, F: Placed, W: Write>(
+    rt: &R,
+    alloc: Global,
+    options: &Options<'a>,
+    table: &FareTable,
+    range: TokenRange,
+    files: &[F],
+    out: &mut W,
+) -> Result<bool, Fault<'a>>
+    ensures ends { GivesPart false (map F.bytes files.now) table.now (W.contents out.old)
+        (W.contents out.new) result }
+    ensures right { IfErr result (IsRightOfSorted (request_of options.now).files
+        (map F.bytes files.now)) }
+{
+    let Ok(seed) = HashSeed::new(rt) else {
+        return Err(Fault::NoMemory);
+    };
+    match part_bill(alloc, table, seed, files, range.from, range.below) {
+        Ok(made) => write_made(alloc, made, out),
+        Err(fault) => Err(Fault::of_bill(&options.files, fault)),
+    }
+}
+
+fn write_ledger_of_part<'a, R: Threads + Sync, F: Placed, W: Write>(
+    rt: &R,
+    alloc: Global,
+    options: &Options<'a>,
+    table: &FareTable,
+    range: TokenRange,
+    files: &[F],
+    out: &mut W,
+) -> Result<bool, Fault<'a>>
+    ensures ends { GivesPart true (map F.bytes files.now) table.now (W.contents out.old)
+        (W.contents out.new) result }
+    ensures right { IfErr result (IsRightOfSorted (request_of options.now).files
+        (map F.bytes files.now)) }
+{
+    let TokenRange { from, below } = range;
+    let spans = match part_spans(alloc, files, from, below) {
+        Ok(spans) => spans,
+        Err(fault) => return Err(Fault::of_bill(&options.files, fault)),
+    };
+    if let Err(fault) = write_part_head(alloc, &spans, out) {
+        return Err(Fault::of_print(fault));
+    }
+    match write_part_ledger(rt, alloc, table, files, from, below, &spans, out) {
+        Ok(()) => Ok(true),
+        Err(BillFault::Write) => Err(Fault::Write),
+        Err(fault) => Err(Fault::Late(LateFault::of_bill(fault))),
+    }
+}
+
+/// Charges the taps of the word's range of tokens, and writes what is requested. One thread does it,
+/// and reads no more of the files than it needs.
+pub(crate) fn charge_part<'a, R: Threads + RandomSource + Sync, F: Placed, W: Write>(
+    rt: &R,
+    alloc: Global,
+    options: &Options<'a>,
+    table: &FareTable,
+    word: &str,
+    files: &[F],
+    out: &mut W,
+) -> Result<bool, Fault<'a>>
+    requires word { range_fault word.now ≡ None }
+    ensures ends { GivesPart (request_of options.now).ledger (map F.bytes files.now) table.now
+        (W.contents out.old) (W.contents out.new) result }
+    ensures right { IfErr result (IsRightOfSorted (request_of options.now).files
+        (map F.bytes files.now)) }
+{
+    let Ok(range) = TokenRange::of(word) else {
+        unreachable!();
+    };
+    if options.ledger {
+        return write_ledger_of_part(rt, alloc, options, table, range, files, out);
+    }
+    write_report_of_part(rt, alloc, options, table, range, files, out)
 }

@@ -8,7 +8,7 @@ ghost use Rattle.settled_bills.specs.Ledgers.{IsTracedLedger};
 ghost use Rattle.std.specs.Prelude.{◌≡◌, ◌≤◌, List, Option, Some, IfErr, IfSome, length, map};
 ghost use Rattle.std.specs.Prelude.{slice_get, true};
 
-use crate::fault::{ClassLine, Fault};
+use crate::fault::Fault;
 use crate::options::Options;
 use crate::program::load_files;
 use fare_table::FareTable;
@@ -31,18 +31,15 @@ fn file_at<'a>(words: &TableWords<'a>, position: usize) -> &'a str
     TableWord::of(words.later[position - 1]).name
 }
 
-/// The line of a class that cannot be in a ledger. The texts were read as fare tables before, so each
+/// The file of a class that cannot be in a ledger. The texts were read as fare tables before, so each
 /// is TOML and names a default class.
-fn class_line<'a>(words: &TableWords<'a>, wrong: WrongNames) -> Option<ClassLine<'a>>
+fn wrong_file<'a>(words: &TableWords<'a>, wrong: WrongNames) -> Option<&'a str>
     requires { wrong.position ≤ length (names_of words.now).later }
-    ensures { IfSome result (λ line. (wrong.fault ≡ ClassFault.Name)
-        × (slice_get (table_files (names_of words.now)) wrong.position ≡ Some line.file.now)) }
+    ensures { IfSome result (λ file. (wrong.fault ≡ ClassFault.Name)
+        × (slice_get (table_files (names_of words.now)) wrong.position ≡ Some file.now)) }
 {
     match wrong.fault {
-        ClassFault::Name => Some(ClassLine {
-            file: file_at(words, wrong.position),
-            is_alone: words.later.as_slice().is_empty(),
-        }),
+        ClassFault::Name => Some(file_at(words, wrong.position)),
         ClassFault::Text | ClassFault::NoMemory => None,
     }
 }
@@ -91,10 +88,10 @@ pub(crate) fn write_traced<'a, R: Threads + Sync, D: Disk + Sync, S: Source, W: 
     let names = match ClassNames::of_texts(alloc, &tables.fares, &tables.texts) {
         Ok(names) => names,
         Err(wrong) => {
-            if let Some(line) = class_line(words, wrong) {
-                return Err(Fault::Class(line));
-            }
-            return Err(Fault::NoMemory);
+            let Some(file) = wrong_file(words, wrong) else {
+                return Err(Fault::NoMemory);
+            };
+            return Err(Fault::Class(file, words.later.as_slice().is_empty()));
         }
     };
     let files = match load_files(rt, alloc, disk, options, source) {

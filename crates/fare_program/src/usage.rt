@@ -1,12 +1,14 @@
 //! Which requests are usage errors.
-ghost use Rattle.fare_program.specs.{Program.IsTokenIn, TokenRanges.range_fault, Usage.has_digits};
-ghost use Rattle.fare_program.specs.{Usage.is_usable, Usage.keeps_rules, inside.Options.request_of};
-ghost use Rattle.program_manners.specs.TableWords.{wrong_word};
+ghost use Rattle.fare_program.specs.{Program.IsTokenIn, TokenRanges.bytes_of_side};
+ghost use Rattle.fare_program.specs.TokenRanges.{is_side, order_fault, range_fault, sides_of};
+ghost use Rattle.fare_program.specs.Usage.{has_digits, is_usable, keeps_rules};
+ghost use Rattle.fare_program.specs.inside.Options.{request_of};
+ghost use Rattle.program_manners.specs.{TableViews.wrong_of, TableWords.wrong_word};
 ghost use Rattle.std.specs.{List.list_all, Option.option_and_then};
-ghost use Rattle.std.specs.Prelude.{◌≡◌, IfOk, OnErr, OnOk, false, is_none, option_map, true};
+ghost use Rattle.std.specs.Prelude.{◌≡◌, IfErr, IfOk, None, OnErr, OnOk, Some, false, is_none};
+ghost use Rattle.std.specs.Prelude.{option_map, true};
 
 use crate::options::Options;
-use crate::token_range::{RangeFault, TokenRange};
 use hex::FromHex;
 use program_manners::WrongWord;
 use std::fmt;
@@ -119,8 +121,8 @@ fn range_error(word: Option<&str>) -> Option<RangeFault>
 
 /// The first word of a fare table that has a wrong date, or lacks one.
 fn wrong_date<'a>(options: &Options<'a>) -> Option<WrongWord<'a>>
-    ensures { is_none result
-        ≡ is_none (option_and_then wrong_word (request_of options.now).table) }
+    ensures { option_map wrong_of result
+        ≡ option_and_then wrong_word (request_of options.now).table }
 {
     match &options.table {
         Some(tables) => tables.wrong_word(),
@@ -131,6 +133,10 @@ fn wrong_date<'a>(options: &Options<'a>) -> Option<WrongWord<'a>>
 /// The first usage error, if there is one; else the token whose statement is requested, if any.
 pub(crate) fn checked<'a>(options: &Options<'a>) -> Result<Option<Token>, UsageError<'a>>
     ensures token { IfOk result (IsTokenIn (request_of options.now).token) }
+    ensures range { OnOk result
+        (option_and_then range_fault (request_of options.now).tokens ≡ None) }
+    ensures dates { OnOk result
+        (option_and_then wrong_word (request_of options.now).table ≡ None) }
     ensures usable { OnOk result (is_usable (request_of options.now) ≡ true) }
     ensures unusable { OnErr result (is_usable (request_of options.now) ≡ false) }
 {
@@ -147,5 +153,96 @@ pub(crate) fn checked<'a>(options: &Options<'a>) -> Result<Option<Token>, UsageE
     match wrong_date(options) {
         Some(wrong) => Err(UsageError::Date(wrong)),
         None => Ok(token),
+    }
+}
+
+/// What is wrong with `--tokens`. Its `Display` is the fault line without its line feed.
+#[derive(Clone, Copy, Debug)]
+pub(crate) enum RangeFault {
+    /// The word does not have two dots after its first token.
+    Form,
+    /// A side is neither 32 hexadecimal digits nor left out.
+    Digits,
+    /// The first token is not below the one that ends the range.
+    Order,
+}
+
+impl fmt::Display for RangeFault {
+    fn fmt<W: fmt::Write>(&self, f: &mut fmt::Formatter<W>) -> fmt::Result {
+        f.write_str(match self {
+            RangeFault::Form => "fault: --tokens needs FROM..BELOW",
+            RangeFault::Digits => {
+                "fault: --tokens needs 32 hexadecimal digits on each side, or none"
+            }
+            RangeFault::Order => "fault: --tokens needs a FROM that is below BELOW",
+        })
+    }
+}
+
+/// The tokens from one on and below another. Each of the two may be left out.
+#[derive(Clone, Copy, Debug)]
+pub(crate) struct TokenRange {
+    pub(crate) from: Option<Token>,
+    pub(crate) below: Option<Token>,
+}
+
+impl TokenRange {
+    /// The range that the word names, as `FROM..BELOW`.
+    pub(crate) fn of(word: &str) -> Result<TokenRange, RangeFault>
+        ensures right { OnOk result (range_fault word.now ≡ None) }
+        ensures fault { IfErr result (λ fault. range_fault word.now ≡ Some fault) }
+    {
+        let Some((from, below)) = sides_of(word) else {
+            return Err(RangeFault::Form);
+        };
+        let (from, below) = (bytes_of_side(from)?, bytes_of_side(below)?);
+        check_order(&from, &below)?;
+        Ok(TokenRange {
+            from: as_token(from),
+            below: as_token(below),
+        })
+    }
+}
+
+fn sides_of(word: &str) -> Option<(&str, &str)>
+    ensures { option_map (λ sides. (sides.0.now, sides.1.now)) result ≡ sides_of word.now }
+{
+    let (from, rest) = word.split_once('.')?;
+    let below = rest.strip_prefix('.')?;
+    Some((from, below))
+}
+
+fn bytes_of_side(digits: &str) -> Result<Option<[u8; 16]>, RangeFault>
+    ensures side { OnOk result (is_side digits.now ≡ true) }
+    ensures bytes { IfOk result (λ bytes. bytes ≡ bytes_of_side digits.now) }
+    ensures fault { IfErr result (λ fault. (fault ≡ RangeFault.Digits)
+        × (is_side digits.now ≡ false)) }
+{
+    if digits.is_empty() {
+        return Ok(None);
+    }
+    match <[u8; 16] as FromHex>::from_hex(digits) {
+        Ok(bytes) => Ok(Some(bytes)),
+        Err(_) => Err(RangeFault::Digits),
+    }
+}
+
+fn check_order(from: &Option<[u8; 16]>, below: &Option<[u8; 16]>) -> Result<(), RangeFault>
+    ensures right { OnOk result (order_fault from.now below.now ≡ None) }
+    ensures fault { IfErr result (λ fault. order_fault from.now below.now ≡ Some fault) }
+{
+    let (Some(from), Some(below)) = (from, below) else {
+        return Ok(());
+    };
+    if from.cmp(below).is_lt() {
+        return Ok(());
+    }
+    Err(RangeFault::Order)
+}
+
+fn as_token(bytes: Option<[u8; 16]>) -> Option<Token> {
+    match bytes {
+        Some(bytes) => Some(Token::of(&bytes)),
+        None => None,
     }
 }

@@ -1,5 +1,5 @@
 -- Books and the drawing are closed.
-use Rattle.std.proofs.Common.{refl, sym, ◌∙◌, ap, inl, inr, subst, arith, get_or, eqb-true}
+use Rattle.std.proofs.Common.{refl, sym, ◌∙◌, ap, inl, inr, subst, arith, get_or, eqb-true, eq-eqb}
 use Rattle.fare_service.proofs.Signing.{all_signed, signs_visits}
 use Rattle.fare_service.specs.Claims.{HaveAllClaims}
 use Rattle.fare_service.specs.Closing.{IsHistoryOf, HoldAllVisits, ReportsFirst}
@@ -21,12 +21,21 @@ use Rattle.std.specs.List.{flat_map}
 use Rattle.std.specs.Prelude.{ℕ, zero, suc, ◌≡◌, ◌⊎◌, ◌+◌, ◌<◌, ◌≤◌, List, [], ◌∷◌, length}
 use Rattle.std.specs.Prelude.{slice_get, Some, option_map, sum_by, remove, Bool, true, false, ◌==◌}
 
--- the first of some elements was taken out
-pub split_first : {A : Type 0} (xs : List A) (first : A) (rest : List A) → 0 < length xs
-    → first ≡ get_or xs 0 first → rest ≡ remove xs 0 → xs ≡ first ∷ rest
-split_first [] first rest some is left = absurd (omega (arith, some))
-split_first (x ∷ xs) first rest some is left =
-    ap (λ y. y ∷ xs) (sym is) ∙ ap (λ ys. first ∷ ys) (sym left)
+-- whether there is no share
+pub no_shares : (shares : List ShareView) (none : Bool) (number : ℕ) → number ≡ length shares
+    → none ≡ (number == 0) → none ≡ true → shares ≡ []
+no_shares [] none number is reports holds = refl
+no_shares (share ∷ shares) none number is reports holds =
+    absurd (omega (arith, is, eqb-true number 0 (sym reports ∙ holds)))
+
+-- the first of some shares was taken out
+pub some_shares : (shares : List ShareView) (first : ShareView) (rest : List ShareView)
+    (none : Bool) (number : ℕ) → number ≡ length shares → none ≡ (number == 0) → none ≡ false
+    → first ≡ get_or shares 0 first → rest ≡ remove shares 0 → shares ≡ first ∷ rest
+some_shares [] first rest none number is reports fails at left =
+    let h : true ≡ false = sym (eq-eqb number 0 is) ∙ sym reports ∙ fails in absurd (cc)
+some_shares (x ∷ xs) first rest none number is reports fails at left =
+    ap (λ y. y ∷ xs) (sym at) ∙ ap (λ ys. first ∷ ys) (sym left)
 
 -- the history of a book without a visit
 unseen_history : (opened : List SharedBookView) (shard : ℕ) (book : Book)
@@ -226,25 +235,19 @@ held_drawn drawing opened nobody shares drawer passes all =
     ap length all.drawn ∙ length-flat_map (λ s. s.drawer.drawn) shares
 
 -- the first share and the others are all shares
-pub joined_whole : (drawing : Drawing) (opened : List SharedBookView) (shares : List ShareView)
-    (first : ShareView) (others : List ShareView) (drawer : DrawerView) (passes : List PassView)
-    → shares ≡ first ∷ others
-    → IsJoinedOf drawing opened (length others + 1) (first ∷ others) drawer passes
+pub joined_whole : (drawing : Drawing) (shares : List ShareView) (first : ShareView)
+    (others : List ShareView) (drawer : DrawerView) (passes : List PassView)
+    (opened slice : List SharedBookView) → shares ≡ first ∷ others → slice ≡ opened
+    → IsJoinedOf drawing slice (length others + 1) (first ∷ others) drawer passes
     → IsJoinedOf drawing opened (length shares) shares drawer passes
-joined_whole drawing opened shares first others drawer passes is all =
+joined_whole drawing shares first others drawer passes opened slice is same all =
     let number : length others + 1 ≡ length shares = omega (arith, ap length is) in
     let N : ℕ → Type 0 = λ n. IsJoinedOf drawing opened n (first ∷ others) drawer passes in
+    let B : List SharedBookView → Type 0 =
+    λ bs. IsJoinedOf drawing bs (length others + 1) (first ∷ others) drawer passes in
     let S : List ShareView → Type 0 =
     λ ss. IsJoinedOf drawing opened (length shares) ss drawer passes in
-    subst S (sym is) (subst N number all)
-
-pub some_shares : (none : Bool) (number : ℕ) → none ≡ (number == 0) → none ≡ false → 0 < number
-some_shares none zero reports is = let h : (zero == 0) ≡ false = sym reports ∙ is in absurd (cc)
-some_shares none (suc number) reports is = omega arith
-
-pub none_there : (none : Bool) (number : ℕ) → none ≡ (number == 0) → none ≡ true → number ≡ 0
-none_there none zero reports is = refl
-none_there none (suc number) reports is = eqb-true (suc number) 0 (sym reports ∙ is)
+    subst S (sym is) (subst N number (subst B same all))
 
 -- if there is no share, there is no claim
 pub none_whole : (shards : ℕ) (shares : List ShareView) → shares ≡ [] → HaveAllClaims shards shares

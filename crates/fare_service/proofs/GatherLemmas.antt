@@ -17,6 +17,7 @@ use Rattle.shared_books.specs.Drawing.{AllBelow, NoneTwice, times}
 use Rattle.std.proofs.lemmas.{Bool.cases_lt, Bool.Decides.eqb_tells, List.map-append}
 use Rattle.std.proofs.lemmas.List.Elements.{All-nil, All-cons, All-head, All-tail, All-append}
 use Rattle.std.proofs.lemmas.List.{Elements.All-map, Elements.All-weaker, Sums.sum_by-cons}
+use Rattle.std.proofs.lemmas.Slice.Zip.{AllZip-long}
 use Rattle.std.specs.{List.flat_map, List.AllZip, Prelude.ℕ, Prelude.zero}
 use Rattle.std.specs.Prelude.{suc, ◌≡◌, ◌≢◌, ◌⊎◌, ◌+◌, ◌<◌, ◌≤◌, ◌==◌, true, false, List, [], ◌∷◌}
 use Rattle.std.specs.Prelude.{◌++◌, length, map, replicate, slice_set, All, slice_get, Some, cond}
@@ -101,10 +102,7 @@ totals_all service (s ∷ shares) (w ∷ works) kept =
 
 pub kept_length : (service : ServiceView) (shares : List ShareView) (works : List (List Worked))
     → Kept service shares works → length shares ≡ length works
-kept_length service [] [] kept = refl
-kept_length service [] (w ∷ works) kept = absurd kept
-kept_length service (s ∷ shares) [] kept = absurd kept
-kept_length service (s ∷ shares) (w ∷ works) kept = ap suc (kept_length service shares works kept.1)
+kept_length service shares works kept = sym (AllZip-long (KeepsWorks service) shares works kept)
 
 kept_at : (service : ServiceView) (shares : List ShareView) (works : List (List Worked))
     (worker : ℕ) (done : List Worked) → Kept service shares works

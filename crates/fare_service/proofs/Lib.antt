@@ -32,7 +32,6 @@ pub mod VisitLemmas
 pub mod PlainBooks
 pub mod PlainEnds
 pub mod PlainLists
-pub mod PlainRuns
 pub mod PlainSame
 pub mod PlainSums
 pub mod PlainUploads

@@ -178,7 +178,7 @@ shard_taps shard shards (v ∷ visits) all =
     ∙ sym (kept_taps (v.shard == shard) v (visits_to shard visits))))
 
 -- each tap of the visits has an entry
-visits_length : (shards : ℕ) (visits : List RunVisit) → All (IsEntered shards) visits
+pub visits_length : (shards : ℕ) (visits : List RunVisit) → All (IsEntered shards) visits
     → taps_posted visits ≡ length (flat_map (λ v. v.taps) visits)
 visits_length shards [] all = refl
 visits_length shards (v ∷ visits) all =
@@ -198,7 +198,7 @@ runs_taps_are : (visits : List RunVisit)
 runs_taps_are [] = refl
 runs_taps_are (v ∷ visits) = ap (λ ts. v.taps ++ ts) (runs_taps_are visits)
 
-posted_taps_are : (runs : List PostedRun) (visits : List RunVisit) → ArePostedWhole runs visits
+pub posted_taps_are : (runs : List PostedRun) (visits : List RunVisit) → ArePostedWhole runs visits
     → flat_map (λ v. v.taps) visits ≡ flat_map (λ r. r.taps) runs
 posted_taps_are runs visits posted =
     runs_taps_are visits ∙ ap (λ rs. flat_map (λ (r : PostedRun). r.taps) rs) posted
@@ -207,11 +207,11 @@ take_front : {X : Type 0} (xs ys zs : List X) → zs ≡ xs ++ ys → take (leng
 take_front xs ys zs e = ap (take (length xs)) e ∙ take_at xs ys (length xs) refl
 
 -- the first taps in posting order
-record IsFront (order taps : List Tap) : Type 0 where
-  fewer : length taps < length order
-  front : taps ≡ take (length taps) order
+pub record IsFront (order taps : List Tap) : Type 0 where
+  pub fewer : length taps < length order
+  pub front : taps ≡ take (length taps) order
 
-cut_taps_are : (runs : List PostedRun) (visits : List RunVisit) → AreCut runs visits
+pub cut_taps_are : (runs : List PostedRun) (visits : List RunVisit) → AreCut runs visits
     → IsFront (flat_map (λ r. r.taps) runs) (flat_map (λ v. v.taps) visits)
 cut_taps_are runs visits c = made c.made
   where

@@ -1,6 +1,5 @@
 -- For which tap each entry of a book stands.
-use Rattle.std.proofs.Common.{refl, sym, ◌∙◌, ap, inl, inr, subst, arith, get_or, eq-eqb, eqb-true}
-use Rattle.std.proofs.Common.{ne_eqb}
+use Rattle.std.proofs.Common.{refl, sym, ◌∙◌, ap, inl, inr, subst, arith, get_or, eq-eqb, ne_eqb}
 use Rattle.fare_service.proofs.GatherLemmas.{drawn_times, times_same, each_work}
 use Rattle.fare_service.proofs.GatheredWork.{Given, IsBookOfWork, IsGathered}
 use Rattle.fare_service.proofs.OwnVisits.{IsOwnVisit, own_worked, shard_taps, works_on, no_works_on}
@@ -13,7 +12,7 @@ use Rattle.fare_service.specs.Shares.{Worked, all_visits, IsWorkOf, all_works, f
 use Rattle.fare_service.specs.inside.Runs.{visits_to}
 use Rattle.histories.specs.{Entry.IsEntryOf, declared.entry.Entry.Entry}
 use Rattle.shard_book.specs.Book.{Book}
-use Rattle.shared_books.specs.{Drawing.NoneTwice, Drawing.times, Marks.history_of_visits}
+use Rattle.shared_books.specs.{Drawing.times, Marks.history_of_visits}
 use Rattle.std.proofs.lemmas.Bool.{cases_lt, cases_Bool, Decides.eqb_tells}
 use Rattle.std.proofs.lemmas.List.{map-append, length-map, nil_from_length, get_or_past}
 use Rattle.std.proofs.lemmas.List.Elements.{All-nil, All-cons, All-head, All-tail, All-append}
@@ -33,11 +32,6 @@ record Labeled : Type 0 where
 
 abbrev label : ℕ → RunVisit → Labeled
 label upload visit = record { upload = upload; visit = visit }
-
--- a labelled visit, and the worker that made it
-record By : Type 0 where
-  worker : ℕ
-  made : Labeled
 
 abbrev entries_made : Labeled → List Entry
 entries_made x = x.visit.entries
@@ -61,7 +55,7 @@ kept_map : {X Y : Type 0} (f : X → Y) (b : Bool) (x : X) (xs : List X)
 kept_map f true x xs = refl
 kept_map f false x xs = refl
 
-filter-map : {X Y : Type 0} (p : Y → Bool) (f : X → Y) (xs : List X)
+pub filter-map : {X Y : Type 0} (p : Y → Bool) (f : X → Y) (xs : List X)
     → filter p (map f xs) ≡ map f (filter (λ x. p (f x)) xs)
 filter-map p f [] = refl
 filter-map p f (x ∷ xs) =
@@ -92,110 +86,6 @@ entries_are : (shard : ℕ) (done : List Worked)
 entries_are shard done =
     sym (map-map (λ (v : RunVisit). v.entries) (λ (x : Labeled). x.visit) (to_shard shard done))
     ∙ ap (map (λ v. v.entries)) (unlabeled_to shard done)
-
--- The signed visits of a book, each as the visit that its worker made.
-record IsSpread (P : ℕ → Labeled → Type 0) (visits : List Signed) (left : ℕ → List Labeled) : Type
-    0 where
-  made : List By
-  entries : map (λ y. entries_made y.made) made ≡ map (λ v. v.entries) visits
-  own : (w : ℕ) → map (λ y. y.made) (filter (λ y. y.worker == w) made) ≡ left w
-  each : All (λ y. P y.worker y.made) made
-
-made_yes : (w : ℕ) (y : By) (ys : List By) → (y.worker == w) ≡ true
-    → map (λ z. z.made) (filter (λ z. z.worker == w) (y ∷ ys))
-    ≡ y.made ∷ map (λ z. z.made) (filter (λ z. z.worker == w) ys)
-made_yes w y ys b = ap
-    (λ t. map (λ (z : By). z.made)
-    (cond t (y ∷ filter (λ z. z.worker == w) ys) (filter (λ z. z.worker == w) ys))) b
-
-made_no : (w : ℕ) (y : By) (ys : List By) → (y.worker == w) ≡ false
-    → map (λ z. z.made) (filter (λ z. z.worker == w) (y ∷ ys))
-    ≡ map (λ z. z.made) (filter (λ z. z.worker == w) ys)
-made_no w y ys b = ap
-    (λ t. map (λ (z : By). z.made)
-    (cond t (y ∷ filter (λ z. z.worker == w) ys) (filter (λ z. z.worker == w) ys))) b
-
-spread : (P : ℕ → Labeled → Type 0) (visits : List Signed) (left : ℕ → List Labeled)
-    → ((w : ℕ) → by_worker w visits ≡ map entries_made (left w)) → ((w : ℕ) → All (P w) (left w))
-    → IsSpread P visits left
-spread P [] left same all = record {
-  made = [];
-  entries = refl;
-  own = λ w. sym
-      (nil_from_length (left w)
-      (sym (length-map (left w) entries_made) ∙ ap length (sym (same w))));
-  each = All-nil (λ (y : By). P y.worker y.made);
-}
-spread P (v ∷ visits) left same all = next (λ l s a. spread P visits l s a) (left v.worker) refl
-  where
-    next : ((l : ℕ → List Labeled) → ((w : ℕ) → by_worker w visits ≡ map entries_made (l w))
-        → ((w : ℕ) → All (P w) (l w)) → IsSpread P visits l) → (xs : List Labeled)
-        → left v.worker ≡ xs → IsSpread P (v ∷ visits) left
-    next go [] e =
-        absurd (let h : v.entries ∷ by_worker v.worker visits ≡ [] =
-        sym (step_yes v.worker v visits (eq-eqb v.worker v.worker refl))
-        ∙ (same v.worker ∙ ap (map entries_made) e) in cc)
-    next go (x ∷ xs) e = record {
-      made = record { worker = v.worker; made = x } ∷ rest.made;
-      entries = ap (λ es. es ∷ map (λ (y : By). entries_made y.made) rest.made) (sym here)
-          ∙ ap (λ ess. v.entries ∷ ess) rest.entries;
-      own = λ w. own w (eqb_tells v.worker w);
-      each = All-cons (λ y. P y.worker y.made) (record { worker = v.worker; made = x }) rest.made
-          (All-head (P v.worker) x xs first) rest.each;
-    }
-      where
-        l : ℕ → List Labeled
-        l = λ w. cond (v.worker == w) xs (left w)
-
-        first : All (P v.worker) (x ∷ xs)
-        first = let A : List Labeled → Type 0 = All (P v.worker) in subst A e (all v.worker)
-
-        begins : v.entries ∷ by_worker v.worker visits ≡ entries_made x ∷ map entries_made xs
-        begins = sym (step_yes v.worker v visits (eq-eqb v.worker v.worker refl))
-            ∙ (same v.worker ∙ ap (map entries_made) e)
-
-        here : v.entries ≡ entries_made x
-        here = cc begins
-
-        then : by_worker v.worker visits ≡ map entries_made xs
-        then = cc begins
-
-        later : (w : ℕ) → (((v.worker == w) ≡ true) × (v.worker ≡ w))
-            ⊎ (((v.worker == w) ≡ false) × (v.worker ≢ w))
-            → by_worker w visits ≡ map entries_made (cond (v.worker == w) xs (left w))
-        later w (inl (b, k)) =
-            sym (ap (λ n. by_worker n visits) k)
-            ∙ (then ∙ sym (ap (λ t. map entries_made (cond t xs (left w))) b))
-        later w (inr (b, k)) =
-            sym (step_no w v visits b)
-            ∙ (same w ∙ sym (ap (λ t. map entries_made (cond t xs (left w))) b))
-
-        each : (w : ℕ) → (((v.worker == w) ≡ true) × (v.worker ≡ w))
-            ⊎ (((v.worker == w) ≡ false) × (v.worker ≢ w))
-            → All (P w) (cond (v.worker == w) xs (left w))
-        each w (inl (b, k)) =
-            let A : Bool → Type 0 = λ t. All (P w) (cond t xs (left w)) in
-            let N : ℕ → Type 0 = λ n. All (P n) xs in
-            subst A (sym b) (subst N k (All-tail (P v.worker) x xs first))
-        each w (inr (b, k)) = let A : Bool → Type 0 = λ t. All (P w) (cond t xs (left w)) in
-            subst A (sym b) (all w)
-
-        rest : IsSpread P visits (λ w. cond (v.worker == w) xs (left w))
-        rest = go (λ w. cond (v.worker == w) xs (left w)) (λ w. later w (eqb_tells v.worker w))
-            (λ w. each w (eqb_tells v.worker w))
-
-        own : (w : ℕ) → (((v.worker == w) ≡ true) × (v.worker ≡ w))
-            ⊎ (((v.worker == w) ≡ false) × (v.worker ≢ w))
-            → map (λ y. y.made)
-            (filter (λ y. y.worker == w) (record { worker = v.worker; made = x } ∷ rest.made))
-            ≡ left w
-        own w (inl (b, k)) =
-            made_yes w (record { worker = v.worker; made = x }) rest.made b
-            ∙ (ap (λ ys. x ∷ ys) (rest.own w ∙ ap (λ t. cond t xs (left w)) b)
-            ∙ (sym e ∙ ap left k))
-        own w (inr (b, k)) =
-            made_no w (record { worker = v.worker; made = x }) rest.made b
-            ∙ (rest.own w ∙ ap (λ t. cond t xs (left w)) b)
 
 -- how often an upload was drawn, by the one and the others
 drawn-append : (upload : ℕ) (xs ys : List Worked)
@@ -340,11 +230,8 @@ abbrev IsEntryOfOrigin : Origin → Entry → Type 0
 IsEntryOfOrigin origin entry = IsEntryOf origin.tap entry
 
 -- the taps of a visit, each with its upload
-abbrev origins_of : By → List Origin
-origins_of y = map (λ p. record { upload = y.made.upload; tap = p }) y.made.visit.taps
-
-abbrev all_origins : List By → List Origin
-all_origins made = flat_map origins_of made
+abbrev origins_of : Labeled → List Origin
+origins_of x = map (λ p. record { upload = x.upload; tap = p }) x.visit.taps
 
 origin_fields : (upload : ℕ) (taps : List Tap) (entries : List Entry)
     → AllZip IsEntryOf taps entries
@@ -353,18 +240,6 @@ origin_fields upload [] [] h = tt
 origin_fields upload [] (e ∷ entries) h = absurd h
 origin_fields upload (p ∷ taps) [] h = absurd h
 origin_fields upload (p ∷ taps) (e ∷ entries) h = (h.0, origin_fields upload taps entries h.1)
-
-all_fields : (given : Given) (works : List (List Worked)) (made : List By)
-    → All (λ y. IsMade given works y.worker y.made) made
-    → AllZip IsEntryOfOrigin (all_origins made)
-    (history_of_visits (map (λ y. entries_made y.made) made))
-all_fields given works [] all = tt
-all_fields given works (y ∷ made) all =
-    AllZip-append IsEntryOfOrigin (origins_of y) (entries_made y.made) (all_origins made)
-    (history_of_visits (map (λ z. entries_made z.made) made))
-    (origin_fields y.made.upload y.made.visit.taps (entries_made y.made)
-    (All-head (λ z. IsMade given works z.worker z.made) y made all).entered.fields)
-    (all_fields given works made (All-tail (λ z. IsMade given works z.worker z.made) y made all))
 
 -- the taps of one upload among a visit's
 origin_yes : (upload from : ℕ) (taps : List Tap) → (from == upload) ≡ true
@@ -394,37 +269,131 @@ of_upload-append upload xs ys =
     ∙ map-append (λ (o : Origin). o.tap) (filter (λ o. o.upload == upload) xs)
     (filter (λ o. o.upload == upload) ys)
 
-abbrev made_for : ℕ → List By → List By
-made_for upload made = filter (λ y. y.made.upload == upload) made
+-- the taps of one upload among those of labelled visits
+abbrev taps_for : ℕ → List Labeled → List Tap
+taps_for upload xs = flat_map (λ x. x.visit.taps) (filter (λ x. x.upload == upload) xs)
 
-abbrev taps_made : List By → List Tap
-taps_made made = flat_map (λ y. y.made.visit.taps) made
+-- The signed visits of a book, as origins: of each upload those of the worker that drew it.
+record IsSpread (visits : List Signed) (drawer : ℕ → ℕ) (left : ℕ → List Labeled) : Type 0 where
+  origins : List Origin
+  fields : AllZip IsEntryOfOrigin origins (history_of_visits (map (λ v. v.entries) visits))
+  exactly : (upload : ℕ) → of_upload upload origins ≡ taps_for upload (left (drawer upload))
 
--- the taps of one upload among those of some visits
-origins_for : (upload : ℕ) (made : List By)
-    → of_upload upload (all_origins made) ≡ taps_made (made_for upload made)
-origins_for upload [] = refl
-origins_for upload (y ∷ made) =
-    of_upload-append upload (origins_of y) (all_origins made)
-    ∙ by_test (cases_Bool (y.made.upload == upload)) (origins_for upload made)
-  where
-    by_test : ((y.made.upload == upload) ≡ true) ⊎ ((y.made.upload == upload) ≡ false)
-        → of_upload upload (all_origins made) ≡ taps_made (made_for upload made)
-        → of_upload upload (origins_of y) ++ of_upload upload (all_origins made)
-        ≡ taps_made (made_for upload (y ∷ made))
-    by_test (inl b) rest =
-        ap (λ ts. ts ++ of_upload upload (all_origins made))
-        (origin_yes upload y.made.upload y.made.visit.taps b)
-        ∙ (ap (λ ts. y.made.visit.taps ++ ts) rest
-        ∙ sym (ap (λ t. taps_made (cond t (y ∷ made_for upload made) (made_for upload made))) b))
-    by_test (inr b) rest =
-        ap (λ ts. ts ++ of_upload upload (all_origins made))
-        (origin_no upload y.made.upload y.made.visit.taps b)
-        ∙ (rest ∙ sym
-        (ap (λ t. taps_made (cond t (y ∷ made_for upload made) (made_for upload made))) b))
+module _ (given : Given) (works : List (List Worked)) (drawer : ℕ → ℕ)
+    (only : (upload w : ℕ) → 0 < drawn_times upload (works_at w works) → w ≡ drawer upload) where
+  spread : (visits : List Signed) (left : ℕ → List Labeled)
+      → ((w : ℕ) → by_worker w visits ≡ map entries_made (left w))
+      → ((w : ℕ) → All (IsMade given works w) (left w)) → IsSpread visits drawer left
+  spread [] left same all = record {
+    origins = [];
+    fields = tt;
+    exactly = λ upload. sym (ap (taps_for upload)
+        (nil_from_length (left (drawer upload))
+        (sym (length-map (left (drawer upload)) entries_made)
+        ∙ ap length (sym (same (drawer upload))))));
+  }
+  spread (v ∷ visits) left same all =
+      next (λ l s a. spread visits l s a) (left v.worker) refl
+    where
+      next : ((l : ℕ → List Labeled) → ((w : ℕ) → by_worker w visits ≡ map entries_made (l w))
+          → ((w : ℕ) → All (IsMade given works w) (l w)) → IsSpread visits drawer l)
+          → (xs : List Labeled) → left v.worker ≡ xs → IsSpread (v ∷ visits) drawer left
+      next go [] e =
+          absurd (let h : v.entries ∷ by_worker v.worker visits ≡ [] =
+          sym (step_yes v.worker v visits (eq-eqb v.worker v.worker refl))
+          ∙ (same v.worker ∙ ap (map entries_made) e) in cc)
+      next go (x ∷ xs) e = record {
+        origins = origins_of x ++ rest.origins;
+        fields = AllZip-append IsEntryOfOrigin (origins_of x) v.entries rest.origins
+            (history_of_visits (map (λ z. z.entries) visits))
+            (origin_fields x.upload x.visit.taps v.entries
+            (subst F (sym here) (All-head (IsMade given works v.worker) x xs first).entered.fields))
+            rest.fields;
+        exactly = λ upload. of_upload-append upload (origins_of x) rest.origins
+            ∙ exactly upload (eqb_tells v.worker (drawer upload)) (eqb_tells x.upload upload);
+      }
+        where
+          first : All (IsMade given works v.worker) (x ∷ xs)
+          first = let A : List Labeled → Type 0 = All (IsMade given works v.worker) in
+              subst A e (all v.worker)
+
+          F : List Entry → Type 0
+          F es = AllZip IsEntryOf x.visit.taps es
+
+          begins : v.entries ∷ by_worker v.worker visits ≡ entries_made x ∷ map entries_made xs
+          begins = sym (step_yes v.worker v visits (eq-eqb v.worker v.worker refl))
+              ∙ (same v.worker ∙ ap (map entries_made) e)
+
+          here : v.entries ≡ entries_made x
+          here = cc begins
+
+          then : by_worker v.worker visits ≡ map entries_made xs
+          then = cc begins
+
+          later : (w : ℕ) → (((v.worker == w) ≡ true) × (v.worker ≡ w))
+              ⊎ (((v.worker == w) ≡ false) × (v.worker ≢ w))
+              → by_worker w visits ≡ map entries_made (cond (v.worker == w) xs (left w))
+          later w (inl (b, k)) =
+              sym (ap (λ n. by_worker n visits) k)
+              ∙ (then ∙ sym (ap (λ t. map entries_made (cond t xs (left w))) b))
+          later w (inr (b, k)) =
+              sym (step_no w v visits b)
+              ∙ (same w ∙ sym (ap (λ t. map entries_made (cond t xs (left w))) b))
+
+          each : (w : ℕ) → (((v.worker == w) ≡ true) × (v.worker ≡ w))
+              ⊎ (((v.worker == w) ≡ false) × (v.worker ≢ w))
+              → All (IsMade given works w) (cond (v.worker == w) xs (left w))
+          each w (inl (b, k)) =
+              let A : Bool → Type 0 = λ t. All (IsMade given works w) (cond t xs (left w)) in
+              let N : ℕ → Type 0 = λ n. All (IsMade given works n) xs in
+              subst A (sym b) (subst N k (All-tail (IsMade given works v.worker) x xs first))
+          each w (inr (b, k)) =
+              let A : Bool → Type 0 = λ t. All (IsMade given works w) (cond t xs (left w)) in
+              subst A (sym b) (all w)
+
+          rest : IsSpread visits drawer (λ w. cond (v.worker == w) xs (left w))
+          rest = go (λ w. cond (v.worker == w) xs (left w))
+              (λ w. later w (eqb_tells v.worker w)) (λ w. each w (eqb_tells v.worker w))
+
+          exactly : (upload : ℕ)
+              → (((v.worker == drawer upload) ≡ true) × (v.worker ≡ drawer upload))
+              ⊎ (((v.worker == drawer upload) ≡ false) × (v.worker ≢ drawer upload))
+              → (((x.upload == upload) ≡ true) × (x.upload ≡ upload))
+              ⊎ (((x.upload == upload) ≡ false) × (x.upload ≢ upload))
+              → of_upload upload (origins_of x) ++ of_upload upload rest.origins
+              ≡ taps_for upload (left (drawer upload))
+          exactly upload (inl (b, k)) u =
+              ap (λ ts. of_upload upload (origins_of x) ++ ts)
+              (rest.exactly upload ∙ ap (λ t. taps_for upload (cond t xs (left (drawer upload)))) b)
+              ∙ by_upload u ∙ ap (taps_for upload) (sym e ∙ ap left k)
+            where
+              more : List Labeled
+              more = filter (λ y. y.upload == upload) xs
+
+              by_upload : (((x.upload == upload) ≡ true) × (x.upload ≡ upload))
+                  ⊎ (((x.upload == upload) ≡ false) × (x.upload ≢ upload))
+                  → of_upload upload (origins_of x) ++ taps_for upload xs
+                  ≡ taps_for upload (x ∷ xs)
+              by_upload (inl (c, i)) =
+                  ap (λ ts. ts ++ taps_for upload xs) (origin_yes upload x.upload x.visit.taps c)
+                  ∙ sym (ap (λ t. flat_map (λ (y : Labeled). y.visit.taps) (cond t (x ∷ more) more))
+                  c)
+              by_upload (inr (c, i)) =
+                  ap (λ ts. ts ++ taps_for upload xs) (origin_no upload x.upload x.visit.taps c)
+                  ∙ sym (ap (λ t. flat_map (λ (y : Labeled). y.visit.taps) (cond t (x ∷ more) more))
+                  c)
+          exactly upload (inr (b, k)) (inl (c, i)) =
+              let D : ℕ → Type 0 = λ n. 0 < drawn_times n (works_at v.worker works) in
+              absurd (k (only upload v.worker
+              (subst D i (All-head (IsMade given works v.worker) x xs first).drawn)))
+          exactly upload (inr (b, k)) (inr (c, i)) =
+              ap (λ ts. ts ++ of_upload upload rest.origins)
+              (origin_no upload x.upload x.visit.taps c)
+              ∙ rest.exactly upload
+              ∙ ap (λ t. taps_for upload (cond t xs (left (drawer upload)))) b
 
 -- what one test keeps, another one keeps that it implies
-filter_within : {X : Type 0} (p q : X → Bool) (xs : List X) → All (λ x. p x ≡ true → q x ≡ true) xs
+pub filter_within : {X : Type 0} (p q : X → Bool) (xs : List X) → All (λ x. p x ≡ true → q x ≡ true) xs
     → filter p xs ≡ filter p (filter q xs)
 filter_within p q [] all = refl
 filter_within p q (x ∷ xs) all =
@@ -491,21 +460,18 @@ own_all given (w ∷ works) all =
     (own_worked given w (All-head (IsWorkOf given.shards given.uploads) w works all))
     (own_all given works (All-tail (IsWorkOf given.shards given.uploads) w works all))
 
--- the taps of one upload in a shard's book
-exactly_posted : (given : Given) (works : List (List Worked))
-    → All (λ done. All (IsWorkOf given.shards given.uploads) done) works
-    → NoneTwice (map (λ w. w.upload) (all_works works)) → (shard upload : ℕ) (made : List By)
-    → ((w : ℕ) → map (λ y. y.made) (filter (λ y. y.worker == w) made)
-    ≡ to_shard shard (works_at w works)) → All (λ y. IsMade given works y.worker y.made) made
-    → of_upload upload (all_origins made)
+-- the taps of one upload in a shard's book are those that the worker that drew it posted
+taps_posted_for : (given : Given) (works : List (List Worked))
+    → All (λ done. All (IsWorkOf given.shards given.uploads) done) works → (shard upload : ℕ)
+    → (s : IsSole upload works)
+    → taps_for upload (to_shard shard (works_at s.worker works))
     ≡ run_of shard given.shards (posted_of upload (all_works works))
-exactly_posted given works each once shard upload made own all =
-    origins_for upload made
-    ∙ (ap taps_made
-    (filter_within (λ y. y.made.upload == upload) (λ y. y.worker == s.worker) made implied)
-    ∙ (sym (flat_map-map (λ (x : Labeled). x.visit.taps) (λ (y : By). y.made)
-    (made_for upload (filter (λ y. y.worker == s.worker) made)))
-    ∙ (ap (flat_map (λ (x : Labeled). x.visit.taps)) labels
+taps_posted_for given works each shard upload s =
+    ap (flat_map (λ (x : Labeled). x.visit.taps))
+    (filter-filter (λ (x : Labeled). x.upload == upload) (λ x. x.visit.shard == shard)
+    (labeled (works_at s.worker works))
+    ∙ (ap (filter (λ (x : Labeled). x.visit.shard == shard))
+    (labels_for upload (works_at s.worker works)) ∙ ap (to_shard shard) (sym s.found)))
     ∙ (sym (flat_map-map (λ (v : RunVisit). v.taps) (λ (x : Labeled). x.visit)
     (to_shard shard (works_on upload (all_works works))))
     ∙ (ap (flat_map (λ (v : RunVisit). v.taps))
@@ -513,32 +479,7 @@ exactly_posted given works each once shard upload made own all =
     ∙ sym (shard_taps shard given.shards (all_visits (works_on upload (all_works works)))
     (own_all given (works_on upload (all_works works))
     (All-filter (λ w. w.upload == upload) (IsWorkOf given.shards given.uploads) (all_works works)
-    (each_work given works each)))))))))
-  where
-    s : IsSole upload works
-    s = sole upload works (once upload)
-
-    implied : All (λ y. (y.made.upload == upload) ≡ true → (y.worker == s.worker) ≡ true) made
-    implied = All-weaker (λ y. IsMade given works y.worker y.made)
-        (λ y. (y.made.upload == upload) ≡ true → (y.worker == s.worker) ≡ true) of_made made all
-      where
-        of_made : (y : By) → IsMade given works y.worker y.made → (y.made.upload == upload) ≡ true
-            → (y.worker == s.worker) ≡ true
-        of_made y is b =
-            let U : ℕ → Type 0 = λ u. 0 < drawn_times u (works_at y.worker works) in
-            eq-eqb y.worker s.worker
-            (s.only y.worker (subst U (eqb-true y.made.upload upload b) is.drawn))
-
-    labels : map (λ y. y.made) (made_for upload (filter (λ y. y.worker == s.worker) made))
-        ≡ to_shard shard (works_on upload (all_works works))
-    labels =
-        sym (filter-map (λ (x : Labeled). x.upload == upload) (λ (y : By). y.made)
-        (filter (λ y. y.worker == s.worker) made))
-        ∙ (ap (filter (λ (x : Labeled). x.upload == upload)) (own s.worker)
-        ∙ (filter-filter (λ (x : Labeled). x.upload == upload) (λ x. x.visit.shard == shard)
-        (labeled (works_at s.worker works))
-        ∙ (ap (filter (λ (x : Labeled). x.visit.shard == shard))
-        (labels_for upload (works_at s.worker works)) ∙ ap (to_shard shard) (sym s.found))))
+    (each_work given works each))))))
 
 by_worker_at : (given : Given) (shard : ℕ) (works : List (List Worked)) (book : Book)
     → (is : IsBookOfWork given.table shard given.shards works book) → (w : ℕ)
@@ -564,17 +505,19 @@ pub occurs_once : (given : Given) (works : List (List Worked)) (outcome : Outcom
     → OccurOnce shard given.shards (all_works works) book.entries
 occurs_once given works outcome is shard book at =
     let work = is.books shard book at in
-    let s = spread (IsMade given works) work.visits (λ w. to_shard shard (works_at w works))
+    let s = spread given works (λ upload. (sole_of upload).worker)
+    (λ upload. (sole_of upload).only) work.visits (λ w. to_shard shard (works_at w works))
     (by_worker_at given shard works book work) (all_made given works is.each shard) in
-    let entries : history_of_visits (map (λ y. entries_made y.made) s.made) ≡ book.entries =
-    ap history_of_visits s.entries ∙ sym work.history in
-    let F : List Entry → Type 0 = AllZip IsEntryOfOrigin (all_origins s.made) in
+    let F : List Entry → Type 0 = AllZip IsEntryOfOrigin s.origins in
     record {
-      origins = all_origins s.made;
-      fields = subst F entries (all_fields given works s.made s.each);
-      exactly = λ upload. exactly_posted given works is.each is.once shard upload s.made s.own
-          s.each;
+      origins = s.origins;
+      fields = subst F (sym work.history) s.fields;
+      exactly = λ upload. s.exactly upload
+          ∙ taps_posted_for given works is.each shard upload (sole_of upload);
     }
+  where
+    sole_of : (upload : ℕ) → IsSole upload works
+    sole_of upload = sole upload works (is.once upload)
 
 -- what each upload's end reports was posted of it
 pub posted_reported : (given : Given) (works : List (List Worked)) (outcome : OutcomeView)

@@ -1,8 +1,7 @@
 -- The plain history of uploads is there, and there is one; and what laws on it stand on.
 use Rattle.std.proofs.Common.{sym, ◌∙◌, ap, subst, arith, get_or, mod-lt}
 use Rattle.fare_caps.specs.{CapMeanings.capped_rules_of, CappedReplies.capped_window}
-use Rattle.fare_service.proofs.{GatheredWork.Given, HeadlineLemmas.gathered_of}
-use Rattle.fare_service.proofs.PlainBooks.{Represents, own_plain}
+use Rattle.fare_service.proofs.{GatheredWork.Given, PlainBooks.Represents, PlainBooks.own_plain}
 use Rattle.fare_service.specs.{Outcomes.OutcomeView, Plain.IsUncutGathering, Printed.IsStatementOf}
 use Rattle.fare_texts.specs.StatementText.{IsStatementText}
 use Rattle.histories.specs.Entry.{own, tap_of, taps_of}
@@ -26,7 +25,7 @@ pub holds : (given : Given) (outcome : OutcomeView) (history : List Entry)
     → (w : IsUncutGathering given.table given.shards given.uploads outcome history)
     → Represents given w.works outcome w.plain_is.taps
 holds given outcome history some named cuts w = record {
-  gathered = gathered_of given w.works outcome w.headline;
+  headline = w.headline;
   some_shard = omega (arith, some, w.headline.shards_are);
   named = named;
   whole = w.whole;

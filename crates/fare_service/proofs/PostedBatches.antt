@@ -2,7 +2,7 @@
 use Rattle.std.proofs.Common.{refl, sym, ◌∙◌, ap, subst, append_assoc, append-nil, arith}
 use Rattle.fare_service.proofs.BatchLemmas.{Posts, Cuts, posts_more, posts_cut}
 use Rattle.fare_service.proofs.{RunLemmas.cut_early, TapCounts.batches_taps}
-use Rattle.fare_service.proofs.TapCounts.{runs_taps, posted_taps, cut_taps, runs_few, file_room}
+use Rattle.fare_service.proofs.TapCounts.{posted_no_more, file_room}
 use Rattle.fare_service.proofs.VisitLemmas.{taps_after}
 use Rattle.fare_service.specs.Runs.{PostedRun, RunVisit, runs_below, runs_of, AreCut, entries_of}
 use Rattle.fare_service.specs.{Runs.taps_posted, Shares.HasVisited}
@@ -10,7 +10,7 @@ use Rattle.fare_service.specs.{declared.service.working.Stop.Stop, inside.Runs.A
 use Rattle.histories.specs.{Entry.reply_of, Sums.Sums}
 use Rattle.shared_books.specs.Passes.{PassView}
 use Rattle.std.proofs.lemmas.List.{length-map, Sums.sum_by-append}
-use Rattle.std.specs.Prelude.{ℕ, ◌≡◌, ◌+◌, ◌*◌, ◌^◌, ◌<◌, ◌≤◌, Bool, true, false, List, [], ◌∷◌}
+use Rattle.std.specs.Prelude.{ℕ, ◌≡◌, ◌+◌, ◌*◌, ◌^◌, ◌<◌, ◌≤◌, Bool, List, [], ◌∷◌}
 use Rattle.std.specs.Prelude.{◌++◌, length, map, Result, Ok, Err, IfOk, is_ok, IsErr, Option}
 use Rattle.tap_views.specs.Files.{IsFile, IsEndAfterBatches}
 use Rattle.tap_views.specs.{Layout.Tap, declared.fault.LayoutFault.LayoutFault}
@@ -85,15 +85,13 @@ pub posted_few : (shards : ℕ) (p q : List PassView) (s t : Sums) (more : List 
     → HasVisited shards p q s t more → ArePostedOrCut (runs_of shards batches) whole more
     → 24 * batches_taps batches ≤ length file → length file < 2 ^ 64 → t.taps ≤ s.taps + 2 ^ 60
 posted_few shards p q s t more file batches whole made posted room small =
-    let count = counted_taps shards p q s t more made in
-    let few : taps_posted more ≤ runs_taps (runs_of shards batches) = no_more whole posted in
-    omega (arith, count, few, runs_few shards batches, room, small)
-  where
-    no_more : (whole : Bool) → ArePostedOrCut (runs_of shards batches) whole more
-        → taps_posted more ≤ runs_taps (runs_of shards batches)
-    no_more true posted =
-        omega (arith, posted_taps shards (runs_of shards batches) more made.entered posted)
-    no_more false posted = cut_taps shards (runs_of shards batches) more made.entered posted
+    omega (
+      arith,
+      counted_taps shards p q s t more made,
+      posted_no_more shards batches more whole made.entered posted,
+      room,
+      small,
+    )
 
 -- an upload that was cut, shown by an answer that is an error
 pub cut_upload : (r : Result (Option (ℕ × LayoutFault)) Stop) (shards : ℕ) (file : List ℕ)

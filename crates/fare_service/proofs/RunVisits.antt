@@ -1,21 +1,22 @@
 -- One run: the visit that it makes, and what that changes.
 use Rattle.std.proofs.Common.{refl, sym, ◌∙◌, ap, inl, inr, subst, append-nil, arith, get_or, set}
-use Rattle.std.proofs.Common.{eq-eqb, length-take}
+use Rattle.std.proofs.Common.{eq-eqb, length-append, length-take}
+use Rattle.account_rule.specs.declared.reply.Reply.{Reply}
 use Rattle.fare_service.proofs.RunLemmas.{no_run, cut_none, cut_some, whole_run}
 use Rattle.fare_service.proofs.VisitLemmas.{made_none, made_by_pass, own-visits, own-later}
 use Rattle.fare_service.specs.Runs.{PostedRun, if_any, RunVisit, IsEntered, ArePostedWhole, AreCut}
 use Rattle.fare_service.specs.{Runs.entries_to, ServiceView.ServiceView, ServiceView.shards_of}
-use Rattle.fare_service.specs.Shares.{made_visits, marks_at, made_visits_at, HasVisited}
+use Rattle.fare_service.specs.Shares.{books_of, made_visits, marks_at, made_visits_at, HasVisited}
 use Rattle.fare_service.specs.{declared.service.working.Stop.Stop, inside.Runs.ArePostedOrCut}
 use Rattle.fare_service.specs.inside.ServiceView.{IsService, IsBookOf}
 use Rattle.histories.proofs.SumsLemmas.{add_none}
-use Rattle.histories.specs.{Entry.IsEntryOf, Sums.Sums, Sums.sums, Sums.add_sums}
-use Rattle.histories.specs.declared.entry.Entry.{Entry}
+use Rattle.histories.specs.{Entry.IsEntryOf, Entry.reply_of, Sums.Sums, Sums.sums, Sums.add_sums}
+use Rattle.histories.specs.{Sums.sums_of_replies, declared.entry.Entry.Entry}
 use Rattle.shard_book.specs.Visits.{IsVisit}
 use Rattle.shard_book.specs.declared.run_end.RunEnd.{RunEnd, TheVariants.Whole, TheVariants.Cut}
 use Rattle.shared_books.specs.Passes.{PassView, SharedBookView, HasSeenMore, Visits}
-use Rattle.std.proofs.lemmas.{Bool.Decides.eqb_tells, List.get_or-map}
-use Rattle.std.proofs.lemmas.List.Elements.{All-nil, All-cons}
+use Rattle.std.proofs.lemmas.Bool.Decides.{eqb_tells}
+use Rattle.std.proofs.lemmas.List.{get_or-map, length-map, Elements.All-nil, Elements.All-cons}
 use Rattle.std.proofs.lemmas.{Option.slice_get-get_or, Slice.Zip.AllZip-long}
 use Rattle.std.specs.Prelude.{ℕ, ◌≡◌, ◌≢◌, ◌<◌, ◌≤◌, ◌==◌, Bool, true, false, cond, ◌⊎◌, List, []}
 use Rattle.std.specs.Prelude.{◌∷◌, ◌++◌, length, map, take, Result, Ok, Err, is_ok, IsErr, Some}
@@ -134,11 +135,36 @@ pub book_at : (service : ServiceView) (shard : ℕ) (book : SharedBookView) → 
 book_at service shard book is within e =
     is.books shard book (slice_get-get_or service.books shard book within ∙ ap Some (sym e))
 
--- the taps of a batch's run
-pub same_run : (r : ShardRun) (batch : List Tap) (shard n shards : ℕ)
-    → r ≡ record { batch = batch; shard = shard; shards = n } → n ≡ shards
-    → run_taps r ≡ run_of shard shards batch
-same_run r batch shard n shards is same = ap run_taps is ∙ ap (λ k. run_of shard k batch) same
+-- there is a pass to each book
+pub within_passes : (passes : List PassView) (books : List SharedBookView) (shard : ℕ)
+    → books_of passes ≡ books → shard < length books → shard < length passes
+within_passes passes books shard same below =
+    omega (arith, below, ap length same, length-map passes (λ (p : PassView). p.book))
+
+-- the run of a batch has a tap
+pub run_some : (shard n shards len : ℕ) (batch : List Tap) → n ≡ shards
+    → len ≡ length (run_of shard n batch) → 0 < len → 0 < length (run_of shard shards batch)
+run_some shard n shards len batch same is some =
+    omega (arith, is, some, ap (λ s. length (run_of shard s batch)) same)
+
+-- a run has no more replies than taps
+pub replies_few : (r : ShardRun) (shard n len : ℕ) (batch : List Tap) (how : RunEnd)
+    (visit : List Entry) (out out' : List Reply)
+    → r ≡ record { batch = batch; shard = shard; shards = n }
+    → len ≡ length (run_of shard n batch) → len ≤ 4096 → IsVisit (run_taps r) how visit
+    → out ≡ [] → out' ≡ out ++ map reply_of visit → length out' ≤ 4096
+replies_few r shard n len batch how visit out out' is number most made none items =
+    omega (
+      arith,
+      visit_length (run_taps r) how visit made,
+      ap (λ (s : ShardRun). length (run_taps s)) is,
+      number,
+      most,
+      ap length none,
+      ap length items,
+      length-append out (map reply_of visit),
+      length-map visit reply_of,
+    )
 
 -- a run without taps
 pub run_empty : (shards shard : ℕ) (batch : List Tap) (passes : List PassView) (totals : Sums)
@@ -178,22 +204,30 @@ run_full shards shard batch passes old new totals r some err within is later =
     )
 
 -- a run that was visited
-pub run_visited : (shards shard : ℕ) (batch : List Tap) (passes : List PassView)
-    (old new : PassView) (number : ℕ) (how : RunEnd) (entries : List Entry) (totals totals' : Sums)
+pub run_visited : (shards shard n : ℕ) (batch : List Tap) (r : ShardRun) (passes : List PassView)
+    (old new : PassView) (number : ℕ) (how end : RunEnd) (entries : List Entry)
+    (totals totals' : Sums) (out out' : List Reply)
+    → r ≡ record { batch = batch; shard = shard; shards = n } → n ≡ shards
     → 0 < length (run_of shard shards batch) → shard < shards → shard < length passes
     → old ≡ get_or passes shard old
-    → Visits old new number entries → IsVisit (run_of shard shards batch) how entries
-    → totals' ≡ add_sums totals (sums entries)
+    → Visits old new number entries → IsVisit (run_taps r) how entries → how ≡ end
+    → out ≡ [] → out' ≡ out ++ map reply_of entries
+    → totals' ≡ add_sums totals (sums_of_replies out')
     → (more : List RunVisit) × HasVisited shards passes (set passes shard new) totals totals' more
-    × ArePostedOrCut (if_any shard (run_of shard shards batch)) (is_whole how)
+    × ArePostedOrCut (if_any shard (run_of shard shards batch)) (is_whole end)
     more
-run_visited shards shard batch passes old new number how entries totals totals' some below
-    within is v h counted =
-    let (visit, of) = visit_of shards shard batch how entries below some h in
+run_visited shards shard n batch r passes old new number how end entries totals totals' out out'
+    is_run same some below within is v h ends none items counted =
+    let T : List Tap → Type 0 = λ taps. IsVisit taps end entries in
+    let H : RunEnd → Type 0 = λ e. IsVisit (run_taps r) e entries in
+    let (visit, of) = visit_of shards shard batch end entries below some
+    (subst T (ap run_taps is_run ∙ ap (λ k. run_of shard k batch) same) (subst H ends h)) in
     let P : List Entry → Type 0 = λ es. Visits old new number es in (
       visit ∷ [],
       made_visit shards shard passes old new number visit totals totals' within is of.shard_is
           (subst P (sym of.entries_are) v)
-          (counted ∙ ap (λ es. add_sums totals (sums es)) (sym of.entries_are)) of.entered,
+          (counted ∙ ap (λ rs. add_sums totals (sums_of_replies rs))
+          (items ∙ ap (λ rs. rs ++ map reply_of entries) none)
+          ∙ ap (λ es. add_sums totals (sums es)) (sym of.entries_are)) of.entered,
       of.posted,
     )

@@ -5,11 +5,10 @@ use Rattle.fare_service.proofs.VisitLemmas.{made_none, made_more, entries_to-app
 use Rattle.fare_service.proofs.VisitLemmas.{no_taps}
 use Rattle.fare_service.specs.{Claims.claims_at, Claims.left_share, Lending.origin_at}
 use Rattle.fare_service.specs.Runs.{RunVisit, entries_to, entries_of}
-use Rattle.fare_service.specs.ServiceView.{ServiceView, shards_of}
-use Rattle.fare_service.specs.{ShareView.ShareView, Shares.Worked, Shares.all_visits}
-use Rattle.fare_service.specs.Shares.{done_of, IsWorked, KeepsWorks, IsShareOf, IsFresh, HasWorked}
-use Rattle.fare_service.specs.Shares.{HasVisited, made_visits_at, made_visits, books_of, loads_of}
-use Rattle.fare_service.specs.{declared.service.share.Done.Done, inside.Shares.worked}
+use Rattle.fare_service.specs.{ServiceView.ServiceView, ServiceView.shards_of, ShareView.ShareView}
+use Rattle.fare_service.specs.Shares.{Worked, all_visits, done_of, IsWorked, KeepsWorks, IsShareOf}
+use Rattle.fare_service.specs.Shares.{IsFresh, HasWorked, HasVisited, made_visits_at, made_visits}
+use Rattle.fare_service.specs.{Shares.books_of, Shares.loads_of, declared.service.share.Done.Done}
 use Rattle.histories.proofs.SumsLemmas.{sums-append}
 use Rattle.histories.specs.Sums.{Sums, sums, add_sums}
 use Rattle.shared_books.specs.Claims.{all_claims, claims_given, claims_left}
@@ -19,7 +18,6 @@ use Rattle.std.proofs.lemmas.{Grind.flat_map-append, List.map-append}
 use Rattle.std.proofs.lemmas.List.Elements.{All-nil, All-cons, All-append}
 use Rattle.std.specs.Prelude.{ℕ, zero, suc, ◌≡◌, ◌+◌, ◌*◌, ◌^◌, ◌≤◌, ◌<◌, List, [], ◌∷◌, ◌++◌}
 use Rattle.std.specs.Prelude.{length, map}
-use Rattle.tap_views.specs.declared.upload_end.UploadEnd.{UploadEnd}
 use Rattle.world.proofs.Laws.{more_loads, no_loads}
 use Rattle.world.specs.Origins.{Origin, loads_from, with_loads}
 use Rattle.world.specs.Run.{Run, nothing_yet}
@@ -138,44 +136,6 @@ abbrev pub holding : DrawerView → List PassView → Sums → List Done → Run
 holding drawer passes totals done run =
     record { drawer = drawer; passes = passes; totals = totals; done = done; run = run }
 
--- a worker that drew an upload and posted it
-pub next_done : (service : ServiceView) (drawer drawer' : DrawerView)
-    (passes passes' : List PassView) (totals totals' : Sums) (done done' : List Done) (upload : ℕ)
-    (file : List ℕ) (end : UploadEnd) (visits : List RunVisit) (run run' : Run)
-    → drawer'.claims ≡ drawer.claims → drawer'.drawn ≡ drawer.drawn ++ upload ∷ []
-    → done' ≡ done ++ record { upload = upload; end = end } ∷ []
-    → HasVisited (shards_of service) passes passes' totals totals' visits
-    → IsWorked service (worked upload file end visits)
-    → run' ≡ with_loads run (loads_from (origin_at service.uploads upload) file)
-    → HasWorked service (holding drawer passes totals done run)
-    (holding drawer' passes' totals' done' run') (worked upload file end visits ∷ [])
-next_done service drawer drawer' passes passes' totals totals' done done' upload file end visits
-    run run' claims drawn more made is provided =
-    worked_one service (holding drawer passes totals done run)
-    (holding drawer' passes' totals' done' run') (worked upload file end visits) is claims drawn
-    more made provided
-
-pub next_share : (service : ServiceView) (drawer drawer' : DrawerView)
-    (passes passes' : List PassView) (totals totals' : Sums) (done done' : List Done) (upload : ℕ)
-    (file : List ℕ) (end : UploadEnd) (run run' : Run) (old : ShareView)
-    → holding drawer passes totals done run ≡ old → IsShareOf service old
-    → drawer'.claims ≡ drawer.claims → drawer'.drawn ≡ drawer.drawn ++ upload ∷ []
-    → drawer'.drawn_from ≡ drawer.drawn_from
-    → done' ≡ done ++ record { upload = upload; end = end } ∷ []
-    → ((visits : List RunVisit)
-    × HasVisited (shards_of service) passes passes' totals totals' visits
-    × IsWorked service (worked upload file end visits)) → totals'.taps ≤ totals.taps + 2 ^ 60
-    → run' ≡ with_loads run (loads_from (origin_at service.uploads upload) file)
-    → IsShareOf service (holding drawer' passes' totals' done' run')
-next_share service drawer drawer' passes passes' totals totals' done done' upload file end run run'
-    old is share claims drawn drawn_from more (visits, made, did) few provided =
-    let P : ShareView → Type 0 = IsShareOf service in
-    share_more service (holding drawer passes totals done run)
-    (holding drawer' passes' totals' done' run')
-    (worked upload file end visits ∷ []) (subst P (sym is) share)
-    (next_done service drawer drawer' passes passes' totals totals' done done' upload file end
-    visits run run' claims drawn more made did provided) drawn_from (omega (arith, few))
-
 -- passes of which none made a visit
 pub own_none : {A : Type 0} (f : A → PassView) → ((x : A) → made_visits (f x).marks ≡ [])
     → (shard : ℕ) (xs : List A) → made_visits_at shard (map f xs) ≡ []
@@ -247,31 +207,20 @@ books_split [] = refl
 books_split (p ∷ ps) = ap (λ xs. p.book ∷ xs) (books_split ps)
 
 -- a share with which nothing was done
-pub fresh_share : (service : ServiceView) (drawer : DrawerView) (passes : List PassView)
-    (totals : Sums) (done : List Done) (run : Run) → drawer.drawn_from ≡ service.drawing
-    → drawer.drawn ≡ []
-    → books_of passes ≡ service.books
-    → ((shard : ℕ) → made_visits_at shard passes ≡ []) → totals ≡ sums [] → done ≡ []
-    → run ≡ nothing_yet → IsShareOf service (holding drawer passes totals done run)
-fresh_share service drawer passes totals done run drawn_from drawn books own zero_totals none
-    unread = record {
-      drawer = drawn_from;
-      passes = books;
-      works = [];
-      keeps = record {
-        each = All-nil (IsWorked service);
-        drawn = drawn;
-        done = none;
-        visits = own;
-        totals = zero_totals;
-        loads = unread;
-      };
-      room = omega (arith, ap (λ s. s.taps) zero_totals, no_taps);
-    }
-
-pub fresh : (drawer : DrawerView) (passes : List PassView) (totals : Sums) (done : List Done)
-    (run : Run) → drawer.drawn ≡ [] → ((shard : ℕ) → made_visits_at shard passes ≡ [])
-    → totals ≡ sums [] → done ≡ [] → run ≡ nothing_yet
-    → IsFresh (holding drawer passes totals done run)
-fresh drawer passes totals done run drawn own zero_totals none unread =
-    record { drawn = drawn; done = none; visits = own; totals = zero_totals; run = unread }
+pub fresh_share : (service : ServiceView) (share : ShareView) → IsFresh share
+    → share.drawer.drawn_from ≡ service.drawing → books_of share.passes ≡ service.books
+    → IsShareOf service share
+fresh_share service share fresh drawn_from books = record {
+  drawer = drawn_from;
+  passes = books;
+  works = [];
+  keeps = record {
+    each = All-nil (IsWorked service);
+    drawn = fresh.drawn;
+    done = fresh.done;
+    visits = fresh.visits;
+    totals = fresh.totals;
+    loads = fresh.run;
+  };
+  room = omega (arith, ap (λ s. s.taps) fresh.totals, no_taps);
+}

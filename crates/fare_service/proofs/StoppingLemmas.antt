@@ -1,17 +1,16 @@
 -- A worker that goes on, and where it stops.
-use Rattle.std.proofs.Common.{refl, inl, inr}
-use Rattle.fare_service.proofs.ShareLemmas.{holding, next_done, worked_none, worked_more}
-use Rattle.fare_service.specs.{Lending.origin_at, Plain.WasNotCut, Runs.RunVisit}
+use Rattle.std.proofs.Common.{refl, sym, ◌∙◌, ap, inl, inr}
+use Rattle.fare_service.proofs.ShareLemmas.{worked_none, worked_one, worked_more}
+use Rattle.fare_service.specs.{Lending.origin_at, Runs.RunVisit}
 use Rattle.fare_service.specs.{ServiceView.ServiceView, ServiceView.shards_of, ShareView.ShareView}
 use Rattle.fare_service.specs.Shares.{Worked, HasWorked, IsWorked, HasVisited, WentOn}
 use Rattle.fare_service.specs.Stopping.{SomeFull, MayGoOn, StoppedCleanly, WasCut}
 use Rattle.fare_service.specs.{declared.service.share.Done.Done, inside.Shares.worked}
-use Rattle.histories.specs.Sums.{Sums}
-use Rattle.shared_books.specs.{Drawing.DrawerView, Passes.PassView}
+use Rattle.shared_books.specs.Passes.{PassView}
 use Rattle.std.proofs.lemmas.List.Elements.{All-nil, All-cons, All-append, All-weaker}
 use Rattle.std.specs.Option.{option_to_list}
-use Rattle.std.specs.Prelude.{◌≡◌, ◌⊎◌, ℕ, List, [], ◌∷◌, ◌++◌, All, length, Some, None}
-use Rattle.world.specs.{Origins.loads_from, Origins.with_loads, Run.Run}
+use Rattle.std.specs.Prelude.{◌≡◌, ◌+◌, ℕ, List, [], ◌∷◌, ◌++◌, All, length, Some, None}
+use Rattle.world.specs.Origins.{loads_from, with_loads}
 
 -- the worker worked on these uploads, and went on after each
 abbrev pub Going : ServiceView → ShareView → ShareView → Type 0
@@ -74,46 +73,18 @@ going_start service share = (
 )
 
 -- an upload that was drawn, lent and posted
-module _ (service : ServiceView) (old : ShareView) (drawer drawer' : DrawerView)
-    (passes passes' : List PassView) (totals totals' : Sums) (done done' : List Done)
-    (file : List ℕ) (run run' : Run) (next : Done)
-    (going : Going service old (holding drawer passes totals done run))
-    (claims : drawer'.claims ≡ drawer.claims)
-    (drawn : drawer'.drawn ≡ drawer.drawn ++ next.upload ∷ []) (more : done' ≡ done ++ next ∷ [])
-    (did : (visits : List RunVisit)
-    × HasVisited (shards_of service) passes passes' totals totals' visits
+pub step : (service : ServiceView) (a b : ShareView) (next : Done) (upload : ℕ) (file : List ℕ)
+    → next.upload ≡ upload
+    → b.drawer ≡ record a.drawer { seen = upload + 1; drawn = a.drawer.drawn ++ upload ∷ [] }
+    → b.done ≡ a.done ++ next ∷ []
+    → (did : (visits : List RunVisit)
+    × HasVisited (shards_of service) a.passes b.passes a.totals b.totals visits
     × IsWorked service (worked next.upload file next.end visits))
-    (provided : run' ≡ with_loads run (loads_from (origin_at service.uploads next.upload) file))
-    (full : SomeFull passes → SomeFull passes') where
-  one : HasWorked service (holding drawer passes totals done run)
-      (holding drawer' passes' totals' done' run') (worked next.upload file next.end did.0 ∷ [])
-  one = next_done service drawer drawer' passes passes' totals totals' done done' next.upload file
-      next.end did.0 run run' claims drawn more did.1 did.2 provided
-
-  pub going_next : WasNotCut next.end ⊎ SomeFull passes'
-      → Going service old (holding drawer' passes' totals' done' run')
-  going_next goes = going_more service old (holding drawer passes totals done run)
-      (holding drawer' passes' totals' done' run') (worked next.upload file next.end did.0) going
-      one full goes
-
-  pub cut_next : WasCut next.end
-      → StoppedCleanly service old (holding drawer' passes' totals' done' run')
-  cut_next cut = stopped_cut service old (holding drawer passes totals done run)
-      (holding drawer' passes' totals' done' run') (worked next.upload file next.end did.0) going
-      one full cut
-
--- no upload was left to draw
-module _ (service : ServiceView) (drawer drawer' : DrawerView) (passes : List PassView)
-    (totals : Sums) (done : List Done) (run : Run) (claims : drawer'.claims ≡ drawer.claims)
-    (same : drawer'.drawn ≡ drawer.drawn) where
-  stays : HasWorked service (holding drawer passes totals done run)
-      (holding drawer' passes totals done run) []
-  stays = worked_none service (holding drawer passes totals done run)
-      (holding drawer' passes totals done run) claims same refl refl refl refl
-
-  pub none_next : (old : ShareView) → Going service old (holding drawer passes totals done run)
-      → drawer'.seen ≡ length service.uploads
-      → StoppedCleanly service old (holding drawer' passes totals done run)
-  none_next old going seen =
-      stopped_none service old (holding drawer passes totals done run)
-      (holding drawer' passes totals done run) going stays (λ h. h) seen
+    → b.run ≡ with_loads a.run (loads_from (origin_at service.uploads upload) file)
+    → HasWorked service a b (worked next.upload file next.end did.0 ∷ [])
+step service a b next upload file is drawer done did provided =
+    worked_one service a b (worked next.upload file next.end did.0) did.2
+    (ap (λ d. d.claims) drawer)
+    (ap (λ d. d.drawn) drawer ∙ ap (λ (u : ℕ). a.drawer.drawn ++ u ∷ []) (sym is)) done did.1
+    (provided ∙ ap (λ (u : ℕ). with_loads a.run (loads_from (origin_at service.uploads u) file))
+    (sym is))

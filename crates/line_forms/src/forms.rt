@@ -1,19 +1,31 @@
 //! Forms that are made of others, and whole lines.
 
-ghost use Rattle.std.specs.Prelude.{◌≡◌, MatchOption};
+ghost use Rattle.std.specs.Prelude.{◌≡◌, ◌∷◌, [], MatchOption};
 ghost use Rattle.line_forms.specs.Forms.{IsAfter, IsFirst, IsThen, after, after_read};
 ghost use Rattle.line_forms.specs.Forms.{is_end, said_by, then_read};
 ghost use Rattle.line_forms.specs.FormLaws.{after_law, then_law};
 
 use crate::form::FormOf;
 
-/// What follows the word with which the text begins.
+#[inline(always)]
+fn after_byte<'a>(text: &'a [u8], byte: u8) -> Option<&'a [u8]>
+    ensures { MatchOption result (after (byte ∷ []) text.now ≡ None)
+        (λ rest. after (byte ∷ []) text.now ≡ Some rest.now) }
+{
+    let (first, rest) = text.split_first()?;
+    if byte == *first { Some(rest) } else { None }
+}
+
+/// What follows the word with which the text begins. One byte is compared without a call.
 #[inline(always)]
 pub fn after_word<'a>(text: &'a [u8], word: &[u8]) -> Option<&'a [u8]>
     ensures { MatchOption result (after word.now text.now ≡ None)
         (λ rest. after word.now text.now ≡ Some rest.now) }
 {
-    text.strip_prefix(word)
+    match word {
+        [byte] => after_byte(text, *byte),
+        _ => text.strip_prefix(word),
+    }
 }
 
 /// A form after a word. It says what the form says.

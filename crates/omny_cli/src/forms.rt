@@ -1,43 +1,20 @@
 //! The form of the text that the words name.
 
-use fare_program::FormatWords;
-use std::fmt;
+use fare_program::{Complaints, FormatWords};
+use std::io::Write;
 use text_forms::Form;
 
-/// Why a form cannot be named so. Its `Display` is the fault line without its line feed.
-#[derive(Clone, Copy, Debug)]
-pub(crate) enum WrongFormat {
-    NoForm,
-    NoTable,
-    Beside(&'static str),
-}
-
-impl fmt::Display for WrongFormat {
-    fn fmt<W: fmt::Write>(&self, f: &mut fmt::Formatter<W>) -> fmt::Result {
-        match self {
-            WrongFormat::NoForm => f.write_str("fault: --format is text, json or csv"),
-            WrongFormat::NoTable => f.write_str("fault: --format needs --table"),
-            WrongFormat::Beside(name) => write!(f, "fault: --format cannot be used with --{name}"),
+/// The form of the text. Any text can be written as it is. What is wrong was reported.
+pub(crate) fn form_of<E: Write>(words: &FormatWords<'_>, err: &mut Complaints<E>) -> Option<Form> {
+    let form = Form::of(words.form.unwrap_or("text"));
+    match (form, words.other) {
+        (None, _) => err.report_line("fault: --format is text, json or csv"),
+        (Some(Form::Text), _) => return form,
+        _ if !words.has_table => err.report_line("fault: --format needs --table"),
+        (_, None) => return form,
+        (_, Some(name)) => {
+            err.report_line(format_args!("fault: --format cannot be used with --{name}"));
         }
     }
-}
-
-/// The form of the text. Any text can be written as it is.
-pub(crate) fn form_of(words: &FormatWords<'_>) -> Result<Form, WrongFormat> {
-    let Some(word) = words.form else {
-        return Ok(Form::Text);
-    };
-    let Some(form) = Form::of(word) else {
-        return Err(WrongFormat::NoForm);
-    };
-    if form == Form::Text {
-        return Ok(form);
-    }
-    if !words.has_table {
-        return Err(WrongFormat::NoTable);
-    }
-    match words.other {
-        Some(name) => Err(WrongFormat::Beside(name)),
-        None => Ok(form),
-    }
+    None
 }

@@ -16,15 +16,6 @@ const OTHER_OPTIONS: [&str; 7] = [
     "--format",
 ];
 
-fn is_other_option(word: &str) -> bool {
-    for option in &OTHER_OPTIONS {
-        if word == *option {
-            return true;
-        }
-    }
-    false
-}
-
 /// The words with the system's name of the standard input in place of each `-` that is a FILE or a
 /// fare table, and how many words represent it, a list of files among them.
 pub(crate) fn with_input_file(
@@ -36,22 +27,22 @@ pub(crate) fn with_input_file(
     let mut before = "";
     let mut has_files_alone = false;
     for word in words {
-        let is_other = !has_files_alone && is_other_option(before);
-        let mut name = word.as_str();
-        if name == "-" && !is_other {
-            name = INPUT_FILE;
-            inputs = inputs.saturating_add(1);
-        }
-        if name == "--table=-" {
-            name = "--table=/dev/stdin";
-            inputs = inputs.saturating_add(1);
-        }
-        if name == "--files-from=-" || (name == "-" && before == "--files-from") {
+        let text = word.as_str();
+        let is_other = !has_files_alone && OTHER_OPTIONS.contains(&before);
+        let name = if text == "-" && !is_other {
+            INPUT_FILE
+        } else if text == "--table=-" {
+            "--table=/dev/stdin"
+        } else {
+            text
+        };
+        let is_list = text == "--files-from=-" || (text == "-" && before == "--files-from");
+        if is_list || name != text {
             inputs = inputs.saturating_add(1);
         }
         all.push(String::from_str(alloc, name)?)?;
-        has_files_alone |= name == "--";
-        before = word.as_str();
+        has_files_alone |= text == "--";
+        before = text;
     }
     Ok((all, inputs))
 }

@@ -4,7 +4,6 @@
 //! about a fault. The text may be written in another form.
 #![tactic(auto)]
 
-mod beside;
 mod forms;
 mod input_words;
 mod made_by;
@@ -47,19 +46,13 @@ fn words_with_files(rt: &HostRuntime) -> Result<Vec<String>, u8> {
     let words = named_words(rt, &mut err);
     let (escaping, said) = err.into_writer().into_parts();
     escaping.finish();
-    if words.is_err() {
-        report_list_hint(rt, &said);
-    }
-    words
-}
-
-/// Says on a terminal why a list was not read.
-fn report_list_hint(rt: &HostRuntime, said: &Said) {
-    if rt.stderr().is_terminal()
-        && let Some(hint) = hint_on_list(rt, rt.alloc(), said)
+    if words.is_err()
+        && rt.stderr().is_terminal()
+        && let Some(hint) = hint_on_list(rt, rt.alloc(), &said)
     {
         Complaints::new(rt.stderr()).report_line(hint);
     }
+    words
 }
 
 fn named_words<E: Write>(rt: &HostRuntime, err: &mut Complaints<E>) -> Result<Vec<String>, u8> {
@@ -189,19 +182,17 @@ fn main(rt: HostRuntime) -> ExitCode {
         Ok(words) => words,
         Err(status) => return ExitCode::from(status),
     };
+    let mut err = Complaints::new(rt.stderr());
     let Ok(files) = FileWords::of(rt.alloc(), &words) else {
-        Complaints::new(rt.stderr()).report_line("fault: out of memory");
+        err.report_line("fault: out of memory");
         return ExitCode::from(1);
     };
     if files.uploads.is_empty() && files.tables.contains(&INPUT_FILE) {
-        Complaints::new(rt.stderr()).report_line(INPUT_TWICE);
+        err.report_line(INPUT_TWICE);
         return ExitCode::from(2);
     }
-    match form_of(&files.format) {
-        Ok(form) => ExitCode::from(run(&rt, &rt, &words, &files, form)),
-        Err(wrong) => {
-            Complaints::new(rt.stderr()).report_line(wrong);
-            ExitCode::from(2)
-        }
+    match form_of(&files.format, &mut err) {
+        Some(form) => ExitCode::from(run(&rt, &rt, &words, &files, form)),
+        None => ExitCode::from(2),
     }
 }

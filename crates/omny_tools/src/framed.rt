@@ -10,31 +10,19 @@ use std::io;
 use std::io::Write;
 use tool_program::Counted;
 use world::{
-    Fault, Inputs, LoadFault, Loaded, MakeFault, NewFile, Stream, System, Trace, World, WriteFault,
+    Inputs, LoadFault, Loaded, MakeFault, NewFile, Stream, System, Trace, World, WriteFault,
 };
 
 /// Why the file cannot be flushed, if that is asked.
 fn flush_error<F: Write>(asks: bool, file: &mut F) -> Option<io::Error>
     ensures { Keeps (F.contents file.old) (F.contents file.new) }
 {
-    if !asks {
-        return None;
-    }
-    match file.flush() {
-        Ok(()) => None,
-        Err(error) => Some(error),
-    }
+    if asks { file.flush().err() } else { None }
 }
 
 /// Why the file cannot be written, if that is asked: what refused a write refuses the next one.
 fn write_error<F: Write>(asks: bool, file: &mut F) -> Option<io::Error> {
-    if !asks {
-        return None;
-    }
-    match file.write(&[0]) {
-        Ok(_) => None,
-        Err(error) => Some(error),
-    }
+    if asks { file.write(&[0]).err() } else { None }
 }
 
 /// The system. It shows how much is read and written, and takes that away before anything else is
@@ -43,8 +31,9 @@ fn write_error<F: Write>(asks: bool, file: &mut F) -> Option<io::Error> {
 pub(crate) struct Framed<'r, W, E> {
     rt: &'r HostRuntime,
     system: System<'r, HostRuntime, W, E>,
-    counts: Progress<'r>,
     progress: Progress<'r>,
+    /// Whether it is shown how much of the text is written.
+    shows_text: bool,
     done: u64,
     /// Whether it is asked why a file is not made.
     asks: bool,
@@ -56,8 +45,8 @@ impl<'r, W, E> Framed<'r, W, E> {
 
     pub(crate) fn new(
         rt: &'r HostRuntime,
-        counts: Progress<'r>,
         progress: Progress<'r>,
+        shows_text: bool,
         asks: bool,
         out: W,
         err: E,
@@ -65,8 +54,8 @@ impl<'r, W, E> Framed<'r, W, E> {
         Framed {
             rt,
             system: System::new(rt, out, err),
-            counts,
             progress,
+            shows_text,
             done: 0,
             asks,
             unmade: None,
@@ -84,13 +73,6 @@ impl<'r, W, E> Framed<'r, W, E> {
         if let Some(error) = why {
             self.unmade = Unmade::new(self.rt.alloc(), name, error);
         }
-    }
-
-    fn end_shown(&mut self)
-        ensures { self.new.system ≡ self.old.system }
-    {
-        self.counts.end();
-        self.progress.end();
     }
 }
 
@@ -120,30 +102,24 @@ impl<W, E> Inputs for Framed<'_, W, E> {
 
 impl<W, E> Counted for Framed<'_, W, E> {
     fn show_count(&mut self, done: usize, all: usize) {
-        self.counts.report(done, all, "uploads");
+        self.progress.report(done, all, "uploads");
     }
 
     fn end_count(&mut self) {
-        self.counts.end();
+        self.progress.end();
     }
 
     fn load_whole(&mut self, name: Option<&str>) -> Result<Vec<u8>, LoadFault> {
         let mut stream = Stream::new();
-        let read = read_whole(self.rt, name, &mut self.counts, &mut stream);
-        self.counts.end();
+        let read = read_whole(self.rt, name, &mut self.progress, &mut stream);
+        self.progress.end();
         match read {
-            Ok(bytes) => {
+            // the calls are dropped
+            Err(LoadFault::NoMemory) => read,
+            _ => {
                 self.system.join(stream.into_trace());
-                Ok(bytes)
+                read
             }
-            Err(why) => match why {
-                // the calls are dropped
-                LoadFault::NoMemory => Err(why),
-                LoadFault::Unread | LoadFault::TooLong => {
-                    self.system.join(stream.into_trace());
-                    Err(why)
-                }
-            },
         }
     }
 }
@@ -152,37 +128,34 @@ impl<W: Write, E: Write> World for Framed<'_, W, E> {
     type File = NewFile<File>;
 
     fn write(&mut self, piece: &[u8]) -> Result<(), WriteFault> {
-        self.counts.end();
+        if !self.shows_text {
+            self.progress.end();
+        }
         match self.system.write(piece) {
-            Ok(()) => {
+            Ok(()) if self.shows_text => {
                 self.done = self.done.saturating_add(piece.len() as u64);
                 self.progress.report_bytes(self.done, "written");
                 Ok(())
             }
-            Err(why) => {
+            written => {
                 self.progress.end();
-                Err(why)
+                written
             }
         }
     }
 
     fn flush(&mut self) -> Result<(), WriteFault> {
-        self.end_shown();
+        self.progress.end();
         self.system.flush()
     }
 
     fn say(&mut self, text: &[u8]) {
-        self.end_shown();
+        self.progress.end();
         self.system.say(text);
     }
 
-    fn report(&mut self, why: Fault<'_>) {
-        self.end_shown();
-        self.system.report(why);
-    }
-
     fn report_line<D: Display + Drop>(&mut self, line: D) -> Result<(), io::Error> {
-        self.end_shown();
+        self.progress.end();
         self.system.report_line(line)
     }
 

@@ -1,13 +1,13 @@
 //! What a terminal shows about a fault: what to do, or why the system refuses a file. It is tested,
 //! and nothing but safety is proved.
 
-use hints::{Hint, Named, Said, hint_on_fault, hint_on_list, kind_of_file, not_uploads};
+use hints::{Hint, Named, Said, hint_on_fault, kind_of_file, not_uploads};
 use program_manners::Complaints;
-use std::alloc::{AllocError, Global};
+use std::alloc::Global;
 use std::fs::File;
 use std::hash::{BuildHasher, Hasher, RandomState};
 use std::io::IsTerminal;
-use std::{fs, io};
+use std::{fs, io, slice};
 use tool_words::{Task, read};
 use world::folder_of;
 
@@ -24,10 +24,8 @@ pub(crate) struct Unmade {
 impl Unmade {
     /// If memory allows.
     pub(crate) fn new(alloc: Global, name: &str, error: io::Error) -> Option<Unmade> {
-        match String::from_str(alloc, name) {
-            Ok(name) => Some(Unmade { name, error }),
-            Err(AllocError) => None,
-        }
+        let name = String::from_str(alloc, name).ok()?;
+        Some(Unmade { name, error })
     }
 }
 
@@ -62,13 +60,8 @@ fn reason_of_unmade<'a>(rt: &HostRuntime, name: &'a str) -> Option<Hint<'a>> {
     {
         return Some(Hint::NotRegular(name));
     }
-    let Ok(random) = RandomState::new(rt) else {
-        return None;
-    };
-    let digits = random.build_hasher().finish();
-    let Ok(tried) = format!(in rt.alloc(); "{name}.{digits:016x}") else {
-        return None;
-    };
+    let digits = RandomState::new(rt).ok()?.build_hasher().finish();
+    let tried = format!(in rt.alloc(); "{name}.{digits:016x}").ok()?;
     match File::create_new(rt, tried.as_str()) {
         Ok(_) => {
             let _ = fs::remove_file(rt, tried.as_str());
@@ -160,6 +153,7 @@ fn uploads_of<'t, 'a>(task: &'t Task<'a>) -> &'t [&'a str] {
         Task::Table(question) => &question.uploads,
         Task::Sort(words) => &words.uploads,
         Task::Bounds(words) => &words.uploads,
+        Task::ValidPrefix(words) => slice::from_ref(&words.upload),
         _ => &[],
     }
 }
@@ -201,37 +195,16 @@ pub(crate) fn report_hints<'a>(
     if !rt.stderr().is_terminal() {
         return;
     }
-    let task = match read(rt.alloc(), words) {
-        Ok(task) => Some(task),
-        Err(_) => None,
-    };
+    let task = read(rt.alloc(), words).ok();
     if has_shown(rt, words, task.as_ref(), said, failures) || !said.is_silent() {
         return;
     }
-    let Some(task) = task else {
-        return;
-    };
-    let mut err = Complaints::new(rt.stderr());
-    if let Task::ValidPrefix(words) = &task {
-        if let Ok(hints) = not_uploads(rt, rt.alloc(), &[words.upload]) {
-            for hint in &hints {
-                err.report_line(*hint);
-            }
-        }
-        return;
-    }
-    if let Ok(hints) = not_uploads(rt, rt.alloc(), uploads_of(&task)) {
+    if let Some(task) = task
+        && let Ok(hints) = not_uploads(rt, rt.alloc(), uploads_of(&task))
+    {
+        let mut err = Complaints::new(rt.stderr());
         for hint in &hints {
             err.report_line(*hint);
         }
-    }
-}
-
-/// Says on a terminal why a list was not read.
-pub(crate) fn report_list_hint(rt: &HostRuntime, said: &Said) {
-    if rt.stderr().is_terminal()
-        && let Some(hint) = hint_on_list(rt, rt.alloc(), said)
-    {
-        Complaints::new(rt.stderr()).report_line(hint);
     }
 }

@@ -5,18 +5,15 @@
 mod framed;
 mod hint;
 mod manner;
-mod output;
-mod placed;
 mod progress;
 mod run;
 mod streams;
 mod whole;
 
-use hint::report_list_hint;
-use hints::Overheard;
+use hints::{Overheard, hint_on_list};
 use program_manners::{Complaints, Escaping, take_list, unread_words, words_of};
 use run::run;
-use std::io::Write;
+use std::io::{IsTerminal, Write};
 use std::process::ExitCode;
 use tool_words::list_words;
 
@@ -26,8 +23,11 @@ fn words_with_list(rt: &HostRuntime) -> Result<Vec<String>, u8> {
     let words = named_words(rt, &mut err);
     let (escaping, said) = err.into_writer().into_parts();
     escaping.finish();
-    if words.is_err() {
-        report_list_hint(rt, &said);
+    if words.is_err()
+        && rt.stderr().is_terminal()
+        && let Some(hint) = hint_on_list(rt, rt.alloc(), &said)
+    {
+        Complaints::new(rt.stderr()).report_line(hint);
     }
     words
 }

@@ -21,55 +21,40 @@ const ENDS_IN_PLACE: &str = "error: --ends names OUT or an upload";
 const MADE_OVER: &str = "error: --out, --refused and --validators-make name files of their own";
 
 fn name_in_folder(name: &str) -> &str {
-    match name.rsplit_once('/') {
-        None => name,
-        Some((_, name)) => name,
+    name.rsplit_once('/').map_or(name, |parts| parts.1)
+}
+
+/// Whether two names are of one file that is there.
+fn are_of_one_there(rt: &HostRuntime, one: &str, other: &str) -> bool {
+    match (fs::metadata(rt, one), fs::metadata(rt, other)) {
+        (Ok(one), Ok(other)) => one.dev() == other.dev() && one.ino() == other.ino(),
+        _ => false,
     }
 }
 
 /// Whether two names are of one file, or would be once both are made.
 fn are_of_one(rt: &HostRuntime, one: &str, other: &str) -> bool {
-    match (fs::metadata(rt, one), fs::metadata(rt, other)) {
-        (Ok(one), Ok(other)) => one.dev() == other.dev() && one.ino() == other.ino(),
-        (Err(_), Err(_)) => {
-            name_in_folder(one) == name_in_folder(other)
-                && match (
-                    fs::metadata(rt, folder_of(one)),
-                    fs::metadata(rt, folder_of(other)),
-                ) {
-                    (Ok(one), Ok(other)) => one.dev() == other.dev() && one.ino() == other.ino(),
-                    _ => false,
-                }
-        }
-        _ => false,
-    }
+    are_of_one_there(rt, one, other)
+        || (fs::metadata(rt, one).is_err()
+            && fs::metadata(rt, other).is_err()
+            && name_in_folder(one) == name_in_folder(other)
+            && are_of_one_there(rt, folder_of(one), folder_of(other)))
+}
+
+/// Whether the file is one of these, of which some may not be named.
+fn is_among(rt: &HostRuntime, name: &str, others: &[Option<&str>]) -> bool {
+    others.iter().any(|other| other.is_some_and(|other| are_of_one(rt, name, other)))
 }
 
 fn has_ends_in_place(rt: &HostRuntime, words: &SortingWords<'_>) -> bool {
     let Some(ends) = words.ends else {
         return false;
     };
-    if are_of_one(rt, ends, words.out) {
-        return true;
-    }
-    for upload in &words.uploads {
-        if are_of_one(rt, ends, upload) {
-            return true;
-        }
-    }
-    false
-}
-
-/// Whether the file is one of these, of which some may not be named.
-fn is_among(rt: &HostRuntime, name: &str, others: &[Option<&str>]) -> bool {
-    for other in others {
-        if let Some(other) = *other {
-            if are_of_one(rt, name, other) {
-                return true;
-            }
-        }
-    }
-    false
+    are_of_one(rt, ends, words.out)
+        || words
+            .uploads
+            .iter()
+            .any(|upload| are_of_one(rt, ends, upload))
 }
 
 fn has_made_over(rt: &HostRuntime, csvs: &[&str], words: &RowsWords<'_>) -> bool {
@@ -78,22 +63,11 @@ fn has_made_over(rt: &HostRuntime, csvs: &[&str], words: &RowsWords<'_>) -> bool
     } else {
         (None, words.devices)
     };
-    if let Some(out) = words.out {
-        if is_input(out) || is_among(rt, out, &[made, words.refused, words.key, read]) {
-            return true;
-        }
-    }
-    if let Some(made) = made {
-        if is_input(made) || is_among(rt, made, &[words.refused, words.key]) {
-            return true;
-        }
-    }
-    for csv in csvs {
-        if is_among(rt, csv, &[words.out, made]) {
-            return true;
-        }
-    }
-    false
+    words.out.is_some_and(|out| {
+        is_input(out) || is_among(rt, out, &[made, words.refused, words.key, read])
+    }) || made.is_some_and(|made| {
+        is_input(made) || is_among(rt, made, &[words.refused, words.key])
+    }) || csvs.iter().any(|csv| is_among(rt, csv, &[words.out, made]))
 }
 
 /// The form in which what the words request is written; else why it is refused.

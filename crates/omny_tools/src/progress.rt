@@ -20,9 +20,9 @@ pub(crate) struct Progress<'r> {
 }
 
 impl<'r> Progress<'r> {
-    pub(crate) fn new(rt: &'r HostRuntime) -> Progress<'r> {
+    pub(crate) fn new(rt: &'r HostRuntime, is_wanted: bool) -> Progress<'r> {
         let err = rt.stderr();
-        let started = if err.is_terminal() {
+        let started = if is_wanted && err.is_terminal() {
             Instant::now(rt).ok()
         } else {
             None
@@ -35,37 +35,12 @@ impl<'r> Progress<'r> {
         }
     }
 
-    pub(crate) fn hidden(rt: &'r HostRuntime) -> Progress<'r> {
-        Progress {
-            rt,
-            line: TerminalLine::new(rt.stderr()),
-            started: None,
-            due_ms: u128::from(QUIET_MS),
-        }
-    }
-
-    /// Nothing is shown if the text goes to a terminal as it is made.
-    pub(crate) fn beside_text(rt: &'r HostRuntime) -> Progress<'r> {
-        let mut progress = Progress::new(rt);
-        if rt.stdout().is_terminal() {
-            progress.started = None;
-        }
-        progress
-    }
-
-    /// For how many milliseconds the run goes on; none if nothing is shown.
-    fn passed_ms(&self) -> Option<u128> {
-        match self.started.as_ref()?.elapsed(self.rt) {
-            Ok(passed) => Some(passed.as_millis()),
-            Err(_) => None,
-        }
-    }
-
     /// Whether a line is to be shown. If so, the next one is due a while later.
     fn is_due(&mut self) -> bool {
-        let Some(passed) = self.passed_ms() else {
+        let Some(Ok(passed)) = self.started.as_ref().map(|it| it.elapsed(self.rt)) else {
             return false;
         };
+        let passed = passed.as_millis();
         let is_due = passed >= self.due_ms;
         if is_due {
             self.due_ms = passed.saturating_add(u128::from(PACE_MS));

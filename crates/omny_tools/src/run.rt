@@ -3,8 +3,6 @@
 use crate::framed::Framed;
 use crate::hint::{Failures, report_hints};
 use crate::manner::form_of;
-use crate::output::{WRITE_BYTES, collect};
-use crate::placed::FilesByName;
 use crate::progress::Progress;
 use crate::streams::Pieces;
 use hints::{Overheard, Unwritten};
@@ -12,11 +10,14 @@ use jiff::Timestamp;
 use program_manners::Complaints;
 use std::hash::RandomState;
 use std::io;
-use std::io::{IsTerminal, Write};
+use std::io::{BufWriter, IsTerminal, Write};
 use std::marker::Sync;
 use std::thread::Threads;
 use text_forms::{Shaped, UPLOADS};
 use tool_program::{Fault, main_over};
+
+/// How many bytes are collected before they are written.
+const WRITE_BYTES: usize = 65_536;
 
 /// What a terminal shows beside a run, by the subcommand.
 #[derive(Clone, Copy)]
@@ -34,10 +35,7 @@ struct Shows {
 impl Shows {
     /// By the first word after the program's name.
     fn of(words: &[String]) -> Shows {
-        let name = match words.get(1) {
-            Some(word) => word.as_str(),
-            None => "",
-        };
+        let name = words.get(1).map_or("", |word| word.as_str());
         Shows {
             counts: name == "uploads" || name == "table" || name == "sort",
             text: name == "merge" || name == "corrections",
@@ -62,37 +60,28 @@ pub(crate) fn run<R: Threads + Sync, E: Write>(
         }
     };
     let shows = Shows::of(words);
-    let progress = if shows.text {
-        Progress::beside_text(rt)
-    } else {
-        Progress::hidden(rt)
-    };
     let Ok(seed) = RandomState::new(rt) else {
         err.report_line(Fault::NoMemory);
         return 1;
     };
     let out = Shaped::new(rt.alloc(), io::writer(rt), UPLOADS, form);
     let collected = if shows.at_once { 0 } else { WRITE_BYTES };
-    let Ok(out) = collect(rt, out, collected) else {
+    let Ok(out) = BufWriter::with_capacity(rt.alloc(), collected, out) else {
         err.report_line(Fault::NoMemory);
         return 1;
     };
-    let counts = if shows.counts {
-        Progress::new(rt)
-    } else {
-        Progress::beside_text(rt)
-    };
+    let progress = Progress::new(rt, shows.counts || !rt.stdout().is_terminal());
     let asks = rt.stderr().is_terminal();
     let mut out = Unwritten::new(out);
     let mut err = Overheard::new(rt.stderr());
-    let mut framed = Framed::new(rt, counts, progress, asks, &mut out, &mut err);
+    let mut framed = Framed::new(rt, progress, shows.text, asks, &mut out, &mut err);
     let status = main_over(
         threads,
         rt.alloc(),
         seed,
         Timestamp::now(rt).unwrap_or(Timestamp::UNIX_EPOCH),
         words,
-        &FilesByName::new(rt),
+        &Pieces::new(rt),
         &mut Pieces::new(rt),
         &mut framed,
     );

@@ -1,10 +1,12 @@
-//! The files of the system and its standard input, read in pieces.
+//! The files of the system and its standard input, read in pieces or at any offset.
 
+use placed_files::{Unopened, open_regular};
 use recorded_lines::{Lines, Readings};
-use tool_program::Streams;
+use std::fs::File;
+use tool_program::{PlacedFiles, Streams};
 use world::{LoadFault, Stream};
 
-/// The files of the system and its standard input, which are read in pieces, each read recorded.
+/// The files of the system and its standard input. Each read in pieces is recorded.
 #[derive(Drop)]
 pub(crate) struct Pieces<'r> {
     rt: &'r HostRuntime,
@@ -40,5 +42,13 @@ impl Streams for Pieces<'_> {
 
     fn close(&mut self, lines: Lines) {
         self.readings.note(lines.stream());
+    }
+}
+
+impl PlacedFiles for Pieces<'_> {
+    type File = File;
+
+    fn open_placed(&self, name: &str) -> Result<File, Unopened> {
+        open_regular(self.rt, name)
     }
 }

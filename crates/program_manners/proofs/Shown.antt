@@ -18,23 +18,13 @@ shown_with r s (name, load.NoMemory) shown = tt
 -- what was shown is shown after more calls
 pub shown_joined : (r s new : Run) (refusal : Option (List ℕ) × LoadFault)
     → new ≡ with_all r s → ∥ IsShown r refusal ∥₁ → ∥ IsShown new refusal ∥₁
-shown_joined r s new refusal e shown =
-    subst (λ (run : Run). ∥ IsShown run refusal ∥₁) (sym e) (∥∥₁_map shown (shown_with r s refusal))
-
-shown_loaded_one : (r : Run) (name : Option (List ℕ)) (bytes : List ℕ)
-    (refusal : Option (List ℕ) × LoadFault) → IsShown r refusal
-    → IsShown (with_load r name bytes) refusal
-shown_loaded_one r name bytes (other, load.Unread) shown = shown
-shown_loaded_one r name bytes (other, load.TooLong) shown = shown
-shown_loaded_one r name bytes (other, load.NoMemory) shown = shown
+shown_joined r s new refusal e shown = rw e (∥∥₁_map shown (shown_with r s refusal))
 
 -- what was shown is shown after a load
 pub shown_loaded : (r new : Run) (name : Option (List ℕ)) (bytes : List ℕ)
     (refusal : Option (List ℕ) × LoadFault)
     → new ≡ with_load r name bytes → ∥ IsShown r refusal ∥₁ → ∥ IsShown new refusal ∥₁
-shown_loaded r new name bytes refusal e shown =
-    subst (λ (run : Run). ∥ IsShown run refusal ∥₁) (sym e)
-    (∥∥₁_map shown (shown_loaded_one r name bytes refusal))
+shown_loaded r new name bytes refusal e shown = rw e shown
 
 pub is_shown : (r new : Run) (name : Option (List ℕ)) (fault : LoadFault)
     → IsRefused r new name fault → IsShown new (name, fault)

@@ -1,12 +1,9 @@
-pub mod FileLists
 pub mod LineWritten
 pub mod Lines
 pub mod Loads
 pub mod Refusals
 pub mod TableLoads
-pub mod TableRefusals
 pub mod TableViews
 pub mod TableWords
 pub mod TablesFaults
 pub mod Words
-pub mod inside

@@ -2,7 +2,7 @@
 use Rattle.program_manners.specs.declared.refusal.Refusal.{Refusal}
 use Rattle.std.specs.Prelude.{◌≡◌, ◌<◌, ◌⊎◌, ⊤, ℕ, List, [], ◌∷◌, Option, Some, None, Contains}
 use Rattle.std.specs.Prelude.{codes, length, option_map, unwrap_or}
-use Rattle.world.specs.{Run.Run, declared.faults.LoadFault.LoadFault}
+use Rattle.world.specs.{Run.Load, Run.Run, declared.faults.LoadFault.LoadFault}
 use Rattle.world.specs.declared.faults.LoadFault.TheVariants as load
 
 -- The load under this name was refused by this fault. Of a source that keeps no refusal nothing is
@@ -22,12 +22,16 @@ HasRefused (Some refused) name fault =
 abbrev pub refusal_of : Refusal → Option (List ℕ) × LoadFault
 refusal_of r = (option_map (λ n. n.bytes) r.name, r.fault)
 
--- The calls of the run show this refusal. That an allocation failed no call shows.
+-- Calls by which these were unread and too long show this refusal. That an allocation failed no call
+-- shows.
+abbrev pub IsShownBy : List (Option (List ℕ)) → List Load → Option (List ℕ) × LoadFault → Type 0
+IsShownBy unread too_long (name, load.Unread) = Contains unread name
+IsShownBy unread too_long (name, load.TooLong) = (front : List ℕ) × (67108864 < length front)
+    × Contains too_long (record { name = name; bytes = front })
+IsShownBy unread too_long (name, load.NoMemory) = ⊤
+
 abbrev pub IsShown : Run → Option (List ℕ) × LoadFault → Type 0
-IsShown run (name, load.Unread) = Contains run.unread name
-IsShown run (name, load.TooLong) = (front : List ℕ) × (67108864 < length front)
-    × Contains run.too_long (record { name = name; bytes = front })
-IsShown run (name, load.NoMemory) = ⊤
+IsShown run refusal = IsShownBy run.unread run.too_long refusal
 
 -- the name is one of these
 abbrev pub IsOneOf : List ℕ → List (List ℕ) → Type 0

@@ -4,8 +4,8 @@ use Rattle.program_manners.specs.declared.table_words.DateFault.{DateFault}
 use Rattle.program_manners.specs.declared.table_words.DateFault.TheVariants.{IsFirst, NoDate}
 use Rattle.program_manners.specs.declared.table_words.DateFault.TheVariants.{NotADay, OtherYear}
 use Rattle.program_manners.specs.declared.table_words.WrittenDate.{WrittenDate}
-use Rattle.std.specs.Prelude.{◌++◌, ◌≡◌, ℕ, ◌+◌, ◌-◌, ◌*◌, ◌&&◌, ◌==◌, Bool, List, [], ◌∷◌, Option}
-use Rattle.std.specs.Prelude.{None, Some, codes, drop, false, if◌then◌else◌, is_some, length}
+use Rattle.std.specs.Prelude.{◌≡◌, ℕ, ◌+◌, ◌-◌, ◌*◌, ◌&&◌, ◌++◌, ◌==◌, Bool, List, [], ◌∷◌}
+use Rattle.std.specs.Prelude.{Option, None, Some, codes, drop, false, if◌then◌else◌, is_some, length}
 use Rattle.std.specs.Prelude.{nat_le, pos, slice_index_or, map, take, true}
 use Rattle.tariffs.specs.{ClockView.ClockView, Until.midnight_by, Until.moment_nanos}
 

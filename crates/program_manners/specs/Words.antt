@@ -42,15 +42,12 @@ files_rule name = record (new_rule name) {
   value_names = 1;
 }
 
--- `--NAME`
 abbrev pub flag_rule : Text → Rule
 flag_rule name = record (new_rule name) { long = Some name; action = Some SetTrue }
 
--- `--files-from LIST`
 abbrev pub list_option : Rule
 list_option = option_rule (codes "files-from")
 
--- `-0`, `--null`
 abbrev pub null_flag : Rule
 null_flag = record (flag_rule (codes "null")) { short = Some 48 }
 

@@ -10,7 +10,6 @@ use std::io::Write;
 #[derive(Drop)]
 pub struct Complaints<W> {
     writer: W,
-    /// Whether a write has failed.
     failed: bool,
 }
 

@@ -14,12 +14,9 @@ const LEAD: u8 = 0xc2;
 /// `fault: ..`, so that no name looks like a line.
 #[derive(Drop)]
 pub struct Escaping<W: Write + Drop> {
-    /// Where the bytes go.
     to: W,
-    /// Those that are not written yet.
     piece: [u8; PIECE_BYTES],
     used: usize,
-    /// Whether there was a byte.
     is_started: bool,
     /// Whether the first byte is that of `fault: ..`.
     is_fault: bool,

@@ -1,9 +1,8 @@
 //! Fare tables that follow others from a date on.
 ghost use Rattle.program_manners.specs.Lines.{follow_text, named_class_text, named_table_text};
-ghost use Rattle.program_manners.specs.{TableLoads.FollowsFrom, TableWords.has_year};
-ghost use Rattle.program_manners.specs.{TableWords.is_day, inside.TableLoads.is_memory};
-ghost use Rattle.std.specs.Prelude.{◌≡◌, ◌≤◌, IfErr, IfOk, Some, false, true};
-ghost use Rattle.tariffs.specs.Fares.{Fares};
+ghost use Rattle.program_manners.specs.TableLoads.{FollowsFrom, IsNextFault};
+ghost use Rattle.program_manners.specs.TableWords.{has_year, is_day};
+ghost use Rattle.std.specs.Prelude.{◌≡◌, IfErr, IfOk, Some, true};
 
 use crate::table_words::{WrittenDate, day_of};
 use fare_table::{FareTable, FollowFault, ReadFareTable, TableFault};
@@ -101,8 +100,7 @@ pub fn table_after(
     requires year { has_year date ≡ true }
     requires day { is_day date ≡ true }
     ensures follows { IfOk result (FollowsFrom fares date text.now) }
-    ensures fault { IfErr result (λ fault. is_memory fault ≡ false
-        → (all : Fares) → ¬ FollowsFrom fares date text.now all) }
+    ensures fault { IfErr result (IsNextFault fares date text.now) }
 {
     let next = match FareTable::read(alloc, text) {
         Ok(next) => next,

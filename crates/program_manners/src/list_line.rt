@@ -1,6 +1,6 @@
 //! The line of a list of files that gives no names.
 
-use crate::file_list::{ListFault, NameEnd, WrongName};
+use crate::file_list::{ListFault, NameEnd};
 use std::fmt;
 
 /// A list of files that gives no names. Its `Display` is the fault line without its line feed.
@@ -33,15 +33,10 @@ impl fmt::Display for ListLine<'_> {
             ListFault::Unread => write!(f, "fault: cannot read {list}"),
             ListFault::TooLong => write!(f, "fault: {list} is too long"),
             ListFault::NoNames => write!(f, "fault: {list} has no names"),
-            ListFault::Name(number, wrong) => {
+            ListFault::Name(number, why) => {
                 let piece = match self.end {
                     NameEnd::LineFeed => "line",
                     NameEnd::Nul => "name",
-                };
-                let why = match wrong {
-                    WrongName::Empty => "it is empty",
-                    WrongName::HasNul => "it has a NUL",
-                    WrongName::NotUtf8 => "it is not UTF-8",
                 };
                 write!(f, "fault: {list} {piece} {number}: {why}")
             }

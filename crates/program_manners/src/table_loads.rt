@@ -1,10 +1,9 @@
 //! Fare tables that are loaded in the order of their words.
 ghost use Rattle.program_manners.specs.{Loads.Loaded, Loads.LoadsOne, Refusals.Refuses};
-ghost use Rattle.program_manners.specs.TableLoads.{Follows, LoadsTables};
+ghost use Rattle.program_manners.specs.TableLoads.{LoadsTables, with_word};
 ghost use Rattle.program_manners.specs.TableViews.{names_of};
-ghost use Rattle.program_manners.specs.TableWords.{TableNames, date_fault, file_named, wrong_word};
+ghost use Rattle.program_manners.specs.TableWords.{TableNames, date_fault, wrong_word};
 ghost use Rattle.program_manners.specs.TablesFaults.{IsTablesFault};
-ghost use Rattle.program_manners.specs.inside.TableLoads.{IsFirstReported, IsReportedBy};
 ghost use Rattle.std.specs.Prelude.{◌≡◌, ◌++◌, ◌∷◌, [], ℕ, List, Option, None, Some, IfErr, IfOk};
 ghost use Rattle.std.specs.Prelude.{OnOk, false, map};
 
@@ -12,7 +11,7 @@ use crate::file_source::FileSource;
 use crate::following::{FollowLine, NamedTableLine, NextFault, table_after};
 use crate::loading::FileFault;
 use crate::table_words::{TableWord, TableWords};
-use fare_table::{FareTable, FollowFault, ReadFareTable, TableFault};
+use fare_table::{FareTable, ReadFareTable, TableFault};
 use std::alloc::{AllocError, Global};
 
 /// Why fare tables were not loaded.
@@ -28,16 +27,6 @@ pub enum TablesFault<'a> {
     Follow(FollowLine<'a>),
     /// An allocation failed.
     NoMemory,
-}
-
-impl<'a> From<FileFault<'a>> for TablesFault<'a> {
-    ghost use Rattle.program_manners.specs.declared.table_loads.TablesFault.TheVariants.{File};
-
-    ghost from_gives = { λ refused fault. fault ≡ File refused };
-
-    fn from(fault: FileFault<'a>) -> TablesFault<'a> {
-        TablesFault::File(fault)
-    }
 }
 
 impl From<AllocError> for TablesFault<'_> {
@@ -76,32 +65,6 @@ pub fn load_named<'a, S: FileSource>(
     }
 }
 
-fn of_next<'a>(word: &'a str, name: &'a str, fault: NextFault) -> TablesFault<'a>
-    ensures { IsReportedBy word.entry.now name.entry.now fault result }
-{
-    match fault {
-        NextFault::Table(TableFault::NoMemory) => TablesFault::NoMemory,
-        NextFault::Table(fault) => TablesFault::NamedTable(NamedTableLine { name, fault }),
-        NextFault::Follow(FollowFault::NoMemory) => TablesFault::NoMemory,
-        NextFault::Follow(fault) => TablesFault::Follow(FollowLine { word, fault }),
-    }
-}
-
-fn of_first<'a>(name: &'a str, is_alone: bool, fault: TableFault) -> TablesFault<'a>
-    ensures { IsFirstReported name.entry.now fault result }
-{
-    match fault {
-        TableFault::NoMemory => TablesFault::NoMemory,
-        fault => {
-            if is_alone {
-                TablesFault::Table(fault)
-            } else {
-                TablesFault::NamedTable(NamedTableLine { name, fault })
-            }
-        }
-    }
-}
-
 fn push(texts: &mut Vec<Vec<u8>>, text: Vec<u8>) -> Result<(), AllocError>
     ensures { OnOk result (texts.new.items ≡ texts.old.items ++ text ∷ []) }
 {
@@ -116,30 +79,36 @@ fn load_next<'a, S: FileSource>(
     source: &mut S,
 ) -> Result<Tables, TablesFault<'a>>
     requires { date_fault false word.now ≡ None }
-    ensures ok { IfOk result (λ all. (text : List ℕ)
-        × LoadsOne (S.loaded source.old) (S.loaded source.new)
-        (Some (file_named word.entry.now)) text
-        × Follows tables.fares word.entry.now text all.fares
-        × (map (λ t. t.items) all.texts.items
-        ≡ map (λ t. t.items) tables.texts.items ++ text ∷ [])) }
-    ensures right { IfErr result (λ fault. (loaded : Option (List Loaded)) (words : TableNames)
-        (before trailing texts : List (List ℕ)) → words.later ≡ before ++ word.entry.now ∷ trailing
-        → LoadsTables (record { first = words.first; later = before }) loaded (S.loaded source.old)
-        texts tables.fares
-        → IsTablesFault words loaded (S.loaded source.new) (S.refused source.new) fault) }
+    ensures ok { IfOk result (λ all. (words : TableNames) (loaded : Option (List Loaded))
+        → LoadsTables words loaded (S.loaded source.old) (map (λ t. t.items) tables.texts.items)
+        tables.fares → LoadsTables (with_word words word.now) loaded (S.loaded source.new)
+        (map (λ t. t.items) all.texts.items) all.fares) }
+    ensures right { IfErr result (λ fault. (words : TableNames) (loaded : Option (List Loaded))
+        (trailing : List (List ℕ))
+        → LoadsTables words loaded (S.loaded source.old) (map (λ t. t.items) tables.texts.items)
+        tables.fares
+        → IsTablesFault (record words { later = words.later ++ word.now ∷ trailing }) loaded
+        (S.loaded source.new) (S.refused source.new) fault) }
 {
     let parts = TableWord::of(word);
     let Some(date) = parts.date else {
         unreachable!();
     };
-    let text = load_named(source, parts.name)?;
+    let name = parts.name;
+    let text = match load_named(source, name) {
+        Ok(text) => text,
+        Err(file) => return Err(TablesFault::File(file)),
+    };
     match table_after(alloc, tables.fares, date, &text) {
         Ok(fares) => {
             tables.fares = fares;
             push(&mut tables.texts, text)?;
             Ok(tables)
         }
-        Err(fault) => Err(of_next(word, parts.name, fault)),
+        Err(NextFault::Table(fault)) => {
+            Err(TablesFault::NamedTable(NamedTableLine { name, fault }))
+        }
+        Err(NextFault::Follow(fault)) => Err(TablesFault::Follow(FollowLine { word, fault })),
     }
 }
 
@@ -156,14 +125,18 @@ fn load_first<'a, S: FileSource>(
         (S.loaded source.new) (S.refused source.new)) }
 {
     let name = words.first;
-    let text = load_named(source, name)?;
+    let text = match load_named(source, name) {
+        Ok(text) => text,
+        Err(file) => return Err(TablesFault::File(file)),
+    };
     match FareTable::read(alloc, &text) {
         Ok(fares) => {
             let mut texts = Vec::new(alloc);
             push(&mut texts, text)?;
             Ok(Tables { fares, texts })
         }
-        Err(fault) => Err(of_first(name, words.later.is_empty(), fault)),
+        Err(fault) if words.later.is_empty() => Err(TablesFault::Table(fault)),
+        Err(fault) => Err(TablesFault::NamedTable(NamedTableLine { name, fault })),
     }
 }
 

@@ -21,9 +21,7 @@ fn line_of<D: Display + Drop>(text: D) -> Result<ArrayString<80>, fmt::Error> {
 /// The last line of a terminal, on which one text after another is shown.
 #[derive(Drop)]
 pub struct TerminalLine<W: Write + Drop> {
-    /// The terminal.
     to: W,
-    /// Whether a text is there.
     is_shown: bool,
 }
 

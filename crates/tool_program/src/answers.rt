@@ -1,5 +1,5 @@
 //! What clap answers if there is nothing to do.
-ghost use Rattle.std.specs.Prelude.{◌≡◌, ◌≤◌, OnOk};
+ghost use Rattle.std.specs.Prelude.{◌≡◌, OnOk};
 ghost use Rattle.clap.specs.Words.{kind_of};
 ghost use Rattle.program_manners.specs.Words.{IsRequest};
 ghost use Rattle.tool_program.specs.Program.{IsPrinted, IsRefused};
@@ -43,7 +43,6 @@ pub(crate) fn show<W: World>(alloc: Global, error: &Error, world: &mut W) -> u8
         → IsRefused (W.run world.old) (W.run world.new) result }
     ensures memory { kind_of error.now ≡ ErrorKind.OutOfMemory
         → (result ≡ 1) × IsSaid (W.run world.old) (W.run world.new) }
-    ensures status { result ≤ 2 }
 {
     match error.kind() {
         ErrorKind::OutOfMemory => refuse_memory(world),

@@ -31,15 +31,10 @@ fn refuse<W: World, D: Display + Drop>(line: D, world: &mut W) -> u8
 fn refuse_date<W: World>(alloc: Global, wrong: &WrongWord<'_>, world: &mut W) -> u8
     ensures { IsRefused (W.run world.old) (W.run world.new) result }
 {
-    let shown = Escaped(wrong.word);
-    let Ok(word) = format!(in alloc; "{shown}") else {
-        return refuse_memory(world);
-    };
-    let line = WrongWord {
-        word: &word,
-        fault: wrong.fault,
-    };
-    refuse(format_args!("error: {line}"), world)
+    match format!(in alloc; "error: {wrong}") {
+        Ok(line) => refuse(Escaped(&line), world),
+        Err(_) => refuse_memory(world),
+    }
 }
 
 /// Does what is asked for, and gives the status.

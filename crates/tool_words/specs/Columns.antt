@@ -1,26 +1,16 @@
 -- How an agency's CSV is read: what the values of `--columns`, `--from`, `--separator`, `--unit`,
--- `--fold`, `--only` and `--drop` say.
-use Rattle.clap.specs.Words.{Text}
-use Rattle.std.specs.List.{after_first, before_first, find, list_all, position_or_len, slice_split}
-use Rattle.std.specs.{Option.option_and_then, Prelude.◌==◌}
-use Rattle.std.specs.Prelude.{◌||◌, if◌then◌else◌, nat_lt, ℕ, Bool, List, [], ◌∷◌, Option, None}
-use Rattle.std.specs.Prelude.{Some, codes, false, filter_map, is_some, length, option_map, true}
+-- `--fold`, `--only`, `--drop` and `--count` say.
+use Rattle.clap.specs.Words.{Row, Text, first_of}
+use Rattle.program_manners.specs.Words.{is_given}
+use Rattle.std.specs.List.{after_first, before_first, find, list_all, list_any, slice_split}
+use Rattle.std.specs.{Option.option_and_then, Option.option_or, Prelude.◌==◌}
+use Rattle.std.specs.Prelude.{◌&&◌, ◌||◌, if◌then◌else◌, ℕ, Bool, List, [], ◌∷◌, ◌++◌, Option, None}
+use Rattle.std.specs.Prelude.{Some, codes, length, map, option_map, unwrap_or}
 use Rattle.std.specs.Str.{bytes_eq}
 use Rattle.tap_rows.specs.declared.agency.choice.{Fold.Fold, Separator.Separator, Unit.Unit}
 use Rattle.tap_rows.specs.declared.agency.choice.Fold.TheVariants as folds
 use Rattle.tap_rows.specs.declared.agency.choice.Unit.TheVariants as units
-
--- how a kind of export is read: its columns of tokens, validators and moments, whether a token is
--- the hash of its field, the column and the value of the rows that are kept, and of those that are
--- left out, and the column of riders
-pub record Export : Type 0 where
-  pub token : Text
-  pub validator : Text
-  pub moment : Text
-  pub has_hashes : Bool
-  pub only : Option (Text × Text)
-  pub without : Option (Text × Text)
-  pub count : Option Text
+use Rattle.tool_words.specs.ToolLine.{named}
 
 abbrev pub is_comma : ℕ → Bool
 is_comma byte = byte == 44
@@ -28,95 +18,80 @@ is_comma byte = byte == 44
 abbrev pub is_equals : ℕ → Bool
 is_equals byte = byte == 61
 
--- the words between commas, in order
-abbrev pub between_commas : Text → List Text
-between_commas text = slice_split is_comma text
+-- the word is COLUMN=VALUE
+abbrev pub has_parts : Text → Bool
+has_parts word = list_any is_equals word
 
--- what is before and what is after the first `=` of a word, if it has one
-abbrev pub parts_of : Text → Option (Text × Text)
-parts_of word = if nat_lt (position_or_len is_equals word) (length word)
-    then Some (before_first is_equals word, after_first is_equals word) else None
-
--- each word is COLUMN=VALUE
-abbrev pub have_parts : List Text → Bool
-have_parts words = list_all (λ word. is_some (parts_of word)) words
+-- what is before and what is after the first `=` of a word
+abbrev pub parts_of : Text → Text × Text
+parts_of word = (before_first is_equals word, after_first is_equals word)
 
 -- the columns and values of words, if each has both
 abbrev pub conditions_in : List Text → Option (List (Text × Text))
-conditions_in words = if have_parts words then Some (filter_map parts_of words) else None
+conditions_in words = if list_all has_parts words then Some (map parts_of words) else None
+
+-- this kind of export is named
+abbrev pub is_from : Text → List Row → Bool
+is_from name rows = bytes_eq (unwrap_or (first_of (codes "from") rows) []) name
+
+-- The conditions of the words under this name. `--from littlepay`, the device transactions of
+-- Littlepay, is short for one more: taps on that were allowed.
+abbrev pub conditions_of : Text → Text → List Row → Option (List (Text × Text))
+conditions_of name more rows = conditions_in
+    (named name rows ++ (if is_from (codes "littlepay") rows then more ∷ [] else []))
 
 -- the first value that is given with this column
 abbrev pub value_of : Text → List (Text × Text) → Option Text
 value_of column pairs = option_map (λ pair. pair.1) (find (λ pair. bytes_eq pair.0 column) pairs)
 
--- the export of which nothing but these names is known, if there are all three
-abbrev pub export_of : Option Text → Option Text → Option Text → Option Export
-export_of (Some token) (Some validator) (Some moment) = Some (record {
-  token = token;
-  validator = validator;
-  moment = moment;
-  has_hashes = false;
-  only = None;
-  without = None;
-  count = None;
-})
-export_of _ _ _ = None
+abbrev pub all_three : Option Text → Option Text → Option Text → Option (Text × Text × Text)
+all_three (Some token) (Some validator) (Some moment) = Some (token, validator, moment)
+all_three _ _ _ = None
 
--- that of the names that three pairs give, if they name each column
-abbrev pub columns_among : List (Text × Text) → Option Export
+-- the columns of tokens, validators and moments that three pairs give, if they name each
+abbrev pub columns_among : List (Text × Text) → Option (Text × Text × Text)
 columns_among pairs = if length pairs == 3
-    then export_of (value_of (codes "token") pairs) (value_of (codes "validator") pairs)
+    then all_three (value_of (codes "token") pairs) (value_of (codes "validator") pairs)
     (value_of (codes "moment") pairs)
     else None
 
--- that of the names that a value of `--columns` gives, if it names each column once
-abbrev pub columns_in : Text → Option Export
-columns_in text = option_and_then columns_among (conditions_in (between_commas text))
+-- the value of `--columns`, or what an export's name is short for: also of TIDES' fare transactions
+abbrev pub columns_text : List Row → Text
+columns_text rows = if is_from (codes "littlepay") rows
+    then codes "token=customer_id,validator=device_id,moment=transaction_date_time_utc"
+    else (if is_from (codes "tides") rows
+    then codes "token=fare_media_id,validator=device_id,moment=event_timestamp"
+    else unwrap_or (first_of (codes "columns") rows) [])
 
--- the device transactions of Littlepay: taps on that were allowed
-abbrev pub littlepay : Export
-littlepay = record {
-  token = codes "customer_id";
-  validator = codes "device_id";
-  moment = codes "transaction_date_time_utc";
-  has_hashes = false;
-  only = Some (codes "transaction_outcome", codes "allow");
-  without = Some (codes "type", codes "off");
-  count = None;
-}
+-- the columns that the words name, if they name each once
+abbrev pub columns_in : List Row → Option (Text × Text × Text)
+columns_in rows =
+    option_and_then columns_among (conditions_in (slice_split is_comma (columns_text rows)))
 
--- the fare transactions of TIDES
-abbrev pub tides : Export
-tides = record {
-  token = codes "fare_media_id";
-  validator = codes "device_id";
-  moment = codes "event_timestamp";
-  has_hashes = true;
-  only = None;
-  without = None;
-  count = Some (codes "num_riders");
-}
+-- whether a token is the hash of its field, as that of TIDES
+abbrev pub has_hashes : List Row → Bool
+has_hashes rows = is_from (codes "tides") rows || is_given (codes "token-hash") rows
 
--- the kind of export that a value of `--from` names
-abbrev pub export_named : Text → Option Export
-export_named name = if bytes_eq name (codes "littlepay") then Some littlepay
-    else (if bytes_eq name (codes "tides") then Some tides else None)
+-- the device table that is read, or made
+abbrev pub devices_in : List Row → Option Text
+devices_in rows = option_or (first_of (codes "validators") rows)
+    (first_of (codes "validators-make") rows)
 
--- a byte that may be between two fields: not a quote, a line feed or a carriage return
-abbrev pub separator_of : ℕ → Option Separator
-separator_of byte = if byte == 34 || (byte == 10 || byte == 13) then None
-    else Some (record { byte = byte })
+-- the column of riders, which TIDES has
+abbrev pub count_in : List Row → Option Text
+count_in rows = option_or (first_of (codes "count") rows)
+    (if is_from (codes "tides") rows then Some (codes "num_riders") else None)
 
+-- the byte, if it may be between two fields: not a quote, a line feed or a carriage return
 abbrev pub one_byte : Text → Option Separator
-one_byte [] = None
-one_byte (byte ∷ []) = separator_of byte
-one_byte (byte ∷ next ∷ more) = None
+one_byte (byte ∷ []) =
+    if byte == 34 || (byte == 10 || byte == 13) then None else Some (record { byte = byte })
+one_byte _ = None
 
--- what is between two fields: a comma if the words do not say, and none if they say it wrong
-abbrev pub separator_in : Option Text → Option Separator
-separator_in None = Some (record { byte = 44 })
-separator_in (Some word) = if bytes_eq word (codes "tab") then Some (record { byte = 9 })
-    else one_byte word
+-- what is between two fields, and none if the word says it wrong
+abbrev pub separator_in : Text → Option Separator
+separator_in word =
+    if bytes_eq word (codes "tab") then Some (record { byte = 9 }) else one_byte word
 
 -- what a plain number counts, and none if the words say it wrong
 abbrev pub unit_in : Option Text → Option Unit
@@ -128,6 +103,5 @@ unit_in (Some word) = if bytes_eq word (codes "s") then Some units.Seconds
 -- which of two moments a time is, which needs a zone; none if the words say it wrong
 abbrev pub fold_in : Bool → Option Text → Option Fold
 fold_in has_zone None = Some folds.Unsaid
-fold_in false (Some word) = None
-fold_in true (Some word) = if bytes_eq word (codes "first") then Some folds.First
-    else (if bytes_eq word (codes "second") then Some folds.Second else None)
+fold_in has_zone (Some word) = if has_zone && bytes_eq word (codes "first") then Some folds.First
+    else (if has_zone && bytes_eq word (codes "second") then Some folds.Second else None)

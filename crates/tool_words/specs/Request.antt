@@ -1,14 +1,13 @@
 -- What the words of the tools ask for.
-use Rattle.clap.specs.Words.{Row, Text, all_of, first_of, subcommand_of}
+use Rattle.clap.specs.Words.{Row, Text, first_of}
 use Rattle.program_manners.specs.Words.{is_given}
-use Rattle.std.specs.{List.count_by, List.list_any, Option.option_map_or, Option.option_or}
-use Rattle.std.specs.{Option.option_to_list, Prelude.ℕ, Prelude.Bool, Prelude.◌&&◌, Prelude.◌||◌}
-use Rattle.std.specs.Prelude.{if◌then◌else◌, nat_lt, List, [], ◌∷◌, ◌++◌, Option, Some, None, codes}
-use Rattle.std.specs.{Prelude.false, Prelude.length, Prelude.unwrap_or, Str.bytes_eq}
+use Rattle.std.specs.{List.count_by, Option.option_map_or, Prelude.ℕ, Prelude.Bool, Prelude.◌&&◌}
+use Rattle.std.specs.Prelude.{◌||◌, if◌then◌else◌, nat_lt, List, [], ◌∷◌, ◌++◌, Option, Some}
+use Rattle.std.specs.{Prelude.codes, Prelude.length, Prelude.unwrap_or, Str.bytes_eq}
 use Rattle.tap_rows.specs.declared.agency.choice.{Fold.Fold, Separator.Separator, Unit.Unit}
-use Rattle.tool_words.specs.Columns.{Export, columns_in, conditions_in, export_named, fold_in}
-use Rattle.tool_words.specs.Columns.{separator_in, unit_in}
-use Rattle.tool_words.specs.ToolLine.{has_value, program}
+use Rattle.tool_words.specs.Columns.{columns_in, conditions_of, count_in, devices_in, fold_in}
+use Rattle.tool_words.specs.Columns.{has_hashes, separator_in, unit_in}
+use Rattle.tool_words.specs.ToolLine.{entered, has_any, has_value, named}
 
 -- what `encode` is asked for with columns, beside the files
 pub record RowsRequest : Type 0 where
@@ -86,17 +85,13 @@ is_input word = bytes_eq word (codes "-")
 abbrev pub inputs_in : List Text → ℕ
 inputs_in words = count_by is_input words
 
--- the words that are given under this name, in order
-abbrev pub named : Text → List Row → List Text
-named name rows = unwrap_or (all_of name rows) []
-
 -- one of the words that are given under this name represents standard input
 abbrev pub names_input : Text → List Row → Bool
-names_input name rows = list_any is_input (named name rows)
+names_input name rows = nat_lt 0 (inputs_in (named name rows))
 
 -- the list of files is standard input, and so is a file
 abbrev pub has_input_twice : List Row → Bool
-has_input_twice rows = option_map_or is_input (first_of (codes "files-from") rows) false
+has_input_twice rows = is_input (unwrap_or (first_of (codes "files-from") rows) [])
     && (names_input (codes "FILE") rows || (names_input (codes "UPLOAD") rows
     || (names_input (codes "PART") rows || names_input (codes "table") rows)))
 
@@ -105,76 +100,67 @@ abbrev pub or_input : List Text → List Text
 or_input [] = codes "-" ∷ []
 or_input (word ∷ words) = word ∷ words
 
--- the file of the tap table
-abbrev pub encoded_file : List Row → Text
-encoded_file rows = unwrap_or (first_of (codes "FILE") rows) (codes "-")
-
--- the files of the agency's CSVs
+-- the files of `decode`, or of the agency's CSVs
 abbrev pub encoded_files : List Row → List Text
 encoded_files rows = or_input (named (codes "FILE") rows)
 
--- all files that are read with them: the devices and the key
+-- all files that are read with the CSVs: the devices and the key, if they have a name
 abbrev pub read_files : List Row → List Text
-read_files rows =
-    (encoded_files rows ++ option_to_list (first_of (codes "validators") rows))
-    ++ option_to_list (first_of (codes "token-key") rows)
+read_files rows = (encoded_files rows ++ unwrap_or (first_of (codes "validators") rows) [] ∷ [])
+    ++ unwrap_or (first_of (codes "token-key") rows) [] ∷ []
 
--- the words name a kind of export, or else the columns
-abbrev pub export_in : List Row → Option Export
-export_in rows = option_map_or export_named (first_of (codes "from") rows)
-    (columns_in (unwrap_or (first_of (codes "columns") rows) []))
+-- an agency's CSV with these columns, this separator, this unit and this fold, under these conditions
+-- that keep rows and leave them out
+abbrev pub requested_rows : Text × Text × Text → Separator → Unit → Fold → List (Text × Text)
+    → List (Text × Text) → List Row → RowsRequest
+requested_rows columns separator unit fold only without rows = record {
+  separator = separator;
+  token = columns.0;
+  validator = columns.1;
+  moment = columns.2;
+  has_hashes = has_hashes rows;
+  unit = unit;
+  format = first_of (codes "moment-format") rows;
+  only = only;
+  without = without;
+  count = count_in rows;
+  devices = devices_in rows;
+  makes_devices = has_value (codes "validators-make") rows;
+  key = first_of (codes "token-key") rows;
+  zone = first_of (codes "zone") rows;
+  fold = fold;
+  refused = first_of (codes "refused") rows;
+  out = first_of (codes "out") rows;
+}
 
--- The rows of an agency's CSV, read so, with this separator, this unit and this fold, under these
--- conditions that keep rows and leave them out, if none of these is wrong.
-abbrev pub rows_by : Option Export → Option Separator → Option Unit → Option Fold
+-- the same, if none of these is wrong
+abbrev pub rows_by : Option (Text × Text × Text) → Option Separator → Option Unit → Option Fold
     → Option (List (Text × Text)) → Option (List (Text × Text)) → List Row → Request
-rows_by (Some export) (Some separator) (Some unit) (Some fold) (Some only) (Some without) rows =
-    if nat_lt 1 (inputs_in (read_files rows)) then misused
-    else encode_rows (encoded_files rows) (record {
-      separator = separator;
-      token = export.token;
-      validator = export.validator;
-      moment = export.moment;
-      has_hashes = export.has_hashes || is_given (codes "token-hash") rows;
-      unit = unit;
-      format = first_of (codes "moment-format") rows;
-      only = only ++ option_to_list export.only;
-      without = without ++ option_to_list export.without;
-      count = option_or (first_of (codes "count") rows) export.count;
-      devices = option_or (first_of (codes "validators") rows)
-          (first_of (codes "validators-make") rows);
-      makes_devices = has_value (codes "validators-make") rows;
-      key = first_of (codes "token-key") rows;
-      zone = first_of (codes "zone") rows;
-      fold = fold;
-      refused = first_of (codes "refused") rows;
-      out = first_of (codes "out") rows;
-    })
+rows_by (Some columns) (Some separator) (Some unit) (Some fold) (Some only) (Some without) rows =
+    if nat_lt 1 (inputs_in (read_files rows)) then misused else encode_rows (encoded_files rows)
+    (requested_rows columns separator unit fold only without rows)
 rows_by _ _ _ _ _ _ rows = misused
 
 -- the rows of an agency's CSV
 abbrev pub rows_request : List Row → Request
-rows_request rows = rows_by (export_in rows) (separator_in (first_of (codes "separator") rows))
+rows_request rows = rows_by (columns_in rows)
+    (separator_in (unwrap_or (first_of (codes "separator") rows) (codes ",")))
     (unit_in (first_of (codes "unit") rows))
     (fold_in (has_value (codes "zone") rows) (first_of (codes "fold") rows))
-    (conditions_in (named (codes "only") rows)) (conditions_in (named (codes "drop") rows)) rows
+    (conditions_of (codes "only") (codes "transaction_outcome=allow") rows)
+    (conditions_of (codes "drop") (codes "type=off") rows) rows
 
 -- a tap table, unless the words are of the rows of an agency's CSV
 abbrev pub table_request : List Row → Request
 table_request rows =
-    if has_value (codes "only") rows || (has_value (codes "separator") rows
-    || has_value (codes "refused") rows) then misused
+    if has_any (codes "only" ∷ codes "separator" ∷ codes "refused" ∷ []) rows then misused
     else (if has_value (codes "validators") rows then misused
     else (if has_value (codes "unit") rows then misused
-    else (if has_value (codes "drop") rows || (has_value (codes "count") rows
-    || (is_given (codes "token-hash") rows || (has_value (codes "token-key") rows
-    || (has_value (codes "zone") rows || has_value (codes "fold") rows))))
-    then misused
-    else (if has_value (codes "moment-format") rows
-    || (has_value (codes "validators-make") rows
-    || (has_value (codes "out") rows || nat_lt 1 (length (named (codes "FILE") rows))))
-    then misused
-    else encode (encoded_file rows)))))
+    else (if is_given (codes "token-hash") rows || has_any (codes "drop" ∷ codes "count"
+    ∷ codes "token-key" ∷ codes "zone" ∷ codes "fold" ∷ []) rows then misused
+    else (if nat_lt 1 (length (named (codes "FILE") rows))
+    || has_any (codes "moment-format" ∷ codes "validators-make" ∷ codes "out" ∷ []) rows
+    then misused else encode (unwrap_or (first_of (codes "FILE") rows) (codes "-"))))))
 
 -- the rows of an agency's CSV, or a tap table
 abbrev pub encode_request : List Row → Request
@@ -214,10 +200,6 @@ abbrev pub merge_request : List Text → Request
 merge_request parts =
     if nat_lt 1 (inputs_in parts) then misused else merge parts
 
-abbrev pub corrections_request : CorrectionsRequest → Request
-corrections_request ledgers = if is_input ledgers.old && is_input ledgers.new
-    then misused else corrections ledgers
-
 -- the ledgers of `corrections`
 abbrev pub ledgers_named : List Row → CorrectionsRequest
 ledgers_named rows = record {
@@ -226,27 +208,22 @@ ledgers_named rows = record {
   is_by_token = is_given (codes "tokens") rows;
 }
 
+abbrev pub corrections_request : List Row → Request
+corrections_request rows =
+    if is_input (ledgers_named rows).old && is_input (ledgers_named rows).new
+    then misused else corrections (ledgers_named rows)
+
 -- what a subcommand is asked for by what it is given; the last ones are `bounds` and `table`
 abbrev pub request_of_name : Text → List Row → Request
-request_of_name name rows =
-    if bytes_eq name (codes "encode") then encode_request rows
-    else (if bytes_eq name (codes "decode") then decode (or_input (named (codes "FILE") rows))
+request_of_name name rows = if has_input_twice rows then misused
+    else (if bytes_eq name (codes "encode") then encode_request rows
+    else (if bytes_eq name (codes "decode") then decode (encoded_files rows)
     else (if bytes_eq name (codes "uploads") then uploads_request rows
     else (if bytes_eq name (codes "sort") then sort_request rows
     else (if bytes_eq name (codes "merge") then merge_request (named (codes "PART") rows)
-    else (if bytes_eq name (codes "corrections") then corrections_request (ledgers_named rows)
-    else shows)))))
-
--- the same, unless standard input is named twice
-abbrev pub requested_once : Text → List Row → Request
-requested_once name rows =
-    if has_input_twice rows then misused else request_of_name name rows
-
--- the same of what a parse entered
-abbrev pub request_in : Option (Text × List Row) → Request
-request_in None = misused
-request_in (Some entered) = requested_once entered.0 entered.1
+    else (if bytes_eq name (codes "corrections") then corrections_request rows
+    else shows))))))
 
 -- what these words ask for, which are a command line
 abbrev pub request_by : List Text → Request
-request_by words = request_in (subcommand_of program words)
+request_by words = option_map_or (λ e. request_of_name e.0 e.1) (entered words) misused

@@ -54,7 +54,7 @@ abbrev pub sorting_of : SortingWords → SortRequest
 sorting_of words = record {
   is_merge = words.is_merge;
   out = words.out.now;
-  ends = option_map (λ name. name.now) words.ends;
+  ends = text_in words.ends;
   uploads = texts_of words.uploads.items;
 }
 
@@ -70,14 +70,9 @@ abbrev pub request_of : Task → Request
 request_of (task.Encode word) = encode word.now
 request_of (task.EncodeRows files words) = encode_rows (texts_of files.items) (rows_words_of words)
 request_of (task.Decode words) = decode (texts_of words.items)
-request_of (task.Uploads words has_tokens) = shows
 request_of (task.ValidPrefix words) = valid_prefix (valid_prefix_of words)
-request_of (task.Look words names) = shows
-request_of (task.Table question) = shows
 request_of (task.Sort words) = sort (sorting_of words)
 request_of (task.Merge parts) = merge (texts_of parts.items)
-request_of (task.Bounds words) = shows
 request_of (task.Corrections words) = corrections (corrections_of words)
 request_of (task.UsageError line) = misused
-request_of (task.Unshown line) = shows
-request_of (task.WrongDate wrong) = shows
+request_of _ = shows

@@ -1,14 +1,15 @@
 -- The command line of the tools, as clap reads it: the subcommands, and what each takes.
 use Rattle.clap.specs.{Simple.new_shape, Words.App}
-use Rattle.clap.specs.Words.{IsAmong, Row, Rule, Shape, Text, fault_of, first_of, subcommand_of}
+use Rattle.clap.specs.Words.{IsAmong, Row, Rule, Shape, Text, all_of, fault_of, first_of}
+use Rattle.clap.specs.Words.{subcommand_of}
 use Rattle.clap.specs.declared.builder.action.ArgAction.TheVariants.{Append, Set}
 use Rattle.clap.specs.declared.builder.value_parser.ValueParser.TheVariants.{Signed}
 use Rattle.clap.specs.declared.error.kind.ErrorKind.TheVariants.{DisplayHelp, DisplayVersion}
 use Rattle.program_manners.specs.Words.{flag_rule, is_given, list_option, named_app, null_flag}
 use Rattle.program_manners.specs.Words.{option_rule, positional_rule, repeated_rule}
 use Rattle.std.specs.Prelude.{◌≡◌, ◌⊎◌, ℤ, Bool, ◌&&◌, ◌||◌, if◌then◌else◌, not, true, false, List}
-use Rattle.std.specs.Prelude.{[], ◌∷◌, Option, Some, None, codes, is_some, pos}
-use Rattle.std.specs.Str.{bytes_eq}
+use Rattle.std.specs.Prelude.{[], ◌∷◌, Option, Some, None, codes, is_some, pos, unwrap_or}
+use Rattle.std.specs.{List.list_any, Str.bytes_eq}
 
 -- the argument must be there
 abbrev pub needed : Rule → Rule
@@ -98,9 +99,17 @@ program = record {
       ∷ subcommand (codes "corrections") corrections_rules ∷ [];
 }
 
+-- the words that are given under this name, in order
+abbrev pub named : Text → List Row → List Text
+named name rows = unwrap_or (all_of name rows) []
+
 -- whether a value is given under this name
 abbrev pub has_value : Text → List Row → Bool
 has_value name rows = is_some (first_of name rows)
+
+-- the same of one of these names
+abbrev pub has_any : List Text → List Row → Bool
+has_any names rows = list_any (λ name. has_value name rows) names
 
 -- Files are wanted under this name. Neither they are given nor a list of files.
 abbrev pub lacks_files : Text → List Row → Bool
@@ -109,8 +118,7 @@ lacks_files name rows = not (has_value name rows) && not (has_value (codes "file
 -- an option of `uploads` says what to look for, or that all that is found is listed
 abbrev pub looks : List Row → Bool
 looks rows = is_given (codes "look") rows || (is_given (codes "list") rows
-    || (has_value (codes "within") rows || (has_value (codes "from") rows
-    || (has_value (codes "until") rows || has_value (codes "table") rows))))
+    || has_any (codes "within" ∷ codes "from" ∷ codes "until" ∷ codes "table" ∷ []) rows)
 
 -- What is given to the subcommand of this name breaks a rule between its arguments: files are
 -- missing, or some do not go together.
@@ -127,14 +135,18 @@ breaks_rule name rows =
     else (bytes_eq name (codes "encode") && (has_value (codes "validators") rows
     && has_value (codes "validators-make") rows))))))
 
--- the same of what a parse entered, or that nothing was
-abbrev pub breaks : Option (Text × List Row) → Bool
-breaks None = true
-breaks (Some entered) = breaks_rule entered.0 entered.1
+-- what a parse entered, unless it breaks a rule
+abbrev pub unbroken : Option (Text × List Row) → Option (Text × List Row)
+unbroken None = None
+unbroken (Some found) = if breaks_rule found.0 found.1 then None else Some found
+
+-- the subcommand that the words enter, and what it is given
+abbrev pub entered : List Text → Option (Text × List Row)
+entered words = unbroken (subcommand_of program words)
 
 -- the words after the program's name are a command line of the program
 abbrev pub Parses : List Text → Type 0
-Parses words = (fault_of program words ≡ []) × (breaks (subcommand_of program words) ≡ false)
+Parses words = (fault_of program words ≡ []) × (is_some (entered words) ≡ true)
 
 -- reading the words ends at a word that asks for help or for the version
 abbrev pub AsksForText : List Text → Type 0

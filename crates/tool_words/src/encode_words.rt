@@ -1,14 +1,15 @@
 //! What `encode` with columns requests.
-ghost use Rattle.clap.specs.Words.{first_of, found_of, rows_of};
-ghost use Rattle.std.specs.Option.{option_or, option_to_list};
-ghost use Rattle.std.specs.Prelude.{◌≡◌, ◌++◌, IfOk, codes, map, nat_lt, option_map};
-ghost use Rattle.tool_words.specs.Columns.{between_commas, columns_among, columns_in};
-ghost use Rattle.tool_words.specs.Columns.{conditions_in, export_named, export_of, fold_in};
-ghost use Rattle.tool_words.specs.Columns.{littlepay, parts_of, separator_in, separator_of, tides};
-ghost use Rattle.tool_words.specs.{Columns.unit_in, Columns.value_of, Request.encoded_file};
-ghost use Rattle.tool_words.specs.Request.{encoded_files, export_in, inputs_in, read_files};
-ghost use Rattle.tool_words.specs.{Request.rows_request, Tasks.request_of, Tasks.condition_of};
-ghost use Rattle.tool_words.specs.{Tasks.text_in, Tasks.texts_of, inside.Columns.export_by};
+ghost use Rattle.clap.specs.Words.{found_of, rows_of};
+ghost use Rattle.std.specs.{List.slice_split, Prelude.◌≡◌, Prelude.IfOk, Prelude.map};
+ghost use Rattle.std.specs.Prelude.{nat_lt, option_map};
+ghost use Rattle.tool_words.specs.Columns.{columns_among, columns_text, columns_in, conditions_in};
+ghost use Rattle.tool_words.specs.Columns.{conditions_of, count_in, devices_in, fold_in};
+ghost use Rattle.tool_words.specs.Columns.{has_hashes, has_parts, is_comma, is_from, parts_of};
+ghost use Rattle.tool_words.specs.Columns.{separator_in, unit_in, value_of};
+ghost use Rattle.tool_words.specs.Request.{encoded_files, inputs_in, read_files, requested_rows};
+ghost use Rattle.tool_words.specs.{Request.rows_request, Tasks.rows_words_of};
+ghost use Rattle.tool_words.specs.Tasks.{condition_of, request_of, text_in, texts_of};
+ghost use Rattle.tool_words.specs.inside.Columns.{names_of};
 
 use crate::reading::{INPUT_TWICE, has_value, inputs_in};
 use crate::task::{RowsWords, Task};
@@ -32,47 +33,35 @@ const WRONG_ONLY: &str = "error: --only needs COLUMN=VALUE";
 
 const WRONG_DROP: &str = "error: --drop needs COLUMN=VALUE";
 
-/// How a kind of export is read.
-#[derive(Clone, Copy)]
-struct Export<'a> {
-    token: &'a str,
-    validator: &'a str,
-    moment: &'a str,
-    has_hashes: bool,
-    only: Option<Condition<'a>>,
-    without: Option<Condition<'a>>,
-    count: Option<&'a str>,
+/// `--from littlepay` is short for these columns, with conditions.
+const LITTLEPAY: &str = "token=customer_id,validator=device_id,moment=transaction_date_time_utc";
+
+/// `--from tides` is short for these columns, with hashes and counts of riders.
+const TIDES: &str = "token=fare_media_id,validator=device_id,moment=event_timestamp";
+
+fn has_parts(word: &str) -> bool
+    ensures { result ≡ has_parts word.now }
+{
+    word.bytes().any(|byte| byte == b'=')
 }
 
-fn parts_of<'a>(word: &'a str) -> Option<(&'a str, &'a str)>
-    ensures { option_map (λ p. (p.0.now, p.1.now)) result ≡ parts_of word.entry.now }
+fn parts_of<'a>(word: &'a str) -> Condition<'a>
+    ensures { condition_of result ≡ parts_of word.entry.now }
 {
-    word.split_once('=')
+    match word.split_once('=') {
+        Some((column, value)) => Condition { column, value },
+        None => Condition {
+            column: word,
+            value: "",
+        },
+    }
 }
 
-fn between_commas<'a>(alloc: Global, text: &'a str) -> Result<Vec<&'a str>, AllocError>
-    ensures { IfOk result (λ words. texts_of words.items ≡ between_commas text.entry.now) }
+fn all_parts<'a>(alloc: Global, words: &[&'a str]) -> Result<Vec<Condition<'a>>, AllocError>
+    ensures { IfOk result (λ all. map condition_of all.items
+        ≡ map (λ w. parts_of w.now) words.now) }
 {
-    text.split(',').collect(alloc)
-}
-
-fn export_of<'a>(
-    token: Option<&'a str>,
-    validator: Option<&'a str>,
-    moment: Option<&'a str>,
-) -> Option<Export<'a>>
-    ensures { option_map export_by result
-        ≡ export_of (text_in token.entry) (text_in validator.entry) (text_in moment.entry) }
-{
-    Some(Export {
-        token: token?,
-        validator: validator?,
-        moment: moment?,
-        has_hashes: false,
-        only: None,
-        without: None,
-        count: None,
-    })
+    words.iter().map(|word| parts_of(word)).collect(alloc)
 }
 
 fn conditions_in<'a>(
@@ -82,14 +71,27 @@ fn conditions_in<'a>(
     ensures { IfOk result (λ only. option_map (λ all. map condition_of all.items) only
         ≡ conditions_in (texts_of words.now)) }
 {
-    let mut only = Vec::new(alloc);
-    for word in words {
-        let Some((column, value)) = parts_of(word) else {
-            return Ok(None);
-        };
-        only.push(Condition { column, value })?;
+    if !words.iter().all(|word| has_parts(word)) {
+        return Ok(None);
     }
-    Ok(Some(only))
+    Ok(Some(all_parts(alloc, words)?))
+}
+
+/// The words under this name, with this one if they are short for `littlepay`.
+fn conditions_of<'a>(
+    alloc: Global,
+    matches: &ArgMatches<'a>,
+    name: &str,
+    more: &'a str,
+) -> Result<Option<Vec<Condition<'a>>>, AllocError>
+    ensures { IfOk result (λ only. option_map (λ all. map condition_of all.items) only
+        ≡ conditions_of name.now more.entry.now (rows_of (found_of matches.now))) }
+{
+    let mut words = names_in(alloc, matches, name)?;
+    if is_from(matches, "littlepay") {
+        words.push(more)?;
+    }
+    conditions_in(alloc, &words)
 }
 
 fn value_of<'a>(column: &str, pairs: &[Condition<'a>]) -> Option<&'a str>
@@ -103,105 +105,69 @@ fn value_of<'a>(column: &str, pairs: &[Condition<'a>]) -> Option<&'a str>
     None
 }
 
-fn columns_among<'a>(pairs: &[Condition<'a>]) -> Option<Export<'a>>
-    ensures { option_map export_by result ≡ columns_among (map condition_of pairs.now) }
+/// The columns of tokens, validators and moments.
+fn columns_among<'a>(pairs: &[Condition<'a>]) -> Option<(&'a str, &'a str, &'a str)>
+    ensures { option_map names_of result ≡ columns_among (map condition_of pairs.now) }
 {
     if pairs.len() != 3 {
         return None;
     }
-    export_of(
-        value_of("token", pairs),
-        value_of("validator", pairs),
-        value_of("moment", pairs),
-    )
+    Some((
+        value_of("token", pairs)?,
+        value_of("validator", pairs)?,
+        value_of("moment", pairs)?,
+    ))
 }
 
-fn columns_in<'a>(alloc: Global, text: &'a str) -> Result<Option<Export<'a>>, AllocError>
-    ensures { IfOk result (λ columns. option_map export_by columns ≡ columns_in text.entry.now) }
+fn is_from(matches: &ArgMatches<'_>, name: &str) -> bool
+    ensures { result ≡ is_from name.now (rows_of (found_of matches.now)) }
 {
-    let words = between_commas(alloc, text)?;
+    value_in(matches, "from").unwrap_or("") == name
+}
+
+/// The value of `--columns`, or what `--from` is short for.
+fn columns_text<'a>(matches: &ArgMatches<'a>) -> &'a str
+    ensures { result.now ≡ columns_text (rows_of (found_of matches.now)) }
+{
+    if is_from(matches, "littlepay") {
+        return LITTLEPAY;
+    }
+    if is_from(matches, "tides") {
+        return TIDES;
+    }
+    value_in(matches, "columns").unwrap_or("")
+}
+
+fn between_commas<'a>(alloc: Global, text: &'a str) -> Result<Vec<&'a str>, AllocError>
+    ensures { IfOk result (λ words. texts_of words.items ≡ slice_split is_comma text.entry.now) }
+{
+    text.split(',').collect(alloc)
+}
+
+fn columns_in<'a>(
+    alloc: Global,
+    matches: &ArgMatches<'a>,
+) -> Result<Option<(&'a str, &'a str, &'a str)>, AllocError>
+    ensures { IfOk result (λ columns. option_map names_of columns
+        ≡ columns_in (rows_of (found_of matches.now))) }
+{
+    let words = between_commas(alloc, columns_text(matches))?;
     match conditions_in(alloc, &words)? {
         Some(pairs) => Ok(columns_among(&pairs)),
         None => Ok(None),
     }
 }
 
-fn littlepay() -> Export<'static>
-    ensures { export_by result ≡ littlepay }
+fn separator_in(word: &str) -> Option<Separator>
+    ensures { result ≡ separator_in word.now }
 {
-    Export {
-        token: "customer_id",
-        validator: "device_id",
-        moment: "transaction_date_time_utc",
-        has_hashes: false,
-        only: Some(Condition {
-            column: "transaction_outcome",
-            value: "allow",
-        }),
-        without: Some(Condition {
-            column: "type",
-            value: "off",
-        }),
-        count: None,
+    if word == "tab" {
+        return Some(Separator { byte: b'\t' });
     }
-}
-
-fn tides() -> Export<'static>
-    ensures { export_by result ≡ tides }
-{
-    Export {
-        token: "fare_media_id",
-        validator: "device_id",
-        moment: "event_timestamp",
-        has_hashes: true,
-        only: None,
-        without: None,
-        count: Some("num_riders"),
-    }
-}
-
-fn export_named<'a>(name: &str) -> Option<Export<'a>>
-    ensures { option_map export_by result ≡ export_named name.now }
-{
-    if name == "littlepay" {
-        return Some(littlepay());
-    }
-    if name == "tides" {
-        return Some(tides());
-    }
-    None
-}
-
-fn export_in<'a>(alloc: Global, matches: &ArgMatches<'a>) -> Result<Option<Export<'a>>, AllocError>
-    ensures { IfOk result (λ export. option_map export_by export
-        ≡ export_in (rows_of (found_of matches.now))) }
-{
-    match value_in(matches, "from") {
-        Some(name) => Ok(export_named(name)),
-        None => columns_in(alloc, value_in(matches, "columns").unwrap_or("")),
-    }
-}
-
-fn separator_of(byte: u8) -> Option<Separator>
-    ensures { result ≡ separator_of byte }
-{
-    if byte == b'"' || byte == b'\n' || byte == b'\r' {
-        None
-    } else {
-        Some(Separator { byte })
-    }
-}
-
-fn separator_in(word: Option<&str>) -> Option<Separator>
-    ensures { result ≡ separator_in (text_in word.entry) }
-{
-    match word {
-        None => Some(Separator { byte: b',' }),
-        Some(word) if word == "tab" => Some(Separator { byte: b'\t' }),
-        Some(word) => match word.as_bytes() {
-            [byte] => separator_of(*byte),
-            _ => None,
-        },
+    match word.as_bytes() {
+        [b'"' | b'\n' | b'\r'] => None,
+        [byte] => Some(Separator { byte: *byte }),
+        _ => None,
     }
 }
 
@@ -220,25 +186,12 @@ fn unit_in(word: Option<&str>) -> Option<Unit>
 fn fold_in(has_zone: bool, word: Option<&str>) -> Option<Fold>
     ensures { result ≡ fold_in has_zone (text_in word.entry) }
 {
-    let Some(word) = word else {
-        return Some(Fold::Unsaid);
-    };
-    if !has_zone {
-        return None;
+    match word {
+        None => Some(Fold::Unsaid),
+        Some(word) if has_zone && word == "first" => Some(Fold::First),
+        Some(word) if has_zone && word == "second" => Some(Fold::Second),
+        Some(_) => None,
     }
-    if word == "first" {
-        return Some(Fold::First);
-    }
-    if word == "second" {
-        return Some(Fold::Second);
-    }
-    None
-}
-
-pub(crate) fn encoded_file<'a>(matches: &ArgMatches<'a>) -> &'a str
-    ensures { result.now ≡ encoded_file (rows_of (found_of matches.now)) }
-{
-    value_in(matches, "FILE").unwrap_or("-")
 }
 
 /// Standard input, if no file is named.
@@ -256,26 +209,15 @@ pub(crate) fn files_in<'a>(
     Ok(files)
 }
 
-/// The words with one more, if there is one.
-fn with_word<'a>(words: Vec<&'a str>, word: Option<&'a str>) -> Result<Vec<&'a str>, AllocError>
-    ensures { IfOk result (λ all. texts_of all.items
-        ≡ texts_of words.entry.items ++ option_to_list (text_in word.entry)) }
-{
-    let mut all = words;
-    if let Some(word) = word {
-        all.push(word)?;
-    }
-    Ok(all)
-}
-
-/// The CSVs, the device table and the key.
+/// The CSVs, the device table and the key; no name, where there is none.
 fn read_files<'a>(alloc: Global, matches: &ArgMatches<'a>) -> Result<Vec<&'a str>, AllocError>
     ensures { IfOk result (λ files. texts_of files.items
         ≡ read_files (rows_of (found_of matches.now))) }
 {
-    let files = files_in(alloc, matches)?;
-    let more = with_word(files, value_in(matches, "validators"))?;
-    with_word(more, value_in(matches, "token-key"))
+    let mut files = files_in(alloc, matches)?;
+    files.push(value_in(matches, "validators").unwrap_or(""))?;
+    files.push(value_in(matches, "token-key").unwrap_or(""))?;
+    Ok(files)
 }
 
 fn reads_input_twice(alloc: Global, matches: &ArgMatches<'_>) -> Result<bool, AllocError>
@@ -286,41 +228,64 @@ fn reads_input_twice(alloc: Global, matches: &ArgMatches<'_>) -> Result<bool, Al
     Ok(inputs_in(&files) > 1)
 }
 
+/// Whether a token is the hash of its field.
+fn has_hashes(matches: &ArgMatches<'_>) -> bool
+    ensures { result ≡ has_hashes (rows_of (found_of matches.now)) }
+{
+    is_from(matches, "tides") || flag_in(matches, "token-hash")
+}
+
 /// The device table that is read, or made.
 fn devices_in<'a>(matches: &ArgMatches<'a>) -> Option<&'a str>
-    ensures { text_in result
-        ≡ option_or (first_of (codes "validators") (rows_of (found_of matches.now)))
-        (first_of (codes "validators-make") (rows_of (found_of matches.now))) }
+    ensures { text_in result ≡ devices_in (rows_of (found_of matches.now)) }
 {
-    match value_in(matches, "validators") {
-        Some(name) => Some(name),
-        None => value_in(matches, "validators-make"),
-    }
+    value_in(matches, "validators").or(value_in(matches, "validators-make"))
 }
 
-fn with_one<'a>(
-    conditions: Vec<Condition<'a>>,
-    one: Option<Condition<'a>>,
-) -> Result<Vec<Condition<'a>>, AllocError>
-    ensures { IfOk result (λ all. map condition_of all.items
-        ≡ map condition_of conditions.entry.items
-        ++ option_to_list (option_map condition_of one.entry)) }
-{
-    let mut all = conditions;
-    if let Some(condition) = one {
-        all.push(condition)?;
-    }
-    Ok(all)
-}
-
-fn count_in<'a>(matches: &ArgMatches<'a>, count: Option<&'a str>) -> Option<&'a str>
-    ensures { text_in result
-        ≡ option_or (first_of (codes "count") (rows_of (found_of matches.now)))
-        (text_in count.entry) }
+/// The column of riders.
+fn count_in<'a>(matches: &ArgMatches<'a>) -> Option<&'a str>
+    ensures { text_in result ≡ count_in (rows_of (found_of matches.now)) }
 {
     match value_in(matches, "count") {
-        Some(column) => Some(column),
-        None => count,
+        None if is_from(matches, "tides") => Some("num_riders"),
+        count => count,
+    }
+}
+
+fn rows_words<'a>(
+    matches: &ArgMatches<'a>,
+    columns: (&'a str, &'a str, &'a str),
+    separator: Separator,
+    unit: Unit,
+    fold: Fold,
+    only: Vec<Condition<'a>>,
+    without: Vec<Condition<'a>>,
+) -> RowsWords<'a>
+    ensures { rows_words_of result ≡ requested_rows (names_of columns.entry) separator unit fold
+        (map condition_of only.entry.items) (map condition_of without.entry.items)
+        (rows_of (found_of matches.now)) }
+{
+    let columns = Columns {
+        separator,
+        token: columns.0,
+        validator: columns.1,
+        moment: columns.2,
+        has_hashes: has_hashes(matches),
+        unit,
+        format: value_in(matches, "moment-format"),
+        only,
+        without,
+        count: count_in(matches),
+    };
+    RowsWords {
+        columns,
+        devices: devices_in(matches),
+        makes_devices: has_value(matches, "validators-make"),
+        key: value_in(matches, "token-key"),
+        zone: value_in(matches, "zone"),
+        fold,
+        refused: value_in(matches, "refused"),
+        out: value_in(matches, "out"),
     }
 }
 
@@ -328,12 +293,10 @@ pub(crate) fn rows_task<'a>(alloc: Global, matches: &ArgMatches<'a>) -> Result<T
     ensures { IfOk result (λ task. request_of task ≡ rows_request (rows_of (found_of matches.now))) }
 {
     let files = files_in(alloc, matches)?;
-    let export = export_in(alloc, matches)?;
-    let only = names_in(alloc, matches, "only")?;
-    let only = conditions_in(alloc, &only)?;
-    let without = names_in(alloc, matches, "drop")?;
-    let without = conditions_in(alloc, &without)?;
-    let Some(export) = export else {
+    let columns = columns_in(alloc, matches)?;
+    let only = conditions_of(alloc, matches, "only", "transaction_outcome=allow")?;
+    let without = conditions_of(alloc, matches, "drop", "type=off")?;
+    let Some(columns) = columns else {
         let is_named = has_value(matches, "from");
         return Ok(Task::UsageError(if is_named {
             WRONG_EXPORT
@@ -341,7 +304,7 @@ pub(crate) fn rows_task<'a>(alloc: Global, matches: &ArgMatches<'a>) -> Result<T
             WRONG_COLUMNS
         }));
     };
-    let Some(separator) = separator_in(value_in(matches, "separator")) else {
+    let Some(separator) = separator_in(value_in(matches, "separator").unwrap_or(",")) else {
         return Ok(Task::UsageError(WRONG_SEPARATOR));
     };
     let Some(unit) = unit_in(value_in(matches, "unit")) else {
@@ -359,27 +322,6 @@ pub(crate) fn rows_task<'a>(alloc: Global, matches: &ArgMatches<'a>) -> Result<T
     if reads_input_twice(alloc, matches)? {
         return Ok(Task::UsageError(INPUT_TWICE));
     }
-    let columns = Columns {
-        separator,
-        token: export.token,
-        validator: export.validator,
-        moment: export.moment,
-        has_hashes: export.has_hashes || flag_in(matches, "token-hash"),
-        unit,
-        format: value_in(matches, "moment-format"),
-        only: with_one(only, export.only)?,
-        without: with_one(without, export.without)?,
-        count: count_in(matches, export.count),
-    };
-    let words = RowsWords {
-        columns,
-        devices: devices_in(matches),
-        makes_devices: has_value(matches, "validators-make"),
-        key: value_in(matches, "token-key"),
-        zone: value_in(matches, "zone"),
-        fold,
-        refused: value_in(matches, "refused"),
-        out: value_in(matches, "out"),
-    };
+    let words = rows_words(matches, columns, separator, unit, fold, only, without);
     Ok(Task::EncodeRows(files, words))
 }

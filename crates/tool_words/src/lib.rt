@@ -3,32 +3,24 @@
 #![tactic(auto)]
 
 mod arguments;
-mod bounds;
-mod corrections;
-mod decode;
-mod encode;
 mod encode_words;
 mod later_table;
-mod merge;
 mod moments;
 mod named_list;
 mod program;
 mod reading;
 mod rules;
-mod sort;
-mod table;
+mod subcommands;
 mod table_words;
 mod task;
-mod uploads;
 mod uploads_words;
 mod words;
 
 pub use later_table::LaterTable;
-pub use named_list::list_words;
+pub use named_list::{list_words, named_format};
 pub use reading::is_input;
 pub use task::{
     BoundsWords, CorrectionsWords, LookWords, RowsWords, SortingWords, TableQuestion, Task,
     ValidPrefixWords,
 };
-pub use uploads_words::named_format;
 pub use words::read;

@@ -1,9 +1,8 @@
-//! The list of files that the words name.
+//! What the words name beside a task: a list of files, and a form.
 
 use crate::reading::has_input_twice;
-use crate::rules::breaks_rule;
-use crate::words::{entered, matched};
-use program_manners::{ListFault, ListWords};
+use crate::words::entered;
+use program_manners::{ListFault, ListWords, value_in};
 use std::alloc::Global;
 
 /// The list of files that the words name; words that are not a command line name none. An error is
@@ -13,24 +12,26 @@ pub fn list_words<'a>(
     alloc: Global,
     words: &'a [String],
 ) -> Result<Option<ListWords<'a>>, ListFault> {
-    let matches = match matched(alloc, words) {
-        Ok(matches) => matches,
-        Err(error) => {
-            let _none = ListWords::unread(&error)?;
-            return Ok(None);
-        }
+    let found = match entered(alloc, words) {
+        Ok(Some((_, found))) => found,
+        Ok(None) => return Ok(None),
+        Err(error) => return ListWords::unread(&error),
     };
-    let Some((name, found)) = entered(matches) else {
-        return Ok(None);
-    };
-    if breaks_rule(name, &found) {
-        return Ok(None);
-    }
-    let Some(list) = ListWords::of(&found)? else {
-        return Ok(None);
-    };
-    if has_input_twice(&found) {
+    let list = ListWords::of(&found)?;
+    if has_input_twice(alloc, &found)? {
         return Err(ListFault::InputTwice);
     }
-    Ok(Some(list))
+    Ok(list)
+}
+
+/// The form that the words name for what `uploads` prints, if they name one.
+pub fn named_format<'a>(alloc: Global, words: &'a [String]) -> Option<&'a str> {
+    let Ok(Some((name, found))) = entered(alloc, words) else {
+        return None;
+    };
+    if name == "uploads" {
+        value_in(&found, "format")
+    } else {
+        None
+    }
 }

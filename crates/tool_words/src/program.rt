@@ -5,42 +5,10 @@ ghost use Rattle.tool_words.specs.ToolLine.{app_of_name, program};
 ghost use Rattle.tool_words.specs.inside.Rows.{shape_of_table};
 
 use crate::arguments::Subcommand;
-use crate::bounds::BOUNDS;
-use crate::corrections::CORRECTIONS;
-use crate::decode::DECODE;
-use crate::encode::ENCODE;
-use crate::merge::MERGE;
-use crate::sort::SORT;
-use crate::table::TABLE;
-use crate::uploads::UPLOADS;
+use crate::subcommands::{ABOUT, NOTES, SUBCOMMANDS};
 use clap::Command;
 use program_manners::new_command;
 use std::alloc::{AllocError, Global};
-
-const ABOUT: &str = "Makes uploads of taps and back, and shows what uploads and fare tables have.";
-
-const NOTES: &str = "Examples:
-  omny_tools encode taps.csv > day.tap
-  omny_tools uploads --look monday.tap tuesday.tap
-  omny_tools sort --out week.tap monday.tap tuesday.tap
-  omny_tools encode --help
-
-Exit status:
-  0  all is done
-  1  a file has a fault, or could not be read or written, as a line `fault: ..`
-     on the standard error says
-  2  the command line is wrong";
-
-const SUBCOMMANDS: [Subcommand; 8] = [
-    ENCODE,
-    DECODE,
-    UPLOADS,
-    TABLE,
-    SORT,
-    BOUNDS,
-    MERGE,
-    CORRECTIONS,
-];
 
 fn with_leaf<'a>(
     alloc: Global,

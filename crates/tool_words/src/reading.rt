@@ -1,11 +1,12 @@
 //! What is given to a subcommand.
 ghost use Rattle.clap.specs.Words.{found_of, rows_of};
-ghost use Rattle.std.specs.{List.list_any, Prelude.◌≡◌, Prelude.◌≤◌, Prelude.map};
+ghost use Rattle.std.specs.{List.list_any, Prelude.◌≡◌, Prelude.◌≤◌, Prelude.IfOk, Prelude.map};
 ghost use Rattle.tool_words.specs.Request.{has_input_twice, inputs_in, is_input, names_input};
 ghost use Rattle.tool_words.specs.ToolLine.{has_value};
 
 use clap::ArgMatches;
-use program_manners::value_in;
+use program_manners::{names_in, value_in};
+use std::alloc::{AllocError, Global};
 
 const INPUT_WORD: &str = "-";
 
@@ -38,6 +39,13 @@ pub(crate) fn has_value(matches: &ArgMatches<'_>, name: &str) -> bool
     value_in(matches, name).is_some()
 }
 
+/// Whether an option of these has a value.
+pub(crate) fn has_any(matches: &ArgMatches<'_>, names: &[&str]) -> bool
+    ensures { result ≡ list_any (λ n. has_value n.now (rows_of (found_of matches.now))) names.now }
+{
+    names.iter().any(|name| has_value(matches, name))
+}
+
 pub(crate) fn number_in(matches: &ArgMatches<'_>, name: &str, default: u32) -> u32 {
     matches.get_one(name).unwrap_or(default)
 }
@@ -56,31 +64,21 @@ pub(crate) fn as_parts(number: u32) -> u32
     number
 }
 
-fn is_among(words: &[&str]) -> bool
-    ensures { result ≡ list_any (λ w. is_input w.now) words.now }
+fn names_input(alloc: Global, matches: &ArgMatches<'_>, name: &str) -> Result<bool, AllocError>
+    ensures { IfOk result (λ is. is ≡ names_input name.now (rows_of (found_of matches.now))) }
 {
-    words.iter().any(|word| is_input(word))
-}
-
-fn names_input(matches: &ArgMatches<'_>, name: &str) -> bool
-    ensures { result ≡ names_input name.now (rows_of (found_of matches.now)) }
-{
-    match matches.get_strs(name) {
-        Some(words) => is_among(words),
-        None => false,
-    }
+    Ok(inputs_in(&names_in(alloc, matches, name)?) > 0)
 }
 
 /// Whether the list of files is standard input, and so is a file.
-pub(crate) fn has_input_twice(matches: &ArgMatches<'_>) -> bool
-    ensures { result ≡ has_input_twice (rows_of (found_of matches.now)) }
+pub(crate) fn has_input_twice(alloc: Global, matches: &ArgMatches<'_>) -> Result<bool, AllocError>
+    ensures { IfOk result (λ is. is ≡ has_input_twice (rows_of (found_of matches.now))) }
 {
-    let Some(list) = value_in(matches, "files-from") else {
-        return false;
-    };
-    is_input(list)
-        && (names_input(matches, "FILE")
-            || names_input(matches, "UPLOAD")
-            || names_input(matches, "PART")
-            || names_input(matches, "table"))
+    Ok(
+        is_input(value_in(matches, "files-from").unwrap_or(""))
+            && (names_input(alloc, matches, "FILE")?
+                || names_input(alloc, matches, "UPLOAD")?
+                || names_input(alloc, matches, "PART")?
+                || names_input(alloc, matches, "table")?),
+    )
 }

@@ -3,7 +3,7 @@ ghost use Rattle.std.specs.Prelude.{◌≡◌};
 ghost use Rattle.clap.specs.Words.{found_of, rows_of};
 ghost use Rattle.tool_words.specs.ToolLine.{breaks_rule, lacks_files, looks};
 
-use crate::reading::has_value;
+use crate::reading::{has_any, has_value};
 use clap::ArgMatches;
 use program_manners::flag_in;
 
@@ -18,10 +18,7 @@ pub(crate) fn looks(matches: &ArgMatches<'_>) -> bool
 {
     flag_in(matches, "look")
         || flag_in(matches, "list")
-        || has_value(matches, "within")
-        || has_value(matches, "from")
-        || has_value(matches, "until")
-        || has_value(matches, "table")
+        || has_any(matches, &["within", "from", "until", "table"])
 }
 
 /// Whether a rule between the arguments of this subcommand is broken.

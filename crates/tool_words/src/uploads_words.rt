@@ -1,4 +1,4 @@
-//! What `uploads` requests with a valid prefix or a look, and in which form it prints.
+//! What `uploads` requests with a valid prefix or a look.
 ghost use Rattle.std.specs.Prelude.{◌≡◌, IfOk};
 ghost use Rattle.tool_words.specs.Request.{valid_prefix_request, shows};
 ghost use Rattle.tool_words.specs.Tasks.{request_of, texts_of};
@@ -6,7 +6,6 @@ ghost use Rattle.tool_words.specs.Tasks.{request_of, texts_of};
 use crate::moments::span_given;
 use crate::reading::{INPUT_TWICE, inputs_in, is_input, number_in};
 use crate::task::{LookWords, Task, ValidPrefixWords};
-use crate::words::{entered, matched};
 use clap::ArgMatches;
 use program_manners::{flag_in, names_in, value_in};
 use std::alloc::{AllocError, Global};
@@ -51,17 +50,4 @@ pub(crate) fn look_task<'a>(alloc: Global, matches: &ArgMatches<'a>) -> Result<T
         has_tokens: flag_in(matches, "tokens"),
     };
     Ok(Task::Look(words, uploads))
-}
-
-/// The form that the words name for what `uploads` prints, if they name one.
-pub fn named_format<'a>(alloc: Global, words: &'a [String]) -> Option<&'a str> {
-    let Ok(matches) = matched(alloc, words) else {
-        return None;
-    };
-    let (name, found) = entered(matches)?;
-    if name == "uploads" {
-        value_in(&found, "format")
-    } else {
-        None
-    }
 }

@@ -1,20 +1,19 @@
 //! From the words to what they request.
-ghost use Rattle.std.specs.Prelude.{◌≡◌, ◌⊎◌, IfErr, IfOk, IfSome, codes, length, map, nat_lt};
+ghost use Rattle.std.specs.Prelude.{◌≡◌, ◌⊎◌, IfErr, IfOk, codes, length, map, nat_lt};
 ghost use Rattle.std.specs.Prelude.{option_map, string_bytes};
-ghost use Rattle.clap.specs.Words.{FailsBy, fault_of, found_of, kind_of, rows_of};
-ghost use Rattle.clap.specs.Words.{subcommand_of, subcommand_rows_of};
+ghost use Rattle.clap.specs.Words.{FailsBy, fault_of, found_of, kind_of, rows_of, subcommand_of};
+ghost use Rattle.clap.specs.Words.{subcommand_rows_of};
 ghost use Rattle.program_manners.specs.Words.{IsRequest};
-ghost use Rattle.tool_words.specs.Request.{request_by, request_of_name, requested_once, corrections_request};
-ghost use Rattle.tool_words.specs.Request.{decode, encode_request, ledgers_named};
-ghost use Rattle.tool_words.specs.Request.{merge_request, named, table_request};
-ghost use Rattle.tool_words.specs.Request.{or_input, shows, sort_request, uploads_request};
-ghost use Rattle.tool_words.specs.Tasks.{request_of, corrections_of, texts_of};
-ghost use Rattle.tool_words.specs.ToolLine.{AsksForText, Parses, program};
+ghost use Rattle.tool_words.specs.Request.{corrections_request, encode_request};
+ghost use Rattle.tool_words.specs.Request.{merge_request, request_by, request_of_name};
+ghost use Rattle.tool_words.specs.Request.{shows, sort_request, table_request, uploads_request};
+ghost use Rattle.tool_words.specs.Tasks.{request_of, texts_of};
+ghost use Rattle.tool_words.specs.ToolLine.{AsksForText, Parses, entered, named, program};
 
-use crate::encode_words::{encoded_file, files_in, rows_task};
+use crate::encode_words::{files_in, rows_task};
 use crate::program::command;
 use crate::reading::{
-    INPUT_TWICE, as_parts, has_input_twice, has_value, inputs_in, is_input, number_in,
+    INPUT_TWICE, as_parts, has_any, has_input_twice, has_value, inputs_in, is_input, number_in,
 };
 use crate::rules::{breaks_rule, looks};
 use crate::table_words::table_task;
@@ -49,10 +48,7 @@ fn table_rows_task<'a>(matches: &ArgMatches<'a>, has_files: bool) -> Task<'a>
         ≡ nat_lt 1 (length (named (codes "FILE") (rows_of (found_of matches.now)))) }
     ensures { request_of result ≡ table_request (rows_of (found_of matches.now)) }
 {
-    if has_value(matches, "only")
-        || has_value(matches, "separator")
-        || has_value(matches, "refused")
-    {
+    if has_any(matches, &["only", "separator", "refused"]) {
         return Task::UsageError(NO_COLUMNS);
     }
     if has_value(matches, "validators") {
@@ -61,23 +57,15 @@ fn table_rows_task<'a>(matches: &ArgMatches<'a>, has_files: bool) -> Task<'a>
     if has_value(matches, "unit") {
         return Task::UsageError(NO_COLUMNS_FOR_UNIT);
     }
-    if has_value(matches, "drop")
-        || has_value(matches, "count")
-        || flag_in(matches, "token-hash")
-        || has_value(matches, "token-key")
-        || has_value(matches, "zone")
-        || has_value(matches, "fold")
+    if flag_in(matches, "token-hash")
+        || has_any(matches, &["drop", "count", "token-key", "zone", "fold"])
     {
         return Task::UsageError(NO_COLUMNS_FOR_OTHERS);
     }
-    if has_value(matches, "moment-format")
-        || has_value(matches, "validators-make")
-        || has_value(matches, "out")
-        || has_files
-    {
+    if has_files || has_any(matches, &["moment-format", "validators-make", "out"]) {
         return Task::UsageError(NO_COLUMNS_FOR_FILES);
     }
-    Task::Encode(encoded_file(matches))
+    Task::Encode(value_in(matches, "FILE").unwrap_or("-"))
 }
 
 #[tactic(auto, using(crate::proofs::Columns::many_named))]
@@ -92,13 +80,6 @@ fn encode_task<'a>(alloc: Global, matches: &ArgMatches<'a>) -> Result<Task<'a>, 
     }
     let files = names_in(alloc, matches, "FILE")?;
     Ok(table_rows_task(matches, files.len() > 1))
-}
-
-fn decode_task<'a>(alloc: Global, matches: &ArgMatches<'a>) -> Result<Task<'a>, AllocError>
-    ensures { IfOk result (λ task. request_of task
-        ≡ decode (or_input (named (codes "FILE") (rows_of (found_of matches.now))))) }
-{
-    Ok(Task::Decode(files_in(alloc, matches)?))
 }
 
 fn uploads_task<'a>(alloc: Global, matches: &ArgMatches<'a>) -> Result<Task<'a>, AllocError>
@@ -157,19 +138,14 @@ fn bounds_task<'a>(alloc: Global, matches: &ArgMatches<'a>) -> Result<Task<'a>, 
     Ok(Task::Bounds(BoundsWords { parts, uploads }))
 }
 
-fn ledgers_in<'a>(matches: &ArgMatches<'a>) -> CorrectionsWords<'a>
-    ensures { corrections_of result ≡ ledgers_named (rows_of (found_of matches.now)) }
+fn corrections_task<'a>(matches: &ArgMatches<'a>) -> Task<'a>
+    ensures { request_of result ≡ corrections_request (rows_of (found_of matches.now)) }
 {
-    CorrectionsWords {
+    let words = CorrectionsWords {
         old: value_in(matches, "OLD").unwrap_or("-"),
         new: value_in(matches, "NEW").unwrap_or("-"),
         is_by_token: flag_in(matches, "tokens"),
-    }
-}
-
-fn corrections_task<'a>(words: CorrectionsWords<'a>) -> Task<'a>
-    ensures { request_of result ≡ corrections_request (corrections_of words.entry) }
-{
+    };
     if is_input(words.old) && is_input(words.new) {
         return Task::UsageError(INPUT_TWICE);
     }
@@ -184,11 +160,14 @@ fn task_of_name<'a>(
     ensures { IfOk result (λ task. request_of task
         ≡ request_of_name name.entry.now (rows_of (found_of matches.entry))) }
 {
+    if has_input_twice(alloc, &matches)? {
+        return Ok(Task::UsageError(INPUT_TWICE));
+    }
     if name == "encode" {
         return encode_task(alloc, &matches);
     }
     if name == "decode" {
-        return decode_task(alloc, &matches);
+        return Ok(Task::Decode(files_in(alloc, &matches)?));
     }
     if name == "uploads" {
         return uploads_task(alloc, &matches);
@@ -203,13 +182,32 @@ fn task_of_name<'a>(
         return bounds_task(alloc, &matches);
     }
     if name == "corrections" {
-        return Ok(corrections_task(ledgers_in(&matches)));
+        return Ok(corrections_task(&matches));
     }
     table_task(alloc, &matches)
 }
 
+/// The subcommand that the words enter, and what it is given, unless a rule between its arguments
+/// is broken.
+pub(crate) fn entered<'a>(
+    alloc: Global,
+    words: &'a [String],
+) -> Result<Option<(&'a str, ArgMatches<'a>)>, Error>
+    ensures rows { IfOk result (λ found. option_map (λ p. (p.0.now, rows_of (found_of p.1))) found
+        ≡ entered (map string_bytes words.now)) }
+    ensures kinds { FailsBy (fault_of program (map string_bytes words.now)) result }
+{
+    let Some((name, found)) = subcommand_in(matched(alloc, words)?) else {
+        return Ok(None);
+    };
+    if breaks_rule(name, &found) {
+        return Ok(None);
+    }
+    Ok(Some((name, found)))
+}
+
 /// The words read by clap, without the rules between arguments.
-pub(crate) fn matched<'a>(alloc: Global, words: &'a [String]) -> Result<ArgMatches<'a>, Error>
+fn matched<'a>(alloc: Global, words: &'a [String]) -> Result<ArgMatches<'a>, Error>
     ensures rows { IfOk result (λ matches. subcommand_rows_of matches
         ≡ subcommand_of program (map string_bytes words.entry.now)) }
     ensures kinds { FailsBy (fault_of program (map string_bytes words.entry.now)) result }
@@ -217,47 +215,7 @@ pub(crate) fn matched<'a>(alloc: Global, words: &'a [String]) -> Result<ArgMatch
     command(alloc, false)?.try_get_matches_from(words)
 }
 
-/// The usage error that clap finds in the words with the rules between arguments.
-fn whole_error<'a>(alloc: Global, words: &'a [String]) -> Option<Error>
-    ensures { IfSome result (λ error. ¬ IsRequest (kind_of error)) }
-{
-    let Ok(whole) = command(alloc, true) else {
-        return None;
-    };
-    match whole.try_get_matches_from(words) {
-        Ok(_taken) => None,
-        Err(error) if error.use_stderr() => Some(error),
-        Err(_) => None,
-    }
-}
-
-/// What clap says of words that it refuses, with the rules between arguments, if it says so; else
-/// the error as it is.
-fn reported<'a>(alloc: Global, words: &'a [String], error: Error) -> Error
-    ensures request { IsRequest (kind_of result) → kind_of result ≡ kind_of error }
-    ensures memory { kind_of error ≡ ErrorKind.OutOfMemory
-        → kind_of result ≡ ErrorKind.OutOfMemory }
-{
-    match error.kind() {
-        ErrorKind::OutOfMemory | ErrorKind::DisplayHelp | ErrorKind::DisplayVersion => error,
-        _ => match whole_error(alloc, words) {
-            Some(whole) => whole,
-            None => error,
-        },
-    }
-}
-
-/// What clap says of words that break a rule between arguments.
-fn broken<'a>(alloc: Global, words: &'a [String]) -> Error
-    ensures { ¬ IsRequest (kind_of result) }
-{
-    match whole_error(alloc, words) {
-        Some(error) => error,
-        None => Error::from(AllocError),
-    }
-}
-
-pub(crate) fn entered<'a>(matches: ArgMatches<'a>) -> Option<(&'a str, ArgMatches<'a>)>
+fn subcommand_in<'a>(matches: ArgMatches<'a>) -> Option<(&'a str, ArgMatches<'a>)>
     ensures { option_map (λ p. (p.0.now, rows_of (found_of p.1))) result
         ≡ subcommand_rows_of matches.entry }
 {
@@ -265,19 +223,18 @@ pub(crate) fn entered<'a>(matches: ArgMatches<'a>) -> Option<(&'a str, ArgMatche
     matches.remove_subcommand()
 }
 
-/// Unless standard input is named twice.
-fn task_in<'a>(
-    alloc: Global,
-    name: &'a str,
-    matches: ArgMatches<'a>,
-) -> Result<Task<'a>, AllocError>
-    ensures { IfOk result (λ task. request_of task
-        ≡ requested_once name.entry.now (rows_of (found_of matches.entry))) }
+/// The usage error that clap finds in the words with the rules between arguments; else this one.
+fn whole_error<'a>(alloc: Global, words: &'a [String], error: Error) -> Error
+    ensures { (kind_of result ≡ kind_of error) ⊎ (¬ IsRequest (kind_of result)) }
 {
-    if has_input_twice(&matches) {
-        return Ok(Task::UsageError(INPUT_TWICE));
+    let Ok(whole) = command(alloc, true) else {
+        return error;
+    };
+    match whole.try_get_matches_from(words) {
+        Ok(_taken) => error,
+        Err(found) if found.use_stderr() => found,
+        Err(_) => error,
     }
-    task_of_name(alloc, name, matches)
 }
 
 /// What the words request, the program's name first; else clap's error, which may be a call for
@@ -289,15 +246,10 @@ pub fn read<'a>(alloc: Global, words: &'a [String]) -> Result<Task<'a>, Error>
         ⊎ ((¬ Parses (map string_bytes words.entry.now))
         × (IsRequest (kind_of error) → AsksForText (map string_bytes words.entry.now)))) }
 {
-    let matches = match matched(alloc, words) {
-        Ok(matches) => matches,
-        Err(error) => return Err(reported(alloc, words, error)),
-    };
-    let Some((name, found)) = entered(matches) else {
-        return Err(broken(alloc, words));
-    };
-    if breaks_rule(name, &found) {
-        return Err(broken(alloc, words));
+    match entered(alloc, words) {
+        Ok(Some((name, found))) => Ok(task_of_name(alloc, name, found)?),
+        Ok(None) => Err(whole_error(alloc, words, Error::from(AllocError))),
+        Err(error) if error.kind() == ErrorKind::OutOfMemory || !error.use_stderr() => Err(error),
+        Err(error) => Err(whole_error(alloc, words, error)),
     }
-    Ok(task_in(alloc, name, found)?)
 }

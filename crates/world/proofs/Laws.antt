@@ -3,7 +3,7 @@ use Rattle.std.proofs.Common.{append-nil, sym, ◌∙◌, ap, inl, inr, refl}
 use Rattle.std.proofs.{Math.Seq.take-add, lemmas.Bool.Decides.eqb_tells, lemmas.List.append_assoc}
 use Rattle.std.specs.Prelude.{◌≡◌, ◌⊎◌, ◌==◌, ℕ, true, false, ◌+◌, List, [], ◌++◌, take, drop}
 use Rattle.world.specs.{Origins.with_loads, Run.Calls}
-use Rattle.world.specs.Run.{Load, Run, after_read, nothing_yet, with_all, with_said, with_written}
+use Rattle.world.specs.Run.{Load, Run, after_read, nothing_yet, with_all, with_written}
 
 pub written_twice : (r : Run) (p : List ℕ) (i n : ℕ)
     → with_written (with_written r (take i p)) (take n (drop i p)) ≡ with_written r (take (i + n) p)
@@ -11,10 +11,6 @@ written_twice r p i n =
     ap (λ xs. record r { written = xs })
     (append_assoc r.written (take i p) (take n (drop i p))
     ∙ ap (λ ys. r.written ++ ys) (sym (take-add i n p)))
-
-pub said_twice : (r : Run) (xs ys : List ℕ)
-    → with_said (with_said r xs) ys ≡ with_said r (xs ++ ys)
-said_twice r xs ys = ap (λ all. record r { said = all }) (append_assoc r.said xs ys)
 
 pub no_loads : (r : Run) → with_loads r [] ≡ r
 no_loads r = ap (λ xs. record r { loads = xs }) (append-nil r.loads)

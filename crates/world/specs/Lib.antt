@@ -1,4 +1,3 @@
-pub mod Faults
 pub mod GhostBytes
 pub mod Loads
 pub mod Origins

@@ -1,10 +1,9 @@
-//! Why a load, a write or a file failed, and the fault line.
+//! Why a load, a write or a file failed.
 ghost use Rattle.std.specs.{IoError.error_kind, Prelude.◌≡◌, Prelude.◌↔◌, Prelude.Some};
-ghost use Rattle.world.specs.Faults.{fault_text};
 
 use std::alloc::AllocError;
+use std::io;
 use std::io::ErrorKind;
-use std::{fmt, io};
 
 /// Why a file or standard input was not loaded.
 #[derive(Clone, Copy, Debug, PartialEq, Eq)]
@@ -67,40 +66,5 @@ impl From<AllocError> for MakeFault {
 
     fn from(_refused: AllocError) -> MakeFault {
         MakeFault::NoMemory
-    }
-}
-
-/// What stops a run from outside. Its `Display` is the fault line without its line feed.
-#[derive(Clone, Copy, Debug)]
-pub enum Fault<'a> {
-    /// The file of this name was not loaded.
-    File(&'a str, LoadFault),
-    /// Standard input was not loaded.
-    Input(LoadFault),
-    /// The output was not written.
-    Output(WriteFault),
-    /// The file of this name was not made.
-    Made(&'a str, MakeFault),
-    /// A growth of an allocation failed.
-    NoMemory,
-}
-
-impl fmt::Display for Fault<'_> {
-    ghost output = { λ fault. Some (fault_text fault) };
-
-    fn fmt<W: fmt::Write>(&self, f: &mut fmt::Formatter<W>) -> fmt::Result {
-        match self {
-            Fault::File(name, LoadFault::Unread) => write!(f, "fault: cannot read {name}"),
-            Fault::File(name, LoadFault::TooLong) => write!(f, "fault: {name} is too long"),
-            Fault::Input(LoadFault::Unread) => f.write_str("fault: cannot read standard input"),
-            Fault::Input(LoadFault::TooLong) => f.write_str("fault: standard input is too long"),
-            Fault::Output(_) => f.write_str("fault: cannot write"),
-            Fault::Made(name, MakeFault::Exists) => write!(f, "fault: {name} is there already"),
-            Fault::Made(name, MakeFault::Unmade) => write!(f, "fault: cannot make {name}"),
-            Fault::File(_, LoadFault::NoMemory) => f.write_str("fault: out of memory"),
-            Fault::Input(LoadFault::NoMemory) => f.write_str("fault: out of memory"),
-            Fault::Made(_, MakeFault::NoMemory) => f.write_str("fault: out of memory"),
-            Fault::NoMemory => f.write_str("fault: out of memory"),
-        }
     }
 }

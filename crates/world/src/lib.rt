@@ -8,13 +8,13 @@
 //! |---|---|
 //! | `ghost_bytes` | a ghost copy of a slice |
 //! | `trace` | the system calls in order, and their recorders |
-//! | `faults` | why a load, a write or a file failed, and the fault line |
+//! | `faults` | why a load, a write or a file failed |
 //! | `files` | whole files and standard input, up to a limit |
 //! | `loaded` | files that any thread loads |
 //! | `new_file` | files that are made: written under another name, and named once whole |
 //! | `stream` | a file or standard input that is read in pieces |
 //! | `writing` | pieces that are written to a stream |
-//! | `saying` | texts and fault lines that are given to the standard error |
+//! | `saying` | texts and lines that are given to the standard error |
 //! | `recorded` | a writer whose writes are recorded, for code that writes to any `Write` |
 //! | `world` | the traits: what a program may read, and what it may do |
 //! | `system` | both traits over the files and streams of the system |
@@ -33,7 +33,7 @@ mod trace;
 mod world;
 mod writing;
 
-pub use faults::{Fault, LoadFault, MakeFault, WriteFault};
+pub use faults::{LoadFault, MakeFault, WriteFault};
 pub use files::{LOAD_LIMIT_BYTES, load_file, load_input, load_into};
 pub use ghost_bytes::GhostBytes;
 pub use loaded::{Loaded, load_apart};

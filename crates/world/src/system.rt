@@ -1,10 +1,10 @@
 //! The files and streams of the system, each call recorded.
 
-use crate::faults::{Fault, LoadFault, MakeFault, WriteFault};
+use crate::faults::{LoadFault, MakeFault, WriteFault};
 use crate::files::{load_file, load_input, load_into};
 use crate::loaded::Loaded;
 use crate::new_file::{NewFile, begin, discard, fail, finish};
-use crate::saying::{give, give_fault, give_line};
+use crate::saying::{give, give_line};
 use crate::trace::Trace;
 use crate::world::{Inputs, World};
 use crate::writing::write_piece;
@@ -88,10 +88,6 @@ impl<R: Files + Input + AllocGlobal + RandomSource, W: Write, E: Write> World
 
     fn say(&mut self, text: &[u8]) {
         give(&mut self.err, text, &mut self.trace);
-    }
-
-    fn report(&mut self, why: Fault<'_>) {
-        give_fault(&mut self.err, why, &mut self.trace);
     }
 
     fn report_line<D: Display + Drop>(&mut self, line: D) -> Result<(), io::Error> {

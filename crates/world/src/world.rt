@@ -1,6 +1,6 @@
 //! What a program may read, and what it may do.
 
-use crate::faults::{Fault, LoadFault, MakeFault, WriteFault};
+use crate::faults::{LoadFault, MakeFault, WriteFault};
 use crate::files::LOAD_LIMIT_BYTES;
 use crate::loaded::Loaded;
 use crate::trace::Trace;
@@ -53,7 +53,6 @@ pub trait Inputs {
 pub trait World: Inputs {
     ghost use Rattle.std.specs.Prelude.{◌≡◌, ◌++◌, [], IfErr, IfOk, IfSome, OnOk, Some, codes};
     ghost use Rattle.world.specs.Run.{with_cut, with_flushed, with_made, with_said, with_written};
-    ghost use Rattle.world.specs.Faults.{fault_text};
     ghost use Rattle.world.specs.Writes.{IsCut, IsSaid, IsUnmade};
 
     /// A file that is being made.
@@ -74,11 +73,6 @@ pub trait World: Inputs {
     /// Gives the text to the standard error.
     fn say(&mut self, text: &[u8])
         ensures { Self.run self.new ≡ with_said (Self.run self.old) text.now };
-
-    /// Gives the fault line to the standard error.
-    fn report(&mut self, why: Fault<'_>)
-        ensures { Self.run self.new
-            ≡ with_said (Self.run self.old) (fault_text why.entry ++ codes "\n") };
 
     /// Gives the line and a line feed to the standard error, or the error of its `Display`.
     fn report_line<D: Display + Drop>(&mut self, line: D) -> Result<(), io::Error>

@@ -1,15 +1,7 @@
--- How a kind of export is read, as contracts see it.
-use Rattle.std.specs.Prelude.{option_map}
-use Rattle.tool_words.specs.{Columns.Export, Tasks.condition_of, Tasks.text_in}
-use Rattle.tool_words.specs.declared.encode_words.Export.{Export as Words}
+-- The columns that words name, as contracts see them.
+use Rattle.clap.specs.Words.{Text}
+use Rattle.std.specs.Borrow.{Bor}
 
-abbrev pub export_by : Words → Export
-export_by words = record {
-  token = words.token.now;
-  validator = words.validator.now;
-  moment = words.moment.now;
-  has_hashes = words.has_hashes;
-  only = option_map condition_of words.only;
-  without = option_map condition_of words.without;
-  count = text_in words.count;
-}
+-- columns of tokens, validators and moments
+abbrev pub names_of : Bor Text × Bor Text × Bor Text → Text × Text × Text
+names_of names = (names.0.now, names.1.now, names.2.now)

@@ -1,5 +1,5 @@
 use Rattle.std.proofs.Common.{◌∙◌, ap}
-use Rattle.fare_program.proofs.{Causes.of_output, Ends.gives_by, Ends.gives_printed, Ends.unwritten}
+use Rattle.fare_program.proofs.{Causes.of_output, Ends.gives_by, Ends.gives_printed}
 use Rattle.fare_program.proofs.PostedTexts.{live_request}
 use Rattle.fare_program.specs.inside.{Fault.IsRightOfUploads, Fault.ended_as, Options.request_of}
 use Rattle.fare_service.specs.Headline.{drawn_by}
@@ -10,8 +10,9 @@ use Rattle.fare_program.proofs.posting.charge_provided.Goals as goal
 
 pub returns-clause-ends : goal.returns-clause-ends
 returns-clause-ends g c =
-    let outcome = c.in-Ok.outcome in
-    let live = c.in-Ok.ensures.run in
+    let outcome = c.in-Ok-run.outcome in
+    let live = rw (c.in-Ok.ensures.table, c.in-Ok.ensures.shards, c.in-Ok.ensures.uploads)
+    at c.in-Ok-run.ensures.headline in
     let posted = c.are_posted-success.result in
     rw c.ended.ensures.ended
     (gives_by _ _ _ _ _ _ (ended_as c.print_requested-printed.result posted) (λ given. given)
@@ -36,7 +37,3 @@ returns-clause-ends g c =
 pub returns-clause-right : goal.returns-clause-right
 returns-clause-right g c =
     IfErr-weaker c.ended.result _ _ (of_output (IsRightOfUploads _) tt tt) c.ended.ensures.output
-
--- what is posted does not write
-pub returns-in-Err-clause-ends : goal.returns-in-Err-clause-ends
-returns-in-Err-clause-ends g c = unwritten _ _ c.in-Err.fault c.in-Err.ensures.unwritten

@@ -2,7 +2,6 @@ use Rattle.std.proofs.Common.{◌≡◌, ◌≤◌, ℕ, suc, zero, Bool, List, 
 use Rattle.std.proofs.Common.{inr, map, refl, subst}
 use Rattle.clap.specs.Words.{IsAmong, Text, fault_of, kind_of}
 use Rattle.clap.specs.declared.error.kind.ErrorKind.{ErrorKind, TheVariants.OutOfMemory}
-use Rattle.fare_program.proofs.Usable.{words_read}
 use Rattle.fare_program.specs.{Causes.IsRightFault, Ends.Did}
 use Rattle.fare_program.specs.Ends.{Ends, EndsAnswer, EndsCommand, IsPartLedger, Leaves, did_over}
 use Rattle.fare_program.specs.Options.{AsksForText, Parses, Request, program, request_by}
@@ -121,12 +120,6 @@ returns-in-Err-checked g c =
     (c.in-Err-checked.ensures.unusable, record { unloaded = refl; unwritten = Keeps-refl _ })
 
 -- ---- a command line
-pub work-requires-clause-range : goal.work-requires-clause-range
-work-requires-clause-range g c κs within = (words_read (request_of c.in-Ok.options) c.in-Ok-checked.ensures.usable).0
-
-pub work-requires-clause-dates : goal.work-requires-clause-dates
-work-requires-clause-dates g c κs within = (words_read (request_of c.in-Ok.options) c.in-Ok-checked.ensures.usable).1
-
 pub returns-in-Err-work : goal.returns-in-Err-work
 returns-in-Err-work g c =
     let request = request_of c.in-Ok.options in

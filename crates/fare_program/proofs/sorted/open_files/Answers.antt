@@ -20,8 +20,8 @@ loop-name-preserved g c =
     ap (λ ns. map under (map name_in ns)) (take_more names index no_name c.loop-name-test.true)
     ∙ ap (map under) (map-append name_in (take index names) _)
     ∙ map-append under (map name_in (take index names)) _ in
-    rw (more, c.in-Ok-push.ensures, map-append) (ap₂ (λ xs x. xs ++ x ∷ []) c.loop-name.invariant
-    c.in-Ok.ensures)
+    rw (more, c.in-Ok-push.ensures.items, map-append) (ap₂ (λ xs x. xs ++ x ∷ [])
+    c.loop-name.invariant c.in-Ok.ensures)
 
 pub returns-clause-opened : goal.returns-clause-opened
 returns-clause-opened g c =

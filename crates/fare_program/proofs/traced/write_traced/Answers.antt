@@ -13,8 +13,8 @@ of_texts-requires g c =
     ap length c.deref.ensures.value
     ∙ sym (length-map c.args.tables.now.texts.items (λ t. t.items)) ∙ texts
 
-pub class_line-requires : goal.class_line-requires
-class_line-requires g c =
+pub wrong_file-requires : goal.wrong_file-requires
+wrong_file-requires g c =
     let (texts, words) = tables_counted _ _ _ _ _ c.requires.loaded.1 in
     let at : IsWrongAt (map (λ t. t.items) c.args.tables.now.texts.items) c.in-Err.wrong =
     rw c.deref.ensures.value at c.in-Err.ensures.fault in
@@ -25,8 +25,8 @@ class_line-requires g c =
           c.in-Err.wrong.position at.text at.holds,
     )
 
-pub returns-in-Some-clause-right : goal.returns-in-Some-clause-right
-returns-in-Some-clause-right g c = λ loaded loads. (
+pub returns-in-Err-clause-right : goal.returns-in-Err-clause-right
+returns-in-Err-clause-right g c = λ loaded loads. (
   c.requires.traced,
   rw c.requires.named (record {
     texts = _;

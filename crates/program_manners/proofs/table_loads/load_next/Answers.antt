@@ -1,49 +1,48 @@
 -- The next table was loaded and follows those before it, or its fault is the right one.
-use Rattle.std.proofs.Common.{◌≡◌, ◌∙◌, ◌++◌, ◌∷◌, ℕ, List, Option, Some, false, subst, sym}
-use Rattle.program_manners.proofs.TablesFaults.{next_is_right, unloaded}
-use Rattle.program_manners.proofs.TablesRefused.{later_file}
-use Rattle.program_manners.specs.{Loads.Loaded, Loads.LoadsOne, Refusals.IsOneOf}
-use Rattle.program_manners.specs.TableLoads.{FollowsFrom, LoadsTables}
-use Rattle.program_manners.specs.TableWords.{TableNames, table_files}
-use Rattle.program_manners.specs.TablesFaults.{IsTablesFault}
-use Rattle.program_manners.specs.declared.table_loads.TablesFault.TheVariants.{File}
-use Rattle.program_manners.specs.inside.TableLoads.{IsReportedBy, is_memory}
-use Rattle.tap_views.proofs.Choices.{IfErr_handed_on}
-use Rattle.tariffs.specs.Fares.{Fares}
+use Rattle.std.proofs.Common.{◌∙◌, ◌++◌, ◌∷◌, ℕ, List, Some, inr, refl, subst, sym}
+use Rattle.std.proofs.lemmas.List.{map-append}
+use Rattle.program_manners.specs.{Refusals.IsOneOf, Refusals.Refuses, TableLoads.loads_next}
+use Rattle.program_manners.specs.{TableWords.table_files, TablesFaults.refuses_next}
+use Rattle.program_manners.proofs.TablesRefused.{among, none_follows}
 use Rattle.program_manners.proofs.table_loads.load_next.Goals as goal
 
-pub returns-clause-right : goal.returns-clause-right
-returns-clause-right g c =
-    λ reported words before trailing texts holds loads.
-    let word = c.args.word.now in
-    next_is_right words reported (g.S.FileSource.loaded c.args.source.now)
-    (g.S.FileSource.loaded c.load_named.new.source) (g.S.FileSource.refused c.load_named.new.source)
-    before trailing word c.in_ok-text.text.items holds texts c.args.tables.fares loads
-    (subst (λ (n : List ℕ). LoadsOne (g.S.FileSource.loaded c.args.source.now)
-    (g.S.FileSource.loaded c.load_named.new.source) (Some n) c.in_ok-text.text.items)
-    c.of-parts.ensures.name c.in_ok-text.ensures.ok)
-    c.in-Some.date (sym (sym c.in-Some.is ∙ c.of-parts.ensures.date)) c.in-Err.fault
-    (subst (λ (t : List ℕ). is_memory c.in-Err.fault ≡ false
-    → (all : Fares) → ¬ FollowsFrom c.args.tables.fares c.in-Some.date t all)
-    c.deref.ensures.value c.in-Err.ensures.fault)
-    c.of_next.result
-    (subst (λ (n : List ℕ). IsReportedBy word n c.in-Err.fault c.of_next.result)
-    c.of-parts.ensures.name c.of_next.ensures)
+pub returns-in-Err-clause-right : goal.returns-in-Err-clause-right
+returns-in-Err-clause-right g c = λ words loaded trailing loads.
+    let named = c.in-Err.ensures.named ∙ c.of-parts.ensures.name in (
+      subst (λ (n : List ℕ). IsOneOf n (table_files (record words {
+        later = words.later ++ c.args.word.now ∷ trailing;
+      }))) (sym named) (inr (among words.later trailing c.args.word.now)),
+      subst (λ (n : List ℕ). Refuses (g.S.FileSource.refused c.load_named.new.source) (Some n)
+          c.in-Err.file.fault) (sym c.in-Err.ensures.named) c.in-Err.ensures.refused,
+    )
 
-pub returns-in_err-text-clause-right : goal.returns-in_err-text-clause-right
-returns-in_err-text-clause-right g c =
-    let file = c.in_err-text.field-0.0 in
-    IfErr_handed_on c.from_residual.result (File file)
-    (λ fault. (loaded : Option (List Loaded)) (words : TableNames)
-    (before trailing texts : List (List ℕ)) → words.later ≡ before ++ c.args.word.now ∷ trailing
-    → LoadsTables (record { first = words.first; later = before }) loaded
-    (g.S.FileSource.loaded c.args.source.now) texts c.args.tables.fares
-    → IsTablesFault words loaded (g.S.FileSource.loaded c.load_named.new.source)
-    (g.S.FileSource.refused c.load_named.new.source) fault)
-    c.from_residual.ensures.1
-    (λ loaded words before trailing texts holds loads.
-    unloaded words loaded loaded (g.S.FileSource.loaded c.load_named.new.source)
-    (g.S.FileSource.refused c.load_named.new.source) c.of-parts.result.name.now
-    (subst (λ (n : List ℕ). IsOneOf n (table_files words)) (sym c.of-parts.ensures.name)
-    (later_file words before trailing c.args.word.now holds))
-    file c.in_err-text.ensures.named c.in_err-text.ensures.refused)
+pub returns-in-Ok-table_after-clause-ok : goal.returns-in-Ok-table_after-clause-ok
+returns-in-Ok-table_after-clause-ok g c = λ words loaded loads.
+    rw (
+      c.in_ok-push-in-Ok-table_after.ensures,
+      map-append (λ t. t.items) c.args.tables.texts.items _,
+    )
+    (loads_next words loaded _ _ _ _ _ c.args.word.now _ loads
+    (rw c.of-parts.ensures.name at c.in-Ok.ensures.ok) (
+      c.in-Some.date,
+      sym c.of-parts.ensures.date ∙ c.in-Some.is,
+      rw c.deref.ensures.value at c.in-Ok-table_after.ensures.follows,
+    ))
+
+pub returns-in-Err-Table-clause-right : goal.returns-in-Err-Table-clause-right
+returns-in-Err-Table-clause-right g c = λ words loaded trailing loads some.
+    let wrong = rw (c.in-Err-Table.field-0-is, c.deref.ensures.value)
+    at c.in-Err-Table.ensures.fault in
+    rw c.of-parts.ensures.name (refuses_next words c.args.word.now c.in-Ok.text.items trailing _ _ _
+    refl loads (rw c.of-parts.ensures.name at c.in-Ok.ensures.ok)
+    (none_follows _ c.args.word.now _ c.in-Some.date (sym c.of-parts.ensures.date ∙ c.in-Some.is)
+    (wrong some)))
+
+pub returns-clause-right : goal.returns-clause-right
+returns-clause-right g c = λ words loaded trailing loads some.
+    let wrong = rw (c.in-Err-Follow.field-0-is, c.deref.ensures.value)
+    at c.in-Err-Follow.ensures.fault in
+    refuses_next words c.args.word.now c.in-Ok.text.items trailing _ _ _
+    refl loads (rw c.of-parts.ensures.name at c.in-Ok.ensures.ok)
+    (none_follows _ c.args.word.now _ c.in-Some.date (sym c.of-parts.ensures.date ∙ c.in-Some.is)
+    (wrong some))

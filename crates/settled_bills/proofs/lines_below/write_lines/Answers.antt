@@ -1,6 +1,6 @@
 -- Each turn explains the taps that were taken last.
-use Rattle.std.proofs.Common.{refl, ℕ, List, [], ◌++◌, All, length, map, string_bytes, sym, ap, subst}
-use Rattle.std.proofs.Common.{◌∙◌, arith}
+use Rattle.std.proofs.Common.{ℕ, List, [], ◌++◌, All, length, map, string_bytes, sym, ap, subst}
+use Rattle.std.proofs.Common.{◌∙◌, arith, refl}
 use Rattle.fare_texts.proofs.Beginnings.{goes_begins, goes_last, goes_nothing, goes_on, goes_then}
 use Rattle.fare_texts.proofs.PieceWriting.{consumed_first}
 use Rattle.fare_texts.specs.{LedgerLines.head_text, WrittenOut.Begins, WrittenOut.GoesOut}

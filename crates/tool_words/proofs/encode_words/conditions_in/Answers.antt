@@ -1,17 +1,21 @@
-use Rattle.std.proofs.Common.{[], Bor}
+use Rattle.std.proofs.Common.{◌∙◌, Bor, ap, rules, sym}
 use Rattle.clap.specs.Words.{Text}
-use Rattle.tool_words.proofs.Columns.{conditions_more, lacks_parts}
+use Rattle.std.proofs.lemmas.{Iterator.YieldsList-from_slice, Iterator.Search.all_from_yields_List}
+use Rattle.std.proofs.lemmas.{List.Folds.list_all-map, Simd.map-map}
+use Rattle.std.specs.Prelude.{Some}
+use Rattle.tool_words.specs.Columns.{has_parts, parts_of}
 use Rattle.tool_words.proofs.encode_words.conditions_in.Goals as goal
+use borrow.Author.Tests.{tests}
 
-pub returns-in_default : goal.returns-in_default
-returns-in_default c =
-    let other : Bor Text = record { ref_ptr = (0, 0); now = [] } in
-    lacks_parts c.args.words.now c.loop-word.word-index other c.loop-word-test.true
-    c.in_default.ensures
+pub returns-then-not-all : goal.returns-then-not-all
+returns-then-not-all c =
+    let all = all_from_yields_List (λ (w : Bor Text). has_parts w.now) _ _ _ c.all.ensures.ran
+    (YieldsList-from_slice c.args.words.now cc) (λ x b q k. search (rules, tests)) in
+    rw (list_all-map has_parts (λ (w : Bor Text). w.now) c.args.words.now, ← all, c.if-not-all.true)
 
-pub loop-word-preserved : goal.loop-word-preserved
-loop-word-preserved c =
-    let other : Bor Text = record { ref_ptr = (0, 0); now = [] } in
-    conditions_more c.args.words.now c.loop-word.word-index other c.loop-word.only.items
-    c.push.new.self.items (record { column = c.in-Some.column; value = c.in-Some.value })
-    c.loop-word-test.true c.in-Some.ensures c.loop-word.invariant c.in_ok-push.ensures.items
+pub returns : goal.returns
+returns c =
+    let all = all_from_yields_List (λ (w : Bor Text). has_parts w.now) _ _ _ c.all.ensures.ran
+    (YieldsList-from_slice c.args.words.now cc) (λ x b q k. search (rules, tests)) in
+    rw (list_all-map has_parts (λ (w : Bor Text). w.now) c.args.words.now, ← all, c.if-not-all.false)
+    (ap Some (c.in_ok-all_parts.ensures ∙ sym (map-map parts_of (λ (w : Bor Text). w.now) _)))

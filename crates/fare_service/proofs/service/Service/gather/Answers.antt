@@ -111,8 +111,8 @@ invariant_of-result g c =
     (c.added-totals.ensures ∙ ap (λ ts. add_all (map sums_of ts)) c.as_slice-4.ensures.value
     ∙ sym same)
 
-pub returns-clause-headline : goal.returns-clause-headline
-returns-clause-headline g c =
+pub returns : goal.returns
+returns g c =
     let service : ServiceView =
     record {
       table = c.self.inside.table;
@@ -155,59 +155,28 @@ returns-clause-headline g c =
     c.in_ok-ends.ends.items reported
     (c.in_ok-ends.ensures.number ∙ number) (map sums_of c.in_ok-workers.workers.items) workers
     (sums_of c.added-totals.result) c.close_with.new.calls.run in
-    subst H c.self.view_is (record {
-      files = o.files;
-      provided = o.provided;
-      works = o.works;
-      kept = o.kept;
-      headline = headline_of (given_of service o.files) o.works _ o.gathered
-          (c.added-totals.ensures ∙ ap (λ ts. add_all (map sums_of ts)) c.as_slice-4.ensures.value
-          ∙ sym same)
-          (λ shard book at. (work.books shard book at).limits)
-          (undrawn_last service c.args.shares.items o.works o.kept closed work);
-      loads = c.in_ok-close_with.ensures.calls
-          ∙ (ap (λ calls. with_runs calls.run c.args.shares.items) c.new-calls.ensures
-          ∙ loads_all service c.args.shares.items o.works o.kept);
-    })
-
-pub returns-clause-undrawn : goal.returns-clause-undrawn
-returns-clause-undrawn g c =
-    let service : ServiceView =
     record {
-      table = c.self.inside.table;
-      drawing = c.self.inside.draw;
-      books =
-          c.self.inside.books.items;
-      uploads = g.U.UploadSource.origins c.self.inside.uploads;
-    } in
-    let S : ServiceView → Type 0 = λ h. All (IsShareOf h) c.args.shares.items in
-    let all : All (IsShareOf service) c.args.shares.items =
-    subst S (sym c.self.view_is) c.requires in
-    let number : c.len-2.result ≡ length service.uploads = c.len-2.ensures in
-    let reported : c.in_ok-ends.ends.items
-    ≡ with_all_done (replicate (length service.uploads) Undrawn) c.args.shares.items =
-    c.in_ok-ends.ensures.ends
-    ∙ ap (with_all_done (replicate c.len-2.result Undrawn)) c.as_slice.ensures.value
-    ∙ ap (λ n. with_all_done (replicate n Undrawn) c.args.shares.items) number in
-    reported_undrawn service c.args.shares.items all c.close_with.new.closed.items
-    c.in_ok-close_with.ensures.ok c.in_ok-ends.ends.items reported
-    (c.in_ok-ends.ensures.number ∙ number)
-
-pub returns-clause-full : goal.returns-clause-full
-returns-clause-full g c =
-    let service : ServiceView =
-    record {
-      table = c.self.inside.table;
-      drawing = c.self.inside.draw;
-      books =
-          c.self.inside.books.items;
-      uploads = g.U.UploadSource.origins c.self.inside.uploads;
-    } in
-    let S : ServiceView → Type 0 = λ h. All (IsShareOf h) c.args.shares.items in
-    let all : All (IsShareOf service) c.args.shares.items =
-    subst S (sym c.self.view_is) c.requires in
-    full_made service c.self.invariant c.args.shares.items all c.close_with.new.closed.items
-    c.in_ok-close_with.ensures.ok
+      headline = subst H c.self.view_is (record {
+        files = o.files;
+        provided = o.provided;
+        works = o.works;
+        kept = o.kept;
+        headline = headline_of (given_of service o.files) o.works _ o.gathered
+            (c.added-totals.ensures ∙ ap (λ ts. add_all (map sums_of ts)) c.as_slice-4.ensures.value
+            ∙ sym same)
+            (λ shard book at. (work.books shard book at).limits)
+            (undrawn_last service c.args.shares.items o.works o.kept closed work);
+        loads = c.in_ok-close_with.ensures.calls
+            ∙ (ap (λ calls. with_runs calls.run c.args.shares.items) c.new-calls.ensures
+            ∙ loads_all service c.args.shares.items o.works o.kept);
+      });
+      undrawn = reported_undrawn service c.args.shares.items all closed work c.in_ok-ends.ends.items
+          reported (c.in_ok-ends.ensures.number ∙ number);
+      full = full_made service c.self.invariant c.args.shares.items all closed work;
+      fault = tt;
+      first = tt;
+      claims = λ whole. tt;
+    }
 
 pub returns-in_err-close_with-clause-first : goal.returns-in_err-close_with-clause-first
 returns-in_err-close_with-clause-first g c =

@@ -1,17 +1,14 @@
-use Rattle.std.proofs.Common.{◌≡◌, ◌<◌, List, inr, refl, ◌++◌, length, map, sym, ◌∙◌, ap, subst}
-use Rattle.std.proofs.Common.{arith}
+use Rattle.std.proofs.Common.{inr, refl, length, sym, ◌∙◌, ap, arith}
 use Rattle.fare_service.proofs.FullLemmas.{full_here, full_stays, is_full, own_grows, the_error}
 use Rattle.fare_service.proofs.FullLemmas.{reports_ok, reports_refused, visits_full}
-use Rattle.fare_service.proofs.RunVisits.{same_run, run_empty, run_refused, run_full, run_visited}
-use Rattle.fare_service.proofs.{RunVisits.visit_length, RunVisits.book_at, VisitLemmas.taps_after}
+use Rattle.fare_service.proofs.RunVisits.{book_at, replies_few, run_empty, run_full, run_refused}
+use Rattle.fare_service.proofs.RunVisits.{run_some, run_visited, within_passes}
+use Rattle.fare_service.proofs.VisitLemmas.{taps_after}
 use Rattle.fare_service.specs.ServiceView.{shards_of}
 use Rattle.fare_service.specs.declared.service.working.Stop.TheVariants.{Memory}
-use Rattle.histories.specs.{Entry.reply_of, Sums.sums_of, Sums.sums_of_replies, Sums.add_sums}
-use Rattle.shard_book.specs.Visits.{IsVisit}
-use Rattle.shard_book.specs.declared.run_end.RunEnd.{RunEnd, TheVariants.Whole, TheVariants.Cut}
-use Rattle.shared_books.specs.Passes.{PassView}
-use Rattle.std.proofs.lemmas.List.{length-map}
-use Rattle.tap_views.specs.{Layout.Tap, Shards.run_of, Shards.run_taps, Shards.ShardRun}
+use Rattle.histories.specs.Sums.{sums_of}
+use Rattle.shard_book.specs.declared.run_end.RunEnd.TheVariants.{Whole, Cut}
+use Rattle.tap_views.specs.Shards.{run_of}
 use Rattle.fare_service.proofs.service.Service.post_run.Goals as goal
 
 pub returns-then-len-eq0-clause-made : goal.returns-then-len-eq0-clause-made
@@ -23,18 +20,12 @@ returns-then-len-eq0-clause-made g c =
 
 pub returns-in_err-reserve-clause-made : goal.returns-in_err-reserve-clause-made
 returns-in_err-reserve-clause-made g c =
-    let same = same_run c.run-run.result c.args.batch.now c.args.shard (length c.args.runs.now)
-    (shards_of c.args.self.now) c.run-run.ensures c.requires.shards in
-    let some : 0 < length (run_of c.args.shard (shards_of c.args.self.now) c.args.batch.now) =
-    omega (
-      arith,
-      ap (λ shards. length (run_of c.args.shard shards c.args.batch.now))
-          c.requires.shards,
-      c.len_of-len.ensures.number,
-    ) in
     run_refused (shards_of c.args.self.now) c.args.shard c.args.batch.now
     c.args.posting.now.passes.items (sums_of c.args.posting.now.totals)
-    c.from_residual.result some c.from_residual.ensures.0
+    c.from_residual.result
+    (run_some c.args.shard (length c.args.runs.now) (shards_of c.args.self.now) c.len_of-len.result
+    c.args.batch.now c.requires.shards c.len_of-len.ensures.number (omega arith))
+    c.from_residual.ensures.0
 
 pub visit-requires-clause-shard : goal.visit-requires-clause-shard
 visit-requires-clause-shard g c =
@@ -61,167 +52,78 @@ visit-requires-clause-clock g c =
 
 pub returns-in_err-visit-clause-made : goal.returns-in_err-visit-clause-made
 returns-in_err-visit-clause-made g c =
-    let same = same_run c.run-run.result c.args.batch.now c.args.shard (length c.args.runs.now)
-    (shards_of c.args.self.now) c.run-run.ensures c.requires.shards in
-    let some : 0 < length (run_of c.args.shard (shards_of c.args.self.now) c.args.batch.now) =
-    omega (
-      arith,
-      ap (λ shards. length (run_of c.args.shard shards c.args.batch.now))
-          c.requires.shards,
-      c.len_of-len.ensures.number,
-    ) in
-    let within : c.args.shard < length c.args.posting.now.passes.items =
-    omega (
-      arith,
-      c.requires.shard,
-      ap length c.requires.passes,
-      length-map c.args.posting.now.passes.items (λ (p : PassView). p.book),
-    ) in
     run_full (shards_of c.args.self.now) c.args.shard c.args.batch.now
     c.args.posting.now.passes.items c.index_mut.result.now c.visit.new.pass
-    (sums_of c.args.posting.now.totals)
-    c.from_residual-in_err-visit.result some c.from_residual-in_err-visit.ensures.0 within
+    (sums_of c.args.posting.now.totals) c.from_residual-in_err-visit.result
+    (run_some c.args.shard (length c.args.runs.now) (shards_of c.args.self.now) c.len_of-len.result
+    c.args.batch.now c.requires.shards c.len_of-len.ensures.number (omega arith))
+    c.from_residual-in_err-visit.ensures.0
+    (within_passes c.args.posting.now.passes.items c.args.self.now.books c.args.shard
+    c.requires.passes c.requires.shard)
     c.index_mut.ensures.value c.in_err-visit.ensures.full.0
 
 pub count-requires : goal.count-requires
 count-requires g c =
-    let whole : length (run_taps c.run-run.result)
-    ≡ length (run_of c.args.shard (length c.args.runs.now) c.args.batch.now) =
-    ap (λ (r : ShardRun). length (run_taps r)) c.run-run.ensures in
     let made = c.in_ok-visit.ensures.visit in
-    let few = visit_length (run_taps c.run-run.result) c.in_ok-visit.visit.how made.visit
-    made.of_run in
-    let items : c.visit.new.out.items ≡ map reply_of made.visit =
-    made.items ∙ ap (λ xs. xs ++ map reply_of made.visit)
-    (c.in_ok-reserve.ensures.items ∙ c.clear.ensures.items) in
-    omega (
-      arith,
-      c.requires.room,
-      few,
-      whole,
-      c.len_of-len.ensures.number,
-      c.len_of-len.ensures.most,
-      ap length items,
-      length-map made.visit reply_of,
-    )
+    let few = replies_few c.run-run.result c.args.shard (length c.args.runs.now) c.len_of-len.result
+    c.args.batch.now c.in_ok-visit.visit.how made.visit _ c.visit.new.out.items c.run-run.ensures
+    c.len_of-len.ensures.number c.len_of-len.ensures.most made.of_run
+    (c.in_ok-reserve.ensures.items ∙ c.clear.ensures.items) made.items in
+    omega (arith, c.requires.room, few)
 
 pub returns-in-Whole-clause-made : goal.returns-in-Whole-clause-made
 returns-in-Whole-clause-made g c =
-    let same = same_run c.run-run.result c.args.batch.now c.args.shard (length c.args.runs.now)
-    (shards_of c.args.self.now) c.run-run.ensures c.requires.shards in
-    let some : 0 < length (run_of c.args.shard (shards_of c.args.self.now) c.args.batch.now) =
-    omega (
-      arith,
-      ap (λ shards. length (run_of c.args.shard shards c.args.batch.now))
-          c.requires.shards,
-      c.len_of-len.ensures.number,
-    ) in
-    let within : c.args.shard < length c.args.posting.now.passes.items =
-    omega (
-      arith,
-      c.requires.shard,
-      ap length c.requires.passes,
-      length-map c.args.posting.now.passes.items (λ (p : PassView). p.book),
-    ) in
     let made = c.in_ok-visit.ensures.visit in
-    let items : c.visit.new.out.items ≡ map reply_of made.visit =
-    made.items ∙ ap (λ xs. xs ++ map reply_of made.visit)
-    (c.in_ok-reserve.ensures.items ∙ c.clear.ensures.items) in
-    let P : List Tap → RunEnd → Type 0 = λ taps how. IsVisit taps how made.visit in
-    let of_run : IsVisit (run_of c.args.shard (shards_of c.args.self.now) c.args.batch.now) Whole
-    made.visit =
-    subst (λ (taps : List Tap). P taps Whole) same
-    (subst (λ (how : RunEnd). P (run_taps c.run-run.result) how) c.in-Whole.is made.of_run) in
-    run_visited (shards_of c.args.self.now) c.args.shard c.args.batch.now
-    c.args.posting.now.passes.items c.index_mut.result.now c.visit.new.pass
-    c.in_ok-visit.visit.number Whole made.visit
-    (sums_of c.args.posting.now.totals) (sums_of c.count.new.totals) some c.requires.shard within
-    c.index_mut.ensures.value made.holds of_run
-    (c.count.ensures ∙ ap (λ xs. add_sums (sums_of c.args.posting.now.totals) (sums_of_replies xs))
-    items)
+    run_visited (shards_of c.args.self.now) c.args.shard (length c.args.runs.now) c.args.batch.now
+    c.run-run.result c.args.posting.now.passes.items c.index_mut.result.now c.visit.new.pass
+    c.in_ok-visit.visit.number c.in_ok-visit.visit.how Whole made.visit
+    (sums_of c.args.posting.now.totals) (sums_of c.count.new.totals) _ c.visit.new.out.items
+    c.run-run.ensures c.requires.shards
+    (run_some c.args.shard (length c.args.runs.now) (shards_of c.args.self.now) c.len_of-len.result
+    c.args.batch.now c.requires.shards c.len_of-len.ensures.number (omega arith))
+    c.requires.shard
+    (within_passes c.args.posting.now.passes.items c.args.self.now.books c.args.shard
+    c.requires.passes c.requires.shard)
+    c.index_mut.ensures.value made.holds made.of_run c.in-Whole.is
+    (c.in_ok-reserve.ensures.items ∙ c.clear.ensures.items) made.items c.count.ensures
 
 pub returns-in-Whole-clause-few : goal.returns-in-Whole-clause-few
 returns-in-Whole-clause-few g c =
-    let whole : length (run_taps c.run-run.result)
-    ≡ length (run_of c.args.shard (length c.args.runs.now) c.args.batch.now) =
-    ap (λ (r : ShardRun). length (run_taps r)) c.run-run.ensures in
     let made = c.in_ok-visit.ensures.visit in
-    let few = visit_length (run_taps c.run-run.result) c.in_ok-visit.visit.how made.visit
-    made.of_run in
-    let items : c.visit.new.out.items ≡ map reply_of made.visit =
-    made.items ∙ ap (λ xs. xs ++ map reply_of made.visit)
-    (c.in_ok-reserve.ensures.items ∙ c.clear.ensures.items) in
+    let few = replies_few c.run-run.result c.args.shard (length c.args.runs.now) c.len_of-len.result
+    c.args.batch.now c.in_ok-visit.visit.how made.visit _ c.visit.new.out.items c.run-run.ensures
+    c.len_of-len.ensures.number c.len_of-len.ensures.most made.of_run
+    (c.in_ok-reserve.ensures.items ∙ c.clear.ensures.items) made.items in
     let more = ap (λ s. s.taps) c.count.ensures
     ∙ taps_after (sums_of c.args.posting.now.totals) c.visit.new.out.items in
-    omega (
-      arith,
-      few,
-      whole,
-      c.len_of-len.ensures.number,
-      c.len_of-len.ensures.most,
-      ap length items,
-      length-map made.visit reply_of,
-      more,
-    )
+    omega (arith, few, more)
 
 pub returns-in-Cut-clause-made : goal.returns-in-Cut-clause-made
 returns-in-Cut-clause-made g c =
-    let same = same_run c.run-run.result c.args.batch.now c.args.shard (length c.args.runs.now)
-    (shards_of c.args.self.now) c.run-run.ensures c.requires.shards in
-    let some : 0 < length (run_of c.args.shard (shards_of c.args.self.now) c.args.batch.now) =
-    omega (
-      arith,
-      ap (λ shards. length (run_of c.args.shard shards c.args.batch.now))
-          c.requires.shards,
-      c.len_of-len.ensures.number,
-    ) in
-    let within : c.args.shard < length c.args.posting.now.passes.items =
-    omega (
-      arith,
-      c.requires.shard,
-      ap length c.requires.passes,
-      length-map c.args.posting.now.passes.items (λ (p : PassView). p.book),
-    ) in
     let made = c.in_ok-visit.ensures.visit in
-    let items : c.visit.new.out.items ≡ map reply_of made.visit =
-    made.items ∙ ap (λ xs. xs ++ map reply_of made.visit)
-    (c.in_ok-reserve.ensures.items ∙ c.clear.ensures.items) in
-    let P : List Tap → RunEnd → Type 0 = λ taps how. IsVisit taps how made.visit in
-    let of_run : IsVisit (run_of c.args.shard (shards_of c.args.self.now) c.args.batch.now)
-    (Cut c.in-Cut.posted) made.visit =
-    subst (λ (taps : List Tap). P taps (Cut c.in-Cut.posted)) same
-    (subst (λ (how : RunEnd). P (run_taps c.run-run.result) how) c.in-Cut.is made.of_run) in
-    run_visited (shards_of c.args.self.now) c.args.shard c.args.batch.now
-    c.args.posting.now.passes.items c.index_mut.result.now c.visit.new.pass
-    c.in_ok-visit.visit.number (Cut c.in-Cut.posted) made.visit
-    (sums_of c.args.posting.now.totals) (sums_of c.count.new.totals) some c.requires.shard within
-    c.index_mut.ensures.value made.holds of_run
-    (c.count.ensures ∙ ap (λ xs. add_sums (sums_of c.args.posting.now.totals) (sums_of_replies xs))
-    items)
+    run_visited (shards_of c.args.self.now) c.args.shard (length c.args.runs.now) c.args.batch.now
+    c.run-run.result c.args.posting.now.passes.items c.index_mut.result.now c.visit.new.pass
+    c.in_ok-visit.visit.number c.in_ok-visit.visit.how (Cut c.in-Cut.posted) made.visit
+    (sums_of c.args.posting.now.totals) (sums_of c.count.new.totals) _ c.visit.new.out.items
+    c.run-run.ensures c.requires.shards
+    (run_some c.args.shard (length c.args.runs.now) (shards_of c.args.self.now) c.len_of-len.result
+    c.args.batch.now c.requires.shards c.len_of-len.ensures.number (omega arith))
+    c.requires.shard
+    (within_passes c.args.posting.now.passes.items c.args.self.now.books c.args.shard
+    c.requires.passes c.requires.shard)
+    c.index_mut.ensures.value made.holds made.of_run c.in-Cut.is
+    (c.in_ok-reserve.ensures.items ∙ c.clear.ensures.items) made.items c.count.ensures
 
 pub returns-in-Cut-clause-few : goal.returns-in-Cut-clause-few
 returns-in-Cut-clause-few g c =
-    let whole : length (run_taps c.run-run.result)
-    ≡ length (run_of c.args.shard (length c.args.runs.now) c.args.batch.now) =
-    ap (λ (r : ShardRun). length (run_taps r)) c.run-run.ensures in
     let made = c.in_ok-visit.ensures.visit in
-    let few = visit_length (run_taps c.run-run.result) c.in_ok-visit.visit.how made.visit
-    made.of_run in
-    let items : c.visit.new.out.items ≡ map reply_of made.visit =
-    made.items ∙ ap (λ xs. xs ++ map reply_of made.visit)
-    (c.in_ok-reserve.ensures.items ∙ c.clear.ensures.items) in
+    let few = replies_few c.run-run.result c.args.shard (length c.args.runs.now) c.len_of-len.result
+    c.args.batch.now c.in_ok-visit.visit.how made.visit _ c.visit.new.out.items c.run-run.ensures
+    c.len_of-len.ensures.number c.len_of-len.ensures.most made.of_run
+    (c.in_ok-reserve.ensures.items ∙ c.clear.ensures.items) made.items in
     let more = ap (λ s. s.taps) c.count.ensures
     ∙ taps_after (sums_of c.args.posting.now.totals) c.visit.new.out.items in
-    omega (
-      arith,
-      few,
-      whole,
-      c.len_of-len.ensures.number,
-      c.len_of-len.ensures.most,
-      ap length items,
-      length-map made.visit reply_of,
-      more,
-    )
+    omega (arith, few, more)
 
 pub returns-then-len-eq0-clause-full : goal.returns-then-len-eq0-clause-full
 returns-then-len-eq0-clause-full g c = reports_ok tt _ _ (λ h. h)
@@ -233,55 +135,36 @@ returns-in_err-reserve-clause-full g c =
 
 pub returns-in_err-visit-clause-full : goal.returns-in_err-visit-clause-full
 returns-in_err-visit-clause-full g c =
-    let within : c.args.shard < length c.args.posting.now.passes.items =
-    omega (
-      arith,
-      c.requires.shard,
-      ap length c.requires.passes,
-      length-map c.args.posting.now.passes.items (λ (p : PassView). p.book),
-    ) in
-    λ h. full_here c.args.posting.now.passes.items c.args.shard c.visit.new.pass within
+    λ h. full_here c.args.posting.now.passes.items c.args.shard c.visit.new.pass
+    (within_passes c.args.posting.now.passes.items c.args.self.now.books c.args.shard
+    c.requires.passes c.requires.shard)
     (is_full c.visit.new.pass c.in_err-visit.ensures.full.1)
 
 pub returns-in-Whole-clause-full : goal.returns-in-Whole-clause-full
 returns-in-Whole-clause-full g c =
-    let within : c.args.shard < length c.args.posting.now.passes.items =
-    omega (
-      arith,
-      c.requires.shard,
-      ap length c.requires.passes,
-      length-map c.args.posting.now.passes.items (λ (p : PassView). p.book),
-    ) in
     reports_ok tt _ _
     (full_stays c.args.posting.now.passes.items c.args.shard c.index_mut.result.now c.visit.new.pass
-    within c.index_mut.ensures.value
+    (within_passes c.args.posting.now.passes.items c.args.self.now.books c.args.shard
+    c.requires.passes c.requires.shard)
+    c.index_mut.ensures.value
     (visits_full c.index_mut.result.now c.visit.new.pass _ _ c.in_ok-visit.ensures.visit.holds))
 
 pub returns-in-Cut-clause-full : goal.returns-in-Cut-clause-full
 returns-in-Cut-clause-full g c =
-    let within : c.args.shard < length c.args.posting.now.passes.items =
-    omega (
-      arith,
-      c.requires.shard,
-      ap length c.requires.passes,
-      length-map c.args.posting.now.passes.items (λ (p : PassView). p.book),
-    ) in
     reports_refused _ _ _ refl
     (full_stays c.args.posting.now.passes.items c.args.shard c.index_mut.result.now c.visit.new.pass
-    within c.index_mut.ensures.value
+    (within_passes c.args.posting.now.passes.items c.args.self.now.books c.args.shard
+    c.requires.passes c.requires.shard)
+    c.index_mut.ensures.value
     (visits_full c.index_mut.result.now c.visit.new.pass _ _ c.in_ok-visit.ensures.visit.holds))
 
 pub returns-in-Cut-clause-memory : goal.returns-in-Cut-clause-memory
 returns-in-Cut-clause-memory g c =
-    let within : c.args.shard < length c.args.posting.now.passes.items =
-    omega (
-      arith,
-      c.requires.shard,
-      ap length c.requires.passes,
-      length-map c.args.posting.now.passes.items (λ (p : PassView). p.book),
-    ) in
     λ is. inr (
       c.in_ok-visit.ensures.visit.visit,
       own_grows c.args.posting.now.passes.items c.args.shard c.index_mut.result.now c.visit.new.pass
-          _ _ within c.index_mut.ensures.value c.in_ok-visit.ensures.visit.holds,
+          _ _
+          (within_passes c.args.posting.now.passes.items c.args.self.now.books c.args.shard
+          c.requires.passes c.requires.shard)
+          c.index_mut.ensures.value c.in_ok-visit.ensures.visit.holds,
     )

@@ -1,13 +1,14 @@
-use Rattle.std.proofs.Common.{◌≡◌, [], ◌++◌, ◌∷◌, ℕ, length, inr, refl, sym, ◌∙◌, ap, subst, arith}
+use Rattle.std.proofs.Common.{◌≡◌, [], length, inr, refl, sym, ◌∙◌, ap, subst, arith}
 use Rattle.std.proofs.Common.{List, false, Ok, Err}
-use Rattle.fare_service.proofs.ShareLemmas.{holding, next_share, worked_none}
-use Rattle.fare_service.proofs.StoppingLemmas.{Going, going_start, going_next, cut_next, none_next}
-use Rattle.fare_service.proofs.StoppingLemmas.{stopped_went_on}
+use Rattle.fare_service.proofs.ShareLemmas.{holding, share_more, worked_none}
+use Rattle.fare_service.proofs.StoppingLemmas.{Going, going_start, going_more, step, stopped_cut}
+use Rattle.fare_service.proofs.StoppingLemmas.{stopped_none, stopped_went_on}
 use Rattle.fare_service.specs.{Lending.origin_at, ShareView.ShareView}
 use Rattle.fare_service.specs.Shares.{IsShareOf, WentOn}
 use Rattle.histories.specs.Sums.{sums_of}
+use Rattle.shared_books.specs.Drawing.{DrawerView}
 use Rattle.std.specs.{Prelude.OnOk, Prelude.Result, Result.is_err}
-use Rattle.world.specs.Origins.{Origin, IsFrom, IsProvided, loads_from, with_loads}
+use Rattle.world.specs.Origins.{Origin, IsFrom, IsProvided}
 use Rattle.fare_service.proofs.service.Service.work.Goals as goal
 
 ok_holds : {T E P : Type 0} (r : Result T E) → is_err r ≡ false → OnOk r P → P
@@ -49,36 +50,24 @@ loop-init g c =
 
 pub loop-preserved : goal.loop-preserved
 loop-preserved g c =
+    let service = c.args.self.now in
     let next = c.post_drawn-goes_on.result.0 in
     let e = c.in-Some-next_number.ensures.drawn in
     let done = c.post_drawn-goes_on.ensures in
-    let drawn = ap (λ d. d.drawn) e.2
-    ∙ ap (λ (u : ℕ). c.loop.drawer.drawn ++ u ∷ []) (sym done.upload) in
+    let a = holding c.loop.drawer c.loop.posting.passes.items (sums_of c.loop.posting.totals)
+    c.loop.done.items c.loop.calls.run in
+    let b = holding c.next_number.new.drawer c.post_drawn-goes_on.new.posting.passes.items
+    (sums_of c.post_drawn-goes_on.new.posting.totals) c.push_reserved.new.self.items
+    c.provide.new.calls.run in
     let L : List Origin → Type 0 = λ us. IsProvided (origin_at us c.in-Some-next_number.upload)
     c.loop.calls.run c.provide.new.calls.run c.in-Some-provide.file.now in
-    let provided =
-    (subst L (ap (λ h. h.uploads) c.self.view_is) c.in-Some-provide.ensures.provided).loads
-    ∙ ap (λ (u : ℕ). with_loads c.loop.calls.run
-    (loads_from (origin_at c.args.self.now.uploads u) c.in-Some-provide.file.now))
-    (sym done.upload) in
+    let one = step service a b next c.in-Some-next_number.upload c.in-Some-provide.file.now
+    done.upload e.2 c.push_reserved.ensures.items done.worked
+    (subst L (ap (λ h. h.uploads) c.self.view_is) c.in-Some-provide.ensures.provided).loads in
     record {
-      share = next_share c.args.self.now c.loop.drawer c.next_number.new.drawer
-          c.loop.posting.passes.items c.post_drawn-goes_on.new.posting.passes.items
-          (sums_of c.loop.posting.totals) (sums_of c.post_drawn-goes_on.new.posting.totals)
-          c.loop.done.items c.push_reserved.new.self.items next.upload c.in-Some-provide.file.now
-          next.end c.loop.calls.run c.provide.new.calls.run
-          (holding c.loop.drawer c.loop.posting.passes.items (sums_of c.loop.posting.totals)
-          c.loop.done.items c.loop.calls.run) refl c.loop.invariant.share
-          (ap (λ d. d.claims) e.2) drawn (ap (λ d. d.drawn_from) e.2)
-          c.push_reserved.ensures.items done.worked done.few provided;
-      going = going_next c.args.self.now c.args.share c.loop.drawer c.next_number.new.drawer
-          c.loop.posting.passes.items c.post_drawn-goes_on.new.posting.passes.items
-          (sums_of c.loop.posting.totals) (sums_of c.post_drawn-goes_on.new.posting.totals)
-          c.loop.done.items c.push_reserved.new.self.items c.in-Some-provide.file.now
-          c.loop.calls.run
-          c.provide.new.calls.run next
-          c.loop.invariant.going (ap (λ d. d.claims) e.2) drawn
-          c.push_reserved.ensures.items done.worked provided done.full
+      share = share_more service a b _ c.loop.invariant.share one (ap (λ d. d.drawn_from) e.2)
+          (omega (arith, done.few));
+      going = going_more service c.args.share a b _ c.loop.invariant.going one done.full
           (done.goes_on c.if-not-goes_on.false);
       clock = done.clock ∙ c.loop.invariant.clock;
       runs = done.runs ∙ c.loop.invariant.runs;
@@ -97,88 +86,42 @@ loop-preserved g c =
 pub returns-in_default-next_number-clause-stopped :
     goal.returns-in_default-next_number-clause-stopped
 returns-in_default-next_number-clause-stopped g c =
+    let service = c.args.self.now in
     let none = c.in_default-next_number.ensures.none in
-    inr (none_next c.args.self.now c.loop.drawer c.next_number.new.drawer
-    c.loop.posting.passes.items (sums_of c.loop.posting.totals) c.loop.done.items
-    c.loop.calls.run (ap (λ d. d.claims) none) (ap (λ d. d.drawn) none) c.args.share
+    let share_of : DrawerView → ShareView = λ drawer. holding drawer c.loop.posting.passes.items
+    (sums_of c.loop.posting.totals) c.loop.done.items c.loop.calls.run in
+    inr (stopped_none service c.args.share (share_of c.loop.drawer) (share_of c.next_number.new.drawer)
     c.loop.invariant.going
+    (worked_none service (share_of c.loop.drawer) (share_of c.next_number.new.drawer)
+    (ap (λ d. d.claims) none) (ap (λ d. d.drawn) none) refl refl refl refl) (λ h. h)
     (ap (λ d. d.seen) none))
 
 -- the last upload was cut
-pub returns-then-not-goes_on-clause-share : goal.returns-then-not-goes_on-clause-share
-returns-then-not-goes_on-clause-share g c =
+pub returns-then-not-goes_on : goal.returns-then-not-goes_on
+returns-then-not-goes_on g c =
+    let service = c.args.self.now in
     let next = c.post_drawn-goes_on.result.0 in
     let e = c.in-Some-next_number.ensures.drawn in
     let done = c.post_drawn-goes_on.ensures in
-    let drawn = ap (λ d. d.drawn) e.2
-    ∙ ap (λ (u : ℕ). c.loop.drawer.drawn ++ u ∷ []) (sym done.upload) in
+    let a = holding c.loop.drawer c.loop.posting.passes.items (sums_of c.loop.posting.totals)
+    c.loop.done.items c.loop.calls.run in
+    let b = holding c.next_number.new.drawer c.post_drawn-goes_on.new.posting.passes.items
+    (sums_of c.post_drawn-goes_on.new.posting.totals) c.push_reserved.new.self.items
+    c.provide.new.calls.run in
     let L : List Origin → Type 0 = λ us. IsProvided (origin_at us c.in-Some-next_number.upload)
     c.loop.calls.run c.provide.new.calls.run c.in-Some-provide.file.now in
-    let provided =
-    (subst L (ap (λ h. h.uploads) c.self.view_is) c.in-Some-provide.ensures.provided).loads
-    ∙ ap (λ (u : ℕ). with_loads c.loop.calls.run
-    (loads_from (origin_at c.args.self.now.uploads u) c.in-Some-provide.file.now))
-    (sym done.upload) in
-    next_share c.args.self.now c.loop.drawer c.next_number.new.drawer c.loop.posting.passes.items
-    c.post_drawn-goes_on.new.posting.passes.items
-    (sums_of c.loop.posting.totals) (sums_of c.post_drawn-goes_on.new.posting.totals)
-    c.loop.done.items
-    c.push_reserved.new.self.items next.upload c.in-Some-provide.file.now next.end c.loop.calls.run
-    c.provide.new.calls.run
-    (holding c.loop.drawer c.loop.posting.passes.items (sums_of c.loop.posting.totals)
-    c.loop.done.items c.loop.calls.run) refl c.loop.invariant.share
-    (ap (λ d. d.claims) e.2) drawn (ap (λ d. d.drawn_from) e.2)
-    c.push_reserved.ensures.items done.worked done.few provided
-
-pub returns-then-not-goes_on-clause-went_on : goal.returns-then-not-goes_on-clause-went_on
-returns-then-not-goes_on-clause-went_on g c =
-    let next = c.post_drawn-goes_on.result.0 in
-    let e = c.in-Some-next_number.ensures.drawn in
-    let done = c.post_drawn-goes_on.ensures in
-    let drawn = ap (λ d. d.drawn) e.2
-    ∙ ap (λ (u : ℕ). c.loop.drawer.drawn ++ u ∷ []) (sym done.upload) in
-    let L : List Origin → Type 0 = λ us. IsProvided (origin_at us c.in-Some-next_number.upload)
-    c.loop.calls.run c.provide.new.calls.run c.in-Some-provide.file.now in
-    let provided =
-    (subst L (ap (λ h. h.uploads) c.self.view_is) c.in-Some-provide.ensures.provided).loads
-    ∙ ap (λ (u : ℕ). with_loads c.loop.calls.run
-    (loads_from (origin_at c.args.self.now.uploads u) c.in-Some-provide.file.now))
-    (sym done.upload) in
-    stopped_went_on c.args.self.now c.args.share _
-    (cut_next c.args.self.now c.args.share c.loop.drawer c.next_number.new.drawer
-    c.loop.posting.passes.items c.post_drawn-goes_on.new.posting.passes.items
-    (sums_of c.loop.posting.totals) (sums_of c.post_drawn-goes_on.new.posting.totals)
-    c.loop.done.items
-    c.push_reserved.new.self.items c.in-Some-provide.file.now c.loop.calls.run
-    c.provide.new.calls.run next
-    c.loop.invariant.going (ap (λ d. d.claims) e.2) drawn
-    c.push_reserved.ensures.items done.worked provided done.full
-    (done.stops c.if-not-goes_on.true))
-
-pub returns-then-not-goes_on-clause-stopped : goal.returns-then-not-goes_on-clause-stopped
-returns-then-not-goes_on-clause-stopped g c =
-    let next = c.post_drawn-goes_on.result.0 in
-    let e = c.in-Some-next_number.ensures.drawn in
-    let done = c.post_drawn-goes_on.ensures in
-    let drawn = ap (λ d. d.drawn) e.2
-    ∙ ap (λ (u : ℕ). c.loop.drawer.drawn ++ u ∷ []) (sym done.upload) in
-    let L : List Origin → Type 0 = λ us. IsProvided (origin_at us c.in-Some-next_number.upload)
-    c.loop.calls.run c.provide.new.calls.run c.in-Some-provide.file.now in
-    let provided =
-    (subst L (ap (λ h. h.uploads) c.self.view_is) c.in-Some-provide.ensures.provided).loads
-    ∙ ap (λ (u : ℕ). with_loads c.loop.calls.run
-    (loads_from (origin_at c.args.self.now.uploads u) c.in-Some-provide.file.now))
-    (sym done.upload) in
-    inr
-    (cut_next c.args.self.now c.args.share c.loop.drawer c.next_number.new.drawer
-    c.loop.posting.passes.items c.post_drawn-goes_on.new.posting.passes.items
-    (sums_of c.loop.posting.totals) (sums_of c.post_drawn-goes_on.new.posting.totals)
-    c.loop.done.items
-    c.push_reserved.new.self.items c.in-Some-provide.file.now c.loop.calls.run
-    c.provide.new.calls.run next
-    c.loop.invariant.going (ap (λ d. d.claims) e.2) drawn
-    c.push_reserved.ensures.items done.worked provided done.full
-    (done.stops c.if-not-goes_on.true))
+    let one = step service a b next c.in-Some-next_number.upload c.in-Some-provide.file.now
+    done.upload e.2 c.push_reserved.ensures.items done.worked
+    (subst L (ap (λ h. h.uploads) c.self.view_is) c.in-Some-provide.ensures.provided).loads in
+    let stopped = stopped_cut service c.args.share a b _ c.loop.invariant.going one done.full
+    (done.stops c.if-not-goes_on.true) in
+    record {
+      share = share_more service a b _ c.loop.invariant.share one (ap (λ d. d.drawn_from) e.2)
+          (omega (arith, done.few));
+      went_on = stopped_went_on service c.args.share _ stopped;
+      stopped = inr stopped;
+      unavailable = tt;
+    }
 
 pub post_drawn-goes_on-requires-clause-provided : goal.post_drawn-goes_on-requires-clause-provided
 post_drawn-goes_on-requires-clause-provided g c =
