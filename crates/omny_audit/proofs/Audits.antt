@@ -51,7 +51,7 @@ unsound all live fares text valid reported found is wrong = by_sound found.is_so
     by_sound : (sound : Bool) → found.is_sound ≡ sound → sound ≡ false
     by_sound false same = refl
     by_sound true same = let right = is.sound.0 same in
-        sym (is.legal.1 (right.0, right.1)) ∙ wrong
+        sym (is.legal.1 right.0) ∙ wrong
 
 -- the first wrong line stays the first
 checked_more : (fares : Fares) (subtracts : Bool) (valid : List TapFields) (check : Check)

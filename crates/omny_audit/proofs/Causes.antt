@@ -1,6 +1,6 @@
 -- The causes of faults.
-use Rattle.std.proofs.Common.{◌≡◌, ◌++◌, ◌∷◌, [], ℕ, Bool, List, Option, Some, Result, Ok, Err}
-use Rattle.std.proofs.Common.{append-nil, inl, inr, refl, subst, sym}
+use Rattle.std.proofs.Common.{◌≡◌, ◌∷◌, [], ℕ, Bool, List, Option, Some, Result, Ok, Err, ◌∙◌}
+use Rattle.std.proofs.Common.{ap, append-nil, arith, inl, inr, map, refl, subst, sym}
 use Rattle.frame.specs.Failing.{HasStarted}
 use Rattle.omny_audit.proofs.Audits.{started_weaker}
 use Rattle.omny_audit.specs.Ends.{Did, IsRightFault, did_by}
@@ -11,48 +11,51 @@ use Rattle.omny_audit.specs.declared.fault.Fault.TheVariants.{Class, File, Given
 use Rattle.omny_audit.specs.declared.fault.Fault.TheVariants.{NoMemory, Unwritten}
 use Rattle.omny_audit.specs.inside.{Audits.EndsAs, Ends.EndsAudit}
 use Rattle.omny_audit.specs.inside.Fault.{IsClassFault, IsLoadFault, IsStreamFault, IsUnopened}
-use Rattle.program_manners.specs.Refusals.{IsOneOf, IsShown}
-use Rattle.program_manners.specs.{TableLoads.LoadsTables, TableWords.table_files}
+use Rattle.program_manners.specs.{Refusals.IsShown, TableLoads.LoadsTables, TableWords.table_files}
 use Rattle.program_manners.specs.declared.recorded_loads.RecordedLoads.{RecordedLoads}
-use Rattle.std.proofs.lemmas.List.Elements.{Contains-append_left, Contains-append_right}
-use Rattle.std.proofs.lemmas.List.Elements.{Contains-push}
-use Rattle.std.specs.Prelude.{Contains}
+use Rattle.std.proofs.lemmas.List.{length-map, Elements.Contains-append_left}
+use Rattle.std.proofs.lemmas.List.Elements.{Contains-append_right, Contains-push}
+use Rattle.std.proofs.lemmas.Option.{get_or_from_slice_get, slice_get-map, slice_get_within}
+use Rattle.std.specs.{List.slice_get, Prelude.Contains, Prelude.option_map, Result.IsErrAnd}
 use Rattle.tariffs.specs.Fares.{Fares}
 use Rattle.world.specs.Run.{Calls, Load, Run}
 
--- one of some names
-pub one_of : (name : List ℕ) (names : List (List ℕ)) → IsOneOf name names → Contains names name
-one_of name [] one = absurd one
-one_of name (other ∷ names) one = elim one [
-  | inl is ↦ subst (λ (n : List ℕ). Contains (n ∷ names) name) is
-      (Contains-append_left (name ∷ []) names name (Contains-push [] name))
-  | inr rest ↦ Contains-append_right (other ∷ []) names name (one_of name names rest)
-]
+-- what is at a place of a list is in it
+pub contained : {A B : Type 0} (f : A → B) (xs : List A) (k : ℕ) (x : A) → slice_get xs k ≡ Some x
+    → Contains (map f xs) (f x)
+contained f xs k x is = (
+  k,
+  omega (arith, length-map xs f, slice_get_within xs k x is),
+  get_or_from_slice_get (map f xs) k (f x) (f x) (slice_get-map f xs k ∙ ap (option_map f) is),
+)
 
 module _ (request : AuditRequest) where
   pub among_uploads : (name : List ℕ) → Contains request.uploads name
       → Contains (files_of request) name
-  among_uploads name is = Contains-append_right (table_files request.table) _ name
-      (Contains-append_left (request.uploads ++ named_file request.report) _ name
-      (Contains-append_left request.uploads (named_file request.report) name is))
+  among_uploads name is = Contains-append_left request.uploads _ name is
 
   pub among_reports : (name : List ℕ) → Contains (named_file request.report) name
       → Contains (files_of request) name
-  among_reports name is = Contains-append_right (table_files request.table) _ name
-      (Contains-append_left (request.uploads ++ named_file request.report) _ name
-      (Contains-append_right request.uploads (named_file request.report) name is))
+  among_reports name is = Contains-append_right request.uploads _ name
+      (Contains-append_left (named_file request.report) _ name is)
 
   among_ledgers : Contains (files_of request) (ledger_name request)
-  among_ledgers = Contains-append_right (table_files request.table) _ (ledger_name request)
-      (Contains-push (request.uploads ++ named_file request.report) (ledger_name request))
+  among_ledgers = Contains-append_right request.uploads _ (ledger_name request)
+      (Contains-append_right (named_file request.report) _ (ledger_name request)
+      (Contains-append_left (ledger_name request ∷ []) (table_files request.table) _
+      (Contains-push [] (ledger_name request))))
 
-  pub load_cause : (start loads : RecordedLoads) (ledger : Calls) (old new : Run) (name : List ℕ)
-      (fault : Fault) → Contains (files_of request) name → IsLoadFault name loads fault
+  pub load_cause : (start loads : RecordedLoads) (ledger : Calls) (old new : Run)
+      (names : List (List ℕ)) (fault : Fault)
+      → ((name : List ℕ) → Contains names name → Contains (files_of request) name)
+      → IsLoadFault names loads fault
       → IsRightFault request (did_by start loads ledger old new) fault
-  load_cause start loads ledger old new name (File file) one (same, is) = rw same (one, inl is)
-  load_cause start loads ledger old new name (GivenLedger given) one (same, is) = rw same (one, is)
-  load_cause start loads ledger old new name NoMemory one is = tt
-  load_cause start loads ledger old new name _ one is = absurd is
+  load_cause start loads ledger old new names (File file) among is =
+      (among file.name.now is.0, inl is.1)
+  load_cause start loads ledger old new names (GivenLedger given) among is =
+      (among given.now is.0, is.1)
+  load_cause start loads ledger old new names NoMemory among is = tt
+  load_cause start loads ledger old new names _ among is = absurd is
 
   module _ (did : Did) where
     pub stream_cause : did.ledger.reading.name ≡ request.ledger → (fault : Fault)
@@ -84,9 +87,15 @@ started_none Right out =
     record { front = []; grown = sym (append-nil out); rest = []; right = inl refl }
 
 -- the run failed before anything was written
-pub stopped_before : {Right : Type 0} (Text : List ℕ → Type 0) (run : Run) → Right
-    → Right × HasStarted Text run.written run.written × (run.said ≡ run.said)
-stopped_before Text run right = (right, started_none Text run.written, refl)
+pub stopped_before : (request : AuditRequest) (did : Did) (result : Result Bool Fault)
+    (fault : Fault) → IsErrAnd result (λ e. e ≡ fault) → did.new ≡ did.old
+    → IsRightFault request did fault → EndsAudit request did result
+stopped_before request did (Ok success) fault is same right = absurd is
+stopped_before request did (Err e) fault is same right = rw is (
+  right,
+  rw same (started_none (IsTextOf request did.loaded did.loaded' did.ledger) did.old.written),
+  ap (λ (r : Run). r.said) same,
+)
 
 -- what an audit of these files ends as
 pub ends_audit : (request : AuditRequest) (did : Did) (result : Result Bool Fault)

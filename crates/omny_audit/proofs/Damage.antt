@@ -19,11 +19,13 @@ damage_lines-push upload (first ∷ ends) end =
     (damage_line (upload + length (first ∷ ends)) end))
 
 -- the lines of the uploads before one, and that of this one
-pub damage_more : (ends : List UploadEnd) (i : ℕ) → i < length ends
-    → damage_lines 0 (take i ends) ++ damage_line i (get_or ends i (Posted 0))
-    ≡ damage_lines 0 (take (i + 1) ends)
-damage_more ends i within =
+pub damage_more : (start : List ℕ) (ends : List UploadEnd) (i : ℕ) → i < length ends
+    → (start ++ damage_lines 0 (take i ends)) ++ damage_line i (get_or ends i (Posted 0))
+    ≡ start ++ damage_lines 0 (take (i + 1) ends)
+damage_more start ends i within =
     let count : 0 + length (take i ends) ≡ i = omega (arith, length-take {A = UploadEnd}) in
-    ap (λ n. damage_lines 0 (take i ends) ++ damage_line n (get_or ends i (Posted 0))) (sym count)
+    append_assoc start (damage_lines 0 (take i ends)) (damage_line i (get_or ends i (Posted 0)))
+    ∙ ap (λ text. start ++ text)
+    (ap (λ n. damage_lines 0 (take i ends) ++ damage_line n (get_or ends i (Posted 0))) (sym count)
     ∙ sym (damage_lines-push 0 (take i ends) (get_or ends i (Posted 0)))
-    ∙ ap (λ taken. damage_lines 0 taken) (sym (take_more ends i (Posted 0) within))
+    ∙ ap (λ taken. damage_lines 0 taken) (sym (take_more ends i (Posted 0) within)))

@@ -4,6 +4,5 @@ pub mod Causes
 pub mod Damage
 pub mod FindingLemmas
 pub mod FullFindingLemmas
-pub mod LoadedTables
 pub mod ProgramLemmas
 pub mod TraceLemmas

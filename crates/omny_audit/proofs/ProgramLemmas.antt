@@ -1,18 +1,17 @@
 -- What was loaded, one more each time, what was read of the ledger, and what the program compares.
-use Rattle.std.proofs.Common.{◌≡◌, ◌∙◌, ℕ, Bool, true, false, not, List, [], ◌∷◌, ◌++◌, length, map}
-use Rattle.std.proofs.Common.{refl, sym, ap, subst, append-nil, append_assoc, nat_eq, Option, Some}
-use Rattle.std.proofs.Common.{None, if◌then◌else◌, Bor, ◌≤◌, ◌⊎◌, inl, inr, suc, arith, option_map}
+use Rattle.std.proofs.Common.{◌≡◌, ◌∙◌, ℕ, Bool, true, false, List, [], ◌∷◌, ◌++◌, length}
+use Rattle.std.proofs.Common.{refl, sym, ap, subst, append-nil, append_assoc, Option, Some}
+use Rattle.std.proofs.Common.{None, Bor, ◌≤◌, ◌⊎◌, inl, inr, option_map}
 use Rattle.clap.specs.Words.{Text}
 use Rattle.ledger_check.specs.Balances.{AreValidFields}
 use Rattle.ledger_check.specs.Columns.{has_traced_head, traced_head}
 use Rattle.ledger_check.specs.{Positions.HasUploads, declared.positions.Positions.Positions}
 use Rattle.omny_audit.specs.Program.{AreValidFieldsOfAll, HoldsOfRead, LoadsNamedFiles, compared}
-use Rattle.omny_audit.specs.{Reports.Given, inside.Audits.GoesOn, inside.Traced.HaveNamed}
-use Rattle.std.proofs.lemmas.Bool.Decides.{nat_tests}
+use Rattle.omny_audit.specs.{inside.Audits.GoesOn, inside.Traced.HaveNamed}
 use Rattle.std.proofs.lemmas.List.{flat_map_more, map-append, take-append-le}
 use Rattle.std.specs.{Prelude.unwrap_or, Str.bytes_eq}
 use Rattle.tap_views.proofs.Lists.{AllZip-append}
-use Rattle.tap_views.specs.declared.{encoder.TapFields.TapFields, upload_end.UploadEnd.UploadEnd}
+use Rattle.tap_views.specs.declared.{encoder.TapFields.TapFields}
 use Rattle.world.proofs.Streams.{whole_at_end}
 use Rattle.world.specs.{Run.Load, Streams.HasRead, Streams.IsWhole, declared.stream.Stream.Stream}
 
@@ -42,27 +41,6 @@ posted_push uploads valid upload taps (lists, each, all) one = (
   AllZip-append AreValidFields uploads lists (upload ∷ []) (taps ∷ []) each (one, tt),
   ap (λ (xs : List TapFields). xs ++ taps) all ∙ flat_map_more (λ list. list) [] lists taps,
 )
-
-not_zero : (n : ℕ) → nat_eq (suc n) 0 ≡ false
-not_zero n = grind (arith, nat_tests)
-
--- taps are compared if uploads are named
-pub compared_is : {A : Type 0} (names : List (Bor Text)) (valid : A) (has : Bool)
-    → has ≡ not (nat_eq (length names) 0)
-    → (if has then Some valid else None) ≡ compared (map (λ n. n.now) names) valid
-compared_is [] valid has is = rw is refl
-compared_is (name ∷ names) valid has is =
-    let some : nat_eq (length (name ∷ names)) 0 ≡ false = not_zero (length names) in
-    ap (λ (b : Bool). if b then Some valid else None) (is ∙ ap not some)
-
--- the same names, lent twice
-pub loads_same : (names same : List (Bor Text)) (loaded loaded' : List Load)
-    (files : List (List ℕ)) → names ≡ same
-    → LoadsNamedFiles (map (λ n. n.now) names) loaded loaded' files
-    → LoadsNamedFiles (map (λ n. n.now) same) loaded loaded' files
-loads_same names same loaded loaded' files is loads =
-    subst (λ (ns : List (Bor Text)). LoadsNamedFiles (map (λ n. n.now) ns) loaded loaded' files) is
-    loads
 
 -- a file is a traced ledger exactly if its first bytes say so
 still_head : (head rest : List ℕ) → length traced_head ≤ length head
@@ -100,23 +78,14 @@ pub provided_name : (name : Option (Bor Text)) (usual : Bor Text)
 provided_name None usual = refl
 provided_name (Some n) usual = refl
 
--- what is kept, seen otherwise
-pub kept_as : {A B : Type 0} (f : A → B) (kept : Bool) (x : A)
-    → option_map f (if kept then Some x else None) ≡ (if kept then Some (f x) else None)
-kept_as f true x = refl
-kept_as f false x = refl
+-- what is compared, seen otherwise
+pub compared_as : {A B : Type 0} (f : A → B) (named : Bool) (x : A)
+    → option_map f (compared named x) ≡ compared named (f x)
+compared_as f true x = refl
+compared_as f false x = refl
 
 -- no place was named
-pub named_none : (kept : Bool) (positions : Positions) (lists : List (List TapFields))
-    → HasUploads positions lists → HaveNamed (if kept then Some positions else None) []
+pub named_none : (named : Bool) (positions : Positions) (lists : List (List TapFields))
+    → HasUploads positions lists → HaveNamed (compared named positions) []
 named_none true positions lists has = has.none
 named_none false positions lists has = tt
-
-pub given_is : (given : Given) (all : Bool) (valid : Option (List TapFields))
-    (ends : Option (List UploadEnd)) → given.all ≡ all → given.valid ≡ valid → given.ends ≡ ends
-    → given ≡ record given { all = all; valid = valid; ends = ends }
-given_is given all valid ends same_all same_valid same_ends =
-    ap (λ (a : Bool). record given { all = a }) same_all
-    ∙ ap (λ (g : Option (List TapFields)). record given { all = all; valid = g }) same_valid
-    ∙ ap (λ (e : Option (List UploadEnd)). record given { all = all; valid = valid; ends = e })
-    same_ends

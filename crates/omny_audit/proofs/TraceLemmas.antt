@@ -1,5 +1,5 @@
 -- A traced ledger, read piece by piece.
-use Rattle.std.proofs.Common.{◌≡◌, ◌∙◌, inl, inr, ℕ, ◌+◌, ◌<◌, ◌≤◌, Bool, false, true, List, []}
+use Rattle.std.proofs.Common.{◌≡◌, ◌∙◌, inl, inr, ℕ, ◌<◌, ◌≤◌, Bool, false, true, List, []}
 use Rattle.std.proofs.Common.{◌∷◌, ◌++◌, append-nil, length, Option, None, Some, refl}
 use Rattle.std.proofs.Common.{◌==◌, sym, ap, subst, arith}
 use Rattle.ledger_check.proofs.ColumnLemmas.{cut_long, untraced-append}

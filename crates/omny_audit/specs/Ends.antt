@@ -8,7 +8,7 @@ use Rattle.omny_audit.specs.{Fault.IsReported, Options.AuditRequest}
 use Rattle.omny_audit.specs.Options.{audit_program, audit_request_by, files_of, ledger_name}
 use Rattle.omny_audit.specs.{Program.HasFound, Program.IsTextOf, declared.fault.Fault.Fault}
 use Rattle.omny_audit.specs.declared.fault.Fault.TheVariants.{Class, File, GivenLedger, Ledger}
-use Rattle.omny_audit.specs.declared.fault.Fault.TheVariants.{NoMemory, Tables, Unwritten}
+use Rattle.omny_audit.specs.declared.fault.Fault.TheVariants.{NoMemory, NotMade, Tables, Unwritten}
 use Rattle.program_manners.specs.Refusals.{HasRefused, IsShown, refusal_of}
 use Rattle.program_manners.specs.TableLoads.{LoadsTables}
 use Rattle.program_manners.specs.TableWords.{TableNames, table_files, wrong_word}
@@ -78,6 +78,7 @@ IsRightFault request did (GivenLedger name) =
 IsRightFault request did (Class file is_alone) = Contains (table_files request.table) file.now
     × LoadsUnplainClass request.table did.loaded
 IsRightFault request did (Unwritten why) = did.new.cut ≡ Some why
+IsRightFault request did (NotMade name) = ⊥
 IsRightFault request did NoMemory = ⊤
 
 -- a prefix of a right text was written

@@ -2,8 +2,8 @@
 use Rattle.histories.specs.declared.entry.Entry.{Entry}
 use Rattle.ledger_check.specs.{Balances.IsDifference, FullBalances.AreLacking}
 use Rattle.ledger_check.specs.FullChecks.{IsFullCheck, TakenLine, full_check_text, taps_from}
-use Rattle.ledger_check.specs.{Ledger.IsLedgerOf, Orders.are_settled, Orders.tap_of_entry}
-use Rattle.ledger_check.specs.Verdicts.{IsVerdict, is_legal}
+use Rattle.ledger_check.specs.{Ledger.IsLedger, Ledger.IsLedgerOf, Orders.are_settled}
+use Rattle.ledger_check.specs.{Orders.tap_of_entry, Verdicts.IsVerdict, Verdicts.is_legal}
 use Rattle.ledger_check.specs.declared.{balance.Difference.Difference, checker.Verdict.Verdict}
 use Rattle.omny_audit.specs.Text.{IsDifferenceText, IsDifferencesText, verdict_text}
 use Rattle.std.specs.{List.Sorted.IsPermutation, Prelude.◌≡◌}
@@ -66,3 +66,9 @@ HasValidTaps (Some valid) taps = IsPermutation valid taps
 -- the taps are in order, unless a live ledger is well
 abbrev pub HasOrder : Bool → List TapFields → Type 0
 HasOrder live taps = (live || are_settled taps) ≡ true
+
+-- the text is, whole, a ledger of legal histories, has the taps of the uploads, and is settled if a
+-- live one is not well
+abbrev pub IsRightLedger : Bool → Fares → List ℕ → Option (List TapFields) → Type 0
+IsRightLedger live fares text valid = (ledger : IsLedger fares text)
+    × (HasValidTaps valid (map tap_of_entry ledger.0) × HasOrder live (map tap_of_entry ledger.0))

@@ -1,6 +1,6 @@
 -- The command line, and what its words ask for.
 use Rattle.std.specs.Prelude.{Bool, List, [], ◌∷◌, ◌++◌, Option, None, Some, codes}
-use Rattle.std.specs.Prelude.{option_and_then, true, unwrap_or}
+use Rattle.std.specs.Prelude.{length, nat_eq, not, option_and_then, true, unwrap_or}
 use Rattle.clap.specs.Words.{App, Rule, Text, all_of, first_of, matches_of, with_rule}
 use Rattle.clap.specs.declared.builder.action.ArgAction.TheVariants.{Set}
 use Rattle.frame.specs.Names.{file_named}
@@ -44,6 +44,10 @@ audit_request_by words = record {
   ledger = option_and_then file_named (first_of (codes "LEDGER") (matches_of audit_program words));
 }
 
+-- whether uploads are named
+abbrev pub has_uploads : AuditRequest → Bool
+has_uploads request = not (nat_eq (length request.uploads) 0)
+
 -- what the ledger is called: standard input, if no file of it is named
 abbrev pub ledger_name : AuditRequest → Text
 ledger_name request = unwrap_or request.ledger (codes "standard input")
@@ -53,8 +57,7 @@ abbrev pub named_file : Option Text → List Text
 named_file None = []
 named_file (Some name) = name ∷ []
 
--- the files that are asked for: the tables, the uploads in order, the report and the ledger
+-- the files that are asked for: the uploads in order, the report, the ledger and the tables
 abbrev pub files_of : AuditRequest → List Text
-files_of request =
-    table_files request.table ++ ((request.uploads ++ named_file request.report)
-    ++ ledger_name request ∷ [])
+files_of request = request.uploads
+    ++ (named_file request.report ++ ledger_name request ∷ table_files request.table)

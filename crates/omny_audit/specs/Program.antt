@@ -2,11 +2,12 @@
 use Rattle.clap.specs.Words.{Text}
 use Rattle.class_names.specs.Classes.{AreTrees, class_of_token, tree_at}
 use Rattle.ledger_check.specs.{Balances.AreValidFields, Columns.has_traced_head}
-use Rattle.omny_audit.specs.{Options.AuditRequest, Reports.Given, Reports.IsAudit}
-use Rattle.omny_audit.specs.{Reports.IsAuditText, Traced.Wanted}
+use Rattle.omny_audit.specs.{Options.AuditRequest, Options.has_uploads, Reports.Given}
+use Rattle.omny_audit.specs.{Reports.IsAudit, Reports.IsAuditText, Traced.Wanted}
 use Rattle.program_manners.specs.TableLoads.{LoadsTables}
 use Rattle.std.specs.{List.AllZip, List.flat_map, Prelude.◌≡◌}
 use Rattle.std.specs.Prelude.{ℕ, Bool, true, false, List, [], ◌∷◌, ◌++◌, map, Option, None, Some}
+use Rattle.std.specs.Prelude.{if◌then◌else◌}
 use Rattle.tap_views.specs.UploadEnds.{ArePlainEnds}
 use Rattle.tap_views.specs.declared.{encoder.TapFields.TapFields, upload_end.UploadEnd.UploadEnd}
 use Rattle.tariffs.specs.Fares.{Fares}
@@ -31,9 +32,8 @@ AreValidFieldsOfAll uploads taps = (lists : List (List TapFields))
     × AreValidFieldsOfEach uploads lists × (taps ≡ flat_map (λ list. list) lists)
 
 -- what a ledger is compared with, if uploads are named
-abbrev pub compared : {A : Type 0} → List Text → A → Option A
-compared [] valid = None
-compared (name ∷ names) valid = Some valid
+abbrev pub compared : {A : Type 0} → Bool → A → Option A
+compared named valid = if named then Some valid else None
 
 -- a file was loaded, if it is named
 abbrev pub LoadsReport : Option Text → List Load → List Load → Option (List ℕ) → Type 0
@@ -83,7 +83,7 @@ pub record HasLoaded (request : AuditRequest) (loaded loaded' : List Load) (ledg
   pub traced : Bool
   pub is_traced : HoldsOfRead ledger (λ file. traced ≡ has_traced_head file)
   pub wanted : Option Wanted
-  pub are_wanted : AreWanted fares texts traced (compared request.uploads lists) wanted
+  pub are_wanted : AreWanted fares texts traced (compared (has_uploads request) lists) wanted
 
 -- what the ledger is audited by, of these files
 abbrev pub given_of : (request : AuditRequest) {loaded loaded' : List Load} {ledger : Calls}
@@ -93,8 +93,8 @@ given_of request files = record {
   live = request.live;
   fares = files.fares;
   wanted = files.wanted;
-  valid = compared request.uploads files.valid;
-  ends = compared request.uploads files.ends;
+  valid = compared (has_uploads request) files.valid;
+  ends = compared (has_uploads request) files.ends;
   report = files.report;
 }
 

@@ -1,9 +1,8 @@
 -- What is found of a ledger and of the report that is held beside it.
 use Rattle.histories.specs.declared.entry.Entry.{Entry}
-use Rattle.ledger_check.specs.{Columns.read_as, FirstLines.AreFirstTaken}
-use Rattle.ledger_check.specs.FullChecks.{TakenLine, remark_lines}
-use Rattle.ledger_check.specs.{Ledger.IsLedger, Ledger.IsLedgerOf, Orders.tap_of_entry}
-use Rattle.omny_audit.specs.Findings.{HasOrder, HasValidTaps, IsFindingOf}
+use Rattle.ledger_check.specs.{Columns.read_as, FirstLines.AreFirstTaken, FullChecks.TakenLine}
+use Rattle.ledger_check.specs.{FullChecks.remark_lines, Ledger.IsLedger, Ledger.IsLedgerOf}
+use Rattle.omny_audit.specs.Findings.{IsFindingOf, IsRightLedger}
 use Rattle.omny_audit.specs.Traced.{AreColumnsReported, HasRightColumns, ReadLine, Wanted}
 use Rattle.report_check.specs.Reports.{IsReportBeside, IsReportVerdictBeside}
 use Rattle.report_check.specs.declared.verdict.ReportVerdict.{ReportVerdict, TheVariants.OfLedger}
@@ -11,7 +10,7 @@ use Rattle.report_check.specs.declared.verdict.ReportVerdict.TheVariants.{Wants,
 use Rattle.report_texts.specs.Report.{upload_line}
 use Rattle.std.specs.Fmt.{decimal}
 use Rattle.std.specs.Prelude.{◌≡◌, ◌↔◌, ◌⊎◌, ◌&&◌, ◌||◌, ℕ, Bool, true, false, List, [], ◌++◌}
-use Rattle.std.specs.Prelude.{codes, ◌+◌, ◌∷◌, if◌then◌else◌, is_some, map, Option, None, Some}
+use Rattle.std.specs.Prelude.{codes, ◌+◌, ◌∷◌, if◌then◌else◌, is_some, Option, None, Some}
 use Rattle.tap_views.specs.UploadEnds.{are_posted, is_posted}
 use Rattle.tap_views.specs.declared.{encoder.TapFields.TapFields, upload_end.UploadEnd.UploadEnd}
 use Rattle.tariffs.specs.Fares.{Fares}
@@ -66,15 +65,13 @@ report_text (Taps line uploads ledger) =
     codes "wrong report line " ++ (decimal line ++ (codes ": the uploads have "
     ++ (decimal uploads ++ (codes " taps, the ledger " ++ (decimal ledger ++ codes "\n")))))
 
--- the line that says that the report's lines of uploads were not compared, since none are named
-unfoldable pub uncompared_text : Option (List UploadEnd) → List ℕ
-uncompared_text None = codes "upload lines not compared\n"
-uncompared_text (Some ends) = []
-
--- what is said of the report, if there is a verdict on it
+-- What is said of the report, if there is a verdict on it; and that its lines of uploads were not
+-- compared, if none are named.
 abbrev pub verdict_lines : Option (List UploadEnd) → Option ReportVerdict → List ℕ
 verdict_lines ends None = []
-verdict_lines ends (Some verdict) = report_text verdict ++ uncompared_text ends
+verdict_lines None (Some verdict) =
+    report_text verdict ++ codes "upload lines not compared\n"
+verdict_lines (Some ends) (Some verdict) = report_text verdict
 
 -- The verdict on the report beside a ledger that is right or not. There is none without a report, or
 -- on one beside a ledger that is not; else it is true beside whatever entries the ledger has.
@@ -97,11 +94,9 @@ HasOwnReport ends (Some report) entries = IsReportBeside ends entries report
 -- no upload has a layout fault
 abbrev pub IsRightAudit : Given → List ℕ → List ReadLine → Type 0
 IsRightAudit given file read =
-    (entries : List Entry) × IsLedgerOf given.fares entries (ledger_in given file)
-    × HasValidTaps given.valid (map tap_of_entry entries)
-    × HasOrder given.live (map tap_of_entry entries)
-    × HasRightColumns given.wanted file read
-    × HasOwnReport given.ends given.report entries × (are_whole given.ends ≡ true)
+    (ledger : IsRightLedger given.live given.fares (ledger_in given file) given.valid)
+    × (HasRightColumns given.wanted file read
+    × (HasOwnReport given.ends given.report ledger.0.0 × (are_whole given.ends ≡ true)))
 
 -- What is found of a ledger's file: what is found of the ledger that is read of it, beside the valid
 -- taps of the uploads, if there are uploads; after it what is found of the columns of its lines, if

@@ -7,7 +7,7 @@ ghost use Rattle.omny_audit.specs.inside.Audits.{EndsAs, GoesOn, HasAudited, Ste
 ghost use Rattle.omny_audit.specs.inside.Checks.{is_decided};
 ghost use Rattle.world.specs.Streams.{HasRead};
 
-use crate::check::{Check, are_both, is_either};
+use crate::check::Check;
 use crate::fault::Fault;
 use crate::report::{HeldReport, are_whole, fits, verdict_on, write_last_lines};
 use crate::traced::{TracedPieces, read_piece, write_columns};
@@ -79,15 +79,15 @@ impl Audit<'_> {
         let found = self
             .check
             .finish(alloc, self.subtracts, self.live, &mut reported)?;
-        let is_looked_at = is_either(all, found.is_legal);
-        let is_right = write_columns(&mut reported, is_looked_at, &self.trace)?;
+        let is_right = write_columns(&mut reported, all | found.is_legal, &self.trace)?;
         let mut text = reported.into_bytes();
-        let is_whole = are_both(found.is_legal, is_right);
+        let is_whole = found.is_legal & is_right;
         let verdict = verdict_on(alloc, is_whole, &self.report, &found.sums, self.ends)?;
-        write_last_lines(alloc, &mut text, &verdict, self.ends)?;
-        let is_last = are_both(fits(&self.report, &verdict), are_whole(self.ends));
-        let is_after = are_both(is_right, is_last);
-        Ok((text, are_both(found.is_sound, is_after)))
+        let Ok(()) = write_last_lines(alloc, &mut text, &verdict, self.ends) else {
+            return Err(NoMemory);
+        };
+        let is_last = fits(&self.report, &verdict) & are_whole(self.ends);
+        Ok((text, found.is_sound & (is_right & is_last)))
     }
 
     /// A piece without bytes is the file's end. At the end of the finding, returns whether all is
@@ -99,7 +99,7 @@ impl Audit<'_> {
     {
         let mut reported = String::new(alloc);
         self.read(alloc, piece, &mut reported)?;
-        let is_last = is_either(piece.is_empty(), self.check.is_decided());
+        let is_last = piece.is_empty() | self.check.is_decided();
         if is_last {
             let ended = self.end(alloc, reported)?;
             return Ok((ended.0, Some(ended.1)));

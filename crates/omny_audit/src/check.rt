@@ -13,7 +13,7 @@ ghost use Rattle.std.specs.Prelude.{string_bytes, true, false};
 ghost use Rattle.tap_views.specs.declared.encoder.TapFields.{TapFields as ATap};
 ghost use Rattle.tariffs.specs.Fares.{Fares};
 
-use crate::text::{are_none, write_difference, write_differences, write_verdict};
+use crate::text::{write_difference, write_differences, write_verdict};
 use fare_table::{Clock, FareTable};
 use histories::HashSeed;
 use ledger_check::balance_laws::{differences_are_real, even_sides_lack_nothing};
@@ -146,39 +146,6 @@ impl Check {
     }
 }
 
-fn is_legal(verdict: &Verdict) -> bool
-    ensures { result ≡ is_legal verdict.now }
-{
-    matches!(verdict, Verdict::Legal(_, _))
-}
-
-fn has_early(verdict: &Verdict) -> bool
-    ensures { result ≡ is_some (early_in verdict.now) }
-{
-    match verdict {
-        Verdict::Legal(_, early) => early.is_some(),
-        Verdict::Wants(_, _) | Verdict::NoLine(_) => false,
-    }
-}
-
-pub(crate) fn is_either(live: bool, is_settled: bool) -> bool
-    ensures { result ≡ (live || is_settled) }
-{
-    live || is_settled
-}
-
-pub(crate) fn are_both(is_sound: bool, fits: bool) -> bool
-    ensures { result ≡ (is_sound && fits) }
-{
-    is_sound && fits
-}
-
-fn is_even(difference: &Option<Difference>) -> bool
-    ensures { result ≡ not (is_some difference.now) }
-{
-    difference.is_none()
-}
-
 /// If they are compared. Returns whether the taps are the same.
 fn write_even(
     balance: &Balance,
@@ -196,7 +163,7 @@ fn write_even(
     }
     let difference = balance.difference();
     write_difference(reported, &difference)?;
-    Ok(is_even(&difference))
+    Ok(difference.is_none())
 }
 
 fn finding(
@@ -219,14 +186,17 @@ fn finding(
     // proof: the verdict is `legal` exactly if the text is a ledger
     verdicts_decide();
     write_verdict(reported, verdict)?;
-    let legal = is_legal(verdict);
-    let is_compared = are_both(legal, subtracts);
-    let even = write_even(balance, is_compared, reported)?;
-    let in_order = is_either(live, !has_early(verdict));
-    let is_right = are_both(even, in_order);
+    let Verdict::Legal(_, early) = verdict else {
+        return Ok(Found {
+            is_sound: false,
+            is_legal: false,
+            sums: None,
+        });
+    };
+    let is_even = write_even(balance, subtracts, reported)?;
     Ok(Found {
-        is_sound: are_both(legal, is_right),
-        is_legal: legal,
+        is_sound: is_even & (live | early.is_none()),
+        is_legal: true,
         sums,
     })
 }
@@ -254,7 +224,7 @@ fn write_lacking(
     let missing_taps = missing.as_slice();
     let surplus_taps = surplus.as_slice();
     write_differences(reported, missing_taps, surplus_taps)?;
-    Ok(are_none(missing_taps, surplus_taps))
+    Ok(missing_taps.is_empty() & surplus_taps.is_empty())
 }
 
 fn full_finding(
@@ -277,10 +247,8 @@ fn full_finding(
     full_checks_decide();
     let fully_checked = full_check.finish(alloc, reported)?;
     let is_even = write_lacking(alloc, full, subtracts, reported)?;
-    let in_order = is_either(live, fully_checked.is_settled);
-    let is_right = are_both(is_even, in_order);
     Ok(Found {
-        is_sound: are_both(fully_checked.is_legal, is_right),
+        is_sound: fully_checked.is_legal & (is_even & (live | fully_checked.is_settled)),
         is_legal: fully_checked.is_legal,
         sums: fully_checked.sums,
     })

@@ -3,6 +3,7 @@ ghost use Rattle.std.specs.Prelude.{◌≡◌};
 ghost use Rattle.omny_audit.specs.Fault.{IsReported, is_quiet};
 
 use program_manners::{FileFault, NamedClassLine, TableLine, TablesFault};
+use std::alloc::{AllocError, AllocFailed};
 use std::fmt;
 use world::{LoadFault, World, WriteFault};
 
@@ -22,8 +23,36 @@ pub(crate) enum Fault<'a> {
     Class(&'a str, bool),
     /// The text was not written. Nothing is reported if its reader is gone.
     Unwritten(WriteFault),
+    /// The file of this name does not say what made a text.
+    NotMade(&'a str),
     /// An allocation failed.
     NoMemory,
+}
+
+impl<'a> From<FileFault<'a>> for Fault<'a> {
+    ghost use Rattle.omny_audit.specs.declared.fault.Fault.TheVariants.{File};
+
+    ghost from_gives = { λ refused fault. fault ≡ File refused };
+
+    fn from(fault: FileFault<'a>) -> Fault<'a> {
+        Fault::File(fault)
+    }
+}
+
+impl From<AllocError> for Fault<'_> {
+    ghost use Rattle.omny_audit.specs.declared.fault.Fault.TheVariants.{NoMemory};
+
+    ghost from_gives = { λ _ fault. fault ≡ NoMemory };
+
+    fn from(_refused: AllocError) -> Self {
+        Fault::NoMemory
+    }
+}
+
+impl<T: Drop> From<AllocFailed<T>> for Fault<'_> {
+    fn from(_refused: AllocFailed<T>) -> Self {
+        Fault::NoMemory
+    }
 }
 
 impl Fault<'_> {
@@ -66,6 +95,7 @@ impl fmt::Display for Fault<'_> {
             }
             Fault::Class(file, false) => NamedClassLine(*file).fmt(f),
             Fault::Unwritten(_) => f.write_str("fault: cannot write"),
+            Fault::NotMade(name) => write!(f, "fault: {name} was not made by --made-by"),
         }
     }
 }

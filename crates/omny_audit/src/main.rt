@@ -17,7 +17,7 @@ mod traced;
 
 use file_sources::Host;
 use hints::{Named, Overheard, Said, Unwritten, hint_on_fault, hint_on_list};
-use input_words::InputWords;
+use input_words::input_words;
 use made_by::compare;
 use options::{Options, list_words, reads_input};
 use program::main_over;
@@ -35,15 +35,10 @@ fn words_with_list<E: Write>(rt: &HostRuntime, err: &mut Complaints<E>) -> Resul
         Ok(words) => words,
         Err(fault) => return Err(unread_words(&fault, err)),
     };
-    let Ok(inputs) = InputWords::of(rt.alloc(), &words) else {
+    let Ok((words, replaced, lists)) = input_words(rt.alloc(), &words) else {
         err.report_line("fault: out of memory");
         return Err(1);
     };
-    let InputWords {
-        words,
-        replaced,
-        lists,
-    } = inputs;
     if replaced > 1 || (replaced > 0 && (lists > 0 || reads_input(rt.alloc(), &words))) {
         err.report_line("error: - can be named only once");
         return Err(2);
@@ -53,29 +48,19 @@ fn words_with_list<E: Write>(rt: &HostRuntime, err: &mut Complaints<E>) -> Resul
     Ok(more.unwrap_or(words))
 }
 
-/// A person at a terminal sees what is waited for, if no file of the ledger is named.
-fn note_input(rt: &HostRuntime, words: &[String]) {
-    if rt.reader().is_terminal() && reads_input(rt.alloc(), words) {
-        Complaints::new(rt.stderr()).report_line("reading the ledger from the standard input");
-    }
-}
-
 /// Writes what the comparison with the file of `--made-by` shows, if one is named. The status is 1
 /// if there is a difference or a fault, which was reported.
 fn compare_made_by<W: Write, E: Write>(
     rt: &HostRuntime,
-    words: &[String],
+    options: &Options<'_>,
     out: &mut W,
     err: &mut E,
 ) -> u8 {
-    let Ok(options) = Options::read(rt.alloc(), words) else {
-        return 0;
-    };
     let Some(name) = options.made_by else {
         return 0;
     };
     let mut err = Complaints::new(err);
-    let comparison = match compare(rt, &options, name) {
+    let (text, is_same) = match compare(rt, options, name) {
         Ok(comparison) => comparison,
         Err(fault) => {
             err.report_line(fault);
@@ -83,23 +68,16 @@ fn compare_made_by<W: Write, E: Write>(
         }
     };
     let mut out = Output::new(out);
-    let _ = out.put(comparison.text.as_bytes());
+    let _ = out.put(text.as_bytes());
     let _ = out.finish();
     if out.end() == Some(WriteEnd::Refused) {
         err.report_line("fault: cannot write");
     }
-    if comparison.is_same && out.end().is_none() {
-        0
-    } else {
-        1
-    }
+    u8::from(!is_same || out.end().is_some())
 }
 
 /// Says on a terminal what to do about the fault that was reported.
-fn report_hint(rt: &HostRuntime, words: &[String], said: &Said, error: Option<io::Error>) {
-    let Ok(options) = Options::read(rt.alloc(), words) else {
-        return;
-    };
+fn report_hint(rt: &HostRuntime, options: &Options<'_>, said: &Said, error: Option<io::Error>) {
     let named = Named {
         charges: false,
         table: Some(options.table.first),
@@ -113,20 +91,8 @@ fn report_hint(rt: &HostRuntime, words: &[String], said: &Said, error: Option<io
     }
 }
 
-/// Says on a terminal why a list was not read.
-fn report_list_hint(rt: &HostRuntime, said: &Said) {
-    if rt.stderr().is_terminal()
-        && let Some(hint) = hint_on_list(rt, rt.alloc(), said)
-    {
-        Complaints::new(rt.stderr()).report_line(hint);
-    }
-}
-
 /// The form of the findings that the words name; else the line of a usage error.
-fn form_of(rt: &HostRuntime, words: &[String]) -> Result<Form, &'static str> {
-    let Ok(options) = Options::read(rt.alloc(), words) else {
-        return Ok(Form::Text);
-    };
+fn form_of(options: &Options<'_>) -> Result<Form, &'static str> {
     match Form::of(options.format.unwrap_or("text")) {
         None => Err("fault: --format is text, json or csv"),
         Some(form) if form != Form::Text && options.made_by.is_some() => {
@@ -136,9 +102,15 @@ fn form_of(rt: &HostRuntime, words: &[String]) -> Result<Form, &'static str> {
     }
 }
 
-/// Runs the words, of which the list's names are arguments, and returns the status.
+/// Runs the words, of which the list's names are arguments, and returns the status. On a terminal it
+/// says that the ledger is waited for, and what to do about the fault that was reported.
 fn run(rt: &HostRuntime, words: &[String], mut err: Escaping<io::Stderr>) -> u8 {
-    let form = match form_of(rt, words) {
+    let options = Options::read(rt.alloc(), words);
+    let form = match &options {
+        Ok(options) => form_of(options),
+        Err(_) => Ok(Form::Text),
+    };
+    let form = match form {
         Ok(form) => form,
         Err(line) => {
             Complaints::new(&mut err).report_line(line);
@@ -146,7 +118,12 @@ fn run(rt: &HostRuntime, words: &[String], mut err: Escaping<io::Stderr>) -> u8 
             return 2;
         }
     };
-    note_input(rt, words);
+    if let Ok(options) = &options
+        && options.ledger.is_none()
+        && rt.reader().is_terminal()
+    {
+        Complaints::new(rt.stderr()).report_line("reading the ledger from the standard input");
+    }
     let out = Shaped::new(rt.alloc(), rt.stdout(), FINDINGS, form);
     let mut out = Unwritten::new(out);
     let mut err = Overheard::new(err);
@@ -157,13 +134,19 @@ fn run(rt: &HostRuntime, words: &[String], mut err: Escaping<io::Stderr>) -> u8 
         &mut Stream::new(),
         &mut System::new(rt, &mut out, &mut err),
     );
-    if status < 2 && err.said().is_silent() && out.error().is_none() {
-        status = status.max(compare_made_by(rt, words, &mut out, &mut err));
+    if let Ok(options) = &options
+        && status < 2
+        && err.said().is_silent()
+        && out.error().is_none()
+    {
+        status = status.max(compare_made_by(rt, options, &mut out, &mut err));
     }
     let error = out.error();
     let (escaping, said) = err.into_parts();
     escaping.finish();
-    report_hint(rt, words, &said, error);
+    if let Ok(options) = &options {
+        report_hint(rt, options, &said, error);
+    }
     status
 }
 
@@ -175,7 +158,11 @@ fn main(rt: HostRuntime) -> ExitCode {
         Ok(words) => run(&rt, &words, err),
         Err(status) => {
             err.finish();
-            report_list_hint(&rt, &said);
+            if rt.stderr().is_terminal()
+                && let Some(hint) = hint_on_list(&rt, rt.alloc(), &said)
+            {
+                Complaints::new(rt.stderr()).report_line(hint);
+            }
             status
         }
     };

@@ -12,7 +12,7 @@ use clap::{Arg, ArgAction, ArgMatches, Command, Error};
 use frame::file_of;
 use program_manners::{
     ListFault, ListWords, TableWords, add_list_args, files_arg, flag_arg, flag_in, names_in,
-    new_command, option_arg, positional_arg, repeated_arg,
+    new_command, option_arg, positional_arg, repeated_arg, value_in,
 };
 use std::alloc::{AllocError, Global};
 
@@ -226,20 +226,17 @@ impl<'a> Options<'a> {
             all: flag_in(&matches, "all"),
             live: flag_in(&matches, "live"),
             uploads: names_in(alloc, &matches, "uploads")?,
-            report: matches.get_str("report"),
-            ledger: ledger_in(matches.get_str("LEDGER")),
-            made_by: matches.get_str("made-by"),
-            format: matches.get_str("format"),
+            report: value_in(&matches, "report"),
+            ledger: ledger_in(value_in(&matches, "LEDGER")),
+            made_by: value_in(&matches, "made-by"),
+            format: value_in(&matches, "format"),
         })
     }
 }
 
 /// Whether the words are a command line that names no file of the ledger.
 pub(crate) fn reads_input(alloc: Global, words: &[String]) -> bool {
-    match matched(alloc, words) {
-        Ok(matches) => ledger_in(matches.get_str("LEDGER")).is_none(),
-        Err(_) => false,
-    }
+    Options::read(alloc, words).is_ok_and(|options| options.ledger.is_none())
 }
 
 /// The list of uploads that the words name; words that are not a command line name none. An error

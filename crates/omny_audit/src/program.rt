@@ -4,7 +4,7 @@ ghost use Rattle.class_names.specs.ClassFaults.{IsWrongAt};
 ghost use Rattle.ledger_check.specs.Columns.{has_traced_head};
 ghost use Rattle.omny_audit.specs.Ends.{Did, Ends, EndsRun, did_by};
 ghost use Rattle.omny_audit.specs.Options.{AuditRequest, named_file};
-ghost use Rattle.omny_audit.specs.Program.{AreWanted, LoadsNamedFiles, LoadsReport};
+ghost use Rattle.omny_audit.specs.Program.{AreWanted, LoadsNamedFiles, LoadsReport, compared};
 ghost use Rattle.omny_audit.specs.inside.{Ends.EndsAudit, Fault.IsClassFault, Fault.IsLoadFault};
 ghost use Rattle.omny_audit.specs.inside.{Fault.IsUnopened, Options.audit_request_of};
 ghost use Rattle.omny_audit.specs.inside.{Reports.text_of, Traced.HasReadAs, Traced.HaveNamed};
@@ -12,9 +12,9 @@ ghost use Rattle.omny_audit.specs.inside.{Traced.uploads_in, Traced.wanted_by, U
 ghost use Rattle.program_manners.specs.Refusals.{IsShown, refusal_of};
 ghost use Rattle.program_manners.specs.{TableLoads.LoadsTables, TableViews.names_of};
 ghost use Rattle.program_manners.specs.{TableWords.wrong_word, Words.IsRequest};
-ghost use Rattle.std.specs.Prelude.{◌≡◌, ◌<◌, ◌≤◌, ◌++◌, ◌∷◌, [], List, ℕ, Contains, IfErr, IfOk};
-ghost use Rattle.std.specs.Prelude.{None, OnOk, Option, Some, false, if◌then◌else◌, length, map};
-ghost use Rattle.std.specs.Prelude.{option_map, string_bytes};
+ghost use Rattle.std.specs.{List.slice_get, Prelude.◌≡◌};
+ghost use Rattle.std.specs.Prelude.{◌<◌, ◌++◌, ◌∷◌, [], List, ℕ, IfErr, IfOk, None, OnOk, Option};
+ghost use Rattle.std.specs.Prelude.{Some, false, length, map, IfSome, option_map, string_bytes};
 ghost use Rattle.tap_views.specs.declared.encoder.TapFields.{TapFields};
 ghost use Rattle.world.specs.{Run.Load, Run.no_calls, Streams.HasRead, Writes.IsSaid};
 
@@ -23,7 +23,7 @@ use crate::check::Check;
 use crate::fault::{Fault, fail};
 use crate::ledger::read_head;
 use crate::options::Options;
-use crate::report::{HeldReport, seed_of};
+use crate::report::HeldReport;
 use crate::traced::TracedPieces;
 use clap::Error;
 use clap::error::ErrorKind;
@@ -32,33 +32,16 @@ use file_sources::Host;
 use histories::HashSeed;
 use ledger_check::{Balance, Positions, has_ledger_head, has_traced_head};
 use program_manners::{
-    FileFault, FileSource, STANDARD_INPUT, TableWord, TableWords, Tables, load_tables,
+    FileFault, STANDARD_INPUT, TableWord, TableWords, Tables, load_named, load_tables,
 };
-use std::alloc::Global;
+use std::alloc::{AllocError, Global};
 use std::fmt::Display;
 use std::random::RandomSource;
-use tap_views::{NoMemory, UploadEnd, facts_of};
+use tap_views::{UploadEnd, facts_of};
 use world::{Stream, World, WriteFault};
 
 /// The files of the system.
 pub type Files<'r> = Host<'r, HostRuntime>;
-
-/// A ledger is refused as an upload.
-fn load_upload<'a>(files: &mut Files<'_>, name: &'a str) -> Result<Vec<u8>, Fault<'a>>
-    ensures ok { IfOk result (λ bytes. files.new.loads.trace.run.loads
-        ≡ files.old.loads.trace.run.loads
-        ++ record { name = Some name.entry.now; bytes = bytes.items } ∷ []) }
-    ensures fault { IfErr result (IsLoadFault name.entry.now files.new.loads) }
-{
-    let upload = match files.load(name) {
-        Ok(upload) => upload,
-        Err(fault) => return Err(Fault::File(FileFault { name, fault })),
-    };
-    if has_ledger_head(&upload) {
-        return Err(Fault::GivenLedger(name));
-    }
-    Ok(upload)
-}
 
 /// The valid taps of uploads: how often each is there, and by their indexes; and how the uploads
 /// end.
@@ -69,7 +52,7 @@ struct Uploads {
     ends: Vec<UploadEnd>,
 }
 
-fn add_upload(alloc: Global, uploads: &mut Uploads, upload: &[u8]) -> Result<(), NoMemory>
+fn add_upload(alloc: Global, uploads: &mut Uploads, upload: &[u8]) -> Result<(), AllocError>
     ensures { OnOk result ((files : List (List ℕ)) (valid : List TapFields)
         (lists : List (List TapFields)) → AreUploads files valid lists uploads.old
         → (more : List TapFields) × (list : List TapFields)
@@ -84,7 +67,7 @@ fn add_upload(alloc: Global, uploads: &mut Uploads, upload: &[u8]) -> Result<(),
     Ok(())
 }
 
-/// One upload is in memory at a time.
+/// One upload is in memory at a time. A ledger is refused as an upload.
 fn load_uploads<'a>(
     alloc: Global,
     names: &[&'a str],
@@ -94,8 +77,7 @@ fn load_uploads<'a>(
         × (lists : List (List TapFields)) × LoadsNamedFiles (map (λ n. n.now) names.now)
         files.old.loads.trace.run.loads files.new.loads.trace.run.loads bytes
         × AreUploads bytes valid lists uploads) }
-    ensures fault { IfErr result (λ fault. (name : List ℕ)
-        × Contains (map (λ n. n.now) names.now) name × IsLoadFault name files.new.loads fault) }
+    ensures fault { IfErr result (IsLoadFault (map (λ n. n.now) names.now) files.new.loads) }
 {
     let mut uploads = Uploads {
         balance: Balance::new(alloc),
@@ -103,19 +85,17 @@ fn load_uploads<'a>(
         ends: Vec::new(alloc),
     };
     for name in names {
-        let upload = match load_upload(files, name) {
-            Ok(upload) => upload,
-            Err(fault) => return Err(fault),
-        };
-        let Ok(()) = add_upload(alloc, &mut uploads, &upload) else {
-            return Err(Fault::NoMemory);
-        };
+        let upload = load_named(files, name)?;
+        if has_ledger_head(&upload) {
+            return Err(Fault::GivenLedger(name));
+        }
+        add_upload(alloc, &mut uploads, &upload)?;
     }
     Ok(uploads)
 }
 
 fn kept_if<T: Drop>(is_kept: bool, value: T) -> Option<T>
-    ensures { result ≡ (if is_kept then Some value else None) }
+    ensures { result ≡ compared is_kept value }
 {
     if is_kept { Some(value) } else { None }
 }
@@ -127,37 +107,39 @@ fn load_report<'a, R: RandomSource>(
 ) -> Result<Option<HeldReport>, Fault<'a>>
     ensures ok { IfOk result (λ report. LoadsReport (option_map (λ n. n.now) name.entry)
         files.old.loads.trace.run.loads files.new.loads.trace.run.loads (text_of report)) }
-    ensures fault { IfErr result (λ fault. (file : List ℕ)
-        × Contains (named_file (option_map (λ n. n.now) name.entry)) file
-        × IsLoadFault file files.new.loads fault) }
+    ensures fault { IfErr result
+        (IsLoadFault (named_file (option_map (λ n. n.now) name.entry)) files.new.loads) }
 {
     let Some(name) = name else {
         return Ok(None);
     };
-    let text = match files.load(name) {
-        Ok(text) => text,
-        Err(fault) => return Err(Fault::File(FileFault { name, fault })),
-    };
+    let text = load_named(files, name)?;
     let Ok(seed) = HashSeed::new(rt) else {
         return Err(Fault::NoMemory);
     };
     Ok(Some(HeldReport { text, seed }))
 }
 
+fn word_at<'a>(words: &[&'a str], at: usize) -> Option<&'a str>
+    ensures { IfSome result (λ word. slice_get (map (λ w. w.now) words.now) at ≡ Some word.now) }
+{
+    match words.get(at) {
+        Some(word) => Some(*word),
+        None => None,
+    }
+}
+
 /// The texts were read as fare tables before, so each is TOML and names a default class.
 fn of_names<'a>(words: &TableWords<'a>, wrong: WrongNames) -> Fault<'a>
-    requires { wrong.position ≤ length (names_of words.now).later }
     ensures { (texts : List (List ℕ)) → IsWrongAt texts wrong
         → IsClassFault (names_of words.now) texts result }
 {
-    let is_alone = words.later.as_slice().is_empty();
-    match wrong.fault {
-        ClassFault::Name if wrong.position == 0 => Fault::Class(words.first, is_alone),
-        ClassFault::Name => {
-            let word = words.later[wrong.position - 1];
-            Fault::Class(TableWord::of(word).name, is_alone)
-        }
-        ClassFault::Text | ClassFault::NoMemory => Fault::NoMemory,
+    let ClassFault::Name = wrong.fault else {
+        return Fault::NoMemory;
+    };
+    match word_at(&words.later, wrong.position.wrapping_sub(1)) {
+        Some(word) => Fault::Class(TableWord::of(word).name, false),
+        None => Fault::Class(words.first, words.later.is_empty()),
     }
 }
 
@@ -232,21 +214,10 @@ fn audit<'a, W: World>(
         return Err(Fault::NoMemory);
     };
     let names = options.uploads.as_slice();
-    let uploads = match load_uploads(alloc, names, files) {
-        Ok(uploads) => uploads,
-        Err(fault) => return Err(fault),
-    };
-    let report = match load_report(rt, options.report, files) {
-        Ok(report) => report,
-        Err(fault) => return Err(fault),
-    };
-    if let Err(fault) = open_ledger(rt, options.ledger, ledger) {
-        return Err(fault);
-    }
-    let head = match read_head(alloc, ledger) {
-        Ok(head) => head,
-        Err(fault) => return Err(fault),
-    };
+    let uploads = load_uploads(alloc, names, files)?;
+    let report = load_report(rt, options.report, files)?;
+    open_ledger(rt, options.ledger, ledger)?;
+    let head = read_head(alloc, ledger)?;
     let has_uploads = !names.is_empty();
     let Uploads {
         balance,
@@ -254,17 +225,15 @@ fn audit<'a, W: World>(
         ends,
     } = uploads;
     let kept = kept_if(has_uploads, positions);
-    let trace = match trace_of(alloc, &head, &options.table, &tables, kept) {
-        Ok(trace) => trace,
-        Err(fault) => return Err(fault),
-    };
+    let trace = trace_of(alloc, &head, &options.table, &tables, kept)?;
+    let seed = report.as_ref().map(|report| report.seed);
     let mut audit = Audit {
         table: &tables.fares,
         clock: &clock,
         live: options.live,
         subtracts: has_uploads,
         ends: kept_if(has_uploads, ends.as_slice()),
-        check: Check::new(alloc, options.all, balance, seed_of(&report)),
+        check: Check::new(alloc, options.all, balance, seed),
         trace,
         report,
         text: Vec::new(alloc),

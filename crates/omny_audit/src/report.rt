@@ -3,10 +3,8 @@
 ghost use Rattle.histories.specs.declared.entry.Entry.{Entry};
 ghost use Rattle.ledger_check.specs.{Ledger.IsLedgerOf, Sums.AreSumsOf};
 ghost use Rattle.omny_audit.specs.Reports.{IsVerdictOn, are_whole, damage_line, damage_lines};
-ghost use Rattle.omny_audit.specs.Reports.{damage_text, report_text, uncompared_text};
-ghost use Rattle.omny_audit.specs.Reports.{verdict_lines};
+ghost use Rattle.omny_audit.specs.Reports.{damage_text, report_text, verdict_lines};
 ghost use Rattle.omny_audit.specs.inside.Reports.{fits, text_of};
-ghost use Rattle.report_check.specs.Reports.{is_of_ledger};
 ghost use Rattle.std.specs.{Fmt.decimal, Prelude.◌≡◌, Prelude.◌++◌, Prelude.ℕ, Prelude.List};
 ghost use Rattle.std.specs.Prelude.{IfOk, IfSome, OnOk, codes, string_bytes, option_map, true};
 ghost use Rattle.tap_views.specs.UploadEnds.{are_posted};
@@ -15,8 +13,9 @@ ghost use Rattle.tariffs.specs.Fares.{Fares};
 use histories::HashSeed;
 use ledger_check::EntrySums;
 use report_check::{ReportVerdict, check_report};
-use report_texts::write_upload;
 use std::alloc::{AllocError, Global};
+use std::io;
+use std::io::Write;
 use tap_views::{NoMemory, UploadEnd};
 
 /// A report that is held beside the ledger.
@@ -25,28 +24,6 @@ pub(crate) struct HeldReport {
     pub(crate) text: Vec<u8>,
     /// What hashes the validators' numbers.
     pub(crate) seed: HashSeed,
-}
-
-pub(crate) fn seed_of(report: &Option<HeldReport>) -> Option<HashSeed> {
-    match report {
-        Some(report) => Some(report.seed),
-        None => None,
-    }
-}
-
-/// What comes before the expected line.
-fn wants_words(alloc: Global, line: u64) -> Result<String, AllocError>
-    ensures { IfOk result (λ text. string_bytes text
-        ≡ codes "wrong report line " ++ (decimal line ++ codes ": wants ")) }
-{
-    format!(in alloc; "wrong report line {line}: wants ")
-}
-
-fn no_line_text(alloc: Global, line: u64) -> Result<String, AllocError>
-    ensures { IfOk result (λ text. string_bytes text
-        ≡ codes "wrong report line " ++ (decimal line ++ codes ": no report has it\n")) }
-{
-    format!(in alloc; "wrong report line {line}: no report has it\n")
 }
 
 fn taps_text(alloc: Global, line: u64, uploads: u128, ledger: u128) -> Result<String, AllocError>
@@ -61,23 +38,18 @@ fn taps_text(alloc: Global, line: u64, uploads: u128, ledger: u128) -> Result<St
 }
 
 #[tactic(auto, unfolding(crate::specs::Reports::report_text))]
-fn write_verdict(
-    alloc: Global,
-    text: &mut Vec<u8>,
-    verdict: &ReportVerdict,
-) -> Result<(), AllocError>
+fn write_verdict(alloc: Global, text: &mut Vec<u8>, verdict: &ReportVerdict) -> io::Result<()>
     ensures { OnOk result (text.new.items ≡ text.old.items ++ report_text verdict.now) }
 {
     match verdict {
-        ReportVerdict::OfLedger => text.extend_from_slice(b"report of the ledger\n"),
+        ReportVerdict::OfLedger => write!(text, "report of the ledger\n"),
         ReportVerdict::Wants(line, wanted) => {
-            let words = wants_words(alloc, *line)?;
-            text.extend_from_slice(words.as_bytes())?;
-            text.extend_from_slice(wanted.as_slice())
+            write!(text, "wrong report line {line}: wants ")?;
+            text.extend_from_slice(wanted.as_slice())?;
+            Ok(())
         }
         ReportVerdict::NoLine(line) => {
-            let words = no_line_text(alloc, *line)?;
-            text.extend_from_slice(words.as_bytes())
+            write!(text, "wrong report line {line}: no report has it\n")
         }
         ReportVerdict::Taps {
             line,
@@ -85,26 +57,9 @@ fn write_verdict(
             ledger,
         } => {
             let words = taps_text(alloc, *line, *uploads, *ledger)?;
-            text.extend_from_slice(words.as_bytes())
+            text.extend_from_slice(words.as_bytes())?;
+            Ok(())
         }
-    }
-}
-
-fn is_of_ledger(verdict: &ReportVerdict) -> bool
-    ensures { result ≡ is_of_ledger verdict.now }
-{
-    matches!(verdict, ReportVerdict::OfLedger)
-}
-
-/// If no uploads are named.
-#[tactic(auto, unfolding(crate::specs::Reports::uncompared_text))]
-fn write_uncompared(text: &mut Vec<u8>, ends: Option<&[UploadEnd]>) -> Result<(), AllocError>
-    ensures { OnOk result
-        (text.new.items ≡ text.old.items ++ uncompared_text (option_map (λ e. e.now) ends.entry)) }
-{
-    match ends {
-        Some(_) => Ok(()),
-        None => text.extend_from_slice(b"upload lines not compared\n"),
     }
 }
 
@@ -114,7 +69,7 @@ fn write_verdict_lines(
     text: &mut Vec<u8>,
     verdict: &Option<ReportVerdict>,
     ends: Option<&[UploadEnd]>,
-) -> Result<(), AllocError>
+) -> io::Result<()>
     ensures { OnOk result (text.new.items
         ≡ text.old.items ++ verdict_lines (option_map (λ e. e.now) ends.entry) verdict.now) }
 {
@@ -122,7 +77,10 @@ fn write_verdict_lines(
         return Ok(());
     };
     write_verdict(alloc, text, verdict)?;
-    write_uncompared(text, ends)
+    match ends {
+        Some(_) => Ok(()),
+        None => write!(text, "upload lines not compared\n"),
+    }
 }
 
 /// The verdict on the report, if there is one, beside a ledger that is right and has these sums.
@@ -161,29 +119,8 @@ pub(crate) fn fits(report: &Option<HeldReport>, verdict: &Option<ReportVerdict>)
     match (report, verdict) {
         (None, _) => true,
         (Some(_), None) => false,
-        (Some(_), Some(verdict)) => is_of_ledger(verdict),
+        (Some(_), Some(verdict)) => matches!(verdict, ReportVerdict::OfLedger),
     }
-}
-
-fn write_damaged(text: &mut String, upload: u64, end: &UploadEnd) -> Result<(), AllocError>
-    ensures { OnOk result (string_bytes text.new ≡ string_bytes text.old
-        ++ damage_line upload end.now) }
-{
-    if end.is_posted() {
-        return Ok(());
-    }
-    write_upload(text, upload, end)
-}
-
-#[tactic(auto, using(crate::proofs::Damage::damage_more))]
-fn damage_lines(alloc: Global, ends: &[UploadEnd]) -> Result<String, AllocError>
-    ensures { IfOk result (λ text. string_bytes text ≡ damage_lines 0 ends.now) }
-{
-    let mut text = String::new(alloc);
-    for (upload, end) in ends.iter().enumerate() {
-        write_damaged(&mut text, upload as u64, end)?;
-    }
-    Ok(text)
 }
 
 fn are_posted(ends: &[UploadEnd]) -> bool
@@ -202,19 +139,24 @@ pub(crate) fn are_whole(ends: Option<&[UploadEnd]>) -> bool
     }
 }
 
-fn write_damage(
-    alloc: Global,
-    text: &mut Vec<u8>,
-    ends: Option<&[UploadEnd]>,
-) -> Result<(), AllocError>
-    ensures { OnOk result
-        (text.new.items ≡ text.old.items ++ damage_text (option_map (λ e. e.now) ends.entry)) }
+#[tactic(auto, unfolding(report_texts::specs::Report::upload_line))]
+fn write_damaged(text: &mut Vec<u8>, upload: u64, end: &UploadEnd) -> io::Result<()>
+    ensures { OnOk result (text.new.items ≡ text.old.items ++ damage_line upload end.now) }
 {
-    let Some(ends) = ends else {
+    if end.is_posted() {
         return Ok(());
-    };
-    let lines = damage_lines(alloc, ends)?;
-    text.extend_from_slice(lines.as_bytes())
+    }
+    write!(text, "upload {upload} {end}\n")
+}
+
+#[tactic(auto, using(crate::proofs::Damage::damage_more))]
+fn write_damage(text: &mut Vec<u8>, ends: &[UploadEnd]) -> io::Result<()>
+    ensures { OnOk result (text.new.items ≡ text.old.items ++ damage_lines 0 ends.now) }
+{
+    for (upload, end) in ends.iter().enumerate() {
+        write_damaged(text, upload as u64, end)?;
+    }
+    Ok(())
 }
 
 /// What is said of the report, and the lines of damaged uploads.
@@ -223,11 +165,14 @@ pub(crate) fn write_last_lines(
     text: &mut Vec<u8>,
     verdict: &Option<ReportVerdict>,
     ends: Option<&[UploadEnd]>,
-) -> Result<(), AllocError>
+) -> io::Result<()>
     ensures { OnOk result (text.new.items ≡ text.old.items
         ++ (verdict_lines (option_map (λ e. e.now) ends.entry) verdict.now
         ++ damage_text (option_map (λ e. e.now) ends.entry))) }
 {
     write_verdict_lines(alloc, text, verdict, ends)?;
-    write_damage(alloc, text, ends)
+    match ends {
+        None => Ok(()),
+        Some(ends) => write_damage(text, ends),
+    }
 }

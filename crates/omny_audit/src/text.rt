@@ -2,7 +2,7 @@
 
 ghost use Rattle.std.specs.Prelude.{◌≡◌, ◌++◌, ℕ, List, OnOk, string_bytes};
 ghost use Rattle.omny_audit.specs.Text.{AreTapLines, IsDifferenceText, IsDifferencesText, IsTapLine};
-ghost use Rattle.omny_audit.specs.Text.{are_none, space_and_validator, token_and_space, verdict_text};
+ghost use Rattle.omny_audit.specs.Text.{space_and_validator, token_and_space, verdict_text};
 
 use fare_texts::{Digits, write_moment};
 use ledger_check::{Difference, Verdict, write_legal};
@@ -74,12 +74,6 @@ fn write_tap_lines(text: &mut String, words: &str, taps: &[TapFields]) -> Result
     Ok(())
 }
 
-pub(crate) fn are_none(missing: &[TapFields], surplus: &[TapFields]) -> bool
-    ensures { result ≡ are_none missing.now surplus.now }
-{
-    missing.is_empty() && surplus.is_empty()
-}
-
 pub(crate) fn write_differences(
     text: &mut String,
     missing: &[TapFields],
@@ -88,7 +82,8 @@ pub(crate) fn write_differences(
     ensures { OnOk result ((written : List ℕ) × IsDifferencesText missing.now surplus.now written
         × (string_bytes text.new ≡ string_bytes text.old ++ written)) }
 {
-    if are_none(missing, surplus) {
+    let is_none = missing.is_empty() & surplus.is_empty();
+    if is_none {
         write_difference(text, &None)?;
         return Ok(());
     }

@@ -9,20 +9,18 @@ ghost use Rattle.omny_audit.specs.Traced.{NamesTapWithColumns, ReadLine, class_f
 ghost use Rattle.omny_audit.specs.Traced.{fault_by, fault_text, lines_read, positions_text};
 ghost use Rattle.omny_audit.specs.Traced.{position_text, upload_position_text};
 ghost use Rattle.omny_audit.specs.declared.traced.PositionFault.{PositionFault as AFault};
-ghost use Rattle.omny_audit.specs.inside.Traced.{HasLines, HasLooked, HasPositions, HasReadAll};
+ghost use Rattle.omny_audit.specs.inside.Traced.{HasLines, HasPositions, HasReadAll};
 ghost use Rattle.omny_audit.specs.inside.Traced.{HasReadAs, HasTraced, HaveNamed, IsKeptOf};
 ghost use Rattle.omny_audit.specs.inside.Traced.{placed_of, uploads_in, wanted_by, wanted_of};
 ghost use Rattle.std.specs.Prelude.{◌≡◌, ◌+◌, ◌==◌, ◌<◌, ◌++◌, ◌∷◌, [], ℕ, List, IfOk, None, OnOk};
 ghost use Rattle.std.specs.Prelude.{Option, Some, false, is_some, length, not, option_map};
-ghost use Rattle.std.specs.{Prelude.string_bytes, Prelude.true, Str.bytes_eq};
+ghost use Rattle.std.specs.Prelude.{string_bytes, true};
 ghost use Rattle.tap_views.specs.declared.encoder.TapFields.{TapFields as ATap};
 
-use crate::check::are_both;
 use class_names::ClassNames;
 use fare_texts::head_line;
 use ledger_check::{
-    CutLine, PositionFinding, Positions, cut_line, same_bytes, split_line, tap_of_line,
-    traced_head_line,
+    CutLine, PositionFinding, Positions, cut_line, split_line, tap_of_line, traced_head_line,
 };
 use std::alloc::{AllocError, Global};
 use std::fmt;
@@ -40,26 +38,15 @@ pub(crate) struct WrongClass {
     token: [u8; 16],
 }
 
-/// What is wrong with the places of the lines: an upload, from 0, and the index there, from 1.
+/// What is wrong with the places of the lines.
 #[derive(Clone, Copy)]
 pub(crate) enum PositionFault {
-    /// The line of this number has another tap than is at its place.
-    OtherTap {
-        line: u64,
-        upload: u32,
-        position: u64,
-    },
-    /// The line of this number has the place of an earlier line.
-    Repeated {
-        line: u64,
-        upload: u32,
-        position: u64,
-    },
-    /// No line has this place, which is that of a tap.
-    NoLine {
-        upload: u64,
-        position: u64,
-    },
+    /// The line of this number has another tap than is at its upload, from 0, and place, from 1.
+    OtherTap(u64, u32, u64),
+    /// The line of this number has the upload and the place of an earlier line.
+    Repeated(u64, u32, u64),
+    /// No line has this upload and place, which are those of a tap.
+    NoLine(u64, u64),
 }
 
 /// An upload, from 0, and an index there, from 1.
@@ -82,108 +69,70 @@ impl fmt::Display for PositionFault {
 
     fn fmt<W: fmt::Write>(&self, f: &mut fmt::Formatter<W>) -> fmt::Result {
         match self {
-            PositionFault::OtherTap {
-                line,
-                upload,
-                position,
-            } => write!(
+            PositionFault::OtherTap(line, upload, position) => write!(
                 f,
                 "line {line} has another tap than upload {upload} has at place {position}"
             ),
-            PositionFault::Repeated {
-                line,
-                upload,
-                position,
-            } => {
+            PositionFault::Repeated(line, upload, position) => {
                 let at = UploadPosition {
                     upload: *upload,
                     position: *position,
                 };
                 write!(f, "line {line} has {at} again")
             }
-            PositionFault::NoLine { upload, position } => {
+            PositionFault::NoLine(upload, position) => {
                 write!(f, "no line has upload {upload} place {position}")
             }
         }
     }
 }
 
-fn are_same(a: &[u8], b: &[u8]) -> bool
-    ensures { result ≡ bytes_eq a.now b.now }
-{
-    same_bytes(a, b)
-}
-
 /// In place of a line that does not have the form of a traced one.
 fn put_other(text: &mut Vec<u8>, line: &[u8]) -> Result<(), AllocError>
     ensures { OnOk result (text.new.items ≡ text.old.items ++ untraced_by line.now None) }
 {
-    if are_same(line, traced_head_line()) {
+    if line == traced_head_line() {
         return text.extend_from_slice(head_line().as_bytes());
     }
     text.push(b'\n')?;
     Ok(())
 }
 
-/// The line becomes the fields and a line feed.
-fn end_fields(line: &mut Vec<u8>, fields: &[u8]) -> Result<(), AllocError>
-    ensures { OnOk result (line.new.items ≡ fields.now ++ 10 ∷ []) }
-{
-    line.clear();
-    line.extend_from_slice(fields)?;
-    line.push(b'\n')?;
-    Ok(())
-}
-
-/// Gives the tap that the fields name, if any. The line replaces what is in `line`, and the text in
-/// `again` is replaced.
+/// Gives the tap that the fields name, if any. What is in `again` is replaced.
 fn put_fields(
     text: &mut Vec<u8>,
     fields: &[u8],
-    line: &mut Vec<u8>,
     again: &mut String,
 ) -> Result<Option<TapFields>, AllocError>
     requires { length fields.now < 255 }
     ensures text { OnOk result (text.new.items ≡ text.old.items ++ (fields.now ++ 10 ∷ [])) }
     ensures tap { IfOk result (IsTapOfLine (fields.now ++ 10 ∷ [])) }
 {
-    end_fields(line, fields)?;
-    let whole = line.as_slice();
-    text.extend_from_slice(whole)?;
-    let tap = tap_of_line(whole, again)?;
+    let start = text.len();
+    text.extend_from_slice(fields)?;
+    text.push(b'\n')?;
+    let tap = tap_of_line(&text[start..], again)?;
     Ok(tap)
 }
 
-fn with_columns<'a>(cut: CutLine<'a>, tap: Option<TapFields>) -> Option<(TapFields, CutLine<'a>)>
-    ensures { option_map placed_of result ≡ option_map (λ (t : ATap). (t, cut_of cut.entry)) tap }
-{
-    match tap {
-        None => None,
-        Some(tap) => Some((tap, cut)),
-    }
-}
-
-/// Appends what is read in place of the line, and gives what the line names. What is in `fields` and
-/// in `again` is replaced.
+/// Appends what is read in place of the line, and gives what the line names. What is in `again` is
+/// replaced.
 fn untrace<'a>(
     text: &mut Vec<u8>,
     line: &'a [u8],
-    fields: &mut Vec<u8>,
     again: &mut String,
 ) -> Result<Option<(TapFields, CutLine<'a>)>, AllocError>
     ensures text { OnOk result (text.new.items ≡ text.old.items ++ untraced_line line.now) }
     ensures names { IfOk result
         (λ named. NamesTapWithColumns (cut_line line.now) (option_map placed_of named)) }
 {
-    match cut_line(line) {
-        None => {
-            put_other(text, line)?;
-            Ok(None)
-        }
-        Some(cut) => {
-            let tap = put_fields(text, cut.fields, fields, again)?;
-            Ok(with_columns(cut, tap))
-        }
+    let Some(cut) = cut_line(line) else {
+        put_other(text, line)?;
+        return Ok(None);
+    };
+    match put_fields(text, cut.fields, again)? {
+        Some(tap) => Ok(Some((tap, cut))),
+        None => Ok(None),
     }
 }
 
@@ -198,10 +147,7 @@ fn class_fault(
         return None;
     };
     let tap = named.0;
-    if are_same(
-        names.class_of(tap.moment, &tap.token).as_bytes(),
-        named.1.class,
-    ) {
+    if names.class_of(tap.moment, &tap.token).as_bytes() == named.1.class {
         return None;
     }
     Some(WrongClass {
@@ -221,43 +167,12 @@ fn fault_by(
 {
     match finding {
         PositionFinding::Right => None,
-        PositionFinding::Another => Some(PositionFault::OtherTap {
-            line,
-            upload,
-            position,
-        }),
-        PositionFinding::Again => Some(PositionFault::Repeated {
-            line,
-            upload,
-            position,
-        }),
+        PositionFinding::Another => Some(PositionFault::OtherTap(line, upload, position)),
+        PositionFinding::Again => Some(PositionFault::Repeated(line, upload, position)),
     }
 }
 
-/// If there are uploads. Gives its fault, if it has one.
-fn name_position(
-    positions: &mut Option<Positions>,
-    number: u64,
-    named: &Option<(TapFields, CutLine<'_>)>,
-) -> Option<PositionFault>
-    ensures uploads { uploads_in positions.new ≡ uploads_in positions.old }
-
-    // After lines of which none is wrong.
-    ensures position { (read : List ReadLine) (line : List ℕ) → HasPositions positions.old None read
-        → number ≡ length read + 1 → HasPositions positions.new result
-        (record { line = line; traced = option_map placed_of named.now } ∷ read) }
-{
-    let Some(named) = named else {
-        return None;
-    };
-    let Some(positions) = positions else {
-        return None;
-    };
-    let finding = positions.name(named.1.upload, named.1.position, &named.0);
-    fault_by(number, named.1.upload, named.1.position, finding)
-}
-
-/// If no earlier line has a wrong place.
+/// If there are uploads, and no earlier line has a wrong place.
 fn look_at_position(
     positions: &mut Option<Positions>,
     wrong: &mut Option<PositionFault>,
@@ -273,7 +188,14 @@ fn look_at_position(
     if wrong.is_some() {
         return;
     }
-    *wrong = name_position(positions, number, named);
+    let Some(named) = named else {
+        return;
+    };
+    let Some(positions) = positions else {
+        return;
+    };
+    let finding = positions.name(named.1.upload, named.1.position, &named.0);
+    *wrong = fault_by(number, named.1.upload, named.1.position, finding);
 }
 
 /// The fault of the lines, or else the first place that no line has.
@@ -284,7 +206,7 @@ fn first_fault(positions: &Positions, wrong: &Option<PositionFault>) -> Option<P
         return Some(*wrong);
     }
     match positions.first_unnamed() {
-        Some((upload, position)) => Some(PositionFault::NoLine { upload, position }),
+        Some((upload, position)) => Some(PositionFault::NoLine(upload, position)),
         None => None,
     }
 }
@@ -295,8 +217,7 @@ pub(crate) struct LinesRead {
     names: ClassNames,
     /// The valid taps of the uploads, if there are uploads.
     positions: Option<Positions>,
-    /// The last of them, without its columns.
-    line: Vec<u8>,
+    /// Where the moment of a line is written again.
     again: String,
     lines: u64,
     /// The first of them that has another class than that of its token.
@@ -306,24 +227,8 @@ pub(crate) struct LinesRead {
 }
 
 impl LinesRead {
-    /// Looks at the columns of the next line. 2^64 lines are an allocation failure.
-    fn look(&mut self, named: &Option<(TapFields, CutLine<'_>)>) -> Result<(), AllocError>
-        ensures wanted { wanted_of self.new ≡ wanted_of self.old }
-        ensures looked { OnOk result ((read : List ReadLine) (line : List ℕ)
-            → HasLooked self.old read → HasLooked self.new
-            (record { line = line; traced = option_map placed_of named.now } ∷ read)) }
-    {
-        let Some(number) = self.lines.checked_add(1) else {
-            return Err(AllocError);
-        };
-        let fault = class_fault(&self.names, number, named);
-        self.wrong_class = self.wrong_class.or(fault);
-        look_at_position(&mut self.positions, &mut self.wrong_position, number, named);
-        self.lines = number;
-        Ok(())
-    }
-
-    /// Reads the next line, of which enough was kept to show its form.
+    /// Reads the next line, of which enough was kept to show its form. 2^64 lines are an allocation
+    /// failure.
     fn take(&mut self, line: &[u8], text: &mut Vec<u8>) -> Result<(), AllocError>
         ensures wanted { wanted_of self.new ≡ wanted_of self.old }
         ensures read { OnOk result ((whole before : List ℕ) (read : List ReadLine)
@@ -331,8 +236,19 @@ impl LinesRead {
             → (next : ReadLine) × (next.line ≡ whole)
             × HasLines self.new (before ++ text.new.items) (next ∷ read)) }
     {
-        let named = untrace(text, line, &mut self.line, &mut self.again)?;
-        self.look(&named)?;
+        let named = untrace(text, line, &mut self.again)?;
+        let Some(number) = self.lines.checked_add(1) else {
+            return Err(AllocError);
+        };
+        let fault = class_fault(&self.names, number, &named);
+        self.wrong_class = self.wrong_class.or(fault);
+        look_at_position(
+            &mut self.positions,
+            &mut self.wrong_position,
+            number,
+            &named,
+        );
+        self.lines = number;
         Ok(())
     }
 }
@@ -378,7 +294,6 @@ impl TracedPieces {
             so_far: LinesRead {
                 names,
                 positions,
-                line: Vec::new(alloc),
                 again: String::new(alloc),
                 lines: 0,
                 wrong_class: None,
@@ -537,5 +452,5 @@ pub(crate) fn write_columns(
     }
     let are_classes = trace.write_classes(text)?;
     let are_positions = trace.write_positions(text)?;
-    Ok(are_both(are_classes, are_positions))
+    Ok(are_classes & are_positions)
 }

@@ -2,15 +2,13 @@
 use Rattle.histories.specs.declared.entry.Entry.{Entry}
 use Rattle.ledger_check.specs.Balances.{IsBalance, IsDifference}
 use Rattle.ledger_check.specs.FullCheckStates.{HasFullyChecked, IsFed}
-use Rattle.ledger_check.specs.Ledger.{IsLedger, IsLedgerOf}
-use Rattle.ledger_check.specs.{Orders.tap_of_entry, Sums.AreSumsOf}
+use Rattle.ledger_check.specs.{Ledger.IsLedger, Ledger.IsLedgerOf, Sums.AreSumsOf}
 use Rattle.ledger_check.specs.declared.balance.{Balance.Balance, Difference.Difference}
-use Rattle.omny_audit.specs.Findings.{HasOrder, HasValidTaps, IsFindingOf}
-use Rattle.omny_audit.specs.Text.{IsDifferenceText}
+use Rattle.omny_audit.specs.{Findings.IsFindingOf, Findings.IsRightLedger, Text.IsDifferenceText}
 use Rattle.omny_audit.specs.declared.check.Check.{Check, TheVariants.First, TheVariants.All}
 use Rattle.omny_audit.specs.declared.check.Found.{Found}
-use Rattle.std.specs.{List.Sorted.IsPermutation, Prelude.◌≡◌, Prelude.◌↔◌, Prelude.ℕ}
-use Rattle.std.specs.Prelude.{Bool, true, false, List, [], IfSome, Option, is_some, map}
+use Rattle.std.specs.List.Sorted.{IsPermutation}
+use Rattle.std.specs.Prelude.{◌≡◌, ◌↔◌, ℕ, Bool, true, false, List, [], IfSome, Option, is_some}
 use Rattle.tap_views.specs.declared.encoder.TapFields.{TapFields}
 use Rattle.tariffs.specs.Fares.{Fares}
 
@@ -39,12 +37,6 @@ IsCompared balance true rest even = (difference : Option Difference)
     × IsDifferenceText difference rest
     × ((valid others : List TapFields) → IsBalance balance valid others
     → IsDifference valid others difference × ((even ≡ true) ↔ IsPermutation valid others))
-
--- the text is, whole, a ledger of legal histories, settled if a live one is not well, and has the
--- taps of the uploads
-abbrev pub IsRightLedger : Bool → Fares → List ℕ → Option (List TapFields) → Type 0
-IsRightLedger live fares text valid = (entries : List Entry) × IsLedgerOf fares entries text
-    × HasValidTaps valid (map tap_of_entry entries) × HasOrder live (map tap_of_entry entries)
 
 -- This is what was found of the text, and reported, beside the valid taps of the uploads, if there
 -- are uploads. Sums are those of a ledger's entries.

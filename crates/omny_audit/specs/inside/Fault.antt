@@ -9,15 +9,15 @@ use Rattle.program_manners.specs.declared.recorded_loads.RecordedLoads.{Recorded
 use Rattle.std.specs.Prelude.{◌≡◌, ⊤, ℕ, List, Option, Some, Contains, codes, unwrap_or}
 use Rattle.world.specs.{Run.Calls, Run.Run, declared.faults.WriteFault.WriteFault}
 
--- the file of this name was refused last, or was loaded last and is a ledger, or an allocation
--- failed
-abbrev pub IsLoadFault : List ℕ → RecordedLoads → Fault → Type 0
-IsLoadFault name loads (File file) =
-    (file.name.now ≡ name) × HasRefused (Some (refusal_of loads.last.value)) name file.fault
-IsLoadFault name loads (GivenLedger given) =
-    (given.now ≡ name) × LoadsGivenLedger loads.trace.run.loads name
-IsLoadFault name loads NoMemory = ⊤
-IsLoadFault name loads _ = ⊥
+-- the file of one of these names was refused last, or was loaded last and is a ledger, or an
+-- allocation failed
+abbrev pub IsLoadFault : List (List ℕ) → RecordedLoads → Fault → Type 0
+IsLoadFault names loads (File file) = Contains names file.name.now
+    × HasRefused (Some (refusal_of loads.last.value)) file.name.now file.fault
+IsLoadFault names loads (GivenLedger given) =
+    Contains names given.now × LoadsGivenLedger loads.trace.run.loads given.now
+IsLoadFault names loads NoMemory = ⊤
+IsLoadFault names loads _ = ⊥
 
 -- a read of the ledger failed, or a write did so, or an allocation
 abbrev pub IsStreamFault : Calls → Option WriteFault → Fault → Type 0

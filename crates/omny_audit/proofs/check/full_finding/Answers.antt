@@ -1,11 +1,11 @@
-use Rattle.std.proofs.Common.{◌≡◌, ◌∙◌, ◌++◌, ℕ, Bool, List, ap, append_assoc, string_bytes, subst}
+use Rattle.std.proofs.Common.{◌≡◌, ◌∙◌, ◌++◌, ℕ, List, ap, append_assoc, string_bytes, subst}
 use Rattle.std.proofs.Common.{None, Some, eqb-true, if◌then◌else◌, sym, true}
 use Rattle.histories.specs.declared.entry.Entry.{Entry}
 use Rattle.ledger_check.specs.FullChecks.{taps_from, wrong_count}
 use Rattle.ledger_check.specs.{Ledger.IsLedger, Orders.are_settled, Sums.AreSumsOf}
 use Rattle.omny_audit.proofs.{FindingLemmas.sound_is, FullFindingLemmas.full_check_legal}
 use Rattle.omny_audit.specs.Findings.{HasValidTaps}
-use Rattle.std.specs.Prelude.{◌&&◌, ◌↔◌, IfSome}
+use Rattle.std.specs.Prelude.{◌↔◌, IfSome}
 use Rattle.tap_views.specs.declared.encoder.TapFields.{TapFields}
 use Rattle.omny_audit.proofs.check.full_finding.Goals as goal
 
@@ -34,14 +34,12 @@ returns c = λ fares valid text written has.
               ∙ ap (λ (t : List ℕ). t ++ lacking.0) ended.8;
           second = rest.0;
         };
-        sound = sound_is c.args.live fares text _ checked.is_legal even checked.is_settled _ legal
-            (λ yes entries of.
-            let same = decides.taps entries of in (
+        sound = sound_is c.args.live fares text uploads checked.is_legal even checked.is_settled legal
+            (λ ledger.
+            let same = decides.taps ledger.0 ledger.1 in (
               subst (λ (ts : List TapFields). (even ≡ true) ↔ HasValidTaps uploads ts) same rest.1,
               ended.3 ∙ ap are_settled same,
-            ))
-            (c.are_both.ensures ∙ ap (λ (b : Bool). checked.is_legal && b)
-            (c.are_both-is_right.ensures ∙ ap (λ (b : Bool). even && b) c.is_either-in_order.ensures));
+            ));
         legal = legal;
         sums = λ yes entries of. subst (λ (es : List Entry). IfSome checked.sums (AreSumsOf es))
             (decides.entries entries of)

@@ -28,7 +28,7 @@ returns c =
           let lacks_too = rw (sym c.as_slice-surplus_taps.ensures.value) at
           (c.in_ok-surplus.ensures valid taps (subtracted refl)) in (
             (missing, surplus, lacks, lacks_too, written.1),
-            rw c.are_none.ensures (none_is valid taps missing surplus
+            rw (c.is_empty.ensures, c.is_empty-2.ensures) (none_is valid taps missing surplus
                 (laws.none valid taps missing surplus lacks lacks_too) (laws.even valid taps) lacks
                 lacks_too),
           ),

@@ -1,4 +1,4 @@
-use Rattle.std.proofs.Common.{◌≡◌, ◌∙◌, Bool, Global, List, Some, Vec, ap, arith, length, map, refl}
+use Rattle.std.proofs.Common.{◌≡◌, ◌∙◌, Bool, Global, List, Some, Vec, ap, length, map, refl}
 use Rattle.std.proofs.Common.{rules, subst, sym, tests, true, ℕ}
 use Rattle.class_names.proofs.Classes.{class_kept}
 use Rattle.class_names.specs.{ClassFaults.IsWrongAt, Classes.AreTrees}
@@ -7,7 +7,7 @@ use Rattle.omny_audit.specs.{Program.AreWanted, Traced.Wanted}
 use Rattle.omny_audit.specs.inside.Traced.{uploads_in, wanted_of}
 use Rattle.program_manners.proofs.NextTables.{tables_counted}
 use Rattle.program_manners.specs.TableViews.{names_of}
-use Rattle.std.proofs.lemmas.{List.length-map, Option.slice_get_within}
+use Rattle.std.proofs.lemmas.List.{length-map}
 use Rattle.omny_audit.proofs.program.trace_of.Goals as goal
 
 pub of_texts-requires : goal.of_texts-requires
@@ -16,16 +16,6 @@ of_texts-requires c =
     let counted = (tables_counted (names_of c.args.words.now) _ _ _ _ c.requires.loaded.2).0 in
     ap (λ (ts : List (Vec ℕ Global)). length ts) c.deref.ensures.value
     ∙ sym (length-map texts (λ (t : Vec ℕ Global). t.items)) ∙ counted
-
-pub of_names-requires : goal.of_names-requires
-of_names-requires c =
-    let counted = tables_counted (names_of c.args.words.now) _ _ _ _ c.requires.loaded.2 in
-    let provided = c.deref.result.now in
-    let within = slice_get_within _ c.in-Err.wrong.position _ c.in-Err.ensures.fault.holds in
-    let one = length-map provided (λ (t : Vec ℕ Global). t.items) in
-    let two = length-map c.args.tables.now.texts.items (λ (t : Vec ℕ Global). t.items) in
-    let same = ap (λ (ts : List (Vec ℕ Global)). length ts) c.deref.ensures.value in
-    omega (arith, within, one, two, same, counted.1)
 
 pub returns-in-Ok-clause-wanted : goal.returns-in-Ok-clause-wanted
 returns-in-Ok-clause-wanted c =

@@ -1,15 +1,15 @@
 use Rattle.std.proofs.Common.{◌≡◌, ◌++◌, ◌∙◌, ℕ, Bool, List, true, false, refl, sym, ap}
-use Rattle.std.proofs.Common.{subst, append_assoc, string_bytes}
+use Rattle.std.proofs.Common.{subst, append_assoc, rules, string_bytes, tests}
 use Rattle.std.specs.Prelude.{None, MatchBool}
 use Rattle.omny_audit.specs.Text.{AreDifferenceLines, IsDifferenceText, are_none}
 use Rattle.omny_audit.proofs.text.write_differences.Goals as goal
 
-pub returns-then-are_none : goal.returns-then-are_none
-returns-then-are_none c =
+pub returns-then-is_none : goal.returns-then-is_none
+returns-then-is_none c =
     let missing = c.args.missing.now in
     let surplus = c.args.surplus.now in
     let (text, is, grown) = c.in_ok-write_difference.ensures in
-    let yes : are_none missing surplus ≡ true = sym c.are_none.ensures ∙ c.if-are_none.true in (
+    let yes : are_none missing surplus ≡ true = first_of (cc, search (rules, tests)) in (
       text,
       subst (λ (b : Bool). MatchBool b (IsDifferenceText None text)
           (AreDifferenceLines missing surplus text)) (sym yes) is,
@@ -22,7 +22,7 @@ returns c =
     let surplus = c.args.surplus.now in
     let (first, are, grown) = c.in_ok-write_tap_lines.ensures in
     let (next, are_next, more) = c.in_ok-write_tap_lines-2.ensures in
-    let no : are_none missing surplus ≡ false = sym c.are_none.ensures ∙ c.if-are_none.false in (
+    let no : are_none missing surplus ≡ false = first_of (cc, search (rules, tests)) in (
       first ++ next,
       subst (λ (b : Bool). MatchBool b (IsDifferenceText None (first ++ next))
           (AreDifferenceLines missing surplus (first ++ next))) (sym no)

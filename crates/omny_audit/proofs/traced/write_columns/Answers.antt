@@ -27,7 +27,7 @@ returns c =
               positions.3 known.0 known.2.positions,
               ap (λ (w : Option WrongClass). class_text (class_by so_far.names) w ++ second)
                   known.2.class,
-              c.are_both.ensures ∙ ap₂ (λ (a b : Bool). a && b)
+              ap₂ (λ (a b : Bool). a && b)
                   (classes.right ∙ ap (λ (w : Option WrongClass). not (is_some w)) known.2.class)
                   positions.2,
             ),

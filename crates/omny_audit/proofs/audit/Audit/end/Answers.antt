@@ -1,10 +1,10 @@
-use Rattle.std.proofs.Common.{◌++◌, ◌∙◌, ℕ, Bool, List, ap, ap₂, append_assoc, Global, Vec}
+use Rattle.std.proofs.Common.{◌++◌, ◌∙◌, ℕ, Bool, List, ap, append_assoc, Global, Vec}
 use Rattle.std.proofs.Common.{string_bytes, subst, sym}
 use Rattle.omny_audit.proofs.{AuditLemmas.decides, Audits.ended, Audits.undecided, Audits.unsound}
-use Rattle.omny_audit.specs.Reports.{Given, IsAudit, IsVerdictOn, damage_text, ledger_in}
+use Rattle.omny_audit.specs.Reports.{Given, IsAudit, damage_text, ledger_in}
 use Rattle.omny_audit.specs.{Reports.verdict_lines, Traced.AreColumnsReported}
-use Rattle.omny_audit.specs.inside.{Audits.given_in, Reports.text_of, Traced.wanted_by}
-use Rattle.std.proofs.lemmas.Bool.{and_parts}
+use Rattle.omny_audit.specs.inside.{Audits.given_in, Traced.wanted_by}
+use Rattle.std.proofs.lemmas.Bool.{and_left, and_parts}
 use Rattle.std.specs.Prelude.{◌&&◌, ◌||◌}
 use Rattle.omny_audit.proofs.audit.Audit.end.Goals as goal
 
@@ -19,8 +19,7 @@ returns-clause-decided c = λ is.
     let has = c.requires.4 in
     let found = c.in_ok-found.ensures.found c.args.self.now.table.now has.valid has.text
     c.requires.3 has.checked in
-    c.are_both.ensures ∙ ap (λ (b : Bool). b && c.are_both-is_after.result)
-    (unsound _ _ _ _ _ _ _ found.2 (c.in_ok-found.ensures.decided is))
+    and_left _ _ (unsound _ _ _ _ _ _ _ found.2 (c.in_ok-found.ensures.decided is))
 
 pub returns-clause-ended : goal.returns-clause-ended
 returns-clause-ended c = λ request whole front before more has last none.
@@ -37,19 +36,15 @@ returns-clause-ended c = λ request whole front before more has last none.
     checked in
     let columns = c.in_ok-is_right.ensures in
     let tail = verdict_lines given.ends verdict ++ damage_text given.ends in
-    let looked = c.is_either-is_looked_at.ensures ∙ ap (λ (b : Bool). b || legal) c.is_all-all.ensures
-    in
-    let both = c.are_both-is_whole.ensures in
+    let looked = ap (λ (b : Bool). b || legal) c.is_all-all.ensures in
     let reported = columns.2 file (λ look. all (undecided audit.check legal
     c.in_ok-found.ensures.decided (sym looked ∙ look))) in
     let are = subst (λ (b : Bool). AreColumnsReported (wanted_by audit.trace) b file reported.0
     columns.0 right) looked reported.1 in
-    let is = subst (λ (b : Bool). IsVerdictOn given.ends audit.table.now (ledger_in given file)
-    (text_of audit.report) b verdict) both
-    (c.in_ok-verdict.ensures audit.table.now (ledger_in given file) (λ yes entries of.
-    found.2.sums (and_parts legal right (sym both ∙ yes)).0 entries of)) in
+    let is = c.in_ok-verdict.ensures audit.table.now (ledger_in given file) (λ yes entries of.
+    found.2.sums (and_parts legal right yes).0 entries of) in
     subst (λ (g : Given). IsAudit g file (before ++ c.write_last_lines.new.text.items)
-    c.are_both.result) has.same (record {
+    (c.in_ok-found.found.is_sound && (right && (c.fits.result && c.are_whole.result)))) has.same (record {
       found = written ++ found.0;
       finding = found.2.finding;
       legal = legal;
@@ -61,7 +56,7 @@ returns-clause-ended c = λ request whole front before more has last none.
       verdict = verdict;
       is_verdict = is;
       shown = ap (λ (t : List ℕ). before ++ t)
-          (c.in_ok-write_last_lines.ensures ∙ ap (λ (t : List ℕ). t ++ tail)
+          (c.in-Ok.ensures ∙ ap (λ (t : List ℕ). t ++ tail)
           (ap (λ (v : Vec ℕ Global). v.items) c.into_bytes-text.ensures.value ∙ columns.1
           ∙ ap (λ (t : List ℕ). t ++ columns.0) found.1)
           ∙ append_assoc (string_bytes c.args.reported ++ found.0) columns.0 tail
@@ -69,12 +64,7 @@ returns-clause-ended c = λ request whole front before more has last none.
           ∙ sym (append_assoc before (string_bytes c.args.reported)
           (found.0 ++ (columns.0 ++ tail)))
           ∙ sym (append_assoc written found.0 (columns.0 ++ tail));
-      well = decides c.report_verdicts_decide.ensures given file reported.0
-          c.in_ok-found.found.is_sound legal right columns.0 verdict found.2.sound found.2.legal are
-          is
-          c.are_both.result
-          (c.are_both.ensures ∙ ap (λ (b : Bool). c.in_ok-found.found.is_sound && b)
-          (c.are_both-is_after.ensures ∙ ap (λ (b : Bool). right && b)
-          (c.are_both-is_last.ensures ∙ ap₂ (λ (a b : Bool). a && b) c.fits.ensures
-          c.are_whole.ensures)));
+      well = rw (c.fits.ensures, c.are_whole.ensures) (decides c.report_verdicts_decide.ensures given
+          file reported.0 c.in_ok-found.found.is_sound legal right columns.0 verdict found.2.sound
+          found.2.legal are is);
     })

@@ -18,7 +18,7 @@ returns-clause-read c = record {
     shown = refl;
   };
   started = [];
-  kept = inl c.new-3.ensures.items;
+  kept = inl c.new-2.ensures.items;
   lacks = tt;
   split = λ more. refl;
 }
