@@ -2,7 +2,8 @@
 use Rattle.fare_program.specs.declared.listing.{ListCounts.ListCounts, Word.Word}
 use Rattle.fare_program.specs.declared.listing.Word.TheVariants.{Live, Stale, Unknown}
 use Rattle.hex.specs.Hex.{encode_lower}
-use Rattle.std.specs.{List.list_all, Prelude.◌≡◌, Prelude.◌+◌, Prelude.◌&&◌, Str.bytes_eq}
+use Rattle.std.specs.{Cmp.Lexicographic.slice_cmp, List.list_all, Map.lookup, Ordering.is_eq}
+use Rattle.std.specs.{Ordering.nat_cmp, Prelude.◌≡◌, Prelude.◌+◌, Prelude.◌&&◌, Str.bytes_eq}
 use Rattle.std.specs.Prelude.{ℕ, Bool, true, if◌then◌else◌, List, [], ◌∷◌, ◌++◌, Option, None, Some}
 use Rattle.std.specs.Prelude.{codes, decimal, filter, fold, is_none, is_some, map, nat_lt}
 use Rattle.tap_views.specs.Files.{IsReadAs, taps_of_batches}
@@ -10,22 +11,66 @@ use Rattle.tap_views.specs.{Layout.Tap, Layout.num, Names.fault_name}
 use Rattle.tap_views.specs.declared.fault.LayoutFault.{LayoutFault}
 use Rattle.tariffs.specs.Fares.{Fares, mode_at}
 
+-- A tap of a listing, and whether its validator is known.
+pub record ListedTap : Type 0 where
+  pub tap : Tap
+  pub known : Bool
+
+-- whether each known tap of this token is before this moment
+abbrev pub are_before : List ListedTap → List ℕ → ℕ → Bool
+are_before taps token moment = list_all (λ t. nat_lt (num t.tap.moment) moment)
+    (filter (λ t. t.known && bytes_eq t.tap.token token) taps)
+
+-- What is said of a tap after others, in any order: a known tap is live if it is later than every
+-- known tap of its token among them.
+abbrev pub liveness_of : List ListedTap → Tap → Bool → Word
+liveness_of before tap known =
+    if known then (if are_before before tap.token (num tap.moment) then Live else Stale) else Unknown
+
+-- the counts with one tap more, of which the listing says this
+abbrev pub counted : ListCounts → Word → ListCounts
+counted counts Live = record counts { taps = counts.taps + 1; live = counts.live + 1 }
+counted counts Stale = record counts { taps = counts.taps + 1; stale = counts.stale + 1 }
+counted counts Unknown = record counts { taps = counts.taps + 1; unknown = counts.unknown + 1 }
+
+-- the other three add up to all taps
+abbrev pub AddsUp : ListCounts → Type 0
+AddsUp counts = counts.taps ≡ counts.live + counts.stale + counts.unknown
+
+-- how many taps there are of each liveness, of those that were listed, the last one first
+abbrev pub counts_of : List ListedTap → ListCounts
+counts_of [] = record { taps = 0; live = 0; stale = 0; unknown = 0 }
+counts_of (listed ∷ taps) = counted (counts_of taps) (liveness_of taps listed.tap listed.known)
+
+-- What a listing keeps: the last moment of each token, and the counts.
+pub record KeptListing : Type 0 where
+  pub last : List (List ℕ × ℕ)
+  pub counts : ListCounts
+
+-- the last moment that is kept of the token, if there is one
+abbrev pub last_of : List (List ℕ × ℕ) → List ℕ → Option ℕ
+last_of last token = lookup (λ k. is_eq (slice_cmp nat_cmp token k)) last
+
+-- whether the moment is after the last one, if there is one
+abbrev pub is_after : Option ℕ → ℕ → Bool
+is_after None moment = true
+is_after (Some last) moment = nat_lt last moment
+
+-- A moment is later than the last one that is kept of a token if it is later than each known tap of
+-- that token.
+abbrev pub HasLast : List (List ℕ × ℕ) → List ListedTap → Type 0
+HasLast last taps = (token : List ℕ) (moment : ℕ)
+    → is_after (last_of last token) moment ≡ are_before taps token moment
+
+-- the listing is of these taps, the last one first
+pub record IsListingOf (kept : KeptListing) (taps : List ListedTap) : Type 0 where
+  pub last : HasLast kept.last taps
+  pub counts : kept.counts ≡ counts_of taps
+
 -- Without a table every validator is known; with one, those that have a mode.
 abbrev pub is_known : Option Fares → Tap → Bool
 is_known None tap = true
 is_known (Some fares) tap = is_some (mode_at fares (num tap.moment) (num tap.validator))
-
--- whether each known tap of this token is before this moment
-abbrev pub are_before : Option Fares → List Tap → List ℕ → ℕ → Bool
-are_before fares taps token moment = list_all (λ t. nat_lt (num t.moment) moment)
-    (filter (λ t. is_known fares t && bytes_eq t.token token) taps)
-
--- What is said of a tap after others, in any order: a known tap is live if it is later than every
--- known tap of its token among them.
-abbrev pub liveness_of : Option Fares → List Tap → Tap → Word
-liveness_of fares before tap =
-    if is_known fares tap then (if are_before fares before tap.token (num tap.moment) then Live
-    else Stale) else Unknown
 
 -- the liveness as it is printed
 abbrev pub word_text : Word → List ℕ
@@ -50,17 +95,10 @@ counts_line counts = codes "taps " ++ (decimal counts.taps ++ (codes " live "
     ++ (decimal counts.live ++ (codes " stale " ++ (decimal counts.stale ++ (codes " unknown "
     ++ (decimal counts.unknown ++ codes "\n")))))))
 
--- the counts with one tap more, of which the listing says this
-abbrev pub counted : ListCounts → Word → ListCounts
-counted counts Live = record counts { taps = counts.taps + 1; live = counts.live + 1 }
-counted counts Stale = record counts { taps = counts.taps + 1; stale = counts.stale + 1 }
-counted counts Unknown = record counts { taps = counts.taps + 1; unknown = counts.unknown + 1 }
-
--- What was listed so far: the taps, the last one first, how many there are of each liveness, the
--- number of the upload and of its next tap, whether no layout fault ended an upload, and the lines.
+-- What was listed so far: the taps, the last one first, the number of the upload and of its next tap,
+-- whether no layout fault ended an upload, and the lines.
 pub record Listed : Type 0 where
-  pub taps : List Tap
-  pub counts : ListCounts
+  pub taps : List ListedTap
   pub upload : ℕ
   pub number : ℕ
   pub is_clean : Bool
@@ -70,7 +108,6 @@ pub record Listed : Type 0 where
 abbrev pub nothing : Listed
 nothing = record {
   taps = [];
-  counts = record { taps = 0; live = 0; stale = 0; unknown = 0 };
   upload = 0;
   number = 0;
   is_clean = true;
@@ -80,11 +117,11 @@ nothing = record {
 -- one tap more
 abbrev pub with_tap : Option Fares → Listed → Tap → Listed
 with_tap fares listed tap = record listed {
-  taps = tap ∷ listed.taps;
-  counts = counted listed.counts (liveness_of fares listed.taps tap);
+  taps = record { tap = tap; known = is_known fares tap } ∷ listed.taps;
   number = listed.number + 1;
   text = listed.text
-      ++ tap_line listed.upload listed.number tap (liveness_of fares listed.taps tap);
+      ++ tap_line listed.upload listed.number tap
+      (liveness_of listed.taps tap (is_known fares tap));
 }
 
 -- the line of a layout fault, if there is one
@@ -121,5 +158,5 @@ pub record IsListing (fares : Option Fares) (files : List (List ℕ)) (text : Li
   pub of_files : map (λ reading. reading.file) readings ≡ files
   pub all : Listed
   pub listed : all ≡ fold (with_upload fares) nothing readings
-  pub lines : text ≡ all.text ++ counts_line all.counts
+  pub lines : text ≡ all.text ++ counts_line (counts_of all.taps)
   pub is_clean : clean ≡ all.is_clean

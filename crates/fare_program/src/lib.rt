@@ -6,6 +6,7 @@
 mod command_line;
 mod fault;
 mod file_words;
+mod lister;
 mod listing;
 mod named_files;
 mod note;
@@ -20,6 +21,7 @@ mod usage;
 
 pub use file_sources::{Amount, Disk, Host, Source, prefetch_files};
 pub use file_words::{FileWords, FormatWords, list_words};
+pub use listing::{ListCounts, Listing, Word};
 pub use note::Note;
 pub use program::main_over;
 pub use program_manners::{

@@ -1,23 +1,17 @@
-//! The text of a listing of whole files: whether each tap is live, stale or unknown.
-ghost use Rattle.fare_program.specs.Listing.{IsListing, Listed, Reading, counted, counts_line};
-ghost use Rattle.fare_program.specs.Listing.{is_known, liveness_of, refused_line, tap_line};
-ghost use Rattle.fare_program.specs.Listing.{with_end, with_upload, word_text};
-ghost use Rattle.fare_program.specs.inside.Listing.{HasLast, IsAt, Lists, is_after, last_of};
-ghost use Rattle.std.specs.{Option.option_copied, Prelude.◌≡◌, Prelude.◌+◌, Prelude.◌++◌};
-ghost use Rattle.std.specs.Prelude.{◌∷◌, [], List, Option, Some, IfOk, OnOk, map, string_bytes};
-ghost use Rattle.tap_views.specs.Layout.{Tap};
-ghost use Rattle.tariffs.specs.Fares.{Fares};
+//! The liveness of each tap of a listing, from the taps before it.
+ghost use Rattle.fare_program.specs.Listing.{AddsUp, HasLast, IsListingOf, ListedTap, counted};
+ghost use Rattle.fare_program.specs.Listing.{counts_of, is_after, last_of, liveness_of, word_text};
+ghost use Rattle.std.specs.Prelude.{◌≡◌, ◌+◌, ◌^◌, ◌<◌, ◌≤◌, ◌∷◌, [], List, Some, IfOk, OnErr};
 
-use fare_table::FareTable;
-use fare_texts::Digits;
 use std::alloc::Global;
 use std::collections::BTreeMap;
 use std::fmt;
-use tap_views::{Batch, LayoutFault, NoMemory, TapView, Token, valid_batches};
+use std::marker::Model;
+use tap_views::{NoMemory, TapView};
 
 /// What a listing says of a tap.
-#[derive(Clone, Copy, Debug)]
-pub(crate) enum Word {
+#[derive(Clone, Copy, Debug, PartialEq, Eq)]
+pub enum Word {
     /// The validator is known, and the tap is later than every known tap of its token before it.
     Live,
     /// The validator is known, and an earlier known tap of the token has this moment or a later
@@ -39,48 +33,28 @@ impl fmt::Display for Word {
     }
 }
 
-/// A count beyond 64 bits is reported as an allocation failure.
-fn add_one(number: &mut u64) -> Result<(), NoMemory>
-    ensures { OnOk result (number.new ≡ number.old + 1) }
-{
-    let Some(more) = number.checked_add(1) else {
-        return Err(NoMemory);
-    };
-    *number = more;
-    Ok(())
-}
-
 /// How many taps were listed, and how many with each liveness.
-#[derive(Clone, Copy, Debug)]
-pub(crate) struct ListCounts {
+#[derive(Clone, Copy, Debug, PartialEq, Eq)]
+pub struct ListCounts {
     /// All taps; the other three add up to it.
-    taps: u64,
-    live: u64,
-    stale: u64,
-    unknown: u64,
+    pub taps: u128,
+    pub live: u128,
+    pub stale: u128,
+    pub unknown: u128,
 }
 
 impl ListCounts {
-    fn count(&mut self, liveness: Word) -> Result<(), NoMemory>
-        ensures { OnOk result (self.new ≡ counted self.old liveness) }
+    fn count(&mut self, liveness: Word)
+        requires sums { AddsUp self.old }
+        requires room { self.old.taps + 1 < 2 ^ 128 }
+        ensures { self.new ≡ counted self.old liveness }
     {
-        add_one(&mut self.taps)?;
+        self.taps += 1;
         match liveness {
-            Word::Live => add_one(&mut self.live),
-            Word::Stale => add_one(&mut self.stale),
-            Word::Unknown => add_one(&mut self.unknown),
+            Word::Live => self.live += 1,
+            Word::Stale => self.stale += 1,
+            Word::Unknown => self.unknown += 1,
         }
-    }
-}
-
-fn is_known(table: Option<&FareTable>, tap: &TapView) -> bool
-    ensures { result ≡ is_known (option_copied table.entry) tap.now }
-{
-    match table {
-        None => true,
-        Some(table) => table
-            .mode_of(tap.moment_ms(), tap.validator_number())
-            .is_some(),
     }
 }
 
@@ -99,10 +73,10 @@ fn liveness_next(
     tap: &TapView,
     known: bool,
 ) -> Result<Word, NoMemory>
-    ensures { IfOk result (λ liveness. (fares : Option Fares) (taps : List Tap)
-        → known ≡ is_known fares tap.now → HasLast fares last.old.entries taps
-        → (liveness ≡ liveness_of fares taps tap.now)
-        × HasLast fares last.new.entries (tap.now ∷ taps)) }
+    ensures listed { IfOk result (λ liveness. (taps : List ListedTap)
+        → HasLast last.old.entries taps → (liveness ≡ liveness_of taps tap.now known)
+        × HasLast last.new.entries (record { tap = tap.now; known = known } ∷ taps)) }
+    ensures unchanged { OnErr result (last.new.entries ≡ last.old.entries) }
 {
     if !known {
         return Ok(Word::Unknown);
@@ -117,121 +91,61 @@ fn liveness_next(
     Ok(Word::Live)
 }
 
-/// A listing that is under way.
+/// A listing of taps: it says whether each is live, stale or unknown, from those before it.
 #[derive(Drop)]
-pub(crate) struct Listing {
+pub struct Listing {
     /// The moment of the last live tap of each token.
     last: BTreeMap<[u8; 16], u64>,
     counts: ListCounts,
-    upload: u64,
-    /// The number of the next tap in its upload.
-    number: u64,
-    is_clean: bool,
-    text: String,
+}
+
+impl Model for Listing {
+    ghost use Rattle.fare_program.specs.Listing.{AddsUp, KeptListing};
+
+    ghost Value = { KeptListing };
+
+    ghost view = { λ l. record { last = l.last.entries; counts = l.counts } };
+
+    ghost invariant = { λ l. AddsUp l.counts };
 }
 
 impl Listing {
-    #[tactic(auto, unfolding(crate::specs::Listing::tap_line))]
-    fn list_tap(&mut self, table: Option<&FareTable>, tap: &TapView) -> Result<(), NoMemory>
-        ensures { OnOk result
-            (Lists (option_copied table.entry) self.old self.new (tap.now ∷ [])) }
+    /// A listing of no taps.
+    pub fn new(alloc: Global) -> Listing
+        ensures { IsListingOf result [] }
     {
-        let liveness = liveness_next(&mut self.last, tap, is_known(table, tap))?;
-        self.counts.count(liveness)?;
-        let (upload, number) = (self.upload, self.number);
-        let token = Digits(Token::of(tap.token()));
-        let validator = tap.validator_number();
-        let moment = tap.moment_ms();
-        write!(
-            self.text,
-            "{upload} {number} {token} {validator} {moment} {liveness}\n"
-        )?;
-        add_one(&mut self.number)
-    }
-
-    fn list_batch(&mut self, table: Option<&FareTable>, batch: &Batch) -> Result<(), NoMemory>
-        ensures { OnOk result (Lists (option_copied table.entry) self.old self.new batch.now) }
-    {
-        for tap in batch.taps() {
-            self.list_tap(table, &tap)?;
-        }
-        Ok(())
-    }
-
-    #[tactic(auto, unfolding(crate::specs::Listing::refused_line))]
-    fn end_upload(&mut self, fault: Option<(u64, LayoutFault)>) -> Result<(), NoMemory>
-        ensures { OnOk result ((fares : Option Fares) (listed : Listed)
-            → IsAt fares self.old listed → IsAt fares self.new (with_end listed fault)) }
-    {
-        let upload = self.upload;
-        add_one(&mut self.upload)?;
-        self.number = 0;
-        let Some((offset, fault)) = fault else {
-            return Ok(());
-        };
-        self.is_clean = false;
-        let name = fault.name();
-        write!(self.text, "{upload} refused {offset} {name}\n")?;
-        Ok(())
-    }
-
-    /// Lists the taps up to the first layout fault, and that.
-    fn list_upload(&mut self, table: Option<&FareTable>, file: &[u8]) -> Result<(), NoMemory>
-        ensures { OnOk result ((reading : Reading) × (reading.file ≡ file.now)
-            × ((listed : Listed) → IsAt (option_copied table.entry) self.old listed
-            → IsAt (option_copied table.entry) self.new
-            (with_upload (option_copied table.entry) listed reading))) }
-    {
-        let mut valid = valid_batches(file);
-        while let Some(batch) = valid.next() {
-            self.list_batch(table, &batch)?;
-        }
-        self.end_upload(valid.fault())
-    }
-}
-
-/// The text of a listing, and whether no file has a layout fault. Without a table all validators
-/// are known.
-#[tactic(auto, unfolding(crate::specs::Listing::counts_line))]
-pub(crate) fn listing_text(
-    alloc: Global,
-    table: Option<&FareTable>,
-    files: &[Vec<u8>],
-) -> Result<(String, bool), NoMemory>
-    ensures { IfOk result (λ answer. IsListing (option_copied table.entry)
-        (map (λ f. f.items) files.now) (string_bytes answer.0) answer.1) }
-{
-    let mut listing = Listing {
-        last: BTreeMap::new(alloc),
-        counts: ListCounts {
+        let counts = ListCounts {
             taps: 0,
             live: 0,
             stale: 0,
             unknown: 0,
-        },
-        upload: 0,
-        number: 0,
-        is_clean: true,
-        text: String::new(alloc),
-    };
-    for file in files {
-        listing.list_upload(table, file)?;
+        };
+        Listing {
+            last: BTreeMap::new(alloc),
+            counts,
+        }
     }
-    let Listing {
-        mut text,
-        counts,
-        is_clean,
-        ..
-    } = listing;
-    let ListCounts {
-        taps,
-        live,
-        stale,
-        unknown,
-    } = counts;
-    write!(
-        text,
-        "taps {taps} live {live} stale {stale} unknown {unknown}\n"
-    )?;
-    Ok((text, is_clean))
+
+    /// Lists a tap, `known` if its validator is, and returns its liveness. If an allocation fails,
+    /// or the taps are too many for 128 bits, the listing is unchanged.
+    pub fn add(&mut self, tap: &TapView, known: bool) -> Result<Word, NoMemory>
+        ensures listed { IfOk result (λ liveness. (taps : List ListedTap) → IsListingOf self.old taps
+            → (liveness ≡ liveness_of taps tap.now known)
+            × IsListingOf self.new (record { tap = tap.now; known = known } ∷ taps)) }
+        ensures unchanged { OnErr result (self.new ≡ self.old) }
+    {
+        if self.counts.taps.checked_add(1).is_none() {
+            return Err(NoMemory);
+        }
+        let liveness = liveness_next(&mut self.last, tap, known)?;
+        self.counts.count(liveness);
+        Ok(liveness)
+    }
+
+    /// How many taps were listed, and how many with each liveness.
+    pub fn counts(&self) -> ListCounts
+        ensures { (taps : List ListedTap) → IsListingOf self.now taps → result ≡ counts_of taps }
+    {
+        self.counts
+    }
 }

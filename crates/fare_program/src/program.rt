@@ -12,7 +12,7 @@ ghost use Rattle.std.specs.Prelude.{◌≡◌, ◌≢◌, ◌++◌, ◌∷◌, [
 ghost use Rattle.std.specs.Prelude.{OnOk, is_ok, map, string_bytes, true};
 
 use crate::fault::Fault;
-use crate::listing::listing_text;
+use crate::lister::listing_text;
 use crate::named_files::charge_prefetched;
 use crate::options::Options;
 use crate::posting::charge;

@@ -1,7 +1,7 @@
 use Rattle.std.proofs.Common.{◌≡◌, ◌++◌}
 use Rattle.fare_program.specs.inside.Listing.{Lists}
 use Rattle.std.specs.Option.{option_copied}
-use Rattle.fare_program.proofs.listing.Listing.list_batch.Given as goal
+use Rattle.fare_program.proofs.lister.Lister.list_batch.Given as goal
 
 abbrev pub invariant-loop-tap : goal.invariant-loop-tap
 invariant-loop-tap l = record {

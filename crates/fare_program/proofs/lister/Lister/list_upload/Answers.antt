@@ -1,6 +1,6 @@
 use Rattle.std.proofs.{Common.refl, lemmas.List.Sums.fold-append, lemmas.Result.on_ok_weaker}
 use Rattle.tap_views.proofs.ParseLemmas.{read_end, read_on, taps_more}
-use Rattle.fare_program.proofs.listing.Listing.list_upload.Goals as goal
+use Rattle.fare_program.proofs.lister.Lister.list_upload.Goals as goal
 
 pub loop-batch-preserved : goal.loop-batch-preserved
 loop-batch-preserved c =

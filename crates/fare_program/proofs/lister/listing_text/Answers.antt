@@ -1,7 +1,7 @@
 use Rattle.std.proofs.Common.{◌++◌, ◌∷◌, [], ◌∙◌, ap, ap₂, map, sym, take}
 use Rattle.fare_program.specs.Listing.{Reading}
 use Rattle.std.proofs.lemmas.List.{map-append, take_more, Sums.fold-append}
-use Rattle.fare_program.proofs.listing.listing_text.Goals as goal
+use Rattle.fare_program.proofs.lister.listing_text.Goals as goal
 
 pub loop-file-preserved : goal.loop-file-preserved
 loop-file-preserved c =

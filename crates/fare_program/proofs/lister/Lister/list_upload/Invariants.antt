@@ -2,7 +2,7 @@ use Rattle.std.proofs.Common.{◌++◌}
 use Rattle.fare_program.specs.inside.Listing.{Lists}
 use Rattle.std.specs.Option.{option_copied}
 use Rattle.tap_views.specs.Files.{IsReadAs, taps_of_batches}
-use Rattle.fare_program.proofs.listing.Listing.list_upload.Given as goal
+use Rattle.fare_program.proofs.lister.Lister.list_upload.Given as goal
 
 abbrev pub invariant-loop-batch : goal.invariant-loop-batch
 invariant-loop-batch l = record {

@@ -1,6 +1,6 @@
 use Rattle.std.proofs.Common.{[], ◌∷◌, ◌++◌, ◌∙◌, ap, sym, append_assoc}
 use Rattle.std.proofs.lemmas.List.Sums.{fold-append}
-use Rattle.fare_program.proofs.listing.Listing.list_batch.Goals as goal
+use Rattle.fare_program.proofs.lister.Lister.list_batch.Goals as goal
 
 pub loop-tap-preserved : goal.loop-tap-preserved
 loop-tap-preserved c =
