@@ -46,10 +46,6 @@ nothing_yet = record {
   unmade = [];
 }
 
--- the writes of a run, and nothing else that it did
-abbrev pub only_written : Run → Run
-only_written r = record nothing_yet { written = r.written; cut = r.cut; flushed = r.flushed }
-
 abbrev pub with_load : Run → Option (List ℕ) → List ℕ → Run
 with_load r name bytes =
     record r { loads = r.loads ++ record { name = name; bytes = bytes } ∷ [] }

@@ -16,21 +16,6 @@ pub const LOAD_LIMIT_BYTES: usize = 67_108_864;
 /// How many bytes more are requested if the room is full.
 const MORE_BYTES: usize = 65_536;
 
-/// All bytes of the file of this name, read to its end.
-pub fn load_file<R: Files>(
-    rt: &R,
-    alloc: Global,
-    name: &str,
-    trace: &mut Trace,
-) -> Result<Vec<u8>, LoadFault>
-    ensures loaded { IfOk result (λ bytes.
-        trace.new.run ≡ with_load trace.old.run (Some name.now) bytes.items) }
-    ensures short { IfOk result (λ bytes. length bytes.items ≤ LOAD_LIMIT_BYTES) }
-    ensures refused { IfErr result (IsRefused trace.old.run trace.new.run (Some name.now)) }
-{
-    load_into(rt, name, Vec::new(alloc), trace)
-}
-
 /// All bytes of the file of this name, read into the memory of `room`, which is overwritten.
 pub fn load_into<R: Files>(
     rt: &R,
@@ -40,7 +25,6 @@ pub fn load_into<R: Files>(
 ) -> Result<Vec<u8>, LoadFault>
     ensures loaded { IfOk result (λ bytes.
         trace.new.run ≡ with_load trace.old.run (Some name.now) bytes.items) }
-    ensures short { IfOk result (λ bytes. length bytes.items ≤ LOAD_LIMIT_BYTES) }
     ensures refused { IfErr result (IsRefused trace.old.run trace.new.run (Some name.now)) }
 {
     match fs::open(rt, name) {
@@ -64,7 +48,6 @@ pub fn load_input<I: Read>(
 ) -> Result<Vec<u8>, LoadFault>
     ensures loaded { IfOk result (λ bytes.
         trace.new.run ≡ with_load trace.old.run None bytes.items) }
-    ensures short { IfOk result (λ bytes. length bytes.items ≤ LOAD_LIMIT_BYTES) }
     ensures refused { IfErr result (IsRefused trace.old.run trace.new.run None) }
 {
     trace.input();
@@ -121,7 +104,6 @@ fn read_all<F: Read>(file: &mut F, room: Vec<u8>, trace: &mut Trace) -> Result<V
     requires { trace.old.reading.bytes ≡ [] }
     ensures loaded { IfOk result (λ bytes.
         trace.new.run ≡ with_load trace.old.run trace.old.reading.name bytes.items) }
-    ensures short { IfOk result (λ bytes. length bytes.items ≤ LOAD_LIMIT_BYTES) }
     ensures refused { IfErr result
         (IsRefused trace.old.run trace.new.run trace.old.reading.name) }
 {

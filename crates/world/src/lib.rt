@@ -34,7 +34,7 @@ mod world;
 mod writing;
 
 pub use faults::{LoadFault, MakeFault, WriteFault};
-pub use files::{LOAD_LIMIT_BYTES, load_file, load_input, load_into};
+pub use files::{LOAD_LIMIT_BYTES, load_input, load_into};
 pub use ghost_bytes::GhostBytes;
 pub use loaded::{Loaded, load_apart};
 pub use new_file::{NewFile, folder_of};

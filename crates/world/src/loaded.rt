@@ -1,9 +1,9 @@
 //! Files that any thread loads.
-ghost use Rattle.std.specs.Prelude.{◌≡◌, ◌≤◌, IfErr, IfOk, Some, length, string_bytes};
+ghost use Rattle.std.specs.Prelude.{◌≡◌, IfOk, Some, string_bytes};
 ghost use Rattle.world.specs.Run.{nothing_yet, with_load};
 
 use crate::faults::LoadFault;
-use crate::files::{LOAD_LIMIT_BYTES, load_file};
+use crate::files::load_into;
 use crate::trace::Trace;
 use std::alloc::Global;
 use std::fs::Files;
@@ -18,14 +18,6 @@ pub struct Loaded {
 }
 
 impl Loaded {
-    fn new(name: String, bytes: Vec<u8>, trace: Trace) -> Loaded
-        requires { trace.run ≡ with_load nothing_yet (Some (string_bytes name)) bytes.items }
-        ensures name { result.name ≡ name }
-        ensures bytes { result.bytes ≡ bytes }
-    {
-        Loaded { name, bytes, trace }
-    }
-
     /// The name of the file.
     pub fn name(&self) -> &String
         ensures { result.now ≡ self.now.name }
@@ -48,10 +40,9 @@ impl Loaded {
 
 /// All bytes of the file of this name, by a shared reference. A failed load's calls are dropped.
 pub fn load_apart<R: Files>(rt: &R, alloc: Global, name: String) -> Result<Loaded, LoadFault>
-    ensures name { IfOk result (λ file. string_bytes file.name ≡ string_bytes name) }
-    ensures short { IfOk result (λ file. length file.bytes.items ≤ LOAD_LIMIT_BYTES) }
+    ensures { IfOk result (λ file. string_bytes file.name ≡ string_bytes name) }
 {
     let mut trace = Trace::new();
-    let bytes = load_file(rt, alloc, name.as_str(), &mut trace)?;
-    Ok(Loaded::new(name, bytes, trace))
+    let bytes = load_into(rt, name.as_str(), Vec::new(alloc), &mut trace)?;
+    Ok(Loaded { name, bytes, trace })
 }

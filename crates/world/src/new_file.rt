@@ -36,16 +36,12 @@ impl<F: Write + Drop> Write for NewFile<F> {
     ghost contents = { λ new. Some new.file.trace.run.written };
 
     fn write(&mut self, bytes: &[u8]) -> io::Result<usize> {
-        match self.file.write(bytes) {
-            Ok(count) => {
-                self.has_failed |= count == 0 && !bytes.is_empty();
-                Ok(count)
-            }
-            Err(error) => {
-                self.has_failed = true;
-                Err(error)
-            }
-        }
+        let written = self.file.write(bytes);
+        self.has_failed |= match written {
+            Ok(count) => count == 0 && !bytes.is_empty(),
+            Err(_) => true,
+        };
+        written
     }
 
     fn flush(&mut self) -> io::Result<()> {

@@ -1,6 +1,6 @@
 //! Texts that are given to the standard error, each recorded.
 ghost use Rattle.std.specs.Prelude.{◌≡◌, ◌++◌, IfSome, OnOk, Some, codes};
-ghost use Rattle.world.specs.{Run.no_calls, Run.nothing_yet, Run.with_said, Writes.IsSaid};
+ghost use Rattle.world.specs.{Run.nothing_yet, Run.with_said, Writes.IsSaid};
 
 use crate::trace::Trace;
 use std::fmt::Display;
@@ -21,25 +21,6 @@ struct Saying<'a, E> {
     err: &'a mut E,
     trace: Trace,
     ghost only_said: { trace.run ≡ with_said nothing_yet trace.run.said },
-}
-
-impl<'a, E> Saying<'a, E> {
-    fn new(err: &'a mut E) -> Saying<'a, E>
-        ensures { result.trace ≡ no_calls }
-    {
-        Saying {
-            err,
-            trace: Trace::new(),
-        }
-    }
-
-    fn into_trace(self) -> Trace
-        ensures { result ≡ self.entry.trace }
-    {
-        let Saying { err, trace } = self;
-        let _ = err;
-        trace
-    }
 }
 
 impl<E: Write> Write for Saying<'_, E> {
@@ -65,8 +46,11 @@ pub(crate) fn give_line<E: Write, D: Display + Drop>(
         (λ text. trace.new.run ≡ with_said trace.old.run (text ++ codes "\n"))) }
     ensures said { IsSaid trace.old.run trace.new.run }
 {
-    let mut saying = Saying::new(err);
+    let mut saying = Saying {
+        err,
+        trace: Trace::new(),
+    };
     let result = write!(saying, "{line}\n");
-    trace.join(saying.into_trace());
+    trace.join(saying.trace);
     result
 }

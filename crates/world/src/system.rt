@@ -1,7 +1,7 @@
 //! The files and streams of the system, each call recorded.
 
 use crate::faults::{LoadFault, MakeFault, WriteFault};
-use crate::files::{load_file, load_input, load_into};
+use crate::files::{load_input, load_into};
 use crate::loaded::Loaded;
 use crate::new_file::{NewFile, begin, discard, fail, finish};
 use crate::saying::{give, give_line};
@@ -44,7 +44,7 @@ impl<R: Files + Input + AllocGlobal, W, E> Inputs for System<'_, R, W, E> {
     ghost run = { λ s. s.trace.run };
 
     fn load(&mut self, name: &str) -> Result<Vec<u8>, LoadFault> {
-        load_file(self.rt, self.rt.alloc(), name, &mut self.trace)
+        load_into(self.rt, name, Vec::new(self.rt.alloc()), &mut self.trace)
     }
 
     fn load_into(&mut self, name: &str, room: Vec<u8>) -> Result<Vec<u8>, LoadFault> {

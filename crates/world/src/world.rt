@@ -1,7 +1,6 @@
 //! What a program may read, and what it may do.
 
 use crate::faults::{LoadFault, MakeFault, WriteFault};
-use crate::files::LOAD_LIMIT_BYTES;
 use crate::loaded::Loaded;
 use crate::trace::Trace;
 use std::fmt::Display;
@@ -10,7 +9,7 @@ use std::io::Write;
 
 /// What a program may read.
 pub trait Inputs {
-    ghost use Rattle.std.specs.Prelude.{◌≡◌, ◌≤◌, IfErr, IfOk, None, Some, length, string_bytes};
+    ghost use Rattle.std.specs.Prelude.{◌≡◌, IfErr, IfOk, None, Some, string_bytes};
     ghost use Rattle.world.specs.Run.{Run, with_all, with_load};
     ghost use Rattle.world.specs.Loads.{IsRefused};
 
@@ -21,21 +20,18 @@ pub trait Inputs {
     fn load(&mut self, name: &str) -> Result<Vec<u8>, LoadFault>
         ensures loaded { IfOk result (λ bytes.
             run self.new ≡ with_load (run self.old) (Some name.now) bytes.items) }
-        ensures short { IfOk result (λ bytes. length bytes.items ≤ LOAD_LIMIT_BYTES) }
         ensures refused { IfErr result (IsRefused (run self.old) (run self.new) (Some name.now)) };
 
     /// The same, read into the memory of `room`, which is used again: what is in it is overwritten.
     fn load_into(&mut self, name: &str, room: Vec<u8>) -> Result<Vec<u8>, LoadFault>
         ensures loaded { IfOk result (λ bytes.
             run self.new ≡ with_load (run self.old) (Some name.now) bytes.items) }
-        ensures short { IfOk result (λ bytes. length bytes.items ≤ LOAD_LIMIT_BYTES) }
         ensures refused { IfErr result (IsRefused (run self.old) (run self.new) (Some name.now)) };
 
     /// All bytes that standard input has left, read to its end. It is a load without a name.
     fn input(&mut self) -> Result<Vec<u8>, LoadFault>
         ensures loaded { IfOk result (λ bytes.
             run self.new ≡ with_load (run self.old) None bytes.items) }
-        ensures short { IfOk result (λ bytes. length bytes.items ≤ LOAD_LIMIT_BYTES) }
         ensures refused { IfErr result (IsRefused (run self.old) (run self.new) None) };
 
     /// The bytes of a file that another thread loaded: it becomes a load of this run.
