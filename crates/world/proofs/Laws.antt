@@ -1,7 +1,7 @@
 -- What reads, loads and writes after others leave.
-use Rattle.std.proofs.Common.{append-nil, sym, ◌∙◌, ap, inl, inr, refl}
-use Rattle.std.proofs.{Math.Seq.take-add, lemmas.Bool.Decides.eqb_tells, lemmas.List.append_assoc}
-use Rattle.std.specs.Prelude.{◌≡◌, ◌⊎◌, ◌==◌, ℕ, true, false, ◌+◌, List, [], ◌++◌, take, drop}
+use Rattle.std.proofs.Common.{append-nil, sym, ◌∙◌, ap, refl}
+use Rattle.std.proofs.{Math.Seq.take-add, lemmas.Bool.ne_eqb, lemmas.List.append_assoc}
+use Rattle.std.specs.Prelude.{◌≡◌, ℕ, ◌+◌, List, [], ◌++◌, take, drop}
 use Rattle.world.specs.{Origins.with_loads, Run.Calls}
 use Rattle.world.specs.Run.{Load, Run, after_read, nothing_yet, with_all, with_written}
 
@@ -28,26 +28,12 @@ joined_loads r xs =
     (rw (append-nil r.written)
     (rw (append-nil r.said) (rw (append-nil r.made) (rw (append-nil r.unmade) refl)))))
 
-abbrev with_more : Load → List ℕ → Load
-with_more x given = record { name = x.name; bytes = x.bytes ++ given }
-
 -- A read behind the bytes that earlier reads gave.
 pub read_more : (c : Calls) (room : List ℕ) (before : Load) (i n : ℕ) → (n ≡ 0 → ⊥)
     → c.reading ≡ record { name = before.name; bytes = take i room }
     → (after_read c (drop i room) n).reading
     ≡ record { name = before.name; bytes = take (i + n) room }
-read_more c room before i n some e = by_test (eqb_tells n 0)
-  where
-    given : List ℕ
-    given = take n (drop i room)
-
-    more : with_more c.reading given
-        ≡ with_more (record { name = before.name; bytes = [] }) (take (i + n) room)
-    more = ap (λ (x : Load). with_more x given) e
-        ∙ ap (λ ys. record { name = before.name; bytes = ys }) (sym (take-add i n room))
-
-    by_test : (((n == 0) ≡ true) × (n ≡ 0)) ⊎ (((n == 0) ≡ false) × (n ≡ 0 → ⊥))
-        → (after_read c (drop i room) n).reading
-        ≡ record { name = before.name; bytes = take (i + n) room }
-    by_test (inl (is, none)) = absurd (some none)
-    by_test (inr (is, other)) = rw is more
+read_more c room before i n some e =
+    rw (ne_eqb n 0 some)
+    (ap (λ (x : Load). record { name = x.name; bytes = x.bytes ++ take n (drop i room) }) e
+    ∙ ap (λ ys. record { name = before.name; bytes = ys }) (sym (take-add i n room)))

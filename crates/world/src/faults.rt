@@ -36,7 +36,8 @@ pub enum WriteFault {
 }
 
 impl WriteFault {
-    pub(crate) fn of(error: &io::Error) -> WriteFault
+    /// Why a write failed that gave this error.
+    pub fn of(error: &io::Error) -> WriteFault
         ensures { (error_kind error.now ≡ ErrorKind.BrokenPipe)
             ↔ (Some result ≡ Some WriteFault.Closed) }
     {
