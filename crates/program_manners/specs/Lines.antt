@@ -8,33 +8,24 @@ use Rattle.tariffs.specs.declared.follow_fault.FollowFault.TheVariants as follow
 use Rattle.world.specs.declared.faults.LoadFault.TheVariants as load
 
 -- a fault of a table by its number, and the key if it has one
+abbrev pub table_code : TableFault → List ℕ
+table_code table.Text = codes "table F1"
+table_code (table.Missing key) = codes "table F2 " ++ key_name key
+table_code (table.Kind key) = codes "table F3 " ++ key_name key
+table_code (table.Range key) = codes "table F4 " ++ key_name key
+table_code table.Mode = codes "table F5"
+table_code table.Overlap = codes "table F6"
+table_code table.Rider = codes "table F7"
+table_code table.NoMemory = codes "out of memory"
+table_code table.Zone = codes "table F9"
+table_code table.Cap = codes "table F10"
+
 abbrev pub table_text : TableFault → List ℕ
-table_text table.Text = codes "fault: table F1"
-table_text (table.Missing key) = codes "fault: table F2 " ++ key_name key
-table_text (table.Kind key) = codes "fault: table F3 " ++ key_name key
-table_text (table.Range key) = codes "fault: table F4 " ++ key_name key
-table_text table.Mode = codes "fault: table F5"
-table_text table.Overlap = codes "fault: table F6"
-table_text table.Rider = codes "fault: table F7"
-table_text table.NoMemory = codes "fault: out of memory"
-table_text table.Zone = codes "fault: table F9"
-table_text table.Cap = codes "fault: table F10"
+table_text fault = codes "fault: " ++ table_code fault
 
 -- the same of one of several tables, by the name of its file
 abbrev pub named_table_text : List ℕ → TableFault → List ℕ
-named_table_text name table.Text = codes "fault: " ++ (name ++ codes ": table F1")
-named_table_text name (table.Missing key) =
-    codes "fault: " ++ (name ++ (codes ": table F2 " ++ key_name key))
-named_table_text name (table.Kind key) =
-    codes "fault: " ++ (name ++ (codes ": table F3 " ++ key_name key))
-named_table_text name (table.Range key) =
-    codes "fault: " ++ (name ++ (codes ": table F4 " ++ key_name key))
-named_table_text name table.Mode = codes "fault: " ++ (name ++ codes ": table F5")
-named_table_text name table.Overlap = codes "fault: " ++ (name ++ codes ": table F6")
-named_table_text name table.Rider = codes "fault: " ++ (name ++ codes ": table F7")
-named_table_text name table.NoMemory = codes "fault: out of memory"
-named_table_text name table.Zone = codes "fault: " ++ (name ++ codes ": table F9")
-named_table_text name table.Cap = codes "fault: " ++ (name ++ codes ": table F10")
+named_table_text name fault = codes "fault: " ++ (name ++ (codes ": " ++ table_code fault))
 
 -- the line of a table's word that cannot follow those before it
 abbrev pub follow_text : List ℕ → FollowFault → List ℕ

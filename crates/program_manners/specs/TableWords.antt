@@ -4,8 +4,8 @@ use Rattle.program_manners.specs.declared.table_words.DateFault.{DateFault}
 use Rattle.program_manners.specs.declared.table_words.DateFault.TheVariants.{IsFirst, NoDate}
 use Rattle.program_manners.specs.declared.table_words.DateFault.TheVariants.{NotADay, OtherYear}
 use Rattle.program_manners.specs.declared.table_words.WrittenDate.{WrittenDate}
-use Rattle.std.specs.Prelude.{◌≡◌, ℕ, ◌+◌, ◌-◌, ◌*◌, ◌&&◌, ◌++◌, ◌==◌, Bool, List, [], ◌∷◌}
-use Rattle.std.specs.Prelude.{Option, None, Some, codes, drop, false, if◌then◌else◌, is_some, length}
+use Rattle.std.specs.Prelude.{◌≡◌, ℕ, ◌+◌, ◌-◌, ◌*◌, ◌&&◌, ◌==◌, Bool, List, [], ◌∷◌}
+use Rattle.std.specs.Prelude.{Option, None, Some, drop, false, if◌then◌else◌, is_some, length}
 use Rattle.std.specs.Prelude.{nat_le, pos, slice_index_or, map, take, true}
 use Rattle.tariffs.specs.{ClockView.ClockView, Until.midnight_by, Until.moment_nanos}
 
@@ -110,15 +110,6 @@ wrong_word tables =
 -- the names of the files of fare tables: of the first, and of those after it
 abbrev pub table_files : TableNames → List (List ℕ)
 table_files tables = tables.first ∷ map file_named tables.later
-
--- the line of a wrong word, without what is before it
-abbrev pub date_text : List ℕ → DateFault → List ℕ
-date_text word OtherYear =
-    codes "--table " ++ (word ++ codes ": a date is from 1970-01-01 to 2099-12-31")
-date_text word NotADay = codes "--table " ++ (word ++ codes ": there is no such date")
-date_text word IsFirst = codes "--table " ++ (word ++ codes ": the first table has no date")
-date_text word NoDate =
-    codes "--table " ++ (word ++ (codes ": a date is wanted, as " ++ (word ++ codes "@2026-01-04")))
 
 -- the date begins at the moment, in milliseconds since 1970-01-01T00:00Z, by these clocks
 abbrev pub IsMidnight : ClockView → WrittenDate → ℕ → Type 0

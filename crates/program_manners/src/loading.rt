@@ -1,12 +1,12 @@
-//! Whole files, up to a limit.
-ghost use Rattle.std.specs.Prelude.{◌≡◌, ◌≢◌, ◌<◌, ◌≤◌, length, IfErr, IfOk, IfSome, Some, IsErrOf};
+//! Whole files, up to a limit, and the lines of those that are not loaded.
+ghost use Rattle.std.specs.Prelude.{Some};
 ghost use Rattle.program_manners.specs.Lines.{load_text};
 
 use std::alloc::Global;
 use std::fs::Files;
-use std::io::{ErrorKind, Read};
+use std::io::ErrorKind;
 use std::{fmt, fs};
-use world::{LOAD_LIMIT_BYTES, LoadFault};
+use world::{LoadFault, Trace, load_into};
 
 /// What standard input is called in a fault line.
 pub const STANDARD_INPUT: &str = "standard input";
@@ -34,9 +34,7 @@ impl fmt::Display for FileFault<'_> {
 
 /// Opens the file of this name to be read from its start. A file that cannot be opened is reported
 /// as one that could not be read, unless an allocation failed.
-pub fn open_file<R: Files>(rt: &R, name: &str) -> Result<R::File, LoadFault>
-    ensures { IfErr result (λ fault. fault ≢ LoadFault.TooLong) }
-{
+pub fn open_file<R: Files>(rt: &R, name: &str) -> Result<R::File, LoadFault> {
     match fs::open(rt, name) {
         Ok(file) => Ok(file),
         Err(error) if error.kind() == ErrorKind::OutOfMemory => Err(LoadFault::NoMemory),
@@ -44,29 +42,7 @@ pub fn open_file<R: Files>(rt: &R, name: &str) -> Result<R::File, LoadFault>
     }
 }
 
-/// All bytes of the file of this name, as `load_from` reads them.
-pub fn load_file<R: Files>(rt: &R, alloc: Global, name: &str) -> Result<Vec<u8>, LoadFault>
-    ensures { IfOk result (λ bytes. length bytes.items ≤ LOAD_LIMIT_BYTES) }
-{
-    let mut file = open_file(rt, name)?;
-    load_from(alloc, &mut file)
-}
-
-/// All bytes that the reader has left. Reading stops at the first read that fails, but for a
-/// signal, and at the first byte past the limit, so no more memory is taken. The bytes are read in
-/// place. No clause says how much was read before a fault.
-pub fn load_from<R: Read>(alloc: Global, r: &mut R) -> Result<Vec<u8>, LoadFault>
-    ensures whole { IfOk result (λ bytes. IfSome (R.remaining r.old) (λ left. bytes.items ≡ left)) }
-    ensures short { IfOk result (λ bytes. length bytes.items ≤ LOAD_LIMIT_BYTES) }
-    ensures long { IsErrOf result LoadFault.TooLong
-        → IfSome (R.remaining r.old) (λ left. LOAD_LIMIT_BYTES < length left) }
-{
-    let mut bytes = Vec::new(alloc);
-    // one byte past the limit shows that it is too long
-    match Read::take(r, LOAD_LIMIT_BYTES as u64 + 1).read_to_end(&mut bytes) {
-        Ok(_) if bytes.len() > LOAD_LIMIT_BYTES => Err(LoadFault::TooLong),
-        Ok(_) => Ok(bytes),
-        Err(error) if error.kind() == ErrorKind::OutOfMemory => Err(LoadFault::NoMemory),
-        Err(_) => Err(LoadFault::Unread),
-    }
+/// All bytes of the file of this name, by calls that no trace has.
+pub fn load_file<R: Files>(rt: &R, alloc: Global, name: &str) -> Result<Vec<u8>, LoadFault> {
+    load_into(rt, name, Vec::new(alloc), &mut Trace::new())
 }

@@ -1,12 +1,13 @@
 //! The files of the system and its standard input, as a source loads them.
-ghost use Rattle.std.specs.Prelude.{◌≡◌, None, Some};
+ghost use Rattle.std.specs.Prelude.{◌≡◌, IfErr, IfOk, option_map};
 ghost use Rattle.program_manners.specs.Refusals.{IsShown, refusal_of};
+ghost use Rattle.world.specs.{Loads.IsRefused, Run.with_load};
 
 use crate::refusal::Refusal;
 use std::fs::Files;
 use std::io::Input;
 use std::snapshot::Snapshot;
-use world::{GhostBytes, LoadFault, Loaded, Trace, load_file, load_input};
+use world::{GhostBytes, LoadFault, Loaded, Trace, load_input, load_into};
 
 /// What a source loads of the system's files and standard input: each call recorded, and the last
 /// load that was refused. It has no bytes at run time.
@@ -18,27 +19,41 @@ pub struct RecordedLoads {
     pub ghost shown: { ∥ IsShown trace.run (refusal_of last.value) ∥₁ },
 }
 
-fn named(name: &str, fault: LoadFault) -> Snapshot<Refusal>
-    ensures { refusal_of result.value ≡ (Some name.now, fault) }
+fn refusal(name: Option<&str>, fault: LoadFault) -> Snapshot<Refusal>
+    ensures { refusal_of result.value ≡ (option_map (λ n. n.now) name.entry, fault) }
 {
-    Snapshot::of(&Refusal {
-        name: Some(GhostBytes::of(name.as_bytes())),
-        fault,
-    })
+    match name {
+        Some(name) => Snapshot::of(&Refusal {
+            name: Some(GhostBytes::of(name.as_bytes())),
+            fault,
+        }),
+        None => Snapshot::of(&Refusal { name: None, fault }),
+    }
 }
 
-fn unnamed(fault: LoadFault) -> Snapshot<Refusal>
-    ensures { refusal_of result.value ≡ (None, fault) }
+fn load_named<R: Files + Input + AllocGlobal>(
+    rt: &R,
+    name: Option<&str>,
+    trace: &mut Trace,
+) -> Result<Vec<u8>, LoadFault>
+where
+    R::Reader: Drop,
+    ensures loaded { IfOk result (λ bytes. trace.new.run
+        ≡ with_load trace.old.run (option_map (λ n. n.now) name.entry) bytes.items) }
+    ensures refused { IfErr result
+        (IsRefused trace.old.run trace.new.run (option_map (λ n. n.now) name.entry)) }
 {
-    Snapshot::of(&Refusal { name: None, fault })
+    match name {
+        Some(name) => load_into(rt, name, Vec::new(rt.alloc()), trace),
+        None => load_input(rt.alloc(), &mut rt.reader(), trace),
+    }
 }
 
 const _: () = prove!(size_of::<RecordedLoads>() == 0);
 
 impl RecordedLoads {
-    ghost use Rattle.std.specs.Prelude.{◌≡◌, IfErr, IfOk, None, OnOk, Some, string_bytes};
-    ghost use Rattle.world.specs.Run.{no_calls, with_all, with_load};
-    ghost use Rattle.world.specs.Loads.{IsRefused};
+    ghost use Rattle.std.specs.Prelude.{None, Some, string_bytes};
+    ghost use Rattle.world.specs.Run.{no_calls, with_all};
 
     /// Nothing was loaded or refused yet: the last refusal is an allocation failure of no call.
     pub fn new() -> RecordedLoads
@@ -47,42 +62,28 @@ impl RecordedLoads {
     {
         RecordedLoads {
             trace: Trace::new(),
-            last: unnamed(LoadFault::NoMemory),
+            last: refusal(None, LoadFault::NoMemory),
         }
     }
 
-    /// All bytes of the file of this name, read to its end.
-    pub fn load<R: Files + AllocGlobal>(&mut self, rt: &R, name: &str) -> Result<Vec<u8>, LoadFault>
-        ensures loaded { IfOk result (λ bytes. self.new.trace.run
-            ≡ with_load self.old.trace.run (Some name.now) bytes.items) }
-        ensures last { OnOk result (self.new.last ≡ self.old.last) }
-        ensures refused { IfErr result
-            (IsRefused self.old.trace.run self.new.trace.run (Some name.now)) }
-        ensures fault { IfErr result
-            (λ fault. refusal_of self.new.last.value ≡ (Some name.now, fault)) }
-    {
-        let loaded = load_file(rt, rt.alloc(), name, &mut self.trace);
-        if let Err(fault) = loaded {
-            self.last = named(name, fault);
-        }
-        loaded
-    }
-
-    /// All bytes that standard input has left, read to its end.
-    pub fn input<R: Input + AllocGlobal>(&mut self, rt: &R) -> Result<Vec<u8>, LoadFault>
+    /// All bytes of the file of this name, else of standard input, read to their end.
+    pub fn load<R: Files + Input + AllocGlobal>(
+        &mut self,
+        rt: &R,
+        name: Option<&str>,
+    ) -> Result<Vec<u8>, LoadFault>
     where
         R::Reader: Drop,
         ensures loaded { IfOk result (λ bytes. self.new.trace.run
-            ≡ with_load self.old.trace.run None bytes.items) }
-        ensures last { OnOk result (self.new.last ≡ self.old.last) }
+            ≡ with_load self.old.trace.run (option_map (λ n. n.now) name.entry) bytes.items) }
         ensures refused { IfErr result
-            (IsRefused self.old.trace.run self.new.trace.run None) }
-        ensures fault { IfErr result
-            (λ fault. refusal_of self.new.last.value ≡ (None, fault)) }
+            (IsRefused self.old.trace.run self.new.trace.run (option_map (λ n. n.now) name.entry)) }
+        ensures fault { IfErr result (λ fault.
+            refusal_of self.new.last.value ≡ (option_map (λ n. n.now) name.entry, fault)) }
     {
-        let loaded = load_input(rt.alloc(), &mut rt.reader(), &mut self.trace);
+        let loaded = load_named(rt, name, &mut self.trace);
         if let Err(fault) = loaded {
-            self.last = unnamed(fault);
+            self.last = refusal(name, fault);
         }
         loaded
     }
@@ -92,7 +93,6 @@ impl RecordedLoads {
         ensures bytes { result ≡ file.bytes }
         ensures loaded { self.new.trace.run
             ≡ with_load self.old.trace.run (Some (string_bytes file.name)) result.items }
-        ensures last { self.new.last ≡ self.old.last }
     {
         file.join(&mut self.trace)
     }

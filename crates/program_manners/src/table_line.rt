@@ -1,9 +1,32 @@
-//! The line of a fault of the fare table.
+//! The lines of faults of fare tables.
 ghost use Rattle.std.specs.Prelude.{Some};
-ghost use Rattle.program_manners.specs.Lines.{table_text};
+ghost use Rattle.program_manners.specs.Lines.{named_table_text, table_code, table_text};
 
 use fare_table::TableFault;
 use std::fmt;
+
+/// A fault of a fare table by its number, and the key if it has one.
+#[derive(Clone, Copy)]
+struct TableCode(TableFault);
+
+impl fmt::Display for TableCode {
+    ghost output = { λ code. Some (table_code code.0) };
+
+    fn fmt<W: fmt::Write>(&self, f: &mut fmt::Formatter<W>) -> fmt::Result {
+        match self.0 {
+            TableFault::Text => f.write_str("table F1"),
+            TableFault::Missing { key } => write!(f, "table F2 {}", key.name()),
+            TableFault::Kind { key } => write!(f, "table F3 {}", key.name()),
+            TableFault::Range { key } => write!(f, "table F4 {}", key.name()),
+            TableFault::Mode => f.write_str("table F5"),
+            TableFault::Overlap => f.write_str("table F6"),
+            TableFault::Rider => f.write_str("table F7"),
+            TableFault::NoMemory => f.write_str("out of memory"),
+            TableFault::Zone => f.write_str("table F9"),
+            TableFault::Cap => f.write_str("table F10"),
+        }
+    }
+}
 
 /// The fault line of the fare table, without its line feed.
 #[derive(Clone, Copy, Debug)]
@@ -13,17 +36,22 @@ impl fmt::Display for TableLine {
     ghost output = { λ line. Some (table_text line.0) };
 
     fn fmt<W: fmt::Write>(&self, f: &mut fmt::Formatter<W>) -> fmt::Result {
-        match self.0 {
-            TableFault::Text => f.write_str("fault: table F1"),
-            TableFault::Missing { key } => write!(f, "fault: table F2 {}", key.name()),
-            TableFault::Kind { key } => write!(f, "fault: table F3 {}", key.name()),
-            TableFault::Range { key } => write!(f, "fault: table F4 {}", key.name()),
-            TableFault::Mode => f.write_str("fault: table F5"),
-            TableFault::Overlap => f.write_str("fault: table F6"),
-            TableFault::Rider => f.write_str("fault: table F7"),
-            TableFault::NoMemory => f.write_str("fault: out of memory"),
-            TableFault::Zone => f.write_str("fault: table F9"),
-            TableFault::Cap => f.write_str("fault: table F10"),
-        }
+        write!(f, "fault: {}", TableCode(self.0))
+    }
+}
+
+/// The line of why the next of several tables is not taken, by its file's name, without line feed.
+#[derive(Clone, Copy, Debug)]
+pub struct NamedTableLine<'a> {
+    pub name: &'a str,
+    /// Why its text is not a fare table.
+    pub fault: TableFault,
+}
+
+impl fmt::Display for NamedTableLine<'_> {
+    ghost output = { λ line. Some (named_table_text line.name.now line.fault) };
+
+    fn fmt<W: fmt::Write>(&self, f: &mut fmt::Formatter<W>) -> fmt::Result {
+        write!(f, "fault: {}: {}", self.name, TableCode(self.fault))
     }
 }

@@ -8,8 +8,9 @@ ghost use Rattle.std.specs.Prelude.{◌≡◌, ◌++◌, ◌∷◌, [], ℕ, Lis
 ghost use Rattle.std.specs.Prelude.{OnOk, false, map};
 
 use crate::file_source::FileSource;
-use crate::following::{FollowLine, NamedTableLine, NextFault, table_after};
+use crate::following::{FollowLine, NextFault, table_after};
 use crate::loading::FileFault;
+use crate::table_line::NamedTableLine;
 use crate::table_words::{TableWord, TableWords};
 use fare_table::{FareTable, ReadFareTable, TableFault};
 use std::alloc::{AllocError, Global};
@@ -105,6 +106,7 @@ fn load_next<'a, S: FileSource>(
             push(&mut tables.texts, text)?;
             Ok(tables)
         }
+        Err(NextFault::Table(TableFault::NoMemory)) => Err(TablesFault::NoMemory),
         Err(NextFault::Table(fault)) => {
             Err(TablesFault::NamedTable(NamedTableLine { name, fault }))
         }
@@ -135,6 +137,7 @@ fn load_first<'a, S: FileSource>(
             push(&mut texts, text)?;
             Ok(Tables { fares, texts })
         }
+        Err(TableFault::NoMemory) => Err(TablesFault::NoMemory),
         Err(fault) if words.later.is_empty() => Err(TablesFault::Table(fault)),
         Err(fault) => Err(TablesFault::NamedTable(NamedTableLine { name, fault })),
     }

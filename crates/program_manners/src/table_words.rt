@@ -1,6 +1,6 @@
 //! Words of `--table`: a file, and the date from which its table is valid.
 ghost use Rattle.program_manners.specs.TableViews.{names_of, wrong_of};
-ghost use Rattle.program_manners.specs.TableWords.{byte_at, date_fault, date_of, date_text};
+ghost use Rattle.program_manners.specs.TableWords.{byte_at, date_fault, date_of};
 ghost use Rattle.program_manners.specs.TableWords.{file_named, has_form, is_day, tables_in};
 ghost use Rattle.program_manners.specs.TableWords.{two_digits, written_date, written_in};
 ghost use Rattle.program_manners.specs.TableWords.{wrong_date, wrong_later, wrong_word};
@@ -43,8 +43,6 @@ pub struct WrongWord<'a> {
 }
 
 impl fmt::Display for WrongWord<'_> {
-    ghost output = { λ wrong. Some (date_text wrong.word.now wrong.fault) };
-
     fn fmt<W: fmt::Write>(&self, f: &mut fmt::Formatter<W>) -> fmt::Result {
         let word = self.word;
         match self.fault {
