@@ -7,10 +7,11 @@ use Rattle.fare_program.specs.declared.fault.Fault.TheVariants.{Late, NoMemory, 
 use Rattle.fare_texts.specs.WrittenOut.{Begins}
 use Rattle.program_manners.specs.{LineWritten.LineWritten, Loads.Loaded}
 use Rattle.program_manners.specs.declared.complaints.Complaints.{Complaints}
-use Rattle.program_manners.specs.declared.output.{Output.Output, WriteEnd.WriteEnd}
+use Rattle.program_manners.specs.declared.output.Output.{Output}
 use Rattle.std.specs.{Io.KnownBytes.Appends, Io.KnownBytes.Keeps, Prelude.◌≡◌, Prelude.◌≢◌}
 use Rattle.std.specs.Prelude.{◌⊎◌, ℕ, suc, zero, Bool, true, false, List, Option, None, is_some}
 use Rattle.world.specs.{Origins.Origin, declared.faults.LoadFault.LoadFault}
+use Rattle.world.specs.declared.faults.WriteFault.{WriteFault}
 
 -- What a run did, of which some may not be known.
 pub record Did : Type 0 where
@@ -25,7 +26,7 @@ pub record Did : Type 0 where
   -- one, and whether it was flushed
   pub out : Option (List ℕ)
   pub out' : Option (List ℕ)
-  pub end : Option WriteEnd
+  pub end : Option WriteFault
   pub flushed : Bool
   -- what was said on the standard error before and after, and whether some of it failed
   pub said : Option (List ℕ)

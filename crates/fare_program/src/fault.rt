@@ -6,7 +6,7 @@ ghost use Rattle.std.specs.Prelude.{◌≡◌, ◌≢◌, ℕ, List, Option, Som
 
 use fare_service::{GatherFault, PrintFault};
 use placed_files::Unopened;
-use program_manners::{FileFault, NamedClassLine, TableLine, TablesFault, WriteEnd};
+use program_manners::{FileFault, NamedClassLine, TableLine, TablesFault, WriteFault};
 use settled_bills::BillFault;
 use sorted_taps::SortedFault;
 use std::fmt;
@@ -106,7 +106,7 @@ impl<'a> Fault<'a> {
     /// What is reported of this fault, if the output remembers that `end` is why a write failed. No
     /// contract of what writes a text says that a write failed: if the output remembers none that
     /// did, an allocation failed.
-    pub(crate) fn as_remembered(self, end: Option<WriteEnd>) -> Fault<'a>
+    pub(crate) fn as_remembered(self, end: Option<WriteFault>) -> Fault<'a>
         ensures { result ≡ as_remembered end self.entry }
     {
         match self {

@@ -227,7 +227,7 @@ pub fn main_over<
         Ok(succeeded) => succeeded,
         Err(fault) => return report(err, &fault.as_remembered(out.end())),
     };
-    match out.finish() {
+    match out.flush() {
         Ok(()) if succeeded => 0,
         Ok(()) => 1,
         Err(_) => report(err, &Fault::Write),

@@ -98,7 +98,7 @@ where
     fn load(&mut self, name: &str) -> Result<Vec<u8>, LoadFault> {
         match take_next(&mut self.ahead, name) {
             Some(file) => Ok(self.loads.take(file)),
-            None => self.loads.load(self.rt, name),
+            None => self.loads.load(self.rt, Some(name)),
         }
     }
 }
@@ -112,7 +112,7 @@ where
     }
 
     fn input(&mut self) -> Result<Vec<u8>, LoadFault> {
-        self.loads.input(self.rt)
+        self.loads.load(self.rt, None)
     }
 
     fn join(&mut self, calls: Trace) {

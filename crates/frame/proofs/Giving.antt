@@ -1,11 +1,11 @@
 -- What a run gave, and more of it.
 use Rattle.std.proofs.Common.{◌≡◌, ◌∙◌, ◌∷◌, ◌++◌, [], ℕ, List, None, Option, Some, ap, append-nil}
 use Rattle.std.proofs.Common.{append_assoc, refl, subst, sym}
-use Rattle.frame.specs.Given.{Given, IsPart, file_of, gave, nothing, with_files, with_loads}
+use Rattle.frame.specs.Given.{Given, IsPart, gave, nothing, with_files, with_loads}
 use Rattle.frame.specs.{Given.with_note, Given.with_text, Outsides.IsStoppedIn, Outsides.Leaves}
 use Rattle.frame.specs.declared.outside.Outside.{Outside, TheVariants.Unwritten}
-use Rattle.std.specs.{Io.KnownBytes.Appends, Prelude.IfSome}
-use Rattle.world.specs.Run.{Named, Run, with_cut, with_flushed, with_load, with_made, with_said}
+use Rattle.std.specs.Io.KnownBytes.{Appends}
+use Rattle.world.specs.Run.{Named, Run, with_cut, with_flushed, with_load, with_said}
 use Rattle.world.specs.{Run.with_written, Writes.IsCut, declared.faults.WriteFault.WriteFault}
 
 pub gave_nothing : (r : Run) → r ≡ gave r nothing
@@ -31,12 +31,6 @@ pub gave_note : (old new start : Run) (g : Given) (piece : List ℕ) → new ≡
 gave_note old new start g piece more is =
     more ∙ ap (λ r. with_said r piece) is
     ∙ ap (λ xs. record (gave start g) { said = xs }) (append_assoc start.said g.note piece)
-
-pub gave_file : (old new start : Run) (g : Given) (file : Named) → new ≡ with_made old file
-    → old ≡ gave start g → new ≡ gave start (with_files g (file ∷ []))
-gave_file old new start g file more is =
-    more ∙ ap (λ r. with_made r file) is
-    ∙ ap (λ xs. record (gave start g) { made = xs }) (append_assoc start.made g.files (file ∷ []))
 
 -- ---- parts
 pub part_self : (g : Given) → IsPart g g
@@ -110,13 +104,6 @@ known_whole (Some old) None file is appends = absurd appends
 known_whole (Some old) (Some bytes) file is appends =
     let none : old ≡ [] = cc in
     ap (λ b. Some b) (appends ∙ ap (λ o. o ++ file) none)
-
--- a file that was finished
-pub made_known : (old new : Run) (name bytes : List ℕ) (known : Option (List ℕ))
-    → IfSome known (λ bs. new ≡ with_made old (file_of name bs)) → known ≡ Some bytes
-    → new ≡ with_made old (file_of name bytes)
-made_known old new name bytes known made is =
-    subst (λ k. IfSome k (λ bs. new ≡ with_made old (file_of name bs))) is made
 
 pub gave_no_files : (old start : Run) (g : Given) → old ≡ gave start g
     → old ≡ gave start (with_files g [])

@@ -8,4 +8,4 @@ mod steps;
 
 pub use names::file_of;
 pub use outside::Outside;
-pub use steps::{begin, finish, make, report, say, write};
+pub use steps::{begin, finish, make, report, write};

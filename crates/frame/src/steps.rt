@@ -1,6 +1,6 @@
 //! What a run does, step by step.
 ghost use Rattle.std.specs.Prelude.{◌≡◌, ◌∷◌, [], ℕ, Contains, IfErr, IfOk, List, OnOk, Some};
-ghost use Rattle.frame.specs.Given.{Adds, file_of, with_files, with_note, with_text};
+ghost use Rattle.frame.specs.Given.{Adds, file_of, with_files, with_text};
 ghost use Rattle.frame.specs.Outsides.{IsReported, Leaves, StopsIn};
 
 use crate::outside::Outside;
@@ -19,13 +19,6 @@ pub fn write<W: World>(piece: &[u8], world: &mut W) -> Result<(), Outside>
         Ok(()) => Ok(()),
         Err(why) => Err(Outside::Unwritten(why)),
     }
-}
-
-/// Gives the text to the standard error.
-pub fn say<W: World>(text: &[u8], world: &mut W)
-    ensures { Adds (W.run world.old) (W.run world.new) (λ g. with_note g text.now) }
-{
-    world.say(text);
 }
 
 /// Begins a file of these bytes, which gets its name when it is finished.

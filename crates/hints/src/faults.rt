@@ -2,11 +2,11 @@
 
 use crate::damage::hint_on_file;
 use crate::hint::Hint;
-use crate::overheard::Said;
-use program_manners::STANDARD_INPUT;
+use crate::overheard::Overheard;
+use program_manners::{Complaints, Escaping, STANDARD_INPUT};
 use std::alloc::Global;
 use std::fs::Files;
-use std::io::Read;
+use std::io::{IsTerminal, Read, Stderr};
 use std::{fs, io};
 
 /// What a fault line may speak of without its name.
@@ -96,12 +96,21 @@ pub fn hint_on_fault<'a, R: Files>(
     hint_on_layout(rt, alloc, fault)
 }
 
-/// The hint on the fault of a list of files, if one was reported.
-pub fn hint_on_list<'a, R: Files>(rt: &R, alloc: Global, said: &'a Said) -> Option<Hint<'a>> {
-    let none = Named {
+/// Writes what was reported of the words. If they are wrong, a terminal shows what to do about the
+/// fault of a list of files.
+pub fn end_words(rt: &HostRuntime, err: Complaints<Overheard<Escaping<Stderr>>>, are_wrong: bool) {
+    let (escaping, said) = err.into_writer().into_parts();
+    escaping.finish();
+    let named = Named {
         charges: false,
         table: None,
         error: None,
     };
-    hint_on_fault(rt, alloc, said.line()?, none)
+    if are_wrong
+        && rt.stderr().is_terminal()
+        && let Some(line) = said.line()
+        && let Some(hint) = hint_on_fault(rt, rt.alloc(), line, named)
+    {
+        Complaints::new(rt.stderr()).report_line(hint);
+    }
 }

@@ -11,7 +11,7 @@ mod shown;
 mod unwritten;
 
 pub use damage::{damaged, not_uploads};
-pub use faults::{Named, hint_on_fault, hint_on_list};
+pub use faults::{Named, end_words, hint_on_fault};
 pub use hint::Hint;
 pub use kinds::{Kind, kind_of_file};
 pub use overheard::{Overheard, Said};

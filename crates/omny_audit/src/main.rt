@@ -16,12 +16,14 @@ mod text;
 mod traced;
 
 use file_sources::Host;
-use hints::{Named, Overheard, Said, Unwritten, hint_on_fault, hint_on_list};
+use hints::{Named, Overheard, Said, Unwritten, end_words, hint_on_fault};
 use input_words::input_words;
 use made_by::compare;
 use options::{Options, list_words, reads_input};
 use program::main_over;
-use program_manners::{Complaints, Escaping, Output, WriteEnd, take_list, unread_words, words_of};
+use program_manners::{
+    Complaints, Escaping, Output, WriteFault, take_list, unread_words, words_of,
+};
 use std::io;
 use std::io::{IsTerminal, Write};
 use std::process::ExitCode;
@@ -69,8 +71,8 @@ fn compare_made_by<W: Write, E: Write>(
     };
     let mut out = Output::new(out);
     let _ = out.put(text.as_bytes());
-    let _ = out.finish();
-    if out.end() == Some(WriteEnd::Refused) {
+    let _ = out.flush();
+    if out.end() == Some(WriteFault::Refused) {
         err.report_line("fault: cannot write");
     }
     u8::from(!is_same || out.end().is_some())
@@ -153,18 +155,10 @@ fn run(rt: &HostRuntime, words: &[String], mut err: Escaping<io::Stderr>) -> u8 
 fn main(rt: HostRuntime) -> ExitCode {
     let mut complaints = Complaints::new(Overheard::new(Escaping::new(rt.stderr())));
     let words = words_with_list(&rt, &mut complaints);
-    let (err, said) = complaints.into_writer().into_parts();
+    end_words(&rt, complaints, words.is_err());
     let status = match words {
-        Ok(words) => run(&rt, &words, err),
-        Err(status) => {
-            err.finish();
-            if rt.stderr().is_terminal()
-                && let Some(hint) = hint_on_list(&rt, rt.alloc(), &said)
-            {
-                Complaints::new(rt.stderr()).report_line(hint);
-            }
-            status
-        }
+        Ok(words) => run(&rt, &words, Escaping::new(rt.stderr())),
+        Err(status) => status,
     };
     ExitCode::from(status)
 }

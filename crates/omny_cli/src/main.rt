@@ -11,9 +11,9 @@ mod system;
 
 use fare_program::{Complaints, FileWords, Host, Note, Output, list_words, unread_words, words_of};
 use forms::form_of;
-use hints::{Named, Overheard, Said, damaged, hint_on_fault, hint_on_list};
+use hints::{Named, Overheard, Said, damaged, end_words, hint_on_fault};
 use input_words::{INPUT_FILE, with_input_file};
-use program_manners::{Escaping, WriteEnd, take_list};
+use program_manners::{Escaping, WriteFault, take_list};
 use provenance::RunSums;
 use run_progress::{Findings, Hushing, Steps, Ticker, Watched};
 use std::fs;
@@ -40,22 +40,8 @@ fn ticker_for(rt: &HostRuntime, words: &[String], sums: Option<RunSums>) -> Tick
 }
 
 /// The words, with the name of the standard input for `-`, and with the names of the list that they
-/// name. On an error the reason was printed.
-fn words_with_files(rt: &HostRuntime) -> Result<Vec<String>, u8> {
-    let mut err = Complaints::new(Overheard::new(Escaping::new(rt.stderr())));
-    let words = named_words(rt, &mut err);
-    let (escaping, said) = err.into_writer().into_parts();
-    escaping.finish();
-    if words.is_err()
-        && rt.stderr().is_terminal()
-        && let Some(hint) = hint_on_list(rt, rt.alloc(), &said)
-    {
-        Complaints::new(rt.stderr()).report_line(hint);
-    }
-    words
-}
-
-fn named_words<E: Write>(rt: &HostRuntime, err: &mut Complaints<E>) -> Result<Vec<String>, u8> {
+/// name. On an error the reason was reported.
+fn words_with_list<E: Write>(rt: &HostRuntime, err: &mut Complaints<E>) -> Result<Vec<String>, u8> {
     let words = match words_of(rt) {
         Ok(words) => words,
         Err(fault) => return Err(unread_words(&fault, err)),
@@ -156,7 +142,7 @@ fn run<R: Threads + Wait + Clock + RandomSource + Sync + AllocGlobal>(
     drop(out);
     let (overheard, _calls) = err.into_writer().into_writer().into_parts();
     let (escaping, said) = overheard.into_parts();
-    if end == Some(WriteEnd::Closed) {
+    if end == Some(WriteFault::Closed) {
         // who read the text has enough of it
         return status;
     }
@@ -178,7 +164,10 @@ fn run<R: Threads + Wait + Clock + RandomSource + Sync + AllocGlobal>(
 }
 
 fn main(rt: HostRuntime) -> ExitCode {
-    let words = match words_with_files(&rt) {
+    let mut err = Complaints::new(Overheard::new(Escaping::new(rt.stderr())));
+    let words = words_with_list(&rt, &mut err);
+    end_words(&rt, err, words.is_err());
+    let words = match words {
         Ok(words) => words,
         Err(status) => return ExitCode::from(status),
     };

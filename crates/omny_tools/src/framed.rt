@@ -120,19 +120,11 @@ impl<W, E> Counted for Framed<'_, W, E> {
         let read = read_whole(self.rt, name, &mut self.progress, &mut stream);
         self.progress.end();
         match read {
-            Ok(bytes) => {
-                self.system.join(stream.into_trace());
-                Ok(bytes)
-            }
-            Err(why) => match why {
-                // the calls are dropped
-                LoadFault::NoMemory => Err(why),
-                LoadFault::Unread | LoadFault::TooLong => {
-                    self.system.join(stream.into_trace());
-                    Err(why)
-                }
-            },
+            // the calls are dropped
+            Err(LoadFault::NoMemory) => {}
+            _ => self.system.join(stream.into_trace()),
         }
+        read
     }
 }
 

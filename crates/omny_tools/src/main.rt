@@ -10,29 +10,15 @@ mod run;
 mod streams;
 mod whole;
 
-use hints::{Overheard, hint_on_list};
+use hints::{Overheard, end_words};
 use program_manners::{Complaints, Escaping, take_list, unread_words, words_of};
 use run::run;
-use std::io::{IsTerminal, Write};
+use std::io::Write;
 use std::process::ExitCode;
 use tool_words::list_words;
 
-/// The words, with the names of the list that they name. On an error the reason was printed.
-fn words_with_list(rt: &HostRuntime) -> Result<Vec<String>, u8> {
-    let mut err = Complaints::new(Overheard::new(Escaping::new(rt.stderr())));
-    let words = named_words(rt, &mut err);
-    let (escaping, said) = err.into_writer().into_parts();
-    escaping.finish();
-    if words.is_err()
-        && rt.stderr().is_terminal()
-        && let Some(hint) = hint_on_list(rt, rt.alloc(), &said)
-    {
-        Complaints::new(rt.stderr()).report_line(hint);
-    }
-    words
-}
-
-fn named_words<E: Write>(rt: &HostRuntime, err: &mut Complaints<E>) -> Result<Vec<String>, u8> {
+/// The words, with the names of the list that they name. On an error the reason was reported.
+fn words_with_list<E: Write>(rt: &HostRuntime, err: &mut Complaints<E>) -> Result<Vec<String>, u8> {
     let words = match words_of(rt) {
         Ok(words) => words,
         Err(fault) => return Err(unread_words(&fault, err)),
@@ -43,7 +29,10 @@ fn named_words<E: Write>(rt: &HostRuntime, err: &mut Complaints<E>) -> Result<Ve
 }
 
 fn main(rt: HostRuntime) -> ExitCode {
-    let status = match words_with_list(&rt) {
+    let mut err = Complaints::new(Overheard::new(Escaping::new(rt.stderr())));
+    let words = words_with_list(&rt, &mut err);
+    end_words(&rt, err, words.is_err());
+    let status = match words {
         Ok(words) => run(&rt, &rt, &words, &mut Complaints::new(rt.stderr())),
         Err(status) => status,
     };

@@ -3,7 +3,7 @@
 use super::running::{NoDisk, run_over};
 use super::shelf::{Content, Shelf};
 use fare_program::{
-    Disk, FileSource, Host, LOAD_LIMIT_BYTES, LoadFault, Source, load_from, prefetch_files,
+    Disk, FileSource, Host, LOAD_LIMIT_BYTES, LoadFault, Source, prefetch_files,
 };
 use placed_files::{InMemory, Unopened};
 use std::alloc::{AllocError, Global};
@@ -12,7 +12,7 @@ use std::marker::Sync;
 use std::test::Fail;
 use std::thread::Threads;
 use std::{fs, io};
-use world::{Loaded, Trace};
+use world::{Loaded, Trace, load_input};
 
 /// A file for which memory ran out is not reported as one that cannot be read.
 #[test]
@@ -66,10 +66,10 @@ fn loads_up_to_the_limit(rt: HostRuntime) -> Result<(), Fail> {
         (usize::MAX, true, Err(LoadFault::TooLong)),
     ];
     for (left, fails, answer) in rows {
-        let loaded = load_from(alloc, &mut Zeros { left, fails });
+        let loaded = load_input(alloc, &mut Zeros { left, fails }, &mut Trace::new());
         assert_eq!(rt; loaded.map(|bytes| bytes.len()), answer, "of {left}");
     }
-    let loaded = load_from(alloc, &mut b"tap".as_slice())?;
+    let loaded = load_input(alloc, &mut b"tap".as_slice(), &mut Trace::new())?;
     assert_eq!(rt; loaded.as_slice(), b"tap".as_slice());
     Ok(())
 }

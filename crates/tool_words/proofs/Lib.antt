@@ -1,4 +1,3 @@
 pub mod Columns
 pub mod Entered
-pub mod Locals
 pub mod Rows

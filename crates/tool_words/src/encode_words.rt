@@ -23,16 +23,6 @@ const WRONG_COLUMNS: &str =
 
 const WRONG_EXPORT: &str = "error: encode --from is littlepay or tides";
 
-const WRONG_SEPARATOR: &str = "error: --separator is one byte, not a quote, or tab";
-
-const WRONG_UNIT: &str = "error: --unit is s, ms or us";
-
-const WRONG_FOLD: &str = "error: --fold is first or second, beside --zone";
-
-const WRONG_ONLY: &str = "error: --only needs COLUMN=VALUE";
-
-const WRONG_DROP: &str = "error: --drop needs COLUMN=VALUE";
-
 /// `--from littlepay` is short for these columns, with conditions.
 const LITTLEPAY: &str = "token=customer_id,validator=device_id,moment=transaction_date_time_utc";
 
@@ -305,19 +295,19 @@ pub(crate) fn rows_task<'a>(alloc: Global, matches: &ArgMatches<'a>) -> Result<T
         }));
     };
     let Some(separator) = separator_in(value_in(matches, "separator").unwrap_or(",")) else {
-        return Ok(Task::UsageError(WRONG_SEPARATOR));
+        return Ok(Task::UsageError("error: --separator is one byte, not a quote, or tab"));
     };
     let Some(unit) = unit_in(value_in(matches, "unit")) else {
-        return Ok(Task::UsageError(WRONG_UNIT));
+        return Ok(Task::UsageError("error: --unit is s, ms or us"));
     };
     let Some(fold) = fold_in(has_value(matches, "zone"), value_in(matches, "fold")) else {
-        return Ok(Task::UsageError(WRONG_FOLD));
+        return Ok(Task::UsageError("error: --fold is first or second, beside --zone"));
     };
     let Some(only) = only else {
-        return Ok(Task::UsageError(WRONG_ONLY));
+        return Ok(Task::UsageError("error: --only needs COLUMN=VALUE"));
     };
     let Some(without) = without else {
-        return Ok(Task::UsageError(WRONG_DROP));
+        return Ok(Task::UsageError("error: --drop needs COLUMN=VALUE"));
     };
     if reads_input_twice(alloc, matches)? {
         return Ok(Task::UsageError(INPUT_TWICE));

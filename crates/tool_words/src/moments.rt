@@ -12,20 +12,16 @@ const WRONG_UNTIL: &str = "error: --until needs a moment, as 2026-03-01T00:00:00
 
 const WRONG_ORDER: &str = "error: --until needs a moment after --from";
 
-#[derive(Clone, Copy)]
-pub(crate) struct NoMoment;
-
-/// The moment that is given under this name, if one is.
+/// The moment that is given under this name, if one is. If it is none, the error is this line.
 pub(crate) fn moment_given(
     matches: &ArgMatches<'_>,
     name: &str,
-) -> Result<Option<Timestamp>, NoMoment> {
-    let Some(text) = value_in(matches, name) else {
-        return Ok(None);
-    };
-    match text.parse::<Timestamp>() {
-        Ok(moment) => Ok(Some(moment)),
-        Err(_) => Err(NoMoment),
+    wrong: &'static str,
+) -> Result<Option<Timestamp>, &'static str> {
+    match value_in(matches, name).map(|text| text.parse::<Timestamp>()) {
+        None => Ok(None),
+        Some(Ok(moment)) => Ok(Some(moment)),
+        Some(Err(_)) => Err(wrong),
     }
 }
 
@@ -37,27 +33,15 @@ fn milliseconds_of(moment: Timestamp) -> u64 {
     }
 }
 
-fn milliseconds_given(
-    matches: &ArgMatches<'_>,
-    name: &str,
-    usage_error: &'static str,
-) -> Result<Option<u64>, &'static str> {
-    match moment_given(matches, name) {
-        Ok(Some(moment)) => Ok(Some(milliseconds_of(moment))),
-        Ok(None) => Ok(None),
-        Err(NoMoment) => Err(usage_error),
-    }
-}
-
 /// The first and the last moment that are looked at, where given.
 pub(crate) fn span_given(
     matches: &ArgMatches<'_>,
 ) -> Result<(Option<u64>, Option<u64>), &'static str> {
-    let first = milliseconds_given(matches, "from", WRONG_FROM)?;
-    let trailing = milliseconds_given(matches, "until", WRONG_UNTIL)?;
-    let Some(trailing) = trailing else {
+    let first = moment_given(matches, "from", WRONG_FROM)?.map(milliseconds_of);
+    let Some(trailing) = moment_given(matches, "until", WRONG_UNTIL)? else {
         return Ok((first, None));
     };
+    let trailing = milliseconds_of(trailing);
     if trailing <= first.unwrap_or(0) {
         return Err(WRONG_ORDER);
     }

@@ -1,6 +1,6 @@
 //! What is given to a subcommand.
 ghost use Rattle.clap.specs.Words.{found_of, rows_of};
-ghost use Rattle.std.specs.{List.list_any, Prelude.◌≡◌, Prelude.◌≤◌, Prelude.IfOk, Prelude.map};
+ghost use Rattle.std.specs.{List.list_any, Prelude.◌≡◌, Prelude.IfOk, Prelude.map};
 ghost use Rattle.tool_words.specs.Request.{has_input_twice, inputs_in, is_input, names_input};
 ghost use Rattle.tool_words.specs.ToolLine.{has_value};
 
@@ -11,8 +11,6 @@ use std::alloc::{AllocError, Global};
 const INPUT_WORD: &str = "-";
 
 pub(crate) const INPUT_TWICE: &str = "error: - can be named only once";
-
-const MAX_PARTS: u32 = 65_536;
 
 /// Whether the word represents standard input.
 pub fn is_input(word: &str) -> bool
@@ -48,20 +46,6 @@ pub(crate) fn has_any(matches: &ArgMatches<'_>, names: &[&str]) -> bool
 
 pub(crate) fn number_in(matches: &ArgMatches<'_>, name: &str, default: u32) -> u32 {
     matches.get_one(name).unwrap_or(default)
-}
-
-/// The nearest number from 1 to `MAX_PARTS`.
-pub(crate) fn as_parts(number: u32) -> u32
-    ensures some { 1 ≤ result }
-    ensures few { result ≤ 65536 }
-{
-    if number < 1 {
-        return 1;
-    }
-    if number > MAX_PARTS {
-        return MAX_PARTS;
-    }
-    number
 }
 
 fn names_input(alloc: Global, matches: &ArgMatches<'_>, name: &str) -> Result<bool, AllocError>

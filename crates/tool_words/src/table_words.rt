@@ -7,34 +7,18 @@ use crate::moments::{WRONG_FROM, moment_given};
 use crate::reading::{INPUT_TWICE, has_value, inputs_in, is_input};
 use crate::task::{TableQuestion, Task};
 use clap::ArgMatches;
-use program_manners::{WrongWord, flag_in, names_in, value_in};
+use program_manners::{flag_in, names_in, value_in};
 use std::alloc::{AllocError, Global};
 
 const TABLES_AS_SQL: &str = "error: --table cannot be used with --sql";
 
-/// The tables of these words, or the first wrong date of one.
-fn later_tables<'a>(
-    alloc: Global,
-    words: &[&'a str],
-) -> Result<Result<Vec<LaterTable<'a>>, WrongWord<'a>>, AllocError> {
-    let mut tables = Vec::new(alloc);
-    for word in words {
-        match LaterTable::of(word) {
-            Ok(table) => tables.push(table)?,
-            Err(wrong) => return Ok(Err(wrong)),
-        }
-    }
-    Ok(Ok(tables))
-}
-
 /// Whether a later table is standard input, and so is another text.
 fn has_later_twice(question: &TableQuestion<'_>) -> bool {
-    let mut later = 0usize;
-    for table in &question.later {
-        if is_input(table.file()) {
-            later = later.saturating_add(1);
-        }
-    }
+    let later = question
+        .later
+        .iter()
+        .filter(|table| is_input(table.file()))
+        .count();
     let others = is_input(question.table) || inputs_in(&question.uploads) > 0;
     later > 1 || (later > 0 && others)
 }
@@ -47,17 +31,20 @@ pub(crate) fn table_task<'a>(
 {
     let words = names_in(alloc, matches, "table")?;
     let uploads = names_in(alloc, matches, "UPLOAD")?;
-    let Ok(from) = moment_given(matches, "from") else {
+    let Ok(from) = moment_given(matches, "from", WRONG_FROM) else {
         return Ok(Task::Unshown(WRONG_FROM));
     };
     let is_sql = flag_in(matches, "sql");
     if is_sql && has_value(matches, "table") {
         return Ok(Task::Unshown(TABLES_AS_SQL));
     }
-    let later = match later_tables(alloc, &words)? {
-        Ok(later) => later,
-        Err(wrong) => return Ok(Task::WrongDate(wrong)),
-    };
+    let mut later = Vec::new(alloc);
+    for word in &words {
+        match LaterTable::of(word) {
+            Ok(table) => later.push(table)?,
+            Err(wrong) => return Ok(Task::WrongDate(wrong)),
+        }
+    }
     let question = TableQuestion {
         table: value_in(matches, "F").unwrap_or("-"),
         later,

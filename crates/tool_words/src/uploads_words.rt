@@ -10,8 +10,6 @@ use clap::ArgMatches;
 use program_manners::{flag_in, names_in, value_in};
 use std::alloc::{AllocError, Global};
 
-const NOT_ONE_UPLOAD: &str = "error: --good-part needs one FILE";
-
 /// How many seconds at most a near duplicate is later than the tap before it, if none are given.
 const WITHIN_SECONDS: u32 = 5;
 
@@ -19,7 +17,7 @@ pub(crate) fn valid_prefix_task<'a>(out: &'a str, has_tokens: bool, words: &[&'a
     ensures { request_of result ≡ valid_prefix_request out.entry.now has_tokens (texts_of words.now) }
 {
     if words.len() != 1 {
-        return Task::UsageError(NOT_ONE_UPLOAD);
+        return Task::UsageError("error: --good-part needs one FILE");
     }
     Task::ValidPrefix(ValidPrefixWords {
         upload: words[0],

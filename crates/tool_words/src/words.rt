@@ -13,7 +13,7 @@ ghost use Rattle.tool_words.specs.ToolLine.{AsksForText, Parses, entered, named,
 use crate::encode_words::{files_in, rows_task};
 use crate::program::command;
 use crate::reading::{
-    INPUT_TWICE, as_parts, has_any, has_input_twice, has_value, inputs_in, is_input, number_in,
+    INPUT_TWICE, has_any, has_input_twice, has_value, inputs_in, is_input, number_in,
 };
 use crate::rules::{breaks_rule, looks};
 use crate::table_words::table_task;
@@ -24,23 +24,7 @@ use clap::{ArgMatches, Error};
 use program_manners::{flag_in, names_in, value_in};
 use std::alloc::{AllocError, Global};
 
-const COLUMNS_TWICE: &str = "error: --columns cannot be used with --from";
-
-const NO_COLUMNS: &str = "error: --only, --separator and --refused need --columns";
-
-const NO_COLUMNS_FOR_VALIDATORS: &str = "error: --validators needs --columns";
-
-const NO_COLUMNS_FOR_UNIT: &str = "error: --unit needs --columns";
-
-const NO_COLUMNS_FOR_OTHERS: &str =
-    "error: --drop, --count, --token-hash, --token-key, --zone, --fold need --columns";
-
-const NO_COLUMNS_FOR_FILES: &str =
-    "error: --moment-format, --validators-make, --out, several FILEs need --columns";
-
-const INPUT_MERGED: &str = "error: --merge reads files, and - is none";
-
-const INPUT_SAMPLED: &str = "error: bounds reads files, and - is none";
+const MAX_PARTS: u32 = 65_536;
 
 /// Of a tap table, unless the words are of the rows of an agency's CSV.
 fn table_rows_task<'a>(matches: &ArgMatches<'a>, has_files: bool) -> Task<'a>
@@ -49,21 +33,25 @@ fn table_rows_task<'a>(matches: &ArgMatches<'a>, has_files: bool) -> Task<'a>
     ensures { request_of result ≡ table_request (rows_of (found_of matches.now)) }
 {
     if has_any(matches, &["only", "separator", "refused"]) {
-        return Task::UsageError(NO_COLUMNS);
+        return Task::UsageError("error: --only, --separator and --refused need --columns");
     }
     if has_value(matches, "validators") {
-        return Task::UsageError(NO_COLUMNS_FOR_VALIDATORS);
+        return Task::UsageError("error: --validators needs --columns");
     }
     if has_value(matches, "unit") {
-        return Task::UsageError(NO_COLUMNS_FOR_UNIT);
+        return Task::UsageError("error: --unit needs --columns");
     }
     if flag_in(matches, "token-hash")
         || has_any(matches, &["drop", "count", "token-key", "zone", "fold"])
     {
-        return Task::UsageError(NO_COLUMNS_FOR_OTHERS);
+        return Task::UsageError(
+            "error: --drop, --count, --token-hash, --token-key, --zone, --fold need --columns",
+        );
     }
     if has_files || has_any(matches, &["moment-format", "validators-make", "out"]) {
-        return Task::UsageError(NO_COLUMNS_FOR_FILES);
+        return Task::UsageError(
+            "error: --moment-format, --validators-make, --out, several FILEs need --columns",
+        );
     }
     Task::Encode(value_in(matches, "FILE").unwrap_or("-"))
 }
@@ -73,7 +61,7 @@ fn encode_task<'a>(alloc: Global, matches: &ArgMatches<'a>) -> Result<Task<'a>, 
     ensures { IfOk result (λ task. request_of task ≡ encode_request (rows_of (found_of matches.now))) }
 {
     if has_value(matches, "columns") && has_value(matches, "from") {
-        return Ok(Task::UsageError(COLUMNS_TWICE));
+        return Ok(Task::UsageError("error: --columns cannot be used with --from"));
     }
     if has_value(matches, "columns") || has_value(matches, "from") {
         return rows_task(alloc, matches);
@@ -104,7 +92,7 @@ fn sort_task<'a>(alloc: Global, matches: &ArgMatches<'a>) -> Result<Task<'a>, Al
     let uploads = names_in(alloc, matches, "UPLOAD")?;
     let inputs = inputs_in(&uploads);
     if inputs > 0 && is_merge {
-        return Ok(Task::UsageError(INPUT_MERGED));
+        return Ok(Task::UsageError("error: --merge reads files, and - is none"));
     }
     if inputs > 1 {
         return Ok(Task::UsageError(INPUT_TWICE));
@@ -130,10 +118,10 @@ fn merge_task<'a>(parts: Vec<&'a str>) -> Task<'a>
 fn bounds_task<'a>(alloc: Global, matches: &ArgMatches<'a>) -> Result<Task<'a>, AllocError>
     ensures { IfOk result (λ task. request_of task ≡ shows) }
 {
-    let parts = as_parts(number_in(matches, "parts", 1));
+    let parts = number_in(matches, "parts", 1).max(1).min(MAX_PARTS);
     let uploads = names_in(alloc, matches, "FILE")?;
     if inputs_in(&uploads) > 0 {
-        return Ok(Task::Unshown(INPUT_SAMPLED));
+        return Ok(Task::Unshown("error: bounds reads files, and - is none"));
     }
     Ok(Task::Bounds(BoundsWords { parts, uploads }))
 }

@@ -1,11 +1,11 @@
 -- Faults: what private functions alone cite.
 use Rattle.std.specs.Prelude.{◌<◌, ℕ, Bool, Err, None, Ok, Option, Result}
 use Rattle.fare_service.specs.Faults.{IsForMemory}
-use Rattle.program_manners.specs.declared.output.WriteEnd.{WriteEnd}
 use Rattle.fare_texts.specs.declared.print_fault.PrintFault.{PrintFault}
 use Rattle.fare_texts.specs.declared.print_fault.PrintFault.TheVariants as print
 use Rattle.fare_program.specs.declared.fault.Fault.{Fault}
 use Rattle.fare_program.specs.declared.fault.Fault.TheVariants.{Gather, NoMemory, Uploads, Write}
+use Rattle.world.specs.declared.faults.WriteFault.{WriteFault}
 
 -- why a text was not printed
 abbrev pub printed_as : PrintFault → Fault
@@ -19,7 +19,7 @@ ended_as (Err fault) success = Err (printed_as fault)
 
 -- What is reported of a fault of the output that remembers this of its writes: if it remembers none
 -- that failed, a write is reported as refused memory.
-abbrev pub as_remembered : Option WriteEnd → Fault → Fault
+abbrev pub as_remembered : Option WriteFault → Fault → Fault
 as_remembered None Write = NoMemory
 as_remembered end fault = fault
 

@@ -9,9 +9,10 @@ use Rattle.fare_program.specs.{Program.Does, declared.fault.Fault.Fault}
 use Rattle.fare_program.specs.declared.fault.Fault.TheVariants.{Late, NoMemory, Write}
 use Rattle.fare_program.specs.inside.{Ends.Stops, Fault.as_remembered, Options.request_of}
 use Rattle.fare_texts.proofs.Beginnings.{begins_whole}
-use Rattle.program_manners.specs.{Words.IsRequest, declared.output.WriteEnd.WriteEnd}
+use Rattle.program_manners.specs.Words.{IsRequest}
 use Rattle.std.proofs.KnownBytes.{Appends-kept, Keeps-refl}
 use Rattle.std.specs.Prelude.{◌≢◌, ◌⊎◌, string_bytes}
+use Rattle.world.specs.declared.faults.WriteFault.{WriteFault}
 use Rattle.fare_program.proofs.program.main_over.Goals as goal
 
 -- what follows of the kind of an error of words
@@ -51,20 +52,17 @@ ends_by words did status workers shards request is parses ends = inl (record {
 
 -- ---- what is reported of a fault
 -- a write is reported only if one that failed is remembered
-write_remembered : (end : Option WriteEnd) (fault : Fault) → as_remembered end fault ≡ Write
+write_remembered : (end : Option WriteFault) (fault : Fault) → as_remembered end fault ≡ Write
     → end ≢ None
 write_remembered (Some why) fault write none = cc
 write_remembered None Write write none = cc
 write_remembered None fault write none = cc
 
-some_end : (end : Option WriteEnd) (why : WriteEnd) → end ≡ Some why → end ≢ None
-some_end end why is none = cc
-
 module _ (request : Request) (did : Did) where
   abbrev RightFault : Fault → Type 0
   RightFault fault = IsRightFault request did.under did.loaded did.loaded' did.refused fault
 
-  right_remembered : (end : Option WriteEnd) (fault : Fault) → RightFault fault
+  right_remembered : (end : Option WriteFault) (fault : Fault) → RightFault fault
       → RightFault (as_remembered end fault)
   right_remembered (Some why) fault right = right
   right_remembered None Write right = tt
@@ -80,7 +78,7 @@ module _ (request : Request) (did : Did) where
   left_by (Late why) stops = tt
   left_by _ stops = stops
 
-  left_remembered : (end : Option WriteEnd) (fault : Fault)
+  left_remembered : (end : Option WriteFault) (fault : Fault)
       → Stops Requested did.out did.out' fault → Leaves request did (as_remembered end fault)
   left_remembered (Some why) fault stops = left_by fault stops
   left_remembered None Write stops = inr stops
@@ -110,7 +108,7 @@ returns-in-Err-show_answer g c =
       asks_for (map string_bytes c.args.words.now) (kind_of c.in-Err.error) c.in-Err.ensures.kinds
           asks,
       rw (← quiet) c.report.ensures.line,
-      λ none. cc,
+      ended,
     )))
 
 -- ---- a usage error
@@ -139,15 +137,15 @@ returns-in-Err-work g c =
     })))
 
 -- the whole text was written, and was flushed
-pub returns-in-Ok-finish : goal.returns-in-Ok-finish
-returns-in-Ok-finish g c =
+pub returns-in-Ok-flush : goal.returns-in-Ok-flush
+returns-in-Ok-flush g c =
     let (text, does, written) = c.in-Ok-work.ensures.ends in
     ends_by _ _ _ _ _ _ c.in-Ok.ensures.request c.in-Ok.ensures.kinds (record {
       usable = c.in-Ok-checked.ensures.usable;
       text = text;
       does = rw c.if-succeeded.true at does;
-      written = Appends-kept _ _ _ text written c.finish.ensures.kept;
-      flushed = c.in-Ok-finish.ensures.flushed;
+      written = Appends-kept _ _ _ text written c.flush.ensures.bytes;
+      flushed = c.in-Ok-flush.ensures.flushed;
       quiet = Keeps-refl _;
     })
 
@@ -158,7 +156,7 @@ returns-in-Ok-2 g c =
       usable = c.in-Ok-checked.ensures.usable;
       text = text;
       does = rw c.if-succeeded.false at does;
-      written = Appends-kept _ _ _ text written c.finish.ensures.kept;
+      written = Appends-kept _ _ _ text written c.flush.ensures.bytes;
       flushed = c.in-Ok-2.ensures.flushed;
       quiet = Keeps-refl _;
     }))
@@ -167,16 +165,16 @@ returns-in-Ok-2 g c =
 pub returns : goal.returns
 returns g c =
     let (text, does, written) = c.in-Ok-work.ensures.ends in
-    rw c.report-in-Err-finish.ensures.status
+    rw c.report-in-Err-flush.ensures.status
     (ends_by _ _ _ _ _ _ c.in-Ok.ensures.request c.in-Ok.ensures.kinds (inr (record {
       fault = Write;
       usable = c.in-Ok-checked.ensures.usable;
       right = tt;
-      line_reported = c.report-in-Err-finish.ensures.line;
-      write_failed = λ write. some_end _ _ c.in-Err-finish.ensures.noted;
+      line_reported = c.report-in-Err-flush.ensures.line;
+      write_failed = λ write. c.in-Err-flush.ensures.noted;
       left = (
         text,
         (λ given. (c.in-Ok-work.succeeded, does)),
-        begins_whole _ _ text (Appends-kept _ _ _ text written c.finish.ensures.kept),
+        begins_whole _ _ text (Appends-kept _ _ _ text written c.flush.ensures.bytes),
       );
     })))
