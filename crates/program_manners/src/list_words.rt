@@ -12,7 +12,6 @@ use std::fs::Files;
 use std::io::{Input, Write};
 use world::{LoadFault, Trace, load_input};
 
-/// The word that represents standard input.
 const INPUT_WORD: &str = "-";
 
 /// What the words say of a list of files.

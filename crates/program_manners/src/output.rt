@@ -79,7 +79,6 @@ impl<W: Write> Write for Output<W> {
     fn flush(&mut self) -> io::Result<()>
         ensures bytes { Keeps (W.contents self.old.writer) (W.contents self.new.writer) }
         ensures success { OnOk result (self.new.end ≡ self.old.end) }
-        // Only a flush that succeeds leaves the output flushed.
         ensures flushed { OnOk result (self.new.is_flushed ≡ true) }
         ensures noted { OnErr result (self.new.end ≢ None) }
     {
