@@ -2,8 +2,8 @@
 
 ghost use Rattle.settlement.specs.inside.Taken.{HasValidTokens, IsUploadKept, IsUploadTaken, end_at};
 ghost use Rattle.settlement.specs.inside.Taken.{used_in};
-ghost use Rattle.std.specs.Prelude.{◌≡◌, ◌+◌, ◌-◌, ◌≤◌, ◌++◌, ℕ, List, [], IfOk, OnOk, drop, length};
-ghost use Rattle.std.specs.Prelude.{take, vec_len};
+ghost use Rattle.std.specs.Prelude.{◌≡◌, ◌+◌, ◌-◌, ◌<◌, ◌≤◌, ◌++◌, ℕ, List, [], IfOk, OnOk, drop};
+ghost use Rattle.std.specs.Prelude.{length, take, vec_len};
 ghost use Rattle.tap_views.specs.{Layout.Tap, UploadEnds.taps_of_end};
 ghost use Rattle.world.specs.Origins.{Origin};
 
@@ -19,7 +19,7 @@ fn make_room(room: &mut Vec<u8>, have: usize) -> Result<(), AllocError>
     requires len { have ≤ vec_len room.old }
     requires short { have ≤ LOAD_LIMIT_BYTES }
     ensures kept { OnOk result (take have room.new.items ≡ take have room.old.items) }
-    ensures len { OnOk result (have ≤ vec_len room.new) }
+    ensures len { OnOk result (have < vec_len room.new) }
 {
     if room.len() - have < PIECE_BYTES {
         room.resize(have + PIECE_BYTES, 0)?;

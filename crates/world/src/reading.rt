@@ -5,17 +5,17 @@ use crate::trace::Trace;
 
 /// Bytes that are read in pieces, from their start on.
 pub trait Reading {
-    ghost use Rattle.std.specs.Prelude.{◌≡◌, ◌+◌, ◌≤◌, ◌++◌, ℕ, List, IfOk, OnOk, take, drop};
-    ghost use Rattle.std.specs.Prelude.{vec_len};
+    ghost use Rattle.std.specs.Prelude.{◌≡◌, ◌+◌, ◌<◌, ◌≤◌, ◌++◌, ℕ, List, IfOk, OnOk, take};
+    ghost use Rattle.std.specs.Prelude.{drop, vec_len};
     ghost use Rattle.world.specs.Origins.{IsProvided, Origin};
 
     // The reads gave these bytes of what comes from there, from its start on.
     ghost has_read: { Self → Origin → List ℕ → Type 0 };
 
     /// Reads the next bytes into the room, after its first `from` bytes. Returns how many there are:
-    /// none at the end, and none if the room has no more.
+    /// none at the end alone.
     fn read_on(&mut self, room: &mut Vec<u8>, from: usize) -> Result<usize, LoadFault>
-        requires { from ≤ vec_len room.old }
+        requires { from < vec_len room.old }
         ensures kept { OnOk result (take from room.new.items ≡ take from room.old.items) }
         ensures bound { IfOk result (λ count. from + count ≤ vec_len room.new) }
         ensures read { IfOk result (λ count. (origin : Origin) (bytes : List ℕ)

@@ -1,5 +1,5 @@
 //! A file or standard input that is read in pieces, each read recorded.
-ghost use Rattle.std.specs.Prelude.{◌≡◌, ◌+◌, ◌≤◌, IfSome, take, vec_len};
+ghost use Rattle.std.specs.Prelude.{◌≡◌, ◌+◌, ◌<◌, ◌≤◌, IfSome, take, vec_len};
 
 use crate::faults::LoadFault;
 use crate::reading::Reading;
@@ -20,7 +20,7 @@ enum Opened {
 impl Opened {
     /// Reads once after the first `from` bytes, and again after a signal. None if the read failed.
     fn read(&mut self, room: &mut Vec<u8>, from: usize) -> Option<usize>
-        requires { from ≤ vec_len room.old }
+        requires { from < vec_len room.old }
         ensures kept { take from room.new.items ≡ take from room.old.items }
         ensures bound { IfSome result (λ count. from + count ≤ vec_len room.new) }
     {
@@ -114,10 +114,9 @@ impl Stream {
         Ok(())
     }
 
-    /// Reads the next bytes after the first `from` of the room: none at the end alone, if there is
-    /// room for more.
+    /// Reads the next bytes into the room, after its first `from` bytes: none at the end alone.
     fn read_after(&mut self, room: &mut Vec<u8>, from: usize) -> Result<usize, LoadFault>
-        requires { from ≤ vec_len room.old }
+        requires { from < vec_len room.old }
         ensures kept { take from room.new.items ≡ take from room.old.items }
         ensures bound { IfOk result (λ count. from + count ≤ vec_len room.new) }
         ensures read { IfOk result (λ count. (name : Option (List ℕ)) (bytes : List ℕ)
