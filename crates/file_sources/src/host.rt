@@ -8,14 +8,14 @@ use program_manners::{FileSource, LOAD_LIMIT_BYTES, LoadFault, RecordedLoads, op
 use std::alloc::{AllocError, Global};
 use std::fs;
 use std::fs::{File, Files};
-use world::{Loaded, Stream, Trace, load_apart, load_into};
+use world::{FileStream, Loaded, Trace, load_apart, load_into};
 
 impl Disk for HostRuntime {
     ghost use Rattle.world.specs.Origins.{file};
 
     type File = File;
 
-    type Stream = Stream;
+    type Stream = FileStream;
 
     ghost origin = { λ _ name. file name };
 
@@ -58,10 +58,8 @@ impl Disk for HostRuntime {
         load_into(self, name, room, calls)
     }
 
-    fn open_stream(&self, name: &str) -> Result<Stream, LoadFault> {
-        let mut stream = Stream::new();
-        stream.open(self, Some(name))?;
-        Ok(stream)
+    fn open_stream(&self, name: &str) -> Result<FileStream, LoadFault> {
+        FileStream::open(self, name)
     }
 }
 

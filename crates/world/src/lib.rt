@@ -40,7 +40,7 @@ pub use files::{LOAD_LIMIT_BYTES, load_file, load_input, load_into};
 pub use ghost_bytes::GhostBytes;
 pub use loaded::{Loaded, load_apart};
 pub use new_file::{NewFile, folder_of};
-pub use reading::{MemoryStream, Reading};
+pub use reading::{FileStream, MemoryStream, Reading};
 pub use recorded::Recorded;
 pub use stream::Stream;
 pub use system::System;

@@ -1,7 +1,12 @@
 //! Bytes that are read in pieces, of a file or in memory.
 
+ghost use Rattle.std.specs.Prelude.{◌≡◌, ◌+◌, ◌<◌, ◌≤◌, IfSome, take, vec_len};
+
 use crate::faults::LoadFault;
 use crate::trace::Trace;
+use std::fs;
+use std::fs::File;
+use std::io::{ErrorKind, Read};
 
 /// Bytes that are read in pieces, from their start on.
 pub trait Reading {
@@ -26,6 +31,81 @@ pub trait Reading {
     fn close(self, calls: &mut Trace) -> Result<(), LoadFault>
         ensures { OnOk result ((origin : Origin) (bytes : List ℕ) → has_read self origin bytes
             → IsProvided origin calls.old.run calls.new.run bytes) };
+}
+
+/// A file of the system that is read in pieces, each read recorded.
+#[derive(Drop)]
+pub struct FileStream {
+    /// None after its end.
+    file: Option<File>,
+    trace: Trace,
+}
+
+impl FileStream {
+    ghost use Rattle.std.specs.Prelude.{[], IfOk};
+    ghost use Rattle.world.specs.Streams.{HasReadFile};
+
+    /// The file of this name, to be read from its start on.
+    pub fn open(rt: &HostRuntime, name: &str) -> Result<FileStream, LoadFault>
+        ensures { IfOk result (λ stream. HasReadFile stream name.now []) }
+    {
+        let Ok(file) = fs::open(rt, name) else {
+            return Err(LoadFault::Unread);
+        };
+        let mut trace = Trace::new();
+        trace.opened(name);
+        Ok(FileStream {
+            file: Some(file),
+            trace,
+        })
+    }
+}
+
+/// Reads once after the first `from` bytes, and again after a signal. None if the read failed.
+fn read_once(file: &mut File, room: &mut Vec<u8>, from: usize) -> Option<usize>
+    requires { from < vec_len room.old }
+    ensures kept { take from room.new.items ≡ take from room.old.items }
+    ensures bound { IfSome result (λ count. from + count ≤ vec_len room.new) }
+{
+    for _ in 0..u64::MAX {
+        match file.read(&mut room[from..]) {
+            Ok(count) => return Some(count),
+            Err(error) if error.kind() == ErrorKind::Interrupted => {}
+            Err(_) => return None,
+        }
+    }
+    None
+}
+
+impl Reading for FileStream {
+    ghost use Rattle.std.specs.Prelude.{◌≡◌, ℕ, List};
+    ghost use Rattle.world.specs.{Origins.file, Streams.HasReadFile};
+
+    ghost has_read = { λ stream origin bytes. (name : List ℕ) × (origin ≡ file name)
+        × HasReadFile stream name bytes };
+
+    fn read_on(&mut self, room: &mut Vec<u8>, from: usize) -> Result<usize, LoadFault> {
+        let Some(opened) = &mut self.file else {
+            return Ok(0);
+        };
+        let Some(count) = read_once(opened, room, from) else {
+            return Err(LoadFault::Unread);
+        };
+        self.trace.read(room, from, count);
+        if count == 0 {
+            self.file = None;
+        }
+        Ok(count)
+    }
+
+    fn close(self, calls: &mut Trace) -> Result<(), LoadFault> {
+        let FileStream { file, trace } = self;
+        if file.is_some() {
+            return Err(LoadFault::Unread);
+        }
+        calls.join(trace);
+        Ok(())
+    }
 }
 
 /// Bytes in memory that are read in pieces.

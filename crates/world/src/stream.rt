@@ -1,8 +1,7 @@
 //! A file or standard input that is read in pieces, each read recorded.
-ghost use Rattle.std.specs.Prelude.{◌≡◌, ◌+◌, ◌<◌, ◌≤◌, IfSome, take, vec_len};
+ghost use Rattle.std.specs.Prelude.{◌≡◌, ◌≤◌, IfSome, vec_len};
 
 use crate::faults::LoadFault;
-use crate::reading::Reading;
 use crate::trace::Trace;
 use std::fs;
 use std::fs::File;
@@ -18,16 +17,15 @@ enum Opened {
 }
 
 impl Opened {
-    /// Reads once after the first `from` bytes, and again after a signal. None if the read failed.
-    fn read(&mut self, room: &mut Vec<u8>, from: usize) -> Option<usize>
-        requires { from < vec_len room.old }
-        ensures kept { take from room.new.items ≡ take from room.old.items }
-        ensures bound { IfSome result (λ count. from + count ≤ vec_len room.new) }
+    /// Reads once, and again after a signal. None if the read failed.
+    fn read(&mut self, piece: &mut Vec<u8>) -> Option<usize>
+        ensures len { vec_len piece.new ≡ vec_len piece.old }
+        ensures bound { IfSome result (λ count. count ≤ vec_len piece.new) }
     {
         for _ in 0..u64::MAX {
             let read = match self {
-                Opened::File(file) => file.read(&mut room[from..]),
-                Opened::Input(input) => input.read(&mut room[from..]),
+                Opened::File(file) => file.read(piece.as_mut_slice()),
+                Opened::Input(input) => input.read(piece.as_mut_slice()),
             };
             match read {
                 Ok(count) => return Some(count),
@@ -49,8 +47,8 @@ pub struct Stream {
 }
 
 impl Stream {
-    ghost use Rattle.std.specs.Prelude.{◌≡◌, ◌≢◌, ◌+◌, ◌≤◌, ◌++◌, ℕ, IfErr, IfOk, List, None};
-    ghost use Rattle.std.specs.Prelude.{OnOk, Option, [], drop, option_map, take, vec_len};
+    ghost use Rattle.std.specs.Prelude.{◌≡◌, ◌≢◌, ◌++◌, ℕ, IfErr, List, None, OnOk, Option};
+    ghost use Rattle.std.specs.Prelude.{[], option_map};
     ghost use Rattle.world.specs.Loads.{IsRefused};
     ghost use Rattle.world.specs.Run.{no_calls};
     ghost use Rattle.world.specs.Streams.{HasRead};
@@ -104,43 +102,23 @@ impl Stream {
             × IsRefused self.old.trace.run self.new.trace.run name why) }
         ensures short { IfErr result (λ why. why ≢ LoadFault.TooLong) }
     {
-        if self.from.is_none() {
+        let Some(from) = &mut self.from else {
             piece.clear();
             return Ok(());
-        }
-        piece.resize(PIECE_BYTES, 0)?;
-        let count = self.read_after(piece, 0)?;
-        piece.truncate(count);
-        Ok(())
-    }
-
-    /// Reads the next bytes into the room, after its first `from` bytes: none at the end alone.
-    fn read_after(&mut self, room: &mut Vec<u8>, from: usize) -> Result<usize, LoadFault>
-        requires { from < vec_len room.old }
-        ensures kept { take from room.new.items ≡ take from room.old.items }
-        ensures bound { IfOk result (λ count. from + count ≤ vec_len room.new) }
-        ensures read { IfOk result (λ count. (name : Option (List ℕ)) (bytes : List ℕ)
-            → HasRead self.old name bytes
-            → HasRead self.new name (bytes ++ take count (drop from room.new.items))) }
-        ensures whole { IfOk result (λ count. count ≡ 0 → self.new.from ≡ None) }
-        ensures unread { IfErr result (λ why. (name : Option (List ℕ)) (bytes : List ℕ)
-            → HasRead self.old name bytes
-            → (self.new.trace.reading ≡ record { name = name; bytes = bytes })
-            × IsRefused self.old.trace.run self.new.trace.run name why) }
-        ensures short { IfErr result (λ why. why ≢ LoadFault.TooLong) }
-    {
-        let Some(opened) = &mut self.from else {
-            return Ok(0);
         };
-        let Some(count) = opened.read(room, from) else {
+        piece.resize(PIECE_BYTES, 0)?;
+        let Some(count) = from.read(piece) else {
             self.trace.unread();
             return Err(LoadFault::Unread);
         };
-        self.trace.read(room, from, count);
+        self.trace.read(piece, 0, count);
         if count == 0 {
             self.from = None;
+            piece.clear();
+            return Ok(());
         }
-        Ok(count)
+        piece.truncate(count);
+        Ok(())
     }
 
     /// The calls, to be joined to those of a run.
@@ -150,26 +128,5 @@ impl Stream {
         let Stream { from, trace } = self;
         let _ = from;
         trace
-    }
-}
-
-impl Reading for Stream {
-    ghost use Rattle.std.specs.Prelude.{◌≡◌, ℕ, List, Some};
-    ghost use Rattle.world.specs.{Origins.file, Streams.HasRead};
-
-    ghost has_read = { λ stream origin bytes. (name : List ℕ) × (origin ≡ file name)
-        × HasRead stream (Some name) bytes };
-
-    fn read_on(&mut self, room: &mut Vec<u8>, from: usize) -> Result<usize, LoadFault> {
-        self.read_after(room, from)
-    }
-
-    fn close(self, calls: &mut Trace) -> Result<(), LoadFault> {
-        let Stream { from, trace } = self;
-        if from.is_some() {
-            return Err(LoadFault::Unread);
-        }
-        calls.join(trace);
-        Ok(())
     }
 }

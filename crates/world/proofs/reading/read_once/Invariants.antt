@@ -1,5 +1,5 @@
 use Rattle.std.proofs.Common.{◌≡◌, take, vec_len}
-use Rattle.world.proofs.stream.Opened.read.Given as goal
+use Rattle.world.proofs.reading.read_once.Given as goal
 
 abbrev pub invariant-loop : goal.invariant-loop
 invariant-loop l =
