@@ -37,6 +37,8 @@ impl<D: Disk> Uploads for NamedFiles<'_, D> {
     ghost use Rattle.std.specs.Prelude.{length, map};
     ghost use Rattle.fare_program.specs.FilesLoaded.{text_at};
 
+    type Opened = D::Stream;
+
     ghost number = { λ files. length files.names.now };
 
     ghost origin = { λ files upload.
@@ -60,12 +62,9 @@ impl<D: Disk> Uploads for NamedFiles<'_, D> {
         }
     }
 
-    fn read(&self, upload: usize, room: Vec<u8>, calls: &mut Trace) -> Result<Vec<u8>, AllocError> {
-        let mut room = room;
-        // one byte more shows that the file has ended
-        room.resize(self.size(upload).saturating_add(1), 0)?;
-        match self.disk.read_into(self.names[upload], room, calls) {
-            Ok(bytes) => Ok(bytes),
+    fn open(&self, upload: usize) -> Result<D::Stream, AllocError> {
+        match self.disk.open_stream(self.names[upload]) {
+            Ok(stream) => Ok(stream),
             Err(_) => Err(AllocError),
         }
     }
@@ -76,6 +75,28 @@ impl<D: Disk> Uploads for NamedFiles<'_, D> {
 
     fn note_charged(&self, taps: u64) {
         self.disk.note_charged(Amount::Taps(taps));
+    }
+}
+
+impl<D: Disk> NamedFiles<'_, D> {
+    ghost use Rattle.std.specs.Prelude.{◌<◌, IfOk, length, map};
+    ghost use Rattle.fare_program.specs.FilesLoaded.{text_at};
+    ghost use Rattle.world.specs.Origins.{IsProvided};
+
+    /// All bytes of a file, read into the memory of `room`.
+    fn read(&self, upload: usize, room: Vec<u8>, calls: &mut Trace) -> Result<Vec<u8>, AllocError>
+        requires { upload < length self.now.names.now }
+        ensures { IfOk result (λ bytes. IsProvided (D.origin self.now.disk.now
+            (text_at (map (λ n. n.now) self.now.names.now) upload)) calls.old.run calls.new.run
+            bytes.items) }
+    {
+        let mut room = room;
+        // one byte more shows that the file has ended
+        room.resize(self.size(upload).saturating_add(1), 0)?;
+        match self.disk.read_into(self.names[upload], room, calls) {
+            Ok(bytes) => Ok(bytes),
+            Err(_) => Err(AllocError),
+        }
     }
 }
 

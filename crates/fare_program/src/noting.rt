@@ -5,7 +5,7 @@ use file_sources::{Amount, Disk};
 use settlement::{LoadedUploads, Uploads};
 use std::alloc::{AllocError, Global};
 use tap_views::NoMemory;
-use world::Trace;
+use world::MemoryStream;
 
 /// `u64::MAX` if it is more.
 fn sum_of(sizes: &[u64]) -> u64 {
@@ -61,9 +61,11 @@ pub(crate) struct NotedUploads<'a, D> {
     pub(crate) all: &'a [Vec<u8>],
 }
 
-impl<D: Disk> Uploads for NotedUploads<'_, D> {
+impl<'a, D: Disk> Uploads for NotedUploads<'a, D> {
     ghost use Rattle.std.specs.Prelude.{[], length, map, slice_index_or};
     ghost use Rattle.world.specs.Origins.{memory};
+
+    type Opened = MemoryStream<'a>;
 
     ghost number = { λ uploads. length uploads.all.now };
 
@@ -82,8 +84,8 @@ impl<D: Disk> Uploads for NotedUploads<'_, D> {
         LoadedUploads { all: self.all }.push_sample(upload, sample)
     }
 
-    fn read(&self, upload: usize, room: Vec<u8>, calls: &mut Trace) -> Result<Vec<u8>, AllocError> {
-        LoadedUploads { all: self.all }.read(upload, room, calls)
+    fn open(&self, upload: usize) -> Result<MemoryStream<'a>, AllocError> {
+        LoadedUploads { all: self.all }.open(upload)
     }
 
     fn note_all(&self, taps: u64) {

@@ -8,12 +8,14 @@ use program_manners::{FileSource, LOAD_LIMIT_BYTES, LoadFault, RecordedLoads, op
 use std::alloc::{AllocError, Global};
 use std::fs;
 use std::fs::{File, Files};
-use world::{Loaded, Trace, load_apart, load_into};
+use world::{FileStream, Loaded, Trace, load_apart, load_into};
 
 impl Disk for HostRuntime {
     ghost use Rattle.world.specs.Origins.{file};
 
     type File = File;
+
+    type Stream = FileStream;
 
     ghost origin = { λ _ name. file name };
 
@@ -54,6 +56,10 @@ impl Disk for HostRuntime {
         calls: &mut Trace,
     ) -> Result<Vec<u8>, LoadFault> {
         load_into(self, name, room, calls)
+    }
+
+    fn open_stream(&self, name: &str) -> Result<FileStream, LoadFault> {
+        FileStream::open(self, name)
     }
 }
 

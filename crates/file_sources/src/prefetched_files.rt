@@ -8,15 +8,18 @@ use std::alloc::{AllocError, Global};
 use std::marker::Sync;
 use std::thread;
 use std::thread::Threads;
-use world::{LoadFault, Loaded, Trace};
+use world::{LoadFault, Loaded, Reading, Trace};
 
 /// A disk: files by their names. Several threads may read them at once.
 pub trait Disk {
-    ghost use Rattle.std.specs.Prelude.{◌≡◌, ℕ, List, IfOk, Option, None, string_bytes};
+    ghost use Rattle.std.specs.Prelude.{◌≡◌, ℕ, List, [], IfOk, Option, None, string_bytes};
     ghost use Rattle.world.specs.Origins.{Origin, IsProvided, anywhere};
 
     /// A file that was opened to be read at any offset.
     type File: Placed + Sync + Drop;
+
+    /// A file that was opened to be read in pieces, from its start on.
+    type Stream: Reading + Sync + Drop;
 
     // The contents of the file of a name, if known. They do not change.
     ghost bytes_under: { Self → List ℕ → Option (List ℕ) } = { λ _ _. None };
@@ -47,6 +50,11 @@ pub trait Disk {
     fn read_into(&self, name: &str, room: Vec<u8>, calls: &mut Trace) -> Result<Vec<u8>, LoadFault>
         ensures { IfOk result (λ bytes. IsProvided (origin self.now name.now) calls.old.run
             calls.new.run bytes.items) };
+
+    /// The file of this name, opened to be read in pieces, from its start on.
+    fn open_stream(&self, name: &str) -> Result<Self::Stream, LoadFault>
+        ensures { IfOk result (λ stream.
+            Self.Stream.has_read stream (origin self.now name.now) []) };
 
     /// Notes how much is to be charged, before anything is: only for whoever watches the run.
     fn note_all(&self, _all: Amount) {}

@@ -136,6 +136,8 @@ struct Names<'a, R> {
 impl<R: Disk> Disk for Names<'_, R> {
     type File = InMemory<'static>;
 
+    type Stream = R::Stream;
+
     ghost origin = { λ disk name. R.origin disk.rt.now name };
 
     fn open_placed(&self, _: &str) -> Result<InMemory<'static>, Unopened> {
@@ -157,6 +159,10 @@ impl<R: Disk> Disk for Names<'_, R> {
         calls: &mut Trace,
     ) -> Result<Vec<u8>, LoadFault> {
         self.rt.read_into(name, room, calls)
+    }
+
+    fn open_stream(&self, name: &str) -> Result<R::Stream, LoadFault> {
+        self.rt.open_stream(name)
     }
 
     fn read(&self, alloc: Global, name: String) -> Result<Loaded, LoadFault> {

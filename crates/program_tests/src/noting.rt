@@ -11,7 +11,7 @@ use std::sync::Wait;
 use std::sync::atomic::{AtomicU64, Ordering};
 use std::test::Fail;
 use std::thread::Threads;
-use world::{Loaded, Trace};
+use world::{Loaded, MemoryStream, Trace};
 
 /// A disk of which nothing is read. It adds up what is noted.
 #[derive(Drop)]
@@ -26,6 +26,8 @@ impl Disk for NotingDisk {
     ghost use Rattle.world.specs.Origins.{nowhere};
 
     type File = InMemory<'static>;
+
+    type Stream = MemoryStream<'static>;
 
     ghost origin = { λ _ _. nowhere };
 
@@ -42,6 +44,10 @@ impl Disk for NotingDisk {
     }
 
     fn read_into(&self, _: &str, _: Vec<u8>, _: &mut Trace) -> Result<Vec<u8>, LoadFault> {
+        Err(LoadFault::Unread)
+    }
+
+    fn open_stream(&self, _: &str) -> Result<MemoryStream<'static>, LoadFault> {
         Err(LoadFault::Unread)
     }
 

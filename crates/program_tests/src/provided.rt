@@ -11,7 +11,7 @@ use std::sync::Wait;
 use std::sync::atomic::{AtomicU64, Ordering};
 use std::test::Fail;
 use std::thread::Threads;
-use world::{Loaded, Trace};
+use world::{Loaded, MemoryStream, Trace};
 
 /// A disk of files with one content, two of which are not read. It counts reads and charged bytes.
 #[derive(Drop)]
@@ -25,6 +25,8 @@ impl Disk for CountingDisk<'_> {
     ghost use Rattle.world.specs.Origins.{memory};
 
     type File = InMemory<'static>;
+
+    type Stream = MemoryStream<'static>;
 
     ghost origin = { λ disk _. memory disk.content.now };
 
@@ -52,6 +54,10 @@ impl Disk for CountingDisk<'_> {
                 Ok(bytes)
             }
         }
+    }
+
+    fn open_stream(&self, _: &str) -> Result<MemoryStream<'static>, LoadFault> {
+        Err(LoadFault::Unread)
     }
 
     fn read(&self, _: Global, _: String) -> Result<Loaded, LoadFault> {

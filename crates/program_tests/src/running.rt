@@ -8,7 +8,7 @@ use std::marker::Sync;
 use std::random::RandomSource;
 use std::sync::Wait;
 use std::thread::Threads;
-use world::{Loaded, Trace};
+use world::{Loaded, MemoryStream, Trace};
 
 /// A disk of which nothing is read before its turn.
 pub(crate) struct NoDisk;
@@ -17,6 +17,8 @@ impl Disk for NoDisk {
     ghost use Rattle.world.specs.Origins.{nowhere};
 
     type File = InMemory<'static>;
+
+    type Stream = MemoryStream<'static>;
 
     ghost origin = { λ _ _. nowhere };
 
@@ -33,6 +35,10 @@ impl Disk for NoDisk {
     }
 
     fn read_into(&self, _: &str, _: Vec<u8>, _: &mut Trace) -> Result<Vec<u8>, LoadFault> {
+        Err(LoadFault::Unread)
+    }
+
+    fn open_stream(&self, _: &str) -> Result<MemoryStream<'static>, LoadFault> {
         Err(LoadFault::Unread)
     }
 

@@ -9,5 +9,5 @@ mod sum;
 
 pub use made_by::{Escaped, MadeBy, made_by_text};
 pub use new_file::make_new;
-pub use run_sums::{FileSum, RunSums, SumFault, Sums};
+pub use run_sums::{FileSum, FileSumming, RunSums, SumFault, Sums};
 pub use sum::{Sum, Summing};

@@ -13,6 +13,20 @@ pub struct FileSum {
     pub sum: Sum,
 }
 
+/// A file that is read in pieces, from its start on, and the sum of what was read.
+#[derive(Drop)]
+pub struct FileSumming {
+    name: String,
+    summing: Summing,
+}
+
+impl FileSumming {
+    /// The next piece.
+    pub fn add(&mut self, piece: &[u8]) {
+        self.summing.add(piece);
+    }
+}
+
 #[derive(Drop)]
 struct OpenedFile {
     name: String,
@@ -109,6 +123,24 @@ impl RunSums {
         let sum = Sum::of(bytes);
         let mut noted = self.noted.lock(rt);
         if push_sum(self.alloc, &mut noted.loaded, name, sum).is_err() {
+            noted.lacks_memory = true;
+        }
+    }
+
+    /// The sum of the file of this name, of which nothing is read yet.
+    pub fn start(&self, name: &str) -> Result<FileSumming, AllocError> {
+        Ok(FileSumming {
+            name: String::from_str(self.alloc, name)?,
+            summing: Summing::new(),
+        })
+    }
+
+    /// The pieces of a file were all of it.
+    pub fn note_summed<R: Wait>(&self, rt: &R, file: FileSumming) {
+        let FileSumming { name, summing } = file;
+        let sum = summing.end();
+        let mut noted = self.noted.lock(rt);
+        if noted.loaded.push(FileSum { name, sum }).is_err() {
             noted.lacks_memory = true;
         }
     }

@@ -5,10 +5,12 @@ use crate::ticker::Ticker;
 use file_sources::{Amount, Disk, Source};
 use placed_files::{FileStamp, Placed, Unopened};
 use program_manners::{FileSource, LoadFault, STANDARD_INPUT};
+use provenance::FileSumming;
 use std::alloc::{AllocError, Global};
 use std::io;
+use std::marker::Sync;
 use std::sync::Wait;
-use world::{Loaded, Trace};
+use world::{Loaded, Reading, Trace};
 
 /// A disk or a source whose reads are noted. It gives what the one below gives.
 #[derive(Drop)]
@@ -69,8 +71,46 @@ impl<F: Placed + Drop> Placed for WatchedFile<'_, F> {
     }
 }
 
-impl<'a, R: Wait, D: Disk> Disk for WatchedDisk<'a, R, D> {
+/// A file that is read in pieces, the end of which is noted. It gives what the one below gives.
+#[derive(Drop)]
+pub struct WatchedStream<'a, R: Wait, S: Drop> {
+    rt: &'a R,
+    ticker: &'a Ticker,
+    summing: Option<FileSumming>,
+    from: S,
+}
+
+impl<R: Wait, S: Reading + Drop> Reading for WatchedStream<'_, R, S> {
+    ghost has_read = { λ w. S.has_read w.from };
+
+    fn read_on(&mut self, room: &mut Vec<u8>, from: usize) -> Result<usize, LoadFault> {
+        let more = self.from.read_on(room, from)?;
+        if let Some(summing) = &mut self.summing {
+            summing.add(&room[from..from + more]);
+        }
+        Ok(more)
+    }
+
+    fn close(self, calls: &mut Trace) -> Result<(), LoadFault> {
+        let WatchedStream {
+            rt,
+            ticker,
+            summing,
+            from,
+        } = self;
+        from.close(calls)?;
+        ticker.steps.lock(rt).end_settled();
+        if let (Some(sums), Some(file)) = (&ticker.sums, summing) {
+            sums.note_summed(rt, file);
+        }
+        Ok(())
+    }
+}
+
+impl<'a, R: Wait + Sync, D: Disk> Disk for WatchedDisk<'a, R, D> {
     type File = WatchedFile<'a, D::File>;
+
+    type Stream = WatchedStream<'a, R, D::Stream>;
 
     ghost bytes_under = { λ w name. D.bytes_under w.from.now name };
 
@@ -122,6 +162,20 @@ impl<'a, R: Wait, D: Disk> Disk for WatchedDisk<'a, R, D> {
         self.ticker.steps.lock(self.rt).end_settled();
         self.ticker.note_load(self.rt, name, &bytes);
         Ok(bytes)
+    }
+
+    fn open_stream(&self, name: &str) -> Result<WatchedStream<'a, R, D::Stream>, LoadFault> {
+        self.ticker.steps.lock(self.rt).begin_prefetch();
+        let summing = match &self.ticker.sums {
+            Some(sums) => Some(sums.start(name)?),
+            None => None,
+        };
+        Ok(WatchedStream {
+            rt: self.rt,
+            ticker: self.ticker,
+            summing,
+            from: self.from.open_stream(name)?,
+        })
     }
 
     fn note_all(&self, all: Amount) {

@@ -3,7 +3,7 @@ use Rattle.std.proofs.Common.{◌≡◌, ℕ, suc, ◌+◌, ◌-◌, ◌<◌, �
 use Rattle.std.proofs.Common.{[], ap, ◌∙◌, sym, subst, arith, inl, inr, length-append, append-nil}
 use Rattle.std.proofs.Common.{append_assoc}
 use Rattle.settlement.specs.{Reading.AreRead, Reading.loads_in_order, inside.Taken.AreInRuns}
-use Rattle.settlement.specs.inside.Taken.{AreTaken, HasToken, HasValidTokens, IsUploadKept}
+use Rattle.settlement.specs.inside.Taken.{AreTaken, HasToken, IsUploadTaken}
 use Rattle.std.proofs.lemmas.{Bool.cases_lt, List.get_or_append_left, List.get_or-append-add}
 use Rattle.std.proofs.lemmas.List.{Concat.flat_map-append, Elements.All-append, Elements.All-nil}
 use Rattle.std.specs.Prelude.{◌⊎◌}
@@ -128,21 +128,20 @@ both_taken origin start middle end one other both ends more r s t front back joi
 
 -- one upload more
 pub upload_taken : {K : Type 0} (keeps : List Tap → K → Type 0) (origin : ℕ → Origin)
-    (start upload : ℕ) (old new : K) (ends : List UploadEnd) (file : List ℕ) (end : UploadEnd)
-    (r s t : Run) → AreTaken origin start upload (λ taps. keeps taps old) ends r s
-    → IsProvided (origin upload) s t file → HasValidTokens file
-    → IsUploadKept keeps file old new end
+    (start upload : ℕ) (old new : K) (ends : List UploadEnd) (end : UploadEnd) (r s t : Run)
+    → AreTaken origin start upload (λ taps. keeps taps old) ends r s
+    → IsUploadTaken keeps (origin upload) old new end s t
     → AreTaken origin start (upload + 1) (λ taps. keeps taps new) (ends ++ end ∷ []) r t
-upload_taken keeps origin start upload old new ends file end r s t front provided tokens kept =
+upload_taken keeps origin start upload old new ends end r s t front taken =
+    let kept = taken.kept in
     both_taken origin start upload (upload + 1) (λ taps. keeps taps old) (λ taps. taps ≡ kept.taps)
     (λ taps. keeps taps new) ends (end ∷ []) r s t front (record {
-      files = file ∷ [];
-      read = one_read origin upload file s t provided;
+      files = taken.file ∷ [];
+      read = one_read origin upload taken.file s t taken.provided;
       taps = kept.taps ∷ [];
       of_files = (kept.of_upload, tt);
       ended = (kept.ended, tt);
-      tokens = subst (All HasToken) (sym (append-nil kept.taps))
-          (tokens kept.taps kept.of_upload);
+      tokens = subst (All HasToken) (sym (append-nil kept.taps)) taken.tokens;
       holds = append-nil kept.taps;
     })
     (λ xs ys before same. subst (λ zs. keeps (xs ++ zs) new) (sym same) (kept.added xs before))

@@ -2,18 +2,17 @@
 
 ghost use Rattle.std.specs.Prelude.{◌≤◌, IfOk};
 ghost use denote.Param.Send.{IsSend, IsSync};
-ghost use Rattle.settlement.specs.inside.Taken.{AreInRuns, AreTaken, HasValidTokens};
+ghost use Rattle.settlement.specs.inside.Taken.{AreInRuns, AreTaken};
 ghost use Rattle.world.specs.Run.{nothing_yet};
 
 use crate::memory::release;
+use crate::upload::read_upload;
 use crate::uploads::Uploads;
-use histories::laws::plain_history;
 use std::alloc::{AllocError, Global};
 use std::marker::{Send, Sync};
+use std::thread;
 use std::thread::Threads;
-use std::{slice, thread};
 use tap_views::UploadEnd;
-use tap_views::laws::unique_parse_each;
 use world::Trace;
 
 /// What is to be kept of the valid taps of uploads.
@@ -69,15 +68,7 @@ fn middle_of<U: Uploads>(uploads: &U, start: usize, end: usize) -> usize
     end
 }
 
-/// proof: the tokens of an upload's valid taps have 16 bytes. Reads no tap.
-fn valid_tokens(upload: &Vec<u8>)
-    ensures { HasValidTokens upload.now.items }
-{
-    unique_parse_each(slice::from_ref(upload));
-    plain_history(slice::from_ref(upload));
-}
-
-/// All are read into one room, one after the other.
+/// All are read through one room, one after the other.
 fn read_run<U: Uploads, K: Drop, C: Choice<K>>(
     alloc: Global,
     choice: &C,
@@ -96,12 +87,9 @@ fn read_run<U: Uploads, K: Drop, C: Choice<K>>(
     let mut calls = Trace::new();
     let mut room = Vec::new(alloc);
     for number in start..end {
-        let upload = uploads.read(number, room, &mut calls)?;
-        // proof: its tokens have 16 bytes
-        valid_tokens(&upload);
-        let end_of_upload = choice.add(upload.as_slice(), &mut kept)?;
-        ends.push(end_of_upload)?;
-        room = upload;
+        let opened = uploads.open(number)?;
+        let upload_end = read_upload(choice, opened, &mut room, &mut kept, &mut calls)?;
+        ends.push(upload_end)?;
     }
     release(room);
     let mut lists = Vec::new(alloc);

@@ -1,12 +1,16 @@
 //! Uploads that are read one by one, as their turns come.
 
 use std::alloc::AllocError;
-use world::Trace;
+use std::marker::Sync;
+use world::{MemoryStream, Reading};
 
 /// Uploads that are read one by one, by several threads at once.
 pub trait Uploads {
-    ghost use Rattle.std.specs.Prelude.{◌≡◌, ◌<◌, ℕ, IfOk};
-    ghost use Rattle.world.specs.Origins.{IsProvided, Origin};
+    ghost use Rattle.std.specs.Prelude.{◌≡◌, ◌<◌, ℕ, [], IfOk};
+    ghost use Rattle.world.specs.Origins.{Origin};
+
+    /// An upload that is being read.
+    type Opened: Reading + Sync + Drop;
 
     // How many uploads there are.
     ghost number: { Self → ℕ };
@@ -25,12 +29,11 @@ pub trait Uploads {
     /// only speed and memory depend on them.
     fn push_sample(&self, upload: usize, sample: &mut Vec<u128>) -> Result<(), AllocError>;
 
-    /// The bytes of an upload, maybe read into the memory of `room`. The system calls are appended
-    /// to `calls`. An error is out of memory, or that the upload cannot be read.
-    fn read(&self, upload: usize, room: Vec<u8>, calls: &mut Trace) -> Result<Vec<u8>, AllocError>
+    /// An upload, to be read from its start on. An error is out of memory, or that it cannot be read.
+    fn open(&self, upload: usize) -> Result<Self::Opened, AllocError>
         requires { upload < number self.now }
-        ensures { IfOk result (λ bytes.
-            IsProvided (origin self.now upload) calls.old.run calls.new.run bytes.items) };
+        ensures { IfOk result (λ opened.
+            Self.Opened.has_read opened (origin self.now upload) []) };
 
     /// Notes how many valid taps are to be charged, before the first one is, for whoever watches
     /// the run.
@@ -46,9 +49,11 @@ pub struct LoadedUploads<'a> {
     pub all: &'a [Vec<u8>],
 }
 
-impl Uploads for LoadedUploads<'_> {
+impl<'a> Uploads for LoadedUploads<'a> {
     ghost use Rattle.std.specs.Prelude.{[], length, map, slice_index_or};
     ghost use Rattle.world.specs.Origins.{memory};
+
+    type Opened = MemoryStream<'a>;
 
     ghost number = { λ uploads. length uploads.all.now };
 
@@ -73,15 +78,9 @@ impl Uploads for LoadedUploads<'_> {
         }
     }
 
-    fn read(
-        &self,
-        upload: usize,
-        room: Vec<u8>,
-        _calls: &mut Trace,
-    ) -> Result<Vec<u8>, AllocError> {
-        let mut bytes = room;
-        bytes.clear();
-        bytes.extend_from_slice(&self.all[upload])?;
-        Ok(bytes)
+    fn open(&self, upload: usize) -> Result<MemoryStream<'a>, AllocError> {
+        Ok(MemoryStream {
+            left: self.all[upload].as_slice(),
+        })
     }
 }

@@ -13,6 +13,7 @@
 //! | `loaded` | files that any thread loads |
 //! | `new_file` | files that are made: written under another name, and named once whole |
 //! | `stream` | a file or standard input that is read in pieces |
+//! | `reading` | bytes that are read in pieces, of a file or in memory |
 //! | `writing` | pieces that are written to a stream |
 //! | `saying` | texts and lines that are given to the standard error |
 //! | `recorded` | a writer whose writes are recorded, for code that writes to any `Write` |
@@ -25,6 +26,7 @@ mod files;
 mod ghost_bytes;
 mod loaded;
 mod new_file;
+mod reading;
 mod recorded;
 mod saying;
 mod stream;
@@ -38,6 +40,7 @@ pub use files::{LOAD_LIMIT_BYTES, load_input, load_into};
 pub use ghost_bytes::GhostBytes;
 pub use loaded::{Loaded, load_apart};
 pub use new_file::{NewFile, folder_of};
+pub use reading::{FileStream, MemoryStream, Reading};
 pub use recorded::Recorded;
 pub use stream::Stream;
 pub use system::System;

@@ -7,7 +7,8 @@ use Rattle.tap_parts.specs.Ranges.{range_of_token}
 use Rattle.tap_views.specs.{Encoding.fields_of, Files.AreValidTaps, Files.AreValidTapsOfEach}
 use Rattle.tap_views.specs.{Layout.Tap, UploadEnds.ArePlainEnds, UploadEnds.IsPlainEnd}
 use Rattle.tap_views.specs.declared.{encoder.TapFields.TapFields, upload_end.UploadEnd.UploadEnd}
-use Rattle.world.specs.{Origins.Origin, Run.Run}
+use Rattle.tap_views.specs.declared.upload_end.UploadEnd.TheVariants.{Posted, Refused}
+use Rattle.world.specs.{Origins.IsProvided, Origins.Origin, Run.Run}
 
 -- the tap's token has 16 bytes
 abbrev pub HasToken : Tap → Type 0
@@ -36,6 +37,25 @@ pub record IsUploadKept {K : Type 0} (keeps : List Tap → K → Type 0) (upload
   pub of_upload : AreValidTaps upload taps
   pub ended : IsPlainEnd upload end
   pub added : (before : List Tap) → keeps before old → keeps (before ++ taps) new
+
+-- The upload was read as some file from its origin. The file's valid taps, whose tokens have 16
+-- bytes, were added to what is kept, and it ends so.
+pub record IsUploadTaken {K : Type 0} (keeps : List Tap → K → Type 0) (origin : Origin)
+    (old new : K) (end : UploadEnd) (before after : Run) : Type 0 where
+  pub file : List ℕ
+  pub provided : IsProvided origin before after file
+  pub kept : IsUploadKept keeps file old new end
+  pub tokens : All HasToken kept.taps
+
+-- how many bytes the valid batches of an upload have, by its length and its end
+abbrev pub used_in : ℕ → UploadEnd → ℕ
+used_in long (Refused taps offset fault) = offset
+used_in long _ = long
+
+-- the end with other taps, and with its fault at another offset
+abbrev pub end_at : ℕ → ℕ → UploadEnd → UploadEnd
+end_at taps offset (Refused _ _ fault) = Refused taps offset fault
+end_at taps offset _ = Posted taps
 
 -- the taps are in runs, and of each run this is kept
 pub record AreInRuns {K : Type 0} (keeps : List Tap → K → Type 0) (kept : List K) (taps : List Tap)

@@ -1,6 +1,6 @@
 use Rattle.std.proofs.Common.{◌≡◌, ◌+◌, ◌∷◌, ◌++◌, List, [], ap, sym, subst, arith, ◌∙◌}
 use Rattle.settlement.proofs.ReadUploads.{none_taken, run_taken, upload_taken}
-use Rattle.settlement.specs.inside.Taken.{AreInRuns, AreTaken, IsUploadKept}
+use Rattle.settlement.specs.inside.Taken.{AreInRuns, AreTaken}
 use Rattle.tap_parts.specs.Parts.{taps_of_uploads}
 use Rattle.tap_views.specs.{Layout.Tap, declared.upload_end.UploadEnd.UploadEnd}
 use Rattle.world.specs.Run.{Calls, nothing_yet}
@@ -21,27 +21,24 @@ loop-number-init g c =
           (none_taken origin start said nothing_yet c.in_ok-kept.ensures));
     }
 
-pub add-requires : goal.add-requires
-add-requires g c =
+pub read_upload-requires : goal.read_upload-requires
+read_upload-requires g c =
     let run = c.loop-number.invariant.run in (taps_of_uploads run.taps, run.holds)
 
 pub loop-number-preserved : goal.loop-number-preserved
 loop-number-preserved g c =
     let origin = g.U.Uploads.origin c.args.uploads.now in
     let keeps = g.C.Choice.keeps c.args.choice.now in
-    let new = c.add.new.kept in
-    let end = c.in_ok-end_of_upload.end_of_upload in
+    let new = c.read_upload.new.kept in
     record {
       order = omega (arith, c.loop-number-test.true);
       run = subst (λ (es : List UploadEnd). AreTaken origin c.args.start (c.loop-number.number + 1)
-          (λ taps. keeps taps new) es nothing_yet c.read.new.calls.run)
+          (λ taps. keeps taps new) es nothing_yet c.read_upload.new.calls.run)
           (sym c.in_ok-push.ensures.items)
           (upload_taken keeps origin c.args.start c.loop-number.number c.loop-number.kept new
-          c.loop-number.ends.items c.in_ok-upload.upload.items end nothing_yet
-          c.loop-number.calls.run c.read.new.calls.run c.loop-number.invariant.run
-          c.in_ok-upload.ensures c.valid_tokens.ensures
-          (subst (λ bytes. IsUploadKept keeps bytes c.loop-number.kept new end)
-          c.as_slice.ensures.value c.in_ok-end_of_upload.ensures));
+          c.loop-number.ends.items c.in_ok-upload_end.upload_end nothing_yet
+          c.loop-number.calls.run c.read_upload.new.calls.run c.loop-number.invariant.run
+          (c.in_ok-upload_end.ensures (origin c.loop-number.number) c.in_ok-opened.ensures));
     }
 
 pub returns : goal.returns

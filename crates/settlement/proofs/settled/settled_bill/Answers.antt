@@ -11,9 +11,12 @@ bill_by_threads-requires g c =
       (
         search rules,
         (
-          split.bounds,
-          0,
-          subst (AreRangesFrom split.bounds 0) (sym c.deref.ensures.value) split.ranges,
+          search rules,
+          (
+            split.bounds,
+            0,
+            subst (AreRangesFrom split.bounds 0) (sym c.deref.ensures.value) split.ranges,
+          ),
         ),
       ),
     )

@@ -1,7 +1,7 @@
 use Rattle.std.proofs.Common.{List, subst, sym, ℕ}
 use Rattle.world.specs.Origins.{IsProvided}
 use Rattle.fare_program.proofs.Prefetched.{name_there}
-use Rattle.fare_program.proofs.named_files.NamedFilesUploads.read.Goals as goal
+use Rattle.fare_program.proofs.named_files.NamedFiles.read.Goals as goal
 
 pub returns-in-Ok : goal.returns-in-Ok
 returns-in-Ok g c =
