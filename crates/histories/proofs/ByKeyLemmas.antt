@@ -18,8 +18,8 @@ use Rattle.std.proofs.lemmas.List.{Folds.list_any-append, Sorted.list_any-IsPerm
 use Rattle.std.proofs.lemmas.List.Sums.{length-filter, count_by-le-length}
 use Rattle.std.proofs.lemmas.Map.{Keys.IsDistinct-IsPermutation, Made.is_some-lookup}
 use Rattle.std.specs.Cmp.{IsEquivalence, IsTotalOrder}
-use Rattle.std.specs.HashMap.{HashMap, get, IsUnique, Updates}
-use Rattle.std.specs.List.{list_any, IsDistinct, slice_get, Sorted.IsPermutation, Sorted.IsSorted}
+use Rattle.std.specs.HashMap.{HashMap, get, Updates}
+use Rattle.std.specs.List.{list_any, IsDistinct, Sorted.IsPermutation, Sorted.IsSorted}
 use Rattle.std.specs.{Map.lookup, Map.keys_of, Option.is_some, Option.unwrap_or, Ordering.eq_by_cmp}
 use Rattle.std.specs.{Ordering.is_eq, Set.is_member}
 use Rattle.tap_views.specs.declared.token.Token.{Token}

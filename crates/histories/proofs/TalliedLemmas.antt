@@ -1,9 +1,9 @@
 -- Entries in the tallies of validators.
 use Rattle.std.proofs.Common.{◌≡◌, ℕ, ◌==◌, ◌+◌, ◌≤◌, ◌^◌, Bool, true, false, cond, ◌||◌, List, []}
 use Rattle.std.proofs.Common.{◌∷◌, ◌++◌, length, map, zero, suc, slice_get, Option, Some, None, refl, sym, ap}
-use Rattle.std.proofs.Common.{◌∙◌, arith, subst}
+use Rattle.std.proofs.Common.{◌∙◌, arith}
 use Rattle.account_rule.specs.declared.reply.Reply.{Reply}
-use Rattle.histories.proofs.ByKeyLemmas.{keys-push, sums-push, taps-few}
+use Rattle.histories.proofs.ByKeyLemmas.{kept-or, keys-push, sums-push, taps-few}
 use Rattle.histories.proofs.SumsLemmas.{add_assoc, add_none, same_seven, sums-append}
 use Rattle.histories.specs.{ByKey.with_key, Counts.sums_of_counts, Entry.reply_of}
 use Rattle.histories.specs.Sums.{Sums, add_sums, sums, sums_of_replies}
@@ -17,7 +17,7 @@ use Rattle.indexmap.specs.IndexMap.{set_value_at}
 use Rattle.std.proofs.{Math.Bool.or-true, lemmas.Cmp.nat_eq_equiv}
 use Rattle.std.proofs.lemmas.List.{map-append, Elements.filter-append, Folds.list_any-append}
 use Rattle.std.specs.HashMap.{HashMap, Updates, get}
-use Rattle.std.specs.{List.list_any, Map.lookup, Option.is_some}
+use Rattle.std.specs.{List.list_any, Map.lookup, Option.is_some, Option.unwrap_or}
 
 -- sums that were added in another order
 swapped : (a b c d : Sums)
@@ -101,6 +101,14 @@ tallied-push before entry old new counts small wide added tallied =
           (sums_at new) (has_validator old) (has_validator new) is_added is_there others
           tallied.keys;
     }
+
+-- the small counts that an entry is added to hold the sums that were kept
+pub found : {value kept : Option Counts} (fresh counts : Counts) → counts ≡ unwrap_or value fresh
+    → value ≡ kept → sums_of_counts fresh ≡ sums_of_replies []
+    → sums_of_counts counts ≡ kept_as sums_of_counts kept
+found {kept = kept} fresh counts is same none =
+    kept-or sums_of_counts kept fresh counts
+    (is ∙ ap (λ (o : Option Counts). unwrap_or o fresh) same) none
 
 -- small counts of the entry's validator that were written
 pub tallied-small : {S : Type 0} (before : List Entry) (entry : Entry)

@@ -1,4 +1,4 @@
-use Rattle.std.proofs.Common.{◌==◌, sym, ap, subst, arith}
+use Rattle.std.proofs.Common.{sym, ap, subst, arith}
 use Rattle.histories.proofs.TalliedLemmas.{both-room, tallied-append}
 use Rattle.histories.specs.{Sums.Sums, TalliesByKey.AreTallied, TalliesByKey.Tallies}
 use Rattle.histories.proofs.sums.validator_tallies.ValidatorTallies.add_all.Goals as goal

@@ -1,23 +1,14 @@
-use Rattle.std.proofs.Common.{rules, ◌≡◌, ◌==◌, [], ◌∷◌, Option, sym, ap, subst, ◌∙◌, arith}
-use Rattle.histories.proofs.{ByKeyLemmas.kept-or, TalliedLemmas.full-room}
-use Rattle.histories.proofs.TalliedLemmas.{one-reply, tallied-full, tallied-small}
+use Rattle.std.proofs.Common.{rules, [], ◌∷◌, sym, ap, subst, ◌∙◌, arith}
+use Rattle.histories.proofs.TalliedLemmas.{found, full-room, one-reply, tallied-full, tallied-small}
 use Rattle.histories.specs.{Counts.sums_of_counts, Sums.Sums, Sums.add_sums, Sums.sums_of_replies}
-use Rattle.histories.specs.TalliesByKey.{AreTallied, Tallies, kept_as}
-use Rattle.histories.specs.declared.sums.counts.Counts.{Counts}
+use Rattle.histories.specs.TalliesByKey.{AreTallied, Tallies}
 use Rattle.indexmap.specs.Entry.{map_with_value}
-use Rattle.std.specs.{HashMap.get, Option.unwrap_or}
 use Rattle.histories.proofs.sums.validator_tallies.ValidatorTallies.add_found.Goals as goal
 
 pub returns-then-add : goal.returns-then-add
 returns-then-add c = λ before tallied.
-    let v = c.args.entry.now.validator in
-    let is : sums_of_counts c.or_insert-kept.result.now
-    ≡ kept_as sums_of_counts (get ◌==◌ c.self.inside.small v) =
-    kept-or sums_of_counts (get ◌==◌ c.self.inside.small v) c.new.result
-    c.or_insert-kept.result.now
-    (c.or_insert-kept.ensures.value
-    ∙ ap (λ (kept : Option Counts). unwrap_or kept c.new.result) c.in_ok-self-inside.ensures.value)
-    c.new.ensures in
+    let is = found c.new.result c.or_insert-kept.result.now c.or_insert-kept.ensures.value
+    c.in_ok-self-inside.ensures.value c.new.ensures in
     tallied-small before c.args.entry.now c.self.inside.small
     (map_with_value c.in_ok-self-inside.field-0 c.add.new.self) _ c.self.inside.wide.entries
     c.or_insert-kept.result.now c.add.new.self c.reply.result (search rules)
@@ -28,13 +19,8 @@ returns-then-add c = λ before tallied.
 pub add-requires-2 : goal.add-requires-2
 add-requires-2 c =
     let v = c.args.entry.now.validator in
-    let is : sums_of_counts c.or_insert-kept.result.now
-    ≡ kept_as sums_of_counts (get ◌==◌ c.self.inside.small v) =
-    kept-or sums_of_counts (get ◌==◌ c.self.inside.small v) c.new.result
-    c.or_insert-kept.result.now
-    (c.or_insert-kept.ensures.value
-    ∙ ap (λ (kept : Option Counts). unwrap_or kept c.new.result) c.in_ok-self-inside.ensures.value)
-    c.new.ensures in
+    let is = found c.new.result c.or_insert-kept.result.now c.or_insert-kept.ensures.value
+    c.in_ok-self-inside.ensures.value c.new.ensures in
     let room = full-room c.self.inside.small.entries c.self.inside.wide.entries c.args.self.now v
     c.or_insert-kept.result.now c.tally-full.result c.self.view_is c.requires is
     (c.tally-full.ensures.sums ∙ ap sums_of_counts (c.add.ensures.unchanged (grind arith))) in
@@ -43,13 +29,8 @@ add-requires-2 c =
 pub add_tally-requires : goal.add_tally-requires
 add_tally-requires c =
     let v = c.args.entry.now.validator in
-    let is : sums_of_counts c.or_insert-kept.result.now
-    ≡ kept_as sums_of_counts (get ◌==◌ c.self.inside.small v) =
-    kept-or sums_of_counts (get ◌==◌ c.self.inside.small v) c.new.result
-    c.or_insert-kept.result.now
-    (c.or_insert-kept.ensures.value
-    ∙ ap (λ (kept : Option Counts). unwrap_or kept c.new.result) c.in_ok-self-inside.ensures.value)
-    c.new.ensures in
+    let is = found c.new.result c.or_insert-kept.result.now c.or_insert-kept.ensures.value
+    c.in_ok-self-inside.ensures.value c.new.ensures in
     let room = full-room c.self.inside.small.entries c.self.inside.wide.entries c.args.self.now v
     c.or_insert-kept.result.now c.tally-full.result c.self.view_is c.requires is
     (c.tally-full.ensures.sums ∙ ap sums_of_counts (c.add.ensures.unchanged (grind arith))) in
@@ -59,14 +40,8 @@ add_tally-requires c =
 
 pub returns : goal.returns
 returns c = λ before tallied.
-    let v = c.args.entry.now.validator in
-    let is : sums_of_counts c.or_insert-kept.result.now
-    ≡ kept_as sums_of_counts (get ◌==◌ c.self.inside.small v) =
-    kept-or sums_of_counts (get ◌==◌ c.self.inside.small v) c.new.result
-    c.or_insert-kept.result.now
-    (c.or_insert-kept.ensures.value
-    ∙ ap (λ (kept : Option Counts). unwrap_or kept c.new.result) c.in_ok-self-inside.ensures.value)
-    c.new.ensures in
+    let is = found c.new.result c.or_insert-kept.result.now c.or_insert-kept.ensures.value
+    c.in_ok-self-inside.ensures.value c.new.ensures in
     tallied-full before c.args.entry.now c.self.inside.small
     (map_with_value c.in_ok-self-inside.field-0 c.new-2.result) _ c.self.inside.wide.entries
     c.add_tally.new.tallies.entries c.or_insert-kept.result.now c.new-2.result c.add-2.new.self
