@@ -6,10 +6,10 @@ use Rattle.account_rule.specs.declared.reply.Reply.{Reply}
 use Rattle.histories.proofs.IncreasingLemmas.{increasing-only, sorted-increases}
 use Rattle.histories.proofs.SumsLemmas.{sums-append, sums-taps}
 use Rattle.histories.specs.{ByKey.with_key, Entry.reply_of, Entry.own, Increasing.increasing}
-use Rattle.histories.specs.{Shown.token_sum, Sums.Sums, Sums.sums, Sums.sums_of_replies}
-use Rattle.histories.specs.{Sums.add_sums, SumsBy.sums_by, SumsByKey.sums_by_token}
-use Rattle.histories.specs.{SumsByKey.tokens, TalliesByKey.AreByKey, TalliesByKey.MapHasRoom}
-use Rattle.histories.specs.TalliesByKey.{kept_as, kept_sums}
+use Rattle.histories.specs.Shown.{token_sum}
+use Rattle.histories.specs.Sums.{Sums, sums, sums_of_replies, add_sums}
+use Rattle.histories.specs.{SumsBy.sums_by, SumsByKey.sums_by_token, SumsByKey.tokens}
+use Rattle.histories.specs.TalliesByKey.{AreByKey, MapHasRoom, kept_as, kept_sums}
 use Rattle.histories.specs.{Tally.sums_of_tally, declared.entry.Entry.Entry}
 use Rattle.histories.specs.declared.sums.{TokenSum.TokenSum, tally.Tally.Tally}
 use Rattle.std.proofs.lemmas.Bool.{cases_Bool}
@@ -17,11 +17,10 @@ use Rattle.std.proofs.lemmas.List.{map-append, append-nil, take_all, Elements.fi
 use Rattle.std.proofs.lemmas.List.{Folds.list_any-append, Sorted.list_any-IsPermutation}
 use Rattle.std.proofs.lemmas.List.Sums.{length-filter, count_by-le-length}
 use Rattle.std.proofs.lemmas.Map.{Keys.IsDistinct-IsPermutation, Made.is_some-lookup}
-use Rattle.std.specs.Cmp.{IsEquivalence, IsTotalOrder}
-use Rattle.std.specs.HashMap.{HashMap, get, Updates}
-use Rattle.std.specs.List.{list_any, IsDistinct, Sorted.IsPermutation, Sorted.IsSorted}
-use Rattle.std.specs.{Map.lookup, Map.keys_of, Option.is_some, Option.unwrap_or, Ordering.eq_by_cmp}
-use Rattle.std.specs.{Ordering.is_eq, Set.is_member}
+use Rattle.std.specs.{Cmp.IsEquivalence, Cmp.IsTotalOrder, HashMap.HashMap, HashMap.get}
+use Rattle.std.specs.{HashMap.Updates, List.list_any, List.IsDistinct, List.Sorted.IsPermutation}
+use Rattle.std.specs.{List.Sorted.IsSorted, Map.lookup, Map.keys_of, Option.is_some}
+use Rattle.std.specs.{Option.unwrap_or, Ordering.eq_by_cmp, Ordering.is_eq, Set.is_member}
 use Rattle.tap_views.specs.declared.token.Token.{Token}
 
 or-true : (a : Bool) → true ≡ (a || (true || false))

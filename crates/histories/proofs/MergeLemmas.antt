@@ -2,13 +2,12 @@
 use Rattle.std.proofs.Common.{◌≡◌, ◌+◌, ◌≤◌, ◌^◌, Bool, true, false, cond, ◌||◌, List, [], ◌∷◌}
 use Rattle.std.proofs.Common.{Option, Some, None, refl, sym, ap, ◌∙◌, ⊎_elim, arith}
 use Rattle.histories.proofs.{ByKeyLemmas.kept-or, SumsLemmas.add_none}
-use Rattle.histories.specs.{Sums.Sums, Sums.sums_of_replies, Sums.add_sums}
+use Rattle.histories.specs.Sums.{Sums, sums_of_replies, add_sums}
 use Rattle.histories.specs.{TalliesByKey.kept_as, TalliesByKey.kept_sums, Tally.sums_of_tally}
 use Rattle.histories.specs.{declared.sums.tally.Tally.Tally, inside.Added.AreAdded}
 use Rattle.std.proofs.{Math.Bool.or-false, Math.Bool.or-true, lemmas.Bool.cases_Bool}
 use Rattle.std.specs.{Cmp.IsEquivalence, HashMap.HashMap, HashMap.get, HashMap.Updates}
-use Rattle.std.specs.{List.IsDistinct, Map.lookup, Map.keys_of}
-use Rattle.std.specs.Option.{is_some, unwrap_or}
+use Rattle.std.specs.{List.IsDistinct, Map.lookup, Map.keys_of, Option.is_some, Option.unwrap_or}
 
 -- what is kept of each key now and what is left to add make up what was kept at first and all that
 -- is to be added

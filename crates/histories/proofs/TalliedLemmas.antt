@@ -1,18 +1,17 @@
 -- Entries in the tallies of validators.
 use Rattle.std.proofs.Common.{◌≡◌, ℕ, ◌==◌, ◌+◌, ◌≤◌, ◌^◌, Bool, true, false, cond, ◌||◌, List, []}
-use Rattle.std.proofs.Common.{◌∷◌, ◌++◌, length, map, zero, suc, slice_get, Option, Some, None, refl, sym, ap}
-use Rattle.std.proofs.Common.{◌∙◌, arith}
+use Rattle.std.proofs.Common.{◌∷◌, ◌++◌, length, map, zero, suc, slice_get, Option, Some, None}
+use Rattle.std.proofs.Common.{refl, sym, ap, ◌∙◌, arith}
 use Rattle.account_rule.specs.declared.reply.Reply.{Reply}
 use Rattle.histories.proofs.ByKeyLemmas.{kept-or, keys-push, sums-push, taps-few}
 use Rattle.histories.proofs.SumsLemmas.{add_assoc, add_none, same_seven, sums-append}
-use Rattle.histories.specs.{ByKey.with_key, Counts.sums_of_counts, Entry.reply_of}
-use Rattle.histories.specs.Sums.{Sums, add_sums, sums, sums_of_replies}
-use Rattle.histories.specs.{SumsByKey.validator_of, Tally.sums_of_tally}
-use Rattle.histories.specs.TalliesByKey.{AreByKey, AreTallied, HasRoom, HaveRoom}
-use Rattle.histories.specs.TalliesByKey.{Tallies, has_validator, kept_as, kept_sums, sums_at}
-use Rattle.histories.specs.declared.{entry.Entry.Entry, sums.counts.Counts.Counts}
-use Rattle.histories.specs.{declared.sums.tally.Tally.Tally, inside.Added.AreAdded}
-use Rattle.histories.specs.inside.Keys.{same_number}
+use Rattle.histories.specs.{ByKey.with_key, Counts.sums_of_counts, Entry.reply_of, Sums.Sums}
+use Rattle.histories.specs.{Sums.add_sums, Sums.sums, Sums.sums_of_replies, SumsByKey.validator_of}
+use Rattle.histories.specs.TalliesByKey.{AreByKey, AreTallied, HasRoom, HaveRoom, Tallies}
+use Rattle.histories.specs.TalliesByKey.{has_validator, kept_as, kept_sums, sums_at}
+use Rattle.histories.specs.{Tally.sums_of_tally, declared.entry.Entry.Entry}
+use Rattle.histories.specs.declared.sums.{counts.Counts.Counts, tally.Tally.Tally}
+use Rattle.histories.specs.inside.{Added.AreAdded, Keys.same_number}
 use Rattle.indexmap.specs.IndexMap.{set_value_at}
 use Rattle.std.proofs.{Math.Bool.or-true, lemmas.Cmp.nat_eq_equiv}
 use Rattle.std.proofs.lemmas.List.{map-append, Elements.filter-append, Folds.list_any-append}

@@ -1,12 +1,11 @@
 -- What tallies by key know of the entries that were added to them.
-use Rattle.histories.specs.{ByKey.with_key, Counts.sums_of_counts, SumsByKey.validator_of}
+use Rattle.histories.specs.{ByKey.with_key, Counts.sums_of_counts}
 use Rattle.histories.specs.Sums.{Sums, add_sums, sums, sums_of_replies}
-use Rattle.histories.specs.Tally.{sums_of_tally}
-use Rattle.histories.specs.declared.{entry.Entry.Entry, sums.counts.Counts.Counts}
-use Rattle.histories.specs.declared.sums.tally.Tally.{Tally}
-use Rattle.std.specs.{Map.lookup, Prelude.◌≡◌, Prelude.◌==◌, Prelude.◌||◌}
-use Rattle.std.specs.Prelude.{ℕ, ◌+◌, ◌≤◌, ◌^◌, Bool, List, [], Option, Some, None, length, map}
-use Rattle.std.specs.{Prelude.is_some, Set.is_member}
+use Rattle.histories.specs.{SumsByKey.validator_of, Tally.sums_of_tally, declared.entry.Entry.Entry}
+use Rattle.histories.specs.declared.sums.{counts.Counts.Counts, tally.Tally.Tally}
+use Rattle.std.specs.Map.{lookup}
+use Rattle.std.specs.Prelude.{◌≡◌, ◌==◌, ◌||◌, ℕ, ◌+◌, ◌≤◌, ◌^◌, Bool, List, [], Option, Some, None}
+use Rattle.std.specs.{Prelude.length, Prelude.map, Prelude.is_some, Set.is_member}
 
 -- the sums that are kept for a key, of nothing if there are none
 abbrev pub kept_as : {V : Type 0} → (V → Sums) → Option V → Sums

@@ -3,12 +3,10 @@
 ghost use Rattle.histories.specs.{Increasing.increasing, Sums.Sums, Sums.add_sums, Sums.sums_of};
 ghost use Rattle.histories.specs.SumsBy.{sums_by};
 ghost use Rattle.histories.specs.TalliesByKey.{AreByKey, MapHasRoom, kept_as, kept_sums};
-ghost use Rattle.histories.specs.Tally.{sums_of_tally};
-ghost use Rattle.histories.specs.declared.{entry.Entry.Entry, sums.tally.Tally.Tally};
-ghost use Rattle.histories.specs.inside.Added.{AreAdded};
-ghost use Rattle.std.specs.HashMap.{get};
-ghost use Rattle.std.specs.Prelude.{◌≡◌, ◌+◌, ◌≤◌, ◌^◌, List, [], ◌∷◌, ◌++◌, map, cond, true};
-ghost use Rattle.std.specs.Prelude.{IfOk, OnOk, Some};
+ghost use Rattle.histories.specs.{Tally.sums_of_tally, declared.entry.Entry.Entry};
+ghost use Rattle.histories.specs.{declared.sums.tally.Tally.Tally, inside.Added.AreAdded};
+ghost use Rattle.std.specs.{HashMap.get, Prelude.◌≡◌, Prelude.◌+◌, Prelude.◌≤◌};
+ghost use Rattle.std.specs.Prelude.{◌^◌, List, [], ◌∷◌, ◌++◌, map, cond, true, IfOk, OnOk, Some};
 
 use crate::entry::Entry;
 use crate::sums::tally::Tally;

@@ -1,12 +1,11 @@
 //! Tallies of entries by their validators, for entries that come one by one.
 
-ghost use Rattle.std.specs.HashMap.{get};
-ghost use Rattle.std.specs.Prelude.{◌≡◌, ◌==◌, List, [], ◌∷◌, ◌++◌, false, map, slice_get, IfOk};
-ghost use Rattle.std.specs.Prelude.{IsTrue, OnOk, Some};
-ghost use Rattle.histories.specs.declared.{entry.Entry.Entry, sums.counts.Counts.Counts};
 ghost use Rattle.histories.specs.Shown.{validator_sum};
 ghost use Rattle.histories.specs.SumsByKey.{sums_by_validator, validator_of};
 ghost use Rattle.histories.specs.TalliesByKey.{AreByKey, AreTallied, HasRoom, HaveRoom};
+ghost use Rattle.histories.specs.declared.{entry.Entry.Entry, sums.counts.Counts.Counts};
+ghost use Rattle.std.specs.{HashMap.get, Prelude.◌≡◌, Prelude.◌==◌, Prelude.List};
+ghost use Rattle.std.specs.Prelude.{[], ◌∷◌, ◌++◌, false, map, slice_get, IfOk, IsTrue, OnOk, Some};
 
 use crate::entry::Entry;
 use crate::sums::ValidatorSum;
