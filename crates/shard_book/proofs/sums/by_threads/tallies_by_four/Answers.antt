@@ -1,8 +1,9 @@
-use Rattle.std.proofs.Common.{◌≡◌, ◌+◌, ◌/◌, ◌%◌, min, ◌<◌, List, ◌∷◌, length, sym, ap, subst}
-use Rattle.std.proofs.Common.{◌∙◌, arith, rules}
+use Rattle.std.proofs.Common.{◌≡◌, ◌≤◌, ◌*◌, ◌^◌, ◌+◌, ◌/◌, ◌%◌, min, ◌<◌, List, ◌∷◌, length, sym}
+use Rattle.std.proofs.Common.{ap, subst, ◌∙◌, arith, rules}
 use Rattle.histories.specs.TalliesByKey.{AreTallied}
-use Rattle.shard_book.proofs.ChunkLemmas.{AreChunksTallied, IsTallied, IsMerging, no-chunks, all-tallied}
-use Rattle.shard_book.proofs.ChunkLemmas.{merging-first, merging-room, merging-more, merging-tallied}
+use Rattle.shard_book.proofs.ChunkLemmas.{AreChunksTallied, IsTallied, IsMerging, no-chunks}
+use Rattle.shard_book.proofs.ChunkLemmas.{all-tallied, merging-first, merging-room, merging-more}
+use Rattle.shard_book.proofs.ChunkLemmas.{merging-tallied}
 use Rattle.shard_book.specs.Book.{Book, all_entries}
 use Rattle.std.proofs.lemmas.List.{nil_from_length}
 use Rattle.std.specs.{Prelude.slice_index_or, Vec.Iter.into_iter_items, Vec.Iter.into_iter_len}
@@ -18,6 +19,16 @@ returns-in_default-clause-tallied g c =
     ∙ (c.into_iter-parts.ensures.len ∙ c.in_ok-parts.ensures.len) in
     subst (λ (bs : List Book). AreTallied (all_entries bs) c.new.result)
     (sym (no-chunks c.max-size.result books some none)) c.new.ensures
+
+pub returns-in_default-clause-few : goal.returns-in_default-clause-few
+returns-in_default-clause-few g c =
+    let books = c.args.books.now in
+    let some : 0 < c.max-size.result = omega (arith, c.max-size.ensures) in
+    let none : 0 ≡ length books / c.max-size.result + min 1 (length books % c.max-size.result) =
+    sym (c.in_default.ensures.cases.0)
+    ∙ (c.into_iter-parts.ensures.len ∙ c.in_ok-parts.ensures.len) in
+    subst (λ (bs : List Book). length (all_entries bs) ≤ length bs * 2 ^ 64)
+    (sym (no-chunks c.max-size.result books some none)) (omega arith)
 
 pub loop-more-init : goal.loop-more-init
 loop-more-init g c =
