@@ -6,23 +6,21 @@ use Rattle.account_rule.specs.declared.reply.Reply.{Reply}
 use Rattle.histories.proofs.IncreasingLemmas.{increasing-only, sorted-increases}
 use Rattle.histories.proofs.SumsLemmas.{sums-append, sums-taps}
 use Rattle.histories.specs.{ByKey.with_key, Entry.reply_of, Entry.own, Increasing.increasing}
-use Rattle.histories.specs.{Shown.token_sum, Sums.Sums, Sums.sums, Sums.sums_of_replies}
-use Rattle.histories.specs.{Sums.add_sums, SumsBy.sums_by, SumsByKey.sums_by_token}
-use Rattle.histories.specs.{SumsByKey.tokens, TalliesByKey.AreByKey, TalliesByKey.HasRoom}
-use Rattle.histories.specs.{TalliesByKey.kept_sums, Tally.sums_of_tally, declared.entry.Entry.Entry}
+use Rattle.histories.specs.Shown.{token_sum}
+use Rattle.histories.specs.Sums.{Sums, sums, sums_of_replies, add_sums}
+use Rattle.histories.specs.{SumsBy.sums_by, SumsByKey.sums_by_token, SumsByKey.tokens}
+use Rattle.histories.specs.TalliesByKey.{AreByKey, MapHasRoom, kept_as, kept_sums}
+use Rattle.histories.specs.{Tally.sums_of_tally, declared.entry.Entry.Entry}
 use Rattle.histories.specs.declared.sums.{TokenSum.TokenSum, tally.Tally.Tally}
-use Rattle.indexmap.proofs.CallerLemmas.{updates-with_value_at}
-use Rattle.indexmap.specs.IndexMap.{set_value_at}
 use Rattle.std.proofs.lemmas.Bool.{cases_Bool}
 use Rattle.std.proofs.lemmas.List.{map-append, append-nil, take_all, Elements.filter-append}
 use Rattle.std.proofs.lemmas.List.{Folds.list_any-append, Sorted.list_any-IsPermutation}
 use Rattle.std.proofs.lemmas.List.Sums.{length-filter, count_by-le-length}
 use Rattle.std.proofs.lemmas.Map.{Keys.IsDistinct-IsPermutation, Made.is_some-lookup}
-use Rattle.std.specs.Cmp.{IsEquivalence, IsTotalOrder}
-use Rattle.std.specs.HashMap.{HashMap, get, IsUnique, Updates}
-use Rattle.std.specs.List.{list_any, IsDistinct, slice_get, Sorted.IsPermutation, Sorted.IsSorted}
-use Rattle.std.specs.{Map.lookup, Map.keys_of, Option.is_some, Option.unwrap_or, Ordering.eq_by_cmp}
-use Rattle.std.specs.{Ordering.is_eq, Set.is_member}
+use Rattle.std.specs.{Cmp.IsEquivalence, Cmp.IsTotalOrder, HashMap.HashMap, HashMap.get}
+use Rattle.std.specs.{HashMap.Updates, List.list_any, List.IsDistinct, List.Sorted.IsPermutation}
+use Rattle.std.specs.{List.Sorted.IsSorted, Map.lookup, Map.keys_of, Option.is_some}
+use Rattle.std.specs.{Option.unwrap_or, Ordering.eq_by_cmp, Ordering.is_eq, Set.is_member}
 use Rattle.tap_views.specs.declared.token.Token.{Token}
 
 or-true : (a : Bool) → true ≡ (a || (true || false))
@@ -33,44 +31,38 @@ or-false : (a : Bool) → a ≡ (a || (false || false))
 or-false true = refl
 or-false false = refl
 
--- the tally that an entry is added to holds the sums that were kept for its key
-pub kept-or : (kept : Option Tally) (fresh tally : Tally) → tally ≡ unwrap_or kept fresh
-    → sums_of_tally fresh ≡ sums_of_replies [] → sums_of_tally tally ≡ kept_sums kept
-kept-or None fresh tally is none = ap sums_of_tally is ∙ none
-kept-or (Some kept) fresh tally is none = ap sums_of_tally is
+-- what an entry is added to holds the sums that were kept for its key
+pub kept-or : {V : Type 0} (summed : V → Sums) (kept : Option V) (fresh counted : V)
+    → counted ≡ unwrap_or kept fresh → summed fresh ≡ sums_of_replies []
+    → summed counted ≡ kept_as summed kept
+kept-or summed None fresh counted is none = ap summed is ∙ none
+kept-or summed (Some kept) fresh counted is none = ap summed is
 
--- the tally of a pair, if there is one
-tally_in : {K : Type 0} → Option (K × Tally) → Tally → Tally
-tally_in None other = other
-tally_in (Some pair) other = pair.1
-
--- the tally that stands at a key's place holds the sums that are kept for the key
-pub kept-at : {K : Type 0} (pairs : List (K × Tally)) (position : ℕ) (key there : K)
-    (tally kept : Tally) (found : Option Tally) → slice_get pairs position ≡ Some (key, tally)
-    → slice_get pairs position ≡ Some (there, kept) → found ≡ Some tally
-    → sums_of_tally kept ≡ kept_sums found
-unfolding tally_in
-kept-at {K = K} pairs position key there tally kept found at same_position is =
-    let same : tally ≡ kept =
-    ap (λ (o : Option (K × Tally)). tally_in o kept) (sym at ∙ same_position) in
-    ap sums_of_tally (sym same) ∙ sym (ap kept_sums is)
-
--- a with_key is no longer than the entries
-pub room-kept : {K : Type 0} (eq : K → K → Bool) (key_of : Entry → K) (pairs : List (K × Tally))
-    (key : K) (taps more : ℕ) → HasRoom eq key_of pairs more
-    → taps ≡ (kept_sums (lookup (eq key) pairs)).taps → taps + more ≤ 2 ^ 95
-unfolding HasRoom with_key
-room-kept eq key_of pairs key taps more room is =
-    let count : taps ≡ length (with_key eq key_of key room.0) =
-    is ∙ ap (λ (s : Sums). s.taps) (room.1.sums key) ∙ sums-taps (with_key eq key_of key room.0) in
-    let few : length (with_key eq key_of key room.0) ≤ length room.0 =
+-- the sums of a key's entries count no more taps than there are entries
+pub taps-few : {K : Type 0} (eq : K → K → Bool) (key_of : Entry → K) (key : K)
+    (entries : List Entry) (kept : Sums) → kept ≡ sums (with_key eq key_of key entries)
+    → kept.taps ≤ length entries
+unfolding with_key
+taps-few eq key_of key entries kept is =
+    let count : kept.taps ≡ length (with_key eq key_of key entries) =
+    ap (λ (s : Sums). s.taps) is ∙ sums-taps (with_key eq key_of key entries) in
     omega (
       arith,
-      length-filter (λ (entry : Entry). eq (key_of entry) key) room.0,
-      count_by-le-length (λ (entry : Entry). eq (key_of entry) key) room.0,
-    ) in
+      count,
+      length-filter (λ (entry : Entry). eq (key_of entry) key) entries,
+      count_by-le-length (λ (entry : Entry). eq (key_of entry) key) entries,
+    )
+
+-- so there is room for more where there is room for the entries
+pub room-kept : {K : Type 0} (eq : K → K → Bool) (key_of : Entry → K) (pairs : List (K × Tally))
+    (key : K) (taps more : ℕ) → MapHasRoom eq key_of pairs more
+    → taps ≡ (kept_sums (lookup (eq key) pairs)).taps → taps + more ≤ 2 ^ 95
+unfolding MapHasRoom
+room-kept eq key_of pairs key taps more room is =
+    let few = taps-few eq key_of key room.0 (kept_sums (lookup (eq key) pairs))
+    (room.1.sums key) in
     let bound : length room.0 + more ≤ 2 ^ 95 = room.2 in
-    omega arith
+    omega (arith, is, few, bound)
 
 module _ {K : Type 0} {eq : K → K → Bool} (laws : IsEquivalence eq)
     (same : (a b : K) → eq a b ≡ true → a ≡ b) (key_of : Entry → K) where
@@ -80,7 +72,62 @@ module _ {K : Type 0} {eq : K → K → Bool} (laws : IsEquivalence eq)
   unfolding with_key
   with_key-push key before entry = filter-append (λ e. eq (key_of e) key) before (entry ∷ [])
 
-  -- one entry more in the totals of its key, and the other totals as they were
+  module _ (before : List Entry) (entry : Entry) (old new : K → Sums) (had has : K → Bool)
+      (added : new (key_of entry) ≡ add_sums (old (key_of entry))
+      (sums_of_replies (reply_of entry ∷ []))) (here : has (key_of entry) ≡ true)
+      (others : (q : K) → eq (key_of entry) q ≡ false → (new q ≡ old q) × (has q ≡ had q)) where
+    -- one entry more in the sums of its key, and the other sums as they were
+    pub sums-push : ((q : K) → old q ≡ sums (with_key eq key_of q before))
+        → (q : K) → new q ≡ sums (with_key eq key_of q (before ++ entry ∷ []))
+    sums-push is q =
+        ⊎_elim
+        (λ (same_key : eq (key_of entry) q ≡ true).
+        ap new (sym (same (key_of entry) q same_key))
+        ∙ added
+        ∙ ap (λ (s : Sums). add_sums s (sums_of_replies (reply_of entry ∷ [])))
+        (is (key_of entry)
+        ∙ ap (λ (k : K). sums (with_key eq key_of k before)) (same (key_of entry) q same_key))
+        ∙ sym (sums-append (with_key eq key_of q before) (entry ∷ []))
+        ∙ ap (λ (b : Bool). sums (with_key eq key_of q before ++ cond b (entry ∷ []) []))
+        (sym same_key)
+        ∙ ap sums (sym (with_key-push q before entry)))
+        (λ (apart : eq (key_of entry) q ≡ false).
+        (others q apart).0
+        ∙ is q
+        ∙ ap sums (sym (append-nil (with_key eq key_of q before)))
+        ∙ ap (λ (b : Bool). sums (with_key eq key_of q before ++ cond b (entry ∷ []) []))
+        (sym apart)
+        ∙ ap sums (sym (with_key-push q before entry)))
+        (cases_Bool (eq (key_of entry) q))
+
+    -- and its key among the keys
+    pub keys-push : ((q : K) → had q ≡ is_member eq (map key_of before) q)
+        → (q : K) → has q ≡ is_member eq (map key_of (before ++ entry ∷ [])) q
+    keys-push is q =
+        ⊎_elim
+        (λ (same_key : eq (key_of entry) q ≡ true).
+        ap has (sym (same (key_of entry) q same_key))
+        ∙ here
+        ∙ or-true (is_member eq (map key_of before) q)
+        ∙ ap (λ (b : Bool). is_member eq (map key_of before) q || (b || false))
+        (sym (laws.symm q (key_of entry) ∙ same_key))
+        ∙ sym member-push)
+        (λ (apart : eq (key_of entry) q ≡ false).
+        (others q apart).1
+        ∙ is q
+        ∙ or-false (is_member eq (map key_of before) q)
+        ∙ ap (λ (b : Bool). is_member eq (map key_of before) q || (b || false))
+        (sym (laws.symm q (key_of entry) ∙ apart))
+        ∙ sym member-push)
+        (cases_Bool (eq (key_of entry) q))
+      where
+        member-push : is_member eq (map key_of (before ++ entry ∷ [])) q
+            ≡ (is_member eq (map key_of before) q || (eq q (key_of entry) || false))
+        member-push =
+            ap (λ (ks : List K). list_any (eq q) ks) (map-append key_of before (entry ∷ []))
+            ∙ list_any-append (eq q) (map key_of before) (key_of entry ∷ [])
+
+  -- the same of tallies by key
   pub by_key-push : (before : List Entry) (entry : Entry) (old new : List (K × Tally))
       (totals : Tally)
       → ((q : K) → lookup (eq q) new ≡ cond (eq (key_of entry) q) (Some totals) (lookup (eq q) old))
@@ -88,52 +135,26 @@ module _ {K : Type 0} {eq : K → K → Bool} (laws : IsEquivalence eq)
       ≡ add_sums (kept_sums (lookup (eq (key_of entry)) old))
       (sums_of_replies (reply_of entry ∷ []))
       → AreByKey eq key_of before old → AreByKey eq key_of (before ++ entry ∷ []) new
-  by_key-push before entry old new totals updates added by_key = record {
-    sums = λ q.
-        ap kept_sums (updates q)
-        ∙ ⊎_elim
-        (λ (here : eq (key_of entry) q ≡ true).
-        let is : key_of entry ≡ q = same (key_of entry) q here in
-        ap (λ (b : Bool). kept_sums (cond b (Some totals) (lookup (eq q) old))) here
-        ∙ added
-        ∙ ap (λ (s : Sums). add_sums s (sums_of_replies (reply_of entry ∷ [])))
-        (by_key.sums (key_of entry) ∙ ap (λ (k : K). sums (with_key eq key_of k before)) is)
-        ∙ sym (sums-append (with_key eq key_of q before) (entry ∷ []))
-        ∙ ap (λ (b : Bool). sums (with_key eq key_of q before ++ cond b (entry ∷ []) [])) (sym here)
-        ∙ ap sums (sym (with_key-push q before entry)))
-        (λ (apart : eq (key_of entry) q ≡ false).
-        ap (λ (b : Bool). kept_sums (cond b (Some totals) (lookup (eq q) old))) apart
-        ∙ by_key.sums q
-        ∙ ap sums (sym (append-nil (with_key eq key_of q before)))
-        ∙ ap (λ (b : Bool). sums (with_key eq key_of q before ++ cond b (entry ∷ []) []))
-        (sym apart)
-        ∙ ap sums (sym (with_key-push q before entry)))
-        (cases_Bool (eq (key_of entry) q));
-    keys = λ q.
-        ap is_some (updates q)
-        ∙ ⊎_elim
-        (λ (here : eq (key_of entry) q ≡ true).
-        ap (λ (b : Bool). is_some (cond b (Some totals) (lookup (eq q) old))) here
-        ∙ or-true (is_member eq (map key_of before) q)
-        ∙ ap (λ (b : Bool). is_member eq (map key_of before) q || (b || false))
-        (sym (laws.symm q (key_of entry) ∙ here))
-        ∙ sym (member-push q before entry))
-        (λ (apart : eq (key_of entry) q ≡ false).
-        ap (λ (b : Bool). is_some (cond b (Some totals) (lookup (eq q) old))) apart
-        ∙ by_key.keys q
-        ∙ or-false (is_member eq (map key_of before) q)
-        ∙ ap (λ (b : Bool). is_member eq (map key_of before) q || (b || false))
-        (sym (laws.symm q (key_of entry) ∙ apart))
-        ∙ sym (member-push q before entry))
-        (cases_Bool (eq (key_of entry) q));
-  }
-    where
-      member-push : (q : K) (before : List Entry) (entry : Entry)
-          → is_member eq (map key_of (before ++ entry ∷ [])) q
-          ≡ (is_member eq (map key_of before) q || (eq q (key_of entry) || false))
-      member-push q before entry =
-          ap (λ (ks : List K). list_any (eq q) ks) (map-append key_of before (entry ∷ []))
-          ∙ list_any-append (eq q) (map key_of before) (key_of entry ∷ [])
+  by_key-push before entry old new totals updates added by_key =
+      let k = key_of entry in
+      let kept : List (K × Tally) → K → Sums = λ pairs q. kept_sums (lookup (eq q) pairs) in
+      let keeps : List (K × Tally) → K → Bool = λ pairs q. is_some (lookup (eq q) pairs) in
+      let at : lookup (eq k) new ≡ Some totals =
+      updates k ∙ ap (λ (b : Bool). cond b (Some totals) (lookup (eq k) old)) (laws.refl k) in
+      let is_added = ap kept_sums at ∙ added in
+      let is_there = ap is_some at in
+      let others : (q : K) → eq k q ≡ false
+      → (kept new q ≡ kept old q) × (keeps new q ≡ keeps old q) =
+      λ q apart.
+      let kept_there : lookup (eq q) new ≡ lookup (eq q) old =
+      updates q ∙ ap (λ (b : Bool). cond b (Some totals) (lookup (eq q) old)) apart in
+      (ap kept_sums kept_there, ap is_some kept_there) in
+      record {
+        sums = sums-push before entry (kept old) (kept new) (keeps old) (keeps new) is_added
+            is_there others by_key.sums;
+        keys = keys-push before entry (kept old) (kept new) (keeps old) (keeps new) is_added
+            is_there others by_key.keys;
+      }
 
   -- the same, as a map's entry has it once its value was written
   pub by_key-written : {S : Type 0} (before : List Entry) (entry : Entry) (key : K)
@@ -154,34 +175,9 @@ module _ {K : Type 0} {eq : K → K → Bool} (laws : IsEquivalence eq)
       ∙ ap (λ (k : K). cond (eq k q) (Some totals) (lookup (eq q) old.entries)) is_key)
       (added
       ∙ ap (λ (s : Sums). add_sums s (sums_of_replies (answered ∷ [])))
-      (kept-or (get eq old key) fresh kept is_kept none
+      (kept-or sums_of_tally (get eq old key) fresh kept is_kept none
       ∙ ap (λ (k : K). kept_sums (get eq old k)) is_key)
       ∙ ap (λ (r : Reply). add_sums (kept_sums (get eq old (key_of entry)))
-      (sums_of_replies (r ∷ []))) is_reply)
-      by_key
-
-  -- the same, if the tally at the key's place was written
-  pub by_key-at : {S : Type 0} (before : List Entry) (entry : Entry) (key there : K)
-      (m : HashMap K Tally S) (position : ℕ) (tally kept totals : Tally) (answered : Reply)
-      → key ≡ key_of entry
-      → IsUnique eq m
-      → slice_get m.entries position ≡ Some (key, tally)
-      → get eq m key ≡ Some tally
-      → slice_get m.entries position ≡ Some (there, kept)
-      → answered ≡ reply_of entry
-      → sums_of_tally totals ≡ add_sums (sums_of_tally kept) (sums_of_replies (answered ∷ []))
-      → AreByKey eq key_of before m.entries
-      → AreByKey eq key_of (before ++ entry ∷ []) (set_value_at m.entries position totals)
-  by_key-at before entry key there m position tally kept totals answered is_key unique at is same_position
-      is_reply added by_key =
-      by_key-push before entry m.entries (set_value_at m.entries position totals) totals
-      (λ q. (updates-with_value_at m position totals laws unique key tally at).0 q
-      ∙ ap (λ (k : K). cond (eq k q) (Some totals) (lookup (eq q) m.entries)) is_key)
-      (added
-      ∙ ap (λ (s : Sums). add_sums s (sums_of_replies (answered ∷ [])))
-      (kept-at m.entries position key there tally kept (get eq m key) at same_position is
-      ∙ ap (λ (k : K). kept_sums (get eq m k)) is_key)
-      ∙ ap (λ (r : Reply). add_sums (kept_sums (get eq m (key_of entry)))
       (sums_of_replies (r ∷ []))) is_reply)
       by_key
 

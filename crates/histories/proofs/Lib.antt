@@ -8,6 +8,7 @@ pub mod PlainUploads
 pub mod IncreasingLemmas
 pub mod SameEntries
 pub mod SameUnderKeys
+pub mod TalliedLemmas
 pub mod TallyLemmas
 pub mod SumsByToken
 pub mod SumsLemmas

@@ -13,7 +13,7 @@ pub use entry::Entry;
 pub use lines::Lines;
 pub use replies::Replies;
 pub use statement::Statement;
-pub use sums::by_key::{SumKey, add_entry, add_tallies, listed};
+pub use sums::by_key::{SumKey, add_entry, listed};
 pub use sums::counts::{Counts, TokenCounts};
 pub use sums::tally::{Tally, position_of};
 pub use sums::token_sums::TokenSums;

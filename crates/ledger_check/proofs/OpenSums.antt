@@ -1,11 +1,11 @@
 -- Sums to which entries are added one by one.
-use Rattle.std.proofs.Common.{◌≡◌, ◌==◌, ◌<◌, ◌≤◌, List, [], ◌∷◌, ◌++◌, length, map, All, sym, ap}
-use Rattle.std.proofs.Common.{subst, ◌∙◌, arith, append-nil, append_assoc, length-append, suc}
+use Rattle.std.proofs.Common.{◌≡◌, ◌<◌, ◌≤◌, List, [], ◌∷◌, ◌++◌, length, map, All, sym, ap, subst}
+use Rattle.std.proofs.Common.{◌∙◌, arith, append-nil, append_assoc, length-append, suc}
 use Rattle.histories.proofs.SumsByToken.{by_token_joined, no_sums, one_token_list, below_same}
 use Rattle.histories.proofs.SumsLemmas.{sums-append, sums-taps}
 use Rattle.histories.specs.{Entry.reply_of, Sums.Sums, Sums.add_sums, Sums.sums_of_replies}
-use Rattle.histories.specs.SumsByKey.{sums_by_token, token_of, validator_of}
-use Rattle.histories.specs.{TalliesByKey.AreByKey, Tally.sums_of_tally, declared.entry.Entry.Entry}
+use Rattle.histories.specs.{SumsByKey.sums_by_token, SumsByKey.token_of, TalliesByKey.AreTallied}
+use Rattle.histories.specs.{Tally.sums_of_tally, declared.entry.Entry.Entry}
 use Rattle.ledger_check.proofs.TokenOrder.{greater_number}
 use Rattle.ledger_check.specs.{Ledger.token_number, OpenSums.AreOpenSums, OpenSums.IsRunOf}
 use Rattle.ledger_check.specs.{OpenSums.IsSplitAt, declared.open_sums.OpenSums.OpenSums}
@@ -163,7 +163,7 @@ pub entry_added : (entries : List Entry) (old new : OpenSums) (held after : Open
     → new.last ≡ Some after → after.token ≡ held.token
     → sums_of_tally after.tally
     ≡ add_sums (sums_of_tally held.tally) (sums_of_replies (reply_of entry ∷ []))
-    → AreByKey ◌==◌ validator_of (entries ++ entry ∷ []) new.validators
+    → AreTallied (entries ++ entry ∷ []) new.validators
     → sums_of_tally new.totals
     ≡ add_sums (sums_of_tally old.totals) (sums_of_replies (reply_of entry ∷ []))
     → AreOpenSums (entries ++ entry ∷ []) new

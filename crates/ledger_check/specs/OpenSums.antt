@@ -1,8 +1,8 @@
 -- What is known of sums to which entries are added one by one.
-use Rattle.histories.specs.{Sums.Sums, Sums.sums, SumsByKey.sums_by_token, SumsByKey.validator_of}
-use Rattle.histories.specs.{TalliesByKey.AreByKey, Tally.sums_of_tally, declared.entry.Entry.Entry}
+use Rattle.histories.specs.{Sums.Sums, Sums.sums, SumsByKey.sums_by_token, TalliesByKey.AreTallied}
+use Rattle.histories.specs.{Tally.sums_of_tally, declared.entry.Entry.Entry}
 use Rattle.ledger_check.specs.declared.open_sums.{OpenSums.OpenSums, OpenToken.OpenToken}
-use Rattle.std.specs.Prelude.{◌≡◌, ◌==◌, ◌<◌, All, List, [], ◌++◌, Option, None, Some, length}
+use Rattle.std.specs.Prelude.{◌≡◌, ◌<◌, All, List, [], ◌++◌, Option, None, Some, length}
 use Rattle.std.specs.declared.cmp.Ordering.TheVariants.{Less}
 use Rattle.tap_views.specs.{Token.Fits, Token.token_cmp, declared.token.Token.Token}
 
@@ -28,5 +28,5 @@ IsSplitAt entries tokens (Some last) =
 -- these entries were added
 pub record AreOpenSums (entries : List Entry) (held : OpenSums) : Type 0 where
   pub split : IsSplitAt entries held.tokens held.last
-  pub validators : AreByKey ◌==◌ validator_of entries held.validators
+  pub validators : AreTallied entries held.validators
   pub totals : sums_of_tally held.totals ≡ sums entries

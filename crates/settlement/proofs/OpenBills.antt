@@ -1,14 +1,13 @@
 -- Bills to which taps are added one by one.
-use Rattle.std.proofs.Common.{◌≡◌, ◌≢◌, ◌==◌, ℕ, ◌+◌, true, false, List, [], ◌∷◌, ◌++◌, length, map}
-use Rattle.std.proofs.Common.{refl, sym, ap, subst, ◌∙◌, arith, All, append-nil, append_assoc}
-use Rattle.std.proofs.Common.{get_or, length-append}
+use Rattle.std.proofs.Common.{◌≡◌, ◌≢◌, ◌+◌, true, false, List, [], ◌∷◌, ◌++◌, length, map, refl}
+use Rattle.std.proofs.Common.{sym, ap, subst, ◌∙◌, arith, All, append-nil, append_assoc, get_or}
+use Rattle.std.proofs.Common.{length-append}
 use Rattle.histories.proofs.SumsByToken.{by_token_joined, one_token_list, below_same, none_of}
 use Rattle.histories.proofs.SumsLemmas.{sums-append, sums-taps}
 use Rattle.histories.specs.{Entry.own, Entry.reply_of, Plain.answered}
 use Rattle.histories.specs.Sums.{Sums, add_sums, sums, sums_of_replies}
-use Rattle.histories.specs.SumsByKey.{sums_by_token, token_of, validator_of}
-use Rattle.histories.specs.{TalliesByKey.AreByKey, Tally.sums_of_tally}
-use Rattle.histories.specs.declared.{entry.Entry.Entry, sums.tally.Tally.Tally}
+use Rattle.histories.specs.{SumsByKey.sums_by_token, SumsByKey.token_of, TalliesByKey.AreTallied}
+use Rattle.histories.specs.{TalliesByKey.Tallies, Tally.sums_of_tally, declared.entry.Entry.Entry}
 use Rattle.settlement.proofs.TokenRuns.{posted_length, posted_next, up_apart}
 use Rattle.settlement.specs.{Bills.IsBillOf, OpenBills.IsOpenBill, Posted.posted}
 use Rattle.settlement.specs.{Posted.token_of_tap, Posted.unposted, Replays.HasPosted}
@@ -82,7 +81,7 @@ module _ (fares : Fares) (taps : List TapFields) (bill : OpenBill)
             (one_token_list token is.last (is.some some) is.its));
         counts = record {
           validators = subst
-              (λ (list : List (ℕ × Tally)). AreByKey ◌==◌ validator_of (posted fares taps) list)
+              (λ (tallies : Tallies). AreTallied (posted fares taps) tallies)
               (sym validators) is.validators;
           totals = totals
               ∙ ap (λ (s : Sums). add_sums s (sums_of_tally bill.tally)) is.totals
@@ -131,7 +130,7 @@ module _ (fares : Fares) (taps : List TapFields) (bill : OpenBill)
       ≡ add_sums (sums_of_tally bill.tally) (sums_of_replies (reply_of entry ∷ []))
       → new.has_taps ≡ true → new.bill.tokens ≡ bill.bill.tokens
       → new.bill.totals ≡ bill.bill.totals
-      → AreByKey ◌==◌ validator_of (posted fares taps ++ entry ∷ []) new.bill.validators
+      → AreTallied (posted fares taps ++ entry ∷ []) new.bill.validators
       → IsOpenBill fares (taps ++ tap ∷ []) new
   unfolding answered
   one_more new tap entry its same answer holds tally some tokens totals validators =
@@ -158,6 +157,6 @@ module _ (fares : Fares) (taps : List TapFields) (bill : OpenBill)
         none = λ none. absurd (let wrong : true ≡ false = sym some ∙ none in cc);
         tokens = tokens ∙ is.tokens;
         totals = ap sums_of_tally totals ∙ is.totals;
-        validators = subst (λ (es : List Entry). AreByKey ◌==◌ validator_of es new.bill.validators)
-            next validators;
+        validators = subst (λ (es : List Entry). AreTallied es new.bill.validators) next
+            validators;
       }

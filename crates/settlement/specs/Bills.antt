@@ -1,12 +1,12 @@
 -- What settled taps come to.
-use Rattle.histories.specs.{Sums.sums, SumsByKey.sums_by_token, SumsByKey.validator_of}
-use Rattle.histories.specs.{TalliesByKey.AreByKey, Tally.sums_of_tally, declared.entry.Entry.Entry}
+use Rattle.histories.specs.{Sums.sums, SumsByKey.sums_by_token}
+use Rattle.histories.specs.{TalliesByKey.AreTallied, Tally.sums_of_tally, declared.entry.Entry.Entry}
 use Rattle.settlement.specs.declared.bill.Bill.{Bill}
-use Rattle.std.specs.Prelude.{◌≡◌, ◌==◌, ◌+◌, ◌^◌, ◌≤◌, List, length}
+use Rattle.std.specs.Prelude.{◌≡◌, ◌+◌, ◌^◌, ◌≤◌, List, length}
 
 -- the bill has the sums of these entries by validator, and of all
 pub record IsCountOf (entries : List Entry) (bill : Bill) : Type 0 where
-  pub validators : AreByKey ◌==◌ validator_of entries bill.validators
+  pub validators : AreTallied entries bill.validators
   pub totals : sums_of_tally bill.totals ≡ sums entries
 
 -- the bill has the sums of these entries: by token, by validator and of all

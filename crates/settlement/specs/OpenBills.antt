@@ -1,10 +1,10 @@
 -- Bills to which taps are added one by one.
-use Rattle.histories.specs.Sums.{sums}
-use Rattle.histories.specs.SumsByKey.{sums_by_token, token_of, validator_of}
-use Rattle.histories.specs.{TalliesByKey.AreByKey, Tally.sums_of_tally, declared.entry.Entry.Entry}
+use Rattle.histories.specs.{Sums.sums, SumsByKey.sums_by_token, SumsByKey.token_of}
+use Rattle.histories.specs.{TalliesByKey.AreTallied, Tally.sums_of_tally}
+use Rattle.histories.specs.declared.entry.Entry.{Entry}
 use Rattle.settlement.specs.{Posted.posted, Replays.HasPosted, declared.open_bill.OpenBill.OpenBill}
-use Rattle.std.specs.Prelude.{◌≡◌, ◌==◌, ◌+◌, ◌^◌, ◌<◌, ◌≤◌, ℕ, true, false, All, List, [], ◌∷◌}
-use Rattle.std.specs.Prelude.{◌++◌, length, map}
+use Rattle.std.specs.Prelude.{◌≡◌, ◌+◌, ◌^◌, ◌<◌, ◌≤◌, ℕ, true, false, All, List, [], ◌∷◌, ◌++◌}
+use Rattle.std.specs.Prelude.{length, map}
 use Rattle.tap_views.specs.{TokenOrder.AreBelow, declared.encoder.TapFields.TapFields}
 use Rattle.tariffs.specs.Fares.{Fares}
 
@@ -22,7 +22,7 @@ pub record IsOpenBill (fares : Fares) (taps : List TapFields) (bill : OpenBill) 
   pub none : bill.has_taps ≡ false → last ≡ []
   pub tokens : bill.bill.tokens ≡ sums_by_token lower
   pub totals : sums_of_tally bill.bill.totals ≡ sums lower
-  pub validators : AreByKey ◌==◌ validator_of (posted fares taps) bill.bill.validators
+  pub validators : AreTallied (posted fares taps) bill.bill.validators
 
 -- the bill has some taps, and there is room for `more` others
 abbrev pub HasRoomFor : OpenBill → ℕ → Type 0

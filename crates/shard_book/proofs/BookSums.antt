@@ -3,9 +3,8 @@ use Rattle.std.proofs.Common.{◌≡◌, ℕ, ◌+◌, ◌*◌, ◌<◌, ◌≤�
 use Rattle.std.proofs.Common.{map, take, get_or, None, sym, ap, subst, ◌∙◌, arith, Ordering}
 use Rattle.histories.specs.{Increasing.increasing, Shown.validator_sum, Sums.Sums, SumsBy.sums_by}
 use Rattle.histories.specs.SumsByKey.{sums_by_validator, validators}
-use Rattle.histories.specs.TalliesByKey.{AreByKey, HaveRoom}
-use Rattle.histories.specs.declared.entry.Entry.{Entry}
-use Rattle.histories.specs.declared.sums.{ValidatorSum.ValidatorSum, tally.Tally.Tally}
+use Rattle.histories.specs.TalliesByKey.{AreTallied, HaveRoom, Tallies}
+use Rattle.histories.specs.declared.{entry.Entry.Entry, sums.ValidatorSum.ValidatorSum}
 use Rattle.shard_book.specs.Book.{Book, all_entries}
 use Rattle.std.proofs.lemmas.Grind.{flat_map-append}
 use Rattle.std.proofs.lemmas.List.{length-append, take_more, append-nil}
@@ -36,32 +35,30 @@ validators-none [] items none first = ap (map validator_sum) none
 validators-none (book ∷ books) items none first = absurd (cc)
 
 -- there is room for the tallies of two parts of the books
-pub parts-room : {K : Type 0} (eq : K → K → Bool) (key_of : Entry → K)
-    (books front back : List Book) (first more : List (K × Tally))
-    → length books ≤ 64 → books ≡ front ++ back
+pub parts-room : (books front back : List Book) (first more : Tallies) → length books ≤ 64
+    → books ≡ front ++ back
     → length (all_entries front) ≤ length front * 2 ^ 64
     → length (all_entries back) ≤ length back * 2 ^ 64
-    → AreByKey eq key_of (all_entries front) first → AreByKey eq key_of (all_entries back) more
-    → HaveRoom eq key_of first more
+    → AreTallied (all_entries front) first → AreTallied (all_entries back) more
+    → HaveRoom first more
 unfolding HaveRoom
-parts-room eq key_of books front back first more few parts few_front few_back by_key by_key_more =
+parts-room books front back first more few parts few_front few_back tallied tallied_more =
     let all : length books ≡ length front + length back =
     ap length parts ∙ length-append front back in (
       all_entries front,
       all_entries back,
-      by_key,
-      by_key_more,
+      tallied,
+      tallied_more,
       omega (arith, few, all, few_front, few_back),
     )
 
 -- the tallies of both parts are those of the books
-pub parts-by_key : {K : Type 0} (eq : K → K → Bool) (key_of : Entry → K)
-    (books front back : List Book) (now : List (K × Tally))
-    → books ≡ front ++ back → AreByKey eq key_of (all_entries front ++ all_entries back) now
-    → AreByKey eq key_of (all_entries books) now
-parts-by_key eq key_of books front back now parts by_key =
-    subst (λ (entries : List Entry). AreByKey eq key_of entries now)
-    (sym (ap all_entries parts ∙ flat_map-append (λ (book : Book). book.entries) front back)) by_key
+pub parts-tallied : (books front back : List Book) (now : Tallies) → books ≡ front ++ back
+    → AreTallied (all_entries front ++ all_entries back) now → AreTallied (all_entries books) now
+parts-tallied books front back now parts tallied =
+    subst (λ (entries : List Entry). AreTallied entries now)
+    (sym (ap all_entries parts ∙ flat_map-append (λ (book : Book). book.entries) front back))
+    tallied
 
 -- so few entries have the books as their parts have
 pub parts-few : (books front back : List Book) → books ≡ front ++ back

@@ -9,7 +9,7 @@ use crate::book::ShardBook;
 use crate::sums::by_key::sums_of_books;
 use crate::sums::by_threads::tallies_by_validator;
 use crate::sums::by_token::increasing_counts;
-use histories::{Tally, TokenSum, TokenSums, Totals, ValidatorSum, listed, widened_sums};
+use histories::{Tally, TokenSum, TokenSums, Totals, ValidatorSum, widened_sums};
 use std::alloc::Global;
 use std::marker::Sync;
 use std::thread::Threads;
@@ -22,7 +22,6 @@ mod by_token;
 
 /// The validators of the books, in increasing order, with their totals: one scan a book and a sort.
 /// Of many entries, four threads scan a quarter of the books each.
-#[tactic(auto, unfolding(histories::specs::SumsBy::sums_by, histories::specs::ByKey::with_key, histories::specs::SumsByKey::sums_by_validator, histories::specs::SumsByKey::validators, histories::specs::SumsByKey::entries_of_validator))]
 pub fn sums_by_validator<R: Threads + Sync>(
     rt: &R,
     alloc: Global,
@@ -36,7 +35,7 @@ pub fn sums_by_validator<R: Threads + Sync>(
         return Ok(Vec::new(alloc));
     };
     let tallies = tallies_by_validator(rt, alloc, first.seed(), books)?;
-    listed(alloc, &tallies)
+    tallies.sums(alloc)
 }
 
 /// One scan of what the books store of their tokens; of the histories if two may share a token.

@@ -2,12 +2,11 @@
 
 ghost use Rattle.histories.specs.{Increasing.increasing, Sums.Sums, Sums.add_sums, Sums.sums_of};
 ghost use Rattle.histories.specs.SumsBy.{sums_by};
-ghost use Rattle.histories.specs.TalliesByKey.{AreByKey, HasRoom, HaveRoom, kept_sums};
-ghost use Rattle.histories.specs.Tally.{sums_of_tally};
-ghost use Rattle.histories.specs.declared.{entry.Entry.Entry, sums.tally.Tally.Tally};
-ghost use Rattle.std.specs.HashMap.{get};
-ghost use Rattle.std.specs.Prelude.{◌≡◌, ◌+◌, ◌≤◌, ◌^◌, List, [], ◌∷◌, ◌++◌, map, cond, true};
-ghost use Rattle.std.specs.Prelude.{false, slice_get, IfOk, IsTrue, OnOk, Some};
+ghost use Rattle.histories.specs.TalliesByKey.{AreByKey, MapHasRoom, kept_as, kept_sums};
+ghost use Rattle.histories.specs.{Tally.sums_of_tally, declared.entry.Entry.Entry};
+ghost use Rattle.histories.specs.{declared.sums.tally.Tally.Tally, inside.Added.AreAdded};
+ghost use Rattle.std.specs.{HashMap.get, Prelude.◌≡◌, Prelude.◌+◌, Prelude.◌≤◌};
+ghost use Rattle.std.specs.Prelude.{◌^◌, List, [], ◌∷◌, ◌++◌, map, cond, true, IfOk, OnOk, Some};
 
 use crate::entry::Entry;
 use crate::sums::tally::Tally;
@@ -41,13 +40,24 @@ pub trait SumKey: Copy + Ord + Hash + Drop {
     ghost same: { (a b : Self) → Self.eq a b ≡ true → a ≡ b };
 }
 
+/// What counts replies.
+pub(crate) trait Summed: Drop {
+    ghost use Rattle.histories.specs.Tally.{sums_of_tally};
+
+    // The sums of the replies.
+    ghost summed: { Self → Sums };
+
+    fn tally(&self) -> Tally
+        ensures { sums_of_tally result ≡ summed self.now };
+}
+
 /// Adds one entry to the tally of its key.
 #[inline]
 pub fn add_entry<K: SumKey>(
     tallies: &mut IndexMap<K, Tally, HashSeed>,
     entry: &Entry,
 ) -> Result<(), NoMemory>
-    requires { HasRoom K.eq K.key_of tallies.old.entries 1 }
+    requires { MapHasRoom K.eq K.key_of tallies.old.entries 1 }
     ensures { OnOk result ((before : List Entry)
         → AreByKey K.eq K.key_of before tallies.old.entries
         → AreByKey K.eq K.key_of (before ++ entry.now ∷ []) tallies.new.entries) }
@@ -55,39 +65,6 @@ pub fn add_entry<K: SumKey>(
     let kept = tallies.entry(K::of(entry))?.or_insert(Tally::new());
     kept.add(entry.reply());
     Ok(())
-}
-
-#[inline(always)]
-fn is_at<K: SumKey>(tallies: &IndexMap<K, Tally, HashSeed>, position: usize, key: K) -> bool
-    ensures { IsTrue result → (tally : Tally)
-        × (slice_get tallies.now.entries position ≡ Some (key, tally))
-        × (get K.eq tallies.now key ≡ Some tally) }
-{
-    match tallies.get_index(position) {
-        Some((there, _)) => *there == key,
-        None => false,
-    }
-}
-
-/// The tally at the index is tried first, which saves a look-up. Returns whether it is the key's.
-#[inline(always)]
-pub(crate) fn add_at<K: SumKey>(
-    tallies: &mut IndexMap<K, Tally, HashSeed>,
-    position: usize,
-    entry: &Entry,
-) -> bool
-    requires { HasRoom K.eq K.key_of tallies.old.entries 1 }
-    ensures added { IsTrue result → (before : List Entry)
-        → AreByKey K.eq K.key_of before tallies.old.entries
-        → AreByKey K.eq K.key_of (before ++ entry.now ∷ []) tallies.new.entries }
-    ensures unchanged { result ≡ false → tallies.new ≡ tallies.old }
-{
-    if !is_at(tallies, position, K::of(entry)) {
-        return false;
-    }
-    let (_, kept) = tallies.pair_mut(position);
-    kept.add(entry.reply());
-    true
 }
 
 fn increasing_keys<K: SumKey>(
@@ -104,7 +81,7 @@ fn increasing_keys<K: SumKey>(
 }
 
 fn kept_totals<K: SumKey>(tallies: &IndexMap<K, Tally, HashSeed>, key: K) -> Totals
-    requires { HasRoom K.eq K.key_of tallies.now.entries 0 }
+    requires { MapHasRoom K.eq K.key_of tallies.now.entries 0 }
     ensures { sums_of result ≡ kept_sums (get K.eq tallies.now key) }
 {
     match tallies.get(&key) {
@@ -118,7 +95,7 @@ pub fn listed<K: SumKey>(
     alloc: Global,
     tallies: &IndexMap<K, Tally, HashSeed>,
 ) -> Result<Vec<K::Sum>, NoMemory>
-    requires { HasRoom K.eq K.key_of tallies.now.entries 0 }
+    requires { MapHasRoom K.eq K.key_of tallies.now.entries 0 }
     ensures { IfOk result (λ list. (entries : List Entry)
         → AreByKey K.eq K.key_of entries tallies.now.entries
         → map K.shown list.items ≡ sums_by K.cmp K.eq K.key_of entries) }
@@ -131,7 +108,7 @@ pub fn listed<K: SumKey>(
     Ok(list)
 }
 
-fn add_tally<K: SumKey>(
+pub(crate) fn add_tally<K: SumKey>(
     tallies: &mut IndexMap<K, Tally, HashSeed>,
     key: K,
     tally: &Tally,
@@ -149,19 +126,18 @@ fn add_tally<K: SumKey>(
     Ok(())
 }
 
-/// Adds the tallies of more entries.
-pub fn add_tallies<K: SumKey>(
+/// Adds what is counted of each key.
+pub(crate) fn add_tallies<K: SumKey, V: Summed>(
     tallies: &mut IndexMap<K, Tally, HashSeed>,
-    more: &IndexMap<K, Tally, HashSeed>,
+    more: &IndexMap<K, V, HashSeed>,
 ) -> Result<(), NoMemory>
-    requires { HaveRoom K.eq K.key_of tallies.old.entries more.now.entries }
-    ensures { OnOk result ((before after : List Entry)
-        → AreByKey K.eq K.key_of before tallies.old.entries
-        → AreByKey K.eq K.key_of after more.now.entries
-        → AreByKey K.eq K.key_of (before ++ after) tallies.new.entries) }
+    requires { (key : K) → (kept_sums (get K.eq tallies.old key)).taps
+        + (kept_as V.summed (get K.eq more.now key)).taps ≤ 2 ^ 95 }
+    ensures { OnOk result
+        (AreAdded K.eq V.summed tallies.old.entries more.now.entries tallies.new.entries) }
 {
-    for (key, tally) in more.iter() {
-        add_tally(tallies, *key, tally)?;
+    for (key, counted) in more.iter() {
+        add_tally(tallies, *key, &counted.tally())?;
     }
     Ok(())
 }

@@ -1,44 +1,29 @@
 //! The counts that a book stores of each token, small and beside the token's account.
 
-ghost use Rattle.std.specs.Prelude.{◌≡◌, ◌+◌, ◌*◌, ◌<◌, ◌≤◌, IsTrue};
+ghost use Rattle.histories.specs.inside.Positions.{HasFewCents};
 
 use crate::sums::TokenSum;
+use crate::sums::by_key::Summed;
+use crate::sums::tally::{Tally, position_of};
 use crate::sums::totals::Totals;
-use account_rule::{Answer, Reply};
+use account_rule::Reply;
 use tap_views::Token;
 
 /// What `Totals` counts, while cents fit 32 bits and the others 16: 16 bytes, and `Totals` 112.
 #[derive(Clone, Copy, Debug, PartialEq, Eq)]
 pub struct Counts {
     cents: u32,
-    paid: u16,
-    transfers: u16,
-    capped: u16,
-    stale: u16,
-    unknown: u16,
-    ghost in_cents: { cents ≤ (paid + transfers + capped + stale + unknown) * 4294967295 },
-}
-
-#[inline(always)]
-fn add_one(count: &mut u16) -> bool
-    ensures added { IsTrue result → count.new ≡ count.old + 1 }
-    ensures some { 0 < count.new }
-{
-    match count.checked_add(1) {
-        Some(more) => {
-            *count = more;
-            true
-        }
-        None => false,
-    }
+    /// How many replies have each answer, by the index of the answer.
+    counts: [u16; 5],
+    ghost in_cents: { HasFewCents counts cents },
 }
 
 impl Counts {
-    ghost use Rattle.std.specs.Prelude.{◌≡◌, ◌+◌, [], ◌∷◌, IsTrue, IfSome};
+    ghost use Rattle.std.specs.Prelude.{◌≡◌, [], ◌∷◌, false, IsTrue, IfSome};
     ghost use Rattle.histories.specs.Counts.{sums_of_counts};
     ghost use Rattle.histories.specs.Sums.{sums_of, sums_of_replies, add_sums};
     ghost use Rattle.histories.specs.Sums.{has_taps};
-    ghost use Rattle.histories.specs.Tally.{sums_of_positions};
+    ghost use Rattle.histories.specs.Tally.{sums_of_positions, sums_of_tally};
     ghost use Rattle.histories.specs.inside.Positions.{HasFewCents};
 
     /// The counts of nothing.
@@ -48,11 +33,7 @@ impl Counts {
     {
         Counts {
             cents: 0,
-            paid: 0,
-            transfers: 0,
-            capped: 0,
-            stale: 0,
-            unknown: 0,
+            counts: [0; 5],
         }
     }
 
@@ -63,38 +44,39 @@ impl Counts {
         let [paid, transfers, capped, stale, unknown] = counts;
         Some(Counts {
             cents: u32::try_from(cents).ok()?,
-            paid: u16::try_from(paid).ok()?,
-            transfers: u16::try_from(transfers).ok()?,
-            capped: u16::try_from(capped).ok()?,
-            stale: u16::try_from(stale).ok()?,
-            unknown: u16::try_from(unknown).ok()?,
+            counts: [
+                u16::try_from(paid).ok()?,
+                u16::try_from(transfers).ok()?,
+                u16::try_from(capped).ok()?,
+                u16::try_from(stale).ok()?,
+                u16::try_from(unknown).ok()?,
+            ],
         })
     }
 
-    /// Counts one reply more, and returns whether there was room: else the counts are of no use.
-    #[tactic(auto, unfolding(crate::specs::Sums::sums_of_replies))]
+    /// Counts one reply more, and returns whether there was room.
+    #[inline(always)]
     pub fn add(&mut self, reply: Reply) -> bool
-        ensures { IsTrue result → sums_of_counts self.new
+        ensures added { IsTrue result → sums_of_counts self.new
             ≡ add_sums (sums_of_counts self.old) (sums_of_replies (reply ∷ [])) }
+        ensures unchanged { result ≡ false → self.new ≡ self.old }
     {
-        let had_room = match reply.answer {
-            Answer::Paid => add_one(&mut self.paid),
-            Answer::Transfer => add_one(&mut self.transfers),
-            Answer::Capped => add_one(&mut self.capped),
-            Answer::Stale => add_one(&mut self.stale),
-            Answer::Unknown => add_one(&mut self.unknown),
-        };
-        let (cents, carries) = self.cents.overflowing_add(reply.cents);
-        self.cents = cents;
-        had_room & !carries
+        let position = position_of(reply.answer);
+        if self.counts[position] == u16::MAX || self.cents > u32::MAX - reply.cents {
+            return false;
+        }
+        self.counts[position] += 1;
+        self.cents += reply.cents;
+        true
     }
 
     /// Whether they count any tap.
     pub fn has_taps(&self) -> bool
         ensures { result ≡ has_taps (sums_of_counts self.now) }
     {
-        let some = u32::from(self.paid) + u32::from(self.transfers);
-        let free = u32::from(self.capped) + u32::from(self.stale) + u32::from(self.unknown);
+        let [paid, transfers, capped, stale, unknown] = self.counts;
+        let some = u32::from(paid) + u32::from(transfers);
+        let free = u32::from(capped) + u32::from(stale) + u32::from(unknown);
         some + free != 0
     }
 
@@ -107,13 +89,28 @@ impl Counts {
     pub(crate) fn totals(&self) -> Totals
         ensures { sums_of result ≡ sums_of_counts self.now }
     {
-        Totals::of_counts(
+        self.tally().totals()
+    }
+}
+
+impl Summed for Counts {
+    ghost use Rattle.std.specs.Prelude.{◌≡◌, ◌≤◌, ◌^◌};
+    ghost use Rattle.histories.specs.{Counts.sums_of_counts, Tally.sums_of_tally};
+
+    ghost summed = { sums_of_counts };
+
+    fn tally(&self) -> Tally
+        ensures sums { sums_of_tally result ≡ sums_of_counts self.now }
+        ensures few { (sums_of_tally result).taps ≤ 2 ^ 95 }
+    {
+        let [paid, transfers, capped, stale, unknown] = self.counts;
+        Tally::of_counts(
             [
-                u128::from(self.paid),
-                u128::from(self.transfers),
-                u128::from(self.capped),
-                u128::from(self.stale),
-                u128::from(self.unknown),
+                u128::from(paid),
+                u128::from(transfers),
+                u128::from(capped),
+                u128::from(stale),
+                u128::from(unknown),
             ],
             u128::from(self.cents),
         )

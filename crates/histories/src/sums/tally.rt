@@ -3,6 +3,7 @@
 ghost use Rattle.histories.specs.{Positions.count_position, inside.Positions.HasFewCents};
 ghost use Rattle.std.specs.Prelude.{◌≡◌, ◌<◌};
 
+use crate::sums::by_key::Summed;
 use crate::sums::counts::Counts;
 use crate::sums::totals::Totals;
 use account_rule::{Answer, Reply};
@@ -34,7 +35,7 @@ pub fn position_of(answer: Answer) -> usize
 impl Tally {
     ghost use Rattle.std.specs.Prelude.{◌≡◌, ◌+◌, ◌^◌, ◌<◌, ◌≤◌, [], ◌∷◌, IfSome};
     ghost use Rattle.histories.specs.Sums.{sums_of, sums_of_replies, add_sums};
-    ghost use Rattle.histories.specs.Tally.{sums_of_tally};
+    ghost use Rattle.histories.specs.Tally.{sums_of_positions, sums_of_tally};
     ghost use Rattle.histories.specs.Counts.{sums_of_counts};
 
     /// The tally of nothing.
@@ -46,6 +47,13 @@ impl Tally {
             counts: [0; 5],
             cents: 0,
         }
+    }
+
+    pub(crate) fn of_counts(counts: [u128; 5], cents: u128) -> Self
+        requires { HasFewCents counts cents }
+        ensures { sums_of_tally result ≡ sums_of_positions counts cents }
+    {
+        Tally { counts, cents }
     }
 
     /// Counts one reply more.
@@ -96,5 +104,15 @@ impl Tally {
         ensures { sums_of result ≡ sums_of_tally self.now }
     {
         Totals::of_counts(self.counts, self.cents)
+    }
+}
+
+impl Summed for Tally {
+    ghost use Rattle.histories.specs.Tally.{sums_of_tally};
+
+    ghost summed = { sums_of_tally };
+
+    fn tally(&self) -> Tally {
+        *self
     }
 }

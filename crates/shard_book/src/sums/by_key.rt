@@ -1,6 +1,6 @@
 //! Sums of books by a key of their entries, in one scan of the entries and a sort of the keys.
 
-ghost use Rattle.histories.specs.{SumsBy.sums_by, TalliesByKey.AreByKey, TalliesByKey.HasRoom};
+ghost use Rattle.histories.specs.{SumsBy.sums_by, TalliesByKey.AreByKey, TalliesByKey.MapHasRoom};
 ghost use Rattle.histories.specs.declared.entry.Entry.{Entry};
 ghost use Rattle.shard_book.specs.Book.{all_entries};
 ghost use Rattle.std.specs.Prelude.{◌≡◌, ◌*◌, ◌<◌, ◌≤◌, ◌^◌, List, ◌++◌, length, map, IfOk, OnOk};
@@ -15,7 +15,7 @@ fn add_entries<K: SumKey>(
     tallies: &mut IndexMap<K, Tally, HashSeed>,
     book: &ShardBook,
 ) -> Result<(), NoMemory>
-    requires { HasRoom K.eq K.key_of tallies.old.entries (length book.now.entries) }
+    requires { MapHasRoom K.eq K.key_of tallies.old.entries (length book.now.entries) }
     ensures by_key { OnOk result ((before : List Entry)
         → AreByKey K.eq K.key_of before tallies.old.entries
         → AreByKey K.eq K.key_of (before ++ book.now.entries) tallies.new.entries) }

@@ -1,13 +1,12 @@
 //! Tallies of the entries of several books, which threads make side by side.
 
-ghost use Rattle.histories.specs.{SumsByKey.validator_of, TalliesByKey.AreByKey};
+ghost use Rattle.histories.specs.TalliesByKey.{AreTallied};
 ghost use Rattle.shard_book.specs.Book.{all_entries};
-ghost use Rattle.std.specs.Prelude.{◌*◌, ◌≤◌, ◌^◌, ◌==◌, length, IfOk, OnOk};
+ghost use Rattle.std.specs.Prelude.{◌*◌, ◌≤◌, ◌^◌, length, IfOk, OnOk};
 
 use crate::book::ShardBook;
 use crate::sums::by_hints::tallies_by_hints;
-use histories::{HashSeed, Tally, add_tallies};
-use indexmap::IndexMap;
+use histories::{HashSeed, ValidatorTallies};
 use std::alloc::Global;
 use std::marker::Sync;
 use std::thread;
@@ -22,10 +21,9 @@ fn tallies_by_four<R: Threads + Sync>(
     alloc: Global,
     seed: HashSeed,
     books: &[ShardBook],
-) -> Result<IndexMap<u32, Tally, HashSeed>, NoMemory>
+) -> Result<ValidatorTallies, NoMemory>
     requires { length books.now ≤ 64 }
-    ensures by_key { IfOk result
-        (λ tallies. AreByKey ◌==◌ validator_of (all_entries books.now) tallies.entries) }
+    ensures tallied { IfOk result (AreTallied (all_entries books.now)) }
     ensures few { OnOk result (length (all_entries books.now) ≤ length books.now * 2 ^ 64) }
 {
     let size = books.len().div_ceil(4).max(1);
@@ -38,11 +36,11 @@ fn tallies_by_four<R: Threads + Sync>(
     )?;
     let mut parts = parts.into_iter();
     let Some(first) = parts.next() else {
-        return Ok(IndexMap::with_hasher(alloc, seed));
+        return Ok(ValidatorTallies::new(alloc, seed));
     };
     let mut tallies = first?;
     for more in parts {
-        add_tallies(&mut tallies, &more?)?;
+        tallies.add_all(&more?)?;
     }
     Ok(tallies)
 }
@@ -61,10 +59,9 @@ pub(crate) fn tallies_by_validator<R: Threads + Sync>(
     alloc: Global,
     seed: HashSeed,
     books: &[ShardBook],
-) -> Result<IndexMap<u32, Tally, HashSeed>, NoMemory>
+) -> Result<ValidatorTallies, NoMemory>
     requires { length books.now ≤ 64 }
-    ensures by_key { IfOk result
-        (λ tallies. AreByKey ◌==◌ validator_of (all_entries books.now) tallies.entries) }
+    ensures tallied { IfOk result (AreTallied (all_entries books.now)) }
     ensures few { OnOk result (length (all_entries books.now) ≤ length books.now * 2 ^ 64) }
 {
     if are_worth_threads(books) {

@@ -5,13 +5,13 @@ use Rattle.histories.specs.TalliesByKey.{HasRoom}
 use Rattle.shard_book.proofs.BookSums.{validators-none}
 use Rattle.shard_book.proofs.sums.sums_by_validator.Goals as goal
 
-pub listed-requires : goal.listed-requires
+pub sums-requires : goal.sums-requires
 unfolding HasRoom
-listed-requires g c =
+sums-requires g c =
     let bound : length (all_entries c.args.books.now) ≤ length c.args.books.now * 2 ^ 64 =
     c.in_ok-tallies.ensures.few in
     let most : length c.args.books.now ≤ 64 = c.requires in
-    (all_entries c.args.books.now, c.in_ok-tallies.ensures.by_key, omega arith)
+    (all_entries c.args.books.now, c.in_ok-tallies.ensures.tallied, omega arith)
 
 pub returns-in_default : goal.returns-in_default
 returns-in_default g c =

@@ -1,6 +1,6 @@
 use Rattle.std.proofs.Common.{rules, Option, ap, ◌∙◌, arith}
 use Rattle.histories.proofs.ByKeyLemmas.{kept-or, room-kept, by_key-written}
-use Rattle.histories.specs.{Sums.Sums, declared.sums.tally.Tally.Tally}
+use Rattle.histories.specs.{Sums.Sums, Tally.sums_of_tally, declared.sums.tally.Tally.Tally}
 use Rattle.indexmap.specs.Entry.{map_with_value}
 use Rattle.std.specs.{HashMap.get, Option.unwrap_or}
 use Rattle.histories.proofs.sums.by_key.add_entry.Goals as goal
@@ -10,7 +10,7 @@ add-requires g c =
     let room = room-kept g.K.PartialEq.eq g.K.SumKey.key_of c.args.tallies.now.entries c.of.result _
     1 c.requires
     (ap (λ (s : Sums). s.taps)
-    (kept-or (get g.K.PartialEq.eq c.args.tallies.now c.of.result) c.new.result
+    (kept-or sums_of_tally (get g.K.PartialEq.eq c.args.tallies.now c.of.result) c.new.result
     c.or_insert-kept.result.now
     (c.or_insert-kept.ensures.value
     ∙ ap (λ (kept : Option Tally). unwrap_or kept c.new.result) c.in_ok-tallies.ensures.value)

@@ -1,7 +1,7 @@
-use Rattle.std.proofs.Common.{◌==◌, ◌∙◌, ◌∷◌, ℕ, List, [], refl, sym, ap, subst, arith}
+use Rattle.std.proofs.Common.{◌∙◌, ◌∷◌, [], refl, sym, ap, subst, arith}
 use Rattle.account_rule.specs.declared.reply.Reply.{Reply}
-use Rattle.histories.specs.{Sums.add_sums, Sums.sums_of_replies, SumsByKey.validator_of}
-use Rattle.histories.specs.TalliesByKey.{AreByKey, HasRoom}
+use Rattle.histories.specs.{Sums.add_sums, Sums.sums_of_replies}
+use Rattle.histories.specs.TalliesByKey.{AreTallied, HasRoom, Tallies}
 use Rattle.histories.specs.{Tally.sums_of_tally, declared.sums.tally.Tally.Tally}
 use Rattle.ledger_check.proofs.OpenSums.{all_few, entry_added, run_few}
 use Rattle.ledger_check.proofs.open_sums.OpenSums.add.Goals as goal
@@ -23,7 +23,7 @@ unfolding HasRoom
 add-requires-3 c =
     let (entries, are, up, few) = c.requires.room in (
       entries,
-      subst (λ (list : List (ℕ × Tally)). AreByKey ◌==◌ validator_of entries list)
+      subst (λ (tallies : Tallies). AreTallied entries tallies)
           (sym c.in_ok-held.ensures.validators) are.validators,
       omega (arith, few),
     )
@@ -36,7 +36,7 @@ returns c = λ entries is up.
     (λ (r : Reply). add_sums (sums_of_tally c.in_ok-held.held.tally) (sums_of_replies (r ∷ [])))
     c.reply.ensures)
     (c.in_ok-add.ensures entries
-    (subst (λ (list : List (ℕ × Tally)). AreByKey ◌==◌ validator_of entries list)
+    (subst (λ (tallies : Tallies). AreTallied entries tallies)
     (sym c.in_ok-held.ensures.validators) is.validators))
     (c.add-2.ensures
     ∙ ap (λ (t : Tally). add_sums (sums_of_tally t) (sums_of_replies (c.reply-2.result ∷ [])))

@@ -51,7 +51,7 @@ returns-clause-steps c =
           at c.step-reply.ensures.holds) taps
           (kept-capped table c.args.self.now token c.args.position taps c.requires.there kept));
       counted = λ counting. ap counted now.1
-          ∙ c.add-was_added.ensures (grind arith)
+          ∙ c.add-was_added.ensures.added (grind arith)
           ∙ ap (λ (s : Sums). add_sums s (sums_of_replies (c.step-reply.result ∷ [])))
           (ap counted (sym there));
       counting = λ counting. grind arith;

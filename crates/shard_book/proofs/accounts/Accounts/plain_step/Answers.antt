@@ -49,7 +49,7 @@ returns-clause-steps c =
           (kept-plain table c.args.self.now token c.args.position _ taps
           c.requires.there c.pair_mut-kept.ensures.value kept)));
       counted = λ counting. ap counted now.1
-          ∙ c.add-was_counted.ensures (grind arith)
+          ∙ c.add-was_counted.ensures.added (grind arith)
           ∙ ap (λ (s : Sums). add_sums s (sums_of_replies (c.step-reply.result ∷ [])))
           (ap counted (sym there));
       counting = λ counting. grind arith;

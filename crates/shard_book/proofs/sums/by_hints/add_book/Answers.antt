@@ -1,5 +1,5 @@
-use Rattle.std.proofs.Common.{◌==◌, ◌++◌, take, List, subst, arith}
-use Rattle.histories.specs.{SumsByKey.validator_of, TalliesByKey.HasRoom, TalliesByKey.AreByKey}
+use Rattle.std.proofs.Common.{◌++◌, take, List, subst, arith}
+use Rattle.histories.specs.{TalliesByKey.AreTallied, TalliesByKey.HasRoom}
 use Rattle.histories.specs.declared.entry.Entry.{Entry}
 use Rattle.shard_book.proofs.HistoryLemmas.{grown-read}
 use Rattle.std.proofs.lemmas.List.{length-append, length-take-le}
@@ -19,9 +19,9 @@ add-requires c = (
 )
 
 pub loop-i-preserved : goal.loop-i-preserved
-loop-i-preserved c = λ before by_key.
-    subst (λ (entries : List Entry). AreByKey ◌==◌ validator_of entries c.add.new.self)
+loop-i-preserved c = λ before tallied.
+    subst (λ (entries : List Entry). AreTallied entries c.add.new.self)
     (grown-read before c.args.book.now.entries c.loop-i.i c.entry-entry.result
     c.entry-entry.ensures)
     (c.in_ok-add.ensures (before ++ take c.loop-i.i c.args.book.now.entries)
-    (c.loop-i.invariant before by_key))
+    (c.loop-i.invariant before tallied))

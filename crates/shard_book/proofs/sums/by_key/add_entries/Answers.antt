@@ -1,11 +1,12 @@
 use Rattle.std.proofs.Common.{◌++◌, take, List, subst, arith}
-use Rattle.histories.specs.{TalliesByKey.HasRoom, TalliesByKey.AreByKey, declared.entry.Entry.Entry}
+use Rattle.histories.specs.{TalliesByKey.AreByKey, TalliesByKey.MapHasRoom}
+use Rattle.histories.specs.declared.entry.Entry.{Entry}
 use Rattle.shard_book.proofs.HistoryLemmas.{grown-read}
 use Rattle.std.proofs.lemmas.List.{length-append, length-take-le}
 use Rattle.shard_book.proofs.sums.by_key.add_entries.Goals as goal
 
 pub add_entry-requires : goal.add_entry-requires
-unfolding HasRoom
+unfolding MapHasRoom
 add_entry-requires g c = (
   c.requires.0 ++ take c.loop-i.i c.args.book.now.entries,
   c.loop-i.invariant c.requires.0 c.requires.1,

@@ -1,7 +1,7 @@
 use Rattle.std.proofs.Common.{◌≤◌, ◌*◌, ◌^◌, length, sym, ap, ◌∙◌, arith}
 use Rattle.std.specs.Option.{option_copied}
 use Rattle.shard_book.specs.Book.{all_entries}
-use Rattle.histories.specs.TalliesByKey.{HasRoom}
+use Rattle.histories.specs.TalliesByKey.{MapHasRoom}
 use Rattle.shard_book.proofs.BookSums.{sums_by-none}
 use Rattle.shard_book.proofs.sums.by_key.sums_of_books.Goals as goal
 
@@ -11,7 +11,7 @@ returns-in_default g c =
     (ap option_copied (sym c.in_default.is) ∙ c.first.ensures.value)
 
 pub listed-requires : goal.listed-requires
-unfolding HasRoom
+unfolding MapHasRoom
 listed-requires g c =
     let bound : length (all_entries c.args.books.now) ≤ length c.args.books.now * 2 ^ 64 =
     c.in_ok-tallies.ensures.few in

@@ -1,5 +1,5 @@
-use Rattle.histories.proofs.ByKeyLemmas.{by_key-none}
+use Rattle.histories.proofs.TalliedLemmas.{tallied-none}
 use Rattle.histories.proofs.sums.validator_tallies.ValidatorTallies.new.Goals as goal
 
 pub returns : goal.returns
-returns c = by_key-none _ _ _ c.with_hasher.ensures.empty
+returns c = tallied-none _ _ c.with_hasher.ensures.empty c.with_hasher-2.ensures.empty
