@@ -12,7 +12,9 @@ ghost use Rattle.std.specs.Prelude.{length, map, string_bytes, OnErr, OnOk};
 ghost use Rattle.tap_views.specs.Token.{bytes_of};
 ghost use Rattle.tariffs.specs.Fares.{Fares};
 
-use crate::ledger_line::write_line;
+use crate::digits::digits_of;
+use crate::ledger_line::{write_line, write_line_by};
+use crate::line::Line;
 use account_rule::{NoTransfer, TapIn, WindowView};
 use fare_caps::{CappedAccount, CappedReason};
 use histories::Entry;
@@ -47,6 +49,8 @@ pub struct Explainer {
     pub number: u64,
     /// Its account after them.
     pub account: CappedAccount,
+    /// The token's digits, which each of its lines begins with.
+    digits: [u8; 32],
 }
 
 impl Explainer {
@@ -60,6 +64,7 @@ impl Explainer {
             token,
             number: 0,
             account: CappedAccount::fresh(),
+            digits: digits_of(token),
         }
     }
 
@@ -166,10 +171,12 @@ impl Explainer {
         (entry, reason)
     }
 
-    /// Posts the token's next tap, at the validator and the moment, and appends its line. The text
-    /// alone grows. If an allocation fails, the tap is posted, but its line is not whole.
+    /// Posts the token's next tap, at the validator and the moment, and appends its line, which is
+    /// made in the room of another. The text alone grows. If an allocation fails, the tap is posted,
+    /// but its line is not whole.
     pub fn write_posted(
         &mut self,
+        room: &mut Line,
         text: &mut String,
         table: &FareTable,
         clock: &Clock,
@@ -193,7 +200,16 @@ impl Explainer {
         ensures number { self.new.number ≡ self.old.number + 1 }
     {
         let posted = self.post_next(table, clock, validator, moment);
-        write_line(text, table, self.token, self.number, &posted.0, &posted.1)?;
+        write_line_by(
+            room,
+            text,
+            table,
+            self.token,
+            &self.digits,
+            self.number,
+            &posted.0,
+            &posted.1,
+        )?;
         Ok(())
     }
 

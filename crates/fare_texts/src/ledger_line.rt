@@ -2,10 +2,13 @@
 
 ghost use Rattle.fare_texts.specs.LedgerLines.{IsLedgerLine, IsReasonFields, line_head, mode_field};
 ghost use Rattle.fare_texts.specs.{Moments.IsMomentText, StatementText.answer_text};
+ghost use Rattle.hex.specs.Hex.{encode_lower};
 ghost use Rattle.std.specs.{Fmt.decimal, Prelude.◌≡◌};
 ghost use Rattle.std.specs.Prelude.{◌+◌, ◌≤◌, ◌++◌, [], length, List, ℕ, OnOk, codes, string_bytes};
+ghost use Rattle.tap_views.specs.Token.{bytes_of};
 
 use crate::answer_name;
+use crate::digits::digits_of;
 use crate::line::Line;
 use crate::moment::put_moment;
 use crate::reason_fields::put_reason_fields;
@@ -32,15 +35,39 @@ pub fn write_line(
         × IsLedgerLine table.now token number entry.now reason.now line
         × (string_bytes text.new ≡ string_bytes text.old ++ line)) }
 {
-    let mode = mode_field(table, entry.moment, entry.validator);
     let mut line = Line::new();
-    put_end(&mut line, table, entry, reason);
+    let digits = digits_of(token);
+    write_line_by(
+        &mut line, text, table, token, &digits, number, entry, reason,
+    )
+}
+
+/// The same with the token's digits, in the room of another line: a new one writes a zero for each
+/// of its bytes.
+pub(crate) fn write_line_by(
+    line: &mut Line,
+    text: &mut String,
+    table: &FareTable,
+    token: Token,
+    digits: &[u8; 32],
+    number: u64,
+    entry: &Entry,
+    reason: &CappedReason,
+) -> Result<(), AllocError>
+    requires { digits.now ≡ encode_lower (bytes_of token) }
+    ensures { OnOk result ((line : List ℕ)
+        × IsLedgerLine table.now token number entry.now reason.now line
+        × (string_bytes text.new ≡ string_bytes text.old ++ line)) }
+{
+    let mode = mode_field(table, entry.moment, entry.validator);
+    line.clear();
+    put_end(line, table, entry, reason);
     if mode.len() > MODE_BYTES {
-        append_apart(text, token, number, entry, mode, &line)?;
+        append_apart(text, token, number, entry, mode, line)?;
         return Ok(());
     }
     line.put(mode.as_bytes());
-    put_start(&mut line, token, number, entry);
+    put_start(line, digits, number, entry);
     line.append_to(text)?;
     Ok(())
 }
@@ -62,7 +89,7 @@ fn append_apart(
         ++ (mode.now ++ end.now)))) }
 {
     let mut start = Line::new();
-    put_start(&mut start, token, number, entry);
+    put_start(&mut start, &digits_of(token), number, entry);
     start.append_to(text)?;
     text.push_str(mode)?;
     end.append_to(text)?;
@@ -71,11 +98,10 @@ fn append_apart(
 
 /// Puts what a line has before its mode, as `000..0a1,1,2024-03-08T17:00:00.000Z,1000,`.
 #[inline(always)]
-#[tactic(auto, unfolding(crate::specs::LedgerLines::line_head))]
-fn put_start(line: &mut Line, token: Token, number: u64, entry: &Entry)
+fn put_start(line: &mut Line, digits: &[u8; 32], number: u64, entry: &Entry)
     requires { length line.old + 156 ≤ 384 }
     ensures { (moment : List ℕ) × IsMomentText entry.now.moment moment
-        × (line.new ≡ (line_head token number
+        × (line.new ≡ ((digits.now ++ (codes "," ++ (decimal number ++ codes ",")))
         ++ (moment ++ (codes "," ++ (decimal entry.now.validator ++ codes ",")))) ++ line.old) }
 {
     line.put(b",");
@@ -85,7 +111,7 @@ fn put_start(line: &mut Line, token: Token, number: u64, entry: &Entry)
     line.put(b",");
     line.put_short(number);
     line.put(b",");
-    line.put_digits(&token.bytes());
+    line.put(digits);
 }
 
 /// Puts what a line has after its mode, as `,paid,300,..`.

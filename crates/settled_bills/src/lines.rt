@@ -5,16 +5,17 @@ ghost use Rattle.fare_texts.specs.declared.print_fault.PrintFault.TheVariants.{W
 ghost use Rattle.fare_texts.specs.WrittenOut.{Begins, GoesOut};
 ghost use Rattle.settled_bills.specs.inside.ExplainedTaps.{Explains, HaveLines, MayExplain};
 
-use fare_texts::{Explainer, PrintFault, go_on_to, pass_piece};
+use fare_texts::{Explainer, Line, PrintFault, go_on_to, pass_piece};
 use settlement::token_of;
 use std::alloc::AllocError;
 use std::io::Write;
 use tap_views::TapFields;
 use tariffs::{Clock, FareTable};
 
-/// If an allocation fails, the line is not whole.
+/// If an allocation fails, the line is not whole. The room is used again.
 #[inline(always)]
 pub(crate) fn explain_tap(
+    room: &mut Line,
     text: &mut String,
     table: &FareTable,
     clock: &Clock,
@@ -27,7 +28,7 @@ pub(crate) fn explain_tap(
         (λ line. string_bytes text.new ≡ string_bytes text.old ++ line)) }
 {
     go_on_to(explainer, token_of(tap));
-    explainer.write_posted(text, table, clock, tap.validator, tap.moment)?;
+    explainer.write_posted(room, text, table, clock, tap.validator, tap.moment)?;
     Ok(())
 }
 
@@ -44,8 +45,9 @@ pub(crate) fn explain_taps(
     ensures { OnOk result (Explains table.now explainer.old taps.now explainer.new
         (λ lines. string_bytes text.new ≡ string_bytes text.old ++ lines)) }
 {
+    let mut room = Line::new();
     for tap in taps {
-        explain_tap(text, table, clock, explainer, tap)?;
+        explain_tap(&mut room, text, table, clock, explainer, tap)?;
     }
     Ok(())
 }
@@ -71,10 +73,11 @@ pub(crate) fn write_taps<W: Write>(
         (string_bytes text.old ++ lines))) }
     ensures fault { IfErr result (λ fault. fault ≡ ForWrite) }
 {
+    let mut room = Line::new();
     for tap in taps {
         pass_piece(text, out)?;
         // The text has room for a line, so that none is refused.
-        let Ok(()) = explain_tap(text, table, clock, explainer, tap) else {
+        let Ok(()) = explain_tap(&mut room, text, table, clock, explainer, tap) else {
             return Err(PrintFault::Write);
         };
     }

@@ -17,7 +17,7 @@ use crate::columns::put_lines;
 use crate::lines::explain_tap;
 use crate::trace::{TracedTap, trace_of};
 use class_names::ClassNames;
-use fare_texts::{Explainer, LINE_ROOM_BYTES, PIECE_BYTES, PrintFault, write_out};
+use fare_texts::{Explainer, LINE_ROOM_BYTES, Line, PIECE_BYTES, PrintFault, write_out};
 use histories::laws::plain_history;
 use settlement::least_token;
 use std::alloc::{AllocError, Global};
@@ -94,7 +94,8 @@ impl Room {
             self.new.lines.items rest.now)) }
     {
         self.line.clear();
-        explain_tap(&mut self.line, table, clock, explainer, tap)?;
+        let mut room = Line::new();
+        explain_tap(&mut room, &mut self.line, table, clock, explainer, tap)?;
         let rest = put_lines(&mut self.lines, self.line.as_bytes(), names, left)?;
         Ok(rest)
     }

@@ -1,16 +1,17 @@
 -- Taps up to a limit, which readers pass in a step of a merge.
-use Rattle.std.proofs.Common.{◌≡◌, ℕ, ◌+◌, ◌-◌, ◌<◌, List, [], ◌∷◌, ◌++◌, inl, inr, ap, arith}
+use Rattle.std.proofs.Common.{◌≡◌, ℕ, ◌+◌, ◌-◌, ◌<◌, ◌≤◌, List, [], ◌∷◌, ◌++◌, inl, inr, ap, arith}
 use Rattle.std.proofs.Common.{append-nil, get_or, length, length-take-le, refl, subst, sym, take}
-use Rattle.std.proofs.Common.{◌∙◌}
-use Rattle.sorted_taps.proofs.Joining.{last_taken, one_sorted, ranked}
+use Rattle.std.proofs.Common.{◌∙◌, length-append}
+use Rattle.sorted_taps.proofs.Joining.{last_taken, one_sorted, ranked, sorted_glue, sorted_more}
 use Rattle.sorted_taps.proofs.Taking.{all_of, all_of_each, passed_none, some_of, taken_none}
 use Rattle.sorted_taps.specs.{Merged.BeginsNotBefore, Merged.IsNotBefore, Merges.AreTaken}
-use Rattle.sorted_taps.specs.Readers.{IsPassed, ahead}
-use Rattle.sorted_taps.specs.{declared.reader.TapReader.TapReader, inside.Limits.IsLimitOf}
-use Rattle.sorted_taps.specs.inside.Limits.{IsPassedUpTo, IsRunIn, IsRunUpTo, TakesTaps, no_tap}
-use Rattle.std.proofs.lemmas.Bool.{cases_lt}
-use Rattle.std.proofs.lemmas.List.{get_or_append_left, get_or_at, take_more, Elements.All-more}
-use Rattle.std.proofs.lemmas.List.{Elements.All-nil, Kept.IsSortedBy-push, Sorted.All-permutation}
+use Rattle.sorted_taps.specs.{Readers.IsPassed, Readers.ahead, declared.reader.TapReader.TapReader}
+use Rattle.sorted_taps.specs.inside.Limits.{IsLimitOf, DoMeet, IsPassedUpTo, IsRunIn, IsRunUpTo}
+use Rattle.sorted_taps.specs.inside.Limits.{TakesTaps, no_tap}
+use Rattle.std.proofs.{Math.Seq.get_or-append_seam, lemmas.Bool.cases_lt}
+use Rattle.std.proofs.lemmas.List.{get_or-append-add, get_or_append_left, get_or_at, take_more}
+use Rattle.std.proofs.lemmas.List.{get_or-take, get_or_default, Elements.All-more, Elements.All-nil}
+use Rattle.std.proofs.lemmas.List.{Kept.IsSortedBy-push, Sorted.All-permutation, Sorted.sorted_far}
 use Rattle.std.specs.{List.Sorted.IsSorted, Ordering.is_lt, Prelude.Option}
 use Rattle.tap_parts.specs.Canonical.{IsCanonical, tap_cmp}
 use Rattle.tap_views.specs.declared.encoder.TapFields.{TapFields}
@@ -28,6 +29,20 @@ run_none limit list = record {
   sorted = one_sorted [];
 }
 
+-- one tap more in order
+pub taken_more : (list : List TapFields) (n : ℕ) → n < length list
+    → IsSorted tap_cmp (take n list)
+    → (0 < n → IsNotBefore (get_or list (n - 1) no_tap) (get_or list n no_tap))
+    → IsSorted tap_cmp (take (n + 1) list)
+taken_more list n within up order =
+    subst (λ l. IsSorted tap_cmp l) (sym (take_more list n no_tap within))
+    (IsSortedBy-push (λ a b. is_lt (tap_cmp a b)) (take n list) (get_or list n no_tap) up
+    (λ d least.
+    let long = length-take-le n list (omega (arith, within)) in
+    let some : 0 < n = omega (arith, least, long) in
+    subst (λ t. IsNotBefore t (get_or list n no_tap))
+    (sym (last_taken n list d no_tap some (omega (arith, within)))) (order some)))
+
 -- one tap more
 pub run_more : (limit : TapFields) (list : List TapFields) (n : ℕ) → n < length list
     → IsRunIn limit list n → IsNotBefore (get_or list n no_tap) limit
@@ -36,13 +51,24 @@ pub run_more : (limit : TapFields) (list : List TapFields) (n : ℕ) → n < len
 run_more limit list n within run last order = record {
   within = omega (arith, within);
   not_after = All-more (λ tap. IsNotBefore tap limit) list n no_tap within run.not_after last;
-  sorted = subst (λ l. IsSorted tap_cmp l) (sym (take_more list n no_tap within))
-      (IsSortedBy-push (λ a b. is_lt (tap_cmp a b)) (take n list) (get_or list n no_tap) run.sorted
-      (λ d least.
-      let long = length-take-le n list run.within in
-      let some : 0 < n = omega (arith, least, long) in
-      subst (λ t. IsNotBefore t (get_or list n no_tap))
-      (sym (last_taken n list d no_tap some run.within)) (order some)));
+  sorted = taken_more list n within run.sorted order;
+}
+
+-- taps in order, of which the last is not after the limit
+pub run_known : (limit : TapFields) (list : List TapFields) (n : ℕ) → 0 < n → n ≤ length list
+    → IsSorted tap_cmp (take n list) → IsNotBefore (get_or list (n - 1) no_tap) limit
+    → IsRunIn limit list n
+run_known limit list n some within up last = record {
+  within = within;
+  not_after = λ j d inside.
+      let long = length-take-le n list within in
+      ranked.chain limit (get_or (take n list) (n - 1) d) (get_or (take n list) j d)
+      (subst (λ t. IsNotBefore t limit)
+      (sym (get_or-take n list (n - 1) d (omega (arith, some))
+      ∙ get_or_default list (n - 1) d no_tap (omega (arith, some, within)))) last)
+      (sorted_far (λ a b. is_lt (tap_cmp a b)) ranked (take n list) up j (n - 1) d
+      (omega (arith, long, inside)) (omega (arith, long, some)));
+  sorted = up;
 }
 
 -- the first one
@@ -106,6 +132,27 @@ run_up_to all limit old new number is some passed order = record {
         subst (BeginsNotBefore limit) (sym e) (subst (IsNotBefore limit) same
         (is.stop x less (λ _. subst (IsNotBefore (get_or (ahead old) (number - 1) x)) (sym same)
         (subst (BeginsNotBefore (get_or (ahead old) (number - 1) x)) e (order x)))))
+
+-- runs, and one more after them, that are in order and meet so
+pub sorted_meeting : (before one two : List TapFields) (begin at : ℕ) → begin ≡ length before
+    → at ≡ length before + length one → IsSorted tap_cmp one → IsSorted tap_cmp two
+    → DoMeet begin (before ++ (one ++ two)) at → IsSorted tap_cmp (one ++ two)
+sorted_meeting before one [] begin at first last up over meet =
+    subst (λ l. IsSorted tap_cmp l) (sym (append-nil one)) up
+sorted_meeting before one (x ∷ rest) begin at first last up over meet =
+    sorted_glue one (x ∷ rest) (sorted_more one (x ∷ rest) up (λ d some.
+    let list = one ++ x ∷ rest in
+    let all = length-append before list in
+    let long = length-append one (x ∷ rest) in
+    let back : at - 1 ≡ length before + (length one - 1) = omega (arith, last, some) in
+    let place : List TapFields → ℕ → TapFields = λ l k. get_or l k d in
+    subst (λ t. IsNotBefore t x)
+    (ap (place (before ++ list)) back ∙ get_or-append-add before list (length one - 1) d
+    ∙ get_or_append_left one (x ∷ rest) d (length one - 1) (omega (arith, some)))
+    (subst (IsNotBefore (get_or (before ++ list) (at - 1) d))
+    (ap (place (before ++ list)) last ∙ get_or-append-add before list (length one) d
+    ∙ get_or-append_seam one x rest d)
+    (meet d (omega (arith, first, last, some)) (omega (arith, last, all, long)))))) over
 
 pub takes_none : (known : List (Option (List ℕ))) (readers : List TapReader)
     (taps : List TapFields) → TakesTaps known readers taps taps readers

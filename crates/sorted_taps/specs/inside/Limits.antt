@@ -4,7 +4,7 @@ use Rattle.sorted_taps.specs.Readers.{IsPassed, ahead}
 use Rattle.sorted_taps.specs.declared.{limit.Front.Front, reader.TapReader.TapReader}
 use Rattle.std.specs.List.Sorted.{IsSorted}
 use Rattle.std.specs.Prelude.{◌≡◌, ℕ, ◌-◌, ◌<◌, ◌≤◌, All, List, [], ◌++◌, flat_map, get_or, length}
-use Rattle.std.specs.Prelude.{map, IfSome, Option, None, Some, take, drop}
+use Rattle.std.specs.Prelude.{map, Bool, IfSome, IsTrue, Option, None, Some, take, drop}
 use Rattle.tap_parts.specs.{Canonical.IsCanonical, Canonical.tap_cmp, Keys.tap_of_key}
 use Rattle.tap_views.specs.declared.encoder.TapFields.{TapFields}
 
@@ -48,19 +48,27 @@ pub record IsPassedUpTo (all : List ℕ) (limit : TapFields) (old : TapReader)
   pub within : All (λ tap. IsNotBefore tap limit) run
   pub left : EndsNotBefore limit (ahead old) → BeginsNotBefore limit (ahead new)
 
+-- if an index is after the begin, its tap is not before the one in front of it
+abbrev pub DoMeet : ℕ → List TapFields → ℕ → Type 0
+DoMeet begin taps at = (d : TapFields) → begin < at → at < length taps
+    → IsNotBefore (get_or taps (at - 1) d) (get_or taps at d)
+
 -- the list went on with a run that one reader has passed
 pub record TakesUpTo (bytes : Option (List ℕ)) (limit : TapFields) (old : TapReader)
     (before after : List TapFields) (new : TapReader) : Type 0 where
   pub run : List TapFields
   pub items : after ≡ before ++ run
+  pub sorted : IsSorted tap_cmp run
   pub passed : IfSome bytes (λ all. IsPassedUpTo all limit old run new)
 
--- the list went on with runs that the readers have passed, one after the other
+-- the list went on with runs that the readers have passed, one after the other, and whether they are
+-- in order so is known
 pub record TakeUpTo (known : List (Option (List ℕ))) (limit : TapFields) (old : List TapReader)
-    (before after : List TapFields) (new : List TapReader) : Type 0 where
+    (before after : List TapFields) (new : List TapReader) (in_order : Bool) : Type 0 where
   pub runs : List (List TapFields)
   pub number : length runs ≡ length old
   pub items : after ≡ before ++ flat_map (λ run. run) runs
+  pub sorted : IsTrue in_order → IsSorted tap_cmp (flat_map (λ run. run) runs)
   pub each : (files : List (List ℕ)) → known ≡ map Some files → (k : ℕ) (d : TapReader)
       → k < length old → IsPassedUpTo (get_or files k []) limit (get_or old k d) (get_or runs k [])
       (get_or new k d)

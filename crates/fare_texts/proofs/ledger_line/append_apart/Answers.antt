@@ -5,11 +5,13 @@ use Rattle.fare_texts.proofs.LinePuts.{parts_shown}
 use Rattle.fare_texts.proofs.ledger_line.append_apart.Goals as goal
 
 pub returns : goal.returns
+unfolding line_head
 returns c =
     let start = c.put_start.ensures in
+    let put = rw c.digits_of.ensures at start.2 in
     let before = line_head c.args.token c.args.number
     ++ (start.0 ++ (codes "," ++ (decimal c.args.entry.now.validator ++ codes ","))) in
-    let whole = start.2 ∙ ap (λ (none : List ℕ). before ++ none) c.new-start.ensures
+    let whole = put ∙ ap (λ (none : List ℕ). before ++ none) c.new-start.ensures
     ∙ append-nil before in (
       start.0,
       start.1,

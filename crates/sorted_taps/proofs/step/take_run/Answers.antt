@@ -1,5 +1,5 @@
 use Rattle.std.proofs.Common.{List, [], ◌++◌, append-nil, ap, arith, subst, sym, take, ◌∙◌}
-use Rattle.sorted_taps.proofs.Known.{known_all, known_map}
+use Rattle.sorted_taps.proofs.{Joining.one_sorted, Known.known_all, Known.known_map}
 use Rattle.sorted_taps.proofs.Limits.{none_up_to, run_up_to}
 use Rattle.sorted_taps.specs.Readers.{IsPassed, ahead}
 use Rattle.sorted_taps.specs.inside.Limits.{IsPassedUpTo, IsRunUpTo}
@@ -15,6 +15,7 @@ returns-then-number-eq0 g c =
     record {
       run = [];
       items = sym (append-nil c.args.taps.now.items);
+      sorted = one_sorted [];
       passed = known_all _ (g.F.Placed.bytes c.args.file.now)
           (λ all. none_up_to all limit c.args.reader.now number c.if-number-eq0.true
           (subst (λ l. IsRunUpTo limit l number) c.ahead-waiting.ensures
@@ -38,6 +39,8 @@ returns g c =
       items = c.in_ok-extend_from_slice.ensures.items
           ∙ ap (λ (l : List TapFields). c.args.taps.now.items ++ take number l)
           c.ahead-waiting.ensures;
+      sorted = subst (λ l. IsSorted tap_cmp (take number l)) c.ahead-waiting.ensures
+          c.run_length-number.ensures.run.sorted;
       passed = known_map (λ all. IsPassed all old (take number (ahead old)) new)
           (λ all. IsPassedUpTo all limit old (take number (ahead old)) new)
           (g.F.Placed.bytes c.args.file.now)

@@ -1,10 +1,12 @@
-use Rattle.std.proofs.Common.{◌≡◌, ◌<◌, ◌++◌, ◌∷◌, ◌∙◌, List, [], ap, arith, below_more, get_or}
-use Rattle.std.proofs.Common.{length, length-append, set, subst}
-use Rattle.sorted_taps.proofs.Files.{if_known, known_at}
-use Rattle.sorted_taps.specs.{declared.reader.TapReader.TapReader, inside.Limits.IsPassedUpTo}
+use Rattle.std.proofs.Common.{◌≡◌, ◌<◌, ◌++◌, ◌∷◌, ◌∙◌, List, [], ap, append_assoc, arith}
+use Rattle.std.proofs.Common.{below_more, get_or, length, length-append, set, subst}
+use Rattle.sorted_taps.proofs.{Files.if_known, Files.known_at, Limits.sorted_meeting, Taking.all_of}
+use Rattle.sorted_taps.specs.declared.reader.TapReader.{TapReader}
+use Rattle.sorted_taps.specs.inside.Limits.{DoMeet, IsPassedUpTo}
 use Rattle.std.proofs.lemmas.List.{flat_map_more, get_or_append_left, get_or_default, get_or_push}
 use Rattle.std.proofs.lemmas.List.{get_or-set_other, get_or-set_same}
-use Rattle.tap_parts.specs.Keys.{tap_of_key}
+use Rattle.std.specs.List.Sorted.{IsSorted}
+use Rattle.tap_parts.specs.{Canonical.tap_cmp, Keys.tap_of_key}
 use Rattle.tap_views.specs.declared.encoder.TapFields.{TapFields}
 use Rattle.sorted_taps.proofs.step.take_runs.Goals as goal
 
@@ -36,6 +38,21 @@ loop-at-preserved g c =
       number = omega (arith, more, number);
       items = taken.items ∙ ap (λ (l : List TapFields). l ++ taken.run) inv.items
           ∙ flat_map_more (λ (run : List TapFields). run) c.args.taps.now.items inv.runs taken.run;
+      sorted = λ all.
+          let before = c.args.taps.now.items in
+          let last = c.len-met.ensures in
+          let short = c.loop-at.taps.ok.0 in
+          let end = ap length inv.items ∙ length-append before (all_of inv.runs) in
+          subst (λ l. IsSorted tap_cmp l)
+          (flat_map_more (λ (run : List TapFields). run) [] inv.runs taken.run)
+          (sorted_meeting before (all_of inv.runs) taken.run c.len-begin.result c.len-met.result
+          (omega (arith, c.len-begin.ensures, c.args.taps.now.ok.0)) (omega (arith, last, short, end))
+          (inv.sorted (c.are_still_in_order-in_order.ensures.were all)) taken.sorted
+          (subst (λ l. DoMeet c.len-begin.result l c.len-met.result)
+          (c.deref.ensures.value ∙ taken.items
+          ∙ ap (λ (l : List TapFields). l ++ taken.run) inv.items
+          ∙ append_assoc before (all_of inv.runs) taken.run)
+          (c.are_still_in_order-in_order.ensures.meet all)));
       rest = λ k d from.
           get_or-set_other mid at k new d (omega (arith, from)) ∙ inv.rest k d (omega (arith, from));
       each = λ all are k d low. below_more (λ k. (d : TapReader)
@@ -66,5 +83,6 @@ returns g c =
       runs = inv.runs;
       number = omega (arith, number, last, stop);
       items = inv.items;
+      sorted = inv.sorted;
       each = λ files are k d low. inv.each files are k d (omega (arith, low, stop));
     }

@@ -2,7 +2,8 @@ use Rattle.std.proofs.Common.{◌≡◌, ◌<◌, ◌≤◌, ◌++◌, ℕ, List
 use Rattle.sorted_taps.proofs.Taking.{all_of}
 use Rattle.sorted_taps.specs.{Reading.window_bytes, declared.reader.TapReader.TapReader}
 use Rattle.sorted_taps.specs.inside.Limits.{IsPassedUpTo}
-use Rattle.tap_parts.specs.Keys.{tap_of_key}
+use Rattle.std.specs.{List.Sorted.IsSorted, Prelude.IsTrue}
+use Rattle.tap_parts.specs.{Canonical.tap_cmp, Keys.tap_of_key}
 use Rattle.tap_views.specs.declared.encoder.TapFields.{TapFields}
 use Rattle.sorted_taps.proofs.step.take_runs.Given as goal
 
@@ -13,6 +14,7 @@ invariant-loop-at g l = record {
   runs : List (List TapFields);
   number : length runs ≡ l.at;
   items : l.taps.items ≡ l.fn.taps.items ++ all_of runs;
+  sorted : IsTrue l.in_order → IsSorted tap_cmp (all_of runs);
   rest : (k : ℕ) (d : TapReader) → l.at ≤ k → get_or l.readers k d ≡ get_or l.fn.readers k d;
   each : (files : List (List ℕ)) → map g.F.Placed.bytes l.files ≡ map Some files
       → (k : ℕ) (d : TapReader) → k < l.at

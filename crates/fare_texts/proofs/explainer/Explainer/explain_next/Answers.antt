@@ -42,4 +42,5 @@ returns-clause-explained c = λ earlier explained.
           explained.holds);
       counted = ap (λ n. n + 1) explained.counted
           ∙ sym (length-append earlier (c.args.entry.now ∷ []));
+      digits = explained.digits;
     }

@@ -96,4 +96,5 @@ returns-clause-explained c = λ earlier explained.
           ((rw c.bytes-bytes.ensures at c.explain_step-reason.ensures.holds) taps
           explained.holds);
       counted = ap (λ n. n + 1) explained.counted ∙ sym (length-append earlier (entry ∷ []));
+      digits = explained.digits;
     }

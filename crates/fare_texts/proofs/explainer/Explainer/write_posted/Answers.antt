@@ -13,7 +13,7 @@ returns-clause-line c = λ earlier explained.
     let token = c.args.self.now.token in
     let posted = c.post_next-posted.result in
     let next = c.post_next-posted.ensures in
-    let line = c.in_ok-write_line.ensures in
+    let line = c.in_ok-write_line_by.ensures in
     let why = reason_after fares token earlier posted.0 in (
       line.0,
       subst (λ (e : Entry). IsLedgerLineAfter fares token earlier e line.0)
@@ -35,3 +35,8 @@ returns-clause-explained c = λ earlier explained.
     (earlier ++ e ∷ []))
     (c.post_next-posted.ensures.entry earlier explained)
     (c.post_next-posted.ensures.explained earlier explained)
+
+pub write_line_by-requires : goal.write_line_by-requires
+write_line_by-requires c =
+    let earlier = c.requires.explained.0 in
+    (c.post_next-posted.ensures.explained earlier c.requires.explained.1).digits

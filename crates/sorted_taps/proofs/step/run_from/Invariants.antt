@@ -1,7 +1,7 @@
 use Rattle.std.proofs.Common.{◌≤◌}
 use Rattle.tap_parts.specs.Keys.{tap_of_key}
 use Rattle.sorted_taps.specs.inside.Limits.{IsRunIn}
-use Rattle.sorted_taps.proofs.step.run_length.Given as goal
+use Rattle.sorted_taps.proofs.step.run_from.Given as goal
 
 abbrev pub invariant-loop-position : goal.invariant-loop-position
 invariant-loop-position l = record {

@@ -4,7 +4,7 @@ use Rattle.std.specs.Fmt.{decimal}
 use Rattle.fare_texts.specs.LedgerLines.{entry_fields, line_head}
 use Rattle.fare_texts.specs.StatementText.{answer_text}
 use Rattle.fare_texts.proofs.LinePuts.{line_shown}
-use Rattle.fare_texts.proofs.ledger_line.write_line.Goals as goal
+use Rattle.fare_texts.proofs.ledger_line.write_line_by.Goals as goal
 
 pub returns-then-mode-gt-MODE_BYTES : goal.returns-then-mode-gt-MODE_BYTES
 unfolding entry_fields
@@ -28,9 +28,10 @@ returns-then-mode-gt-MODE_BYTES c =
     )
 
 pub returns : goal.returns
-unfolding entry_fields
+unfolding entry_fields line_head
 returns c =
     let start = c.put_start.ensures in
+    let put = rw c.requires at start.2 in
     let end = c.put_end.ensures.put in
     let entry = c.args.entry.now in
     let head = line_head c.args.token c.args.number in
@@ -40,7 +41,7 @@ returns c =
     c.put.ensures.put ∙ ap (λ (name : List ℕ). name ++ c.put_end.new.line) c.as_bytes.ensures.value in
     let whole = c.in_ok-append_to.ensures
     ∙ ap (λ (line : List ℕ). string_bytes c.args.text.now ++ line)
-    (start.2 ∙ ap (λ (rest : List ℕ). before ++ rest) named) in (
+    (put ∙ ap (λ (rest : List ℕ). before ++ rest) named) in (
       head ++ (start.0 ++ (entry_fields c.args.table.now entry ++ (end.0 ++ codes "\n"))),
       record {
         moment = start.0;
