@@ -52,9 +52,9 @@ devices_word words false = None
 
 -- what is loaded before the CSVs, in order
 abbrev pub first_loads : RowsWords → Bool → Texts → List Load
-first_loads words is_there texts = loads_in (devices_word words is_there) texts.devices
-    ++ (loads_in (word_in words.key) texts.key
-    ++ loads_in (zone_loaded (word_in words.zone)) texts.zone)
+first_loads words is_there texts = (loads_in (devices_word words is_there) texts.devices
+    ++ loads_in (word_in words.key) texts.key)
+    ++ loads_in (zone_loaded (word_in words.zone)) texts.zone
 
 -- All that the words name was loaded, in order, and has these texts.
 pub record AreRead (words : RowsWords) (csvs : List (List ℕ)) (is_there : Bool) (texts : Texts)

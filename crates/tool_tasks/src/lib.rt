@@ -10,7 +10,7 @@
 //! | `quotes` | a quote of a CSV that nothing closes |
 //! | `fault` | why a subcommand is given up, and the line that says so |
 //! | `stops` | what stops a subcommand, and its fault line |
-//! | `layout`, `wrong_tables` | what is wrong with an upload, or with a table, in words |
+//! | `layout`, `wrong_tables` | what is wrong with an upload, or with a line or a row, in words |
 //! | `encode` | `encode` of a tap table |
 //! | `encode_rows` | `encode` of an agency's own CSVs |
 //! | `encode_loads` | what it loads: devices, a key, a zone, the CSVs |
@@ -22,7 +22,6 @@
 //! | `merge_sorted`, `known` | `sort --merge`, and the file that it makes |
 //! | `bounds` | `bounds` |
 //! | `uploads` | `uploads`: what each upload has |
-//! | `upload_tokens` | `uploads --tokens` |
 //! | `valid_prefix` | `uploads --good-part` |
 //! | `look` | `uploads --look`: what each upload has, and what is found in them |
 //! | `streams` | files that are read in pieces, and texts that are made of them |
@@ -56,7 +55,6 @@ mod sort;
 mod stops;
 mod streams;
 mod table;
-mod upload_tokens;
 mod uploads;
 mod valid_prefix;
 mod wrong_tables;
@@ -78,4 +76,3 @@ pub use streams::Streams;
 pub use table::table_over;
 pub use uploads::uploads_over;
 pub use valid_prefix::valid_prefix_over;
-pub use wrong_tables::WrongRows;

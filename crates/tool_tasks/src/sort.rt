@@ -3,7 +3,7 @@ ghost use Rattle.frame.specs.{Outcome.Ends, Outsides.Leaves};
 ghost use Rattle.report_texts.specs.Report.{upload_lines};
 ghost use Rattle.std.specs.Prelude.{◌≡◌, [], ℕ, Contains, IfOk, List, Some, if◌then◌else◌, map};
 ghost use Rattle.std.specs.Prelude.{string_bytes};
-ghost use Rattle.tap_views.specs.UploadEnds.{are_posted, is_posted};
+ghost use Rattle.tap_views.specs.UploadEnds.{are_posted};
 ghost use Rattle.tool_tasks.specs.{Sort.names_of, Sort.sort_rule, inside.Does.Does};
 ghost use Rattle.tool_tasks.specs.inside.{Loads.LoadsAll, Prepared.Carries, Sort.sorted_given};
 ghost use Rattle.tool_words.specs.Tasks.{sorting_of};
@@ -39,16 +39,10 @@ fn lines_of(alloc: Global, ends: &[UploadEnd]) -> Result<String, AllocError>
     Ok(text)
 }
 
-fn is_posted(end: UploadEnd) -> bool
-    ensures { result ≡ is_posted end }
-{
-    end.is_posted()
-}
-
 fn are_posted(ends: &[UploadEnd]) -> bool
     ensures { result ≡ are_posted ends.now }
 {
-    ends.iter().all(|end| is_posted(*end))
+    ends.iter().all(|end| end.is_posted())
 }
 
 fn status_of(ends: &[UploadEnd]) -> u8

@@ -63,21 +63,17 @@ pub(crate) fn finish<'a, W: World>(
     ensures { IsFinished streamed.entry (W.run world.old) (W.run world.new) result }
 {
     match streamed {
-        Ok(note) => match world.flush() {
-            Ok(()) => {
-                world.say(&note);
-                Ok(0)
-            }
-            Err(why) => Err(Halt(Outside::Unwritten(why), Fault::from(why))),
-        },
+        Ok(note) => {
+            world.flush()?;
+            world.say(&note);
+            Ok(0)
+        }
         Err(halt) => {
             if let Outside::Unwritten(_) = halt.0 {
                 return Err(halt);
             }
-            match world.flush() {
-                Ok(()) => Err(halt),
-                Err(why) => Err(Halt(Outside::Unwritten(why), Fault::from(why))),
-            }
+            world.flush()?;
+            Err(halt)
         }
     }
 }

@@ -1,6 +1,6 @@
 //! `uploads --good-part`: lines of an upload, and a file of its batches before its layout fault.
 ghost use Rattle.frame.specs.{Given.load_of, Outcome.Ends};
-ghost use Rattle.std.specs.Prelude.{◌≡◌, ◌∷◌, [], IfOk, if◌then◌else◌, is_none};
+ghost use Rattle.std.specs.Prelude.{◌∷◌, [], IfOk};
 ghost use Rattle.tool_tasks.specs.ValidPrefix.{HasValidPrefix, valid_prefix_rule};
 ghost use Rattle.tool_tasks.specs.inside.{Does.Does, Prepared.AreNamed, Prepared.whole_of};
 ghost use Rattle.tool_words.specs.Tasks.{valid_prefix_of};
@@ -8,13 +8,13 @@ ghost use Rattle.tool_words.specs.Tasks.{valid_prefix_of};
 use crate::fault::Fault;
 use crate::loads::load;
 use crate::prepared::{NewFile, Prepared, carry_out};
-use crate::stops::{Halt, ended};
-use crate::upload_tokens::{add_tokens, no_tokens, tokens_text};
-use crate::uploads::upload_text;
+use crate::stops::{Halt, ended, status_of};
+use crate::uploads::{push_tokens, upload_text};
 use frame::Outside;
-use std::alloc::{AllocError, Global};
+use std::alloc::Global;
 use tap_views::{Facts, NoMemory, facts_of, valid_prefix};
 use tool_words::ValidPrefixWords;
+use upload_checks::CommonTokens;
 use world::World;
 
 fn lines_of(
@@ -23,30 +23,13 @@ fn lines_of(
     upload: &[u8],
     facts: &Facts,
 ) -> Result<String, NoMemory> {
-    let mut tokens = no_tokens(alloc, words.has_tokens);
     let mut text = upload_text(alloc, 0, words.upload, facts)?;
-    add_tokens(&mut tokens, upload)?;
-    if let Some(tokens) = &tokens {
-        text.push_str(&tokens_text(alloc, tokens.counts())?)?;
+    if words.has_tokens {
+        let mut tokens = CommonTokens::new(alloc);
+        tokens.add(upload)?;
+        push_tokens(&mut text, &tokens)?;
     }
     Ok(text)
-}
-
-fn status_of(facts: &Facts) -> u8
-    ensures { result ≡ (if is_none facts.now.fault then 0 else 1) }
-{
-    match facts.fault {
-        Some(_) => 1,
-        None => 0,
-    }
-}
-
-fn copied(alloc: Global, bytes: &[u8]) -> Result<Vec<u8>, AllocError>
-    ensures { IfOk result (λ copy. copy.items ≡ bytes.now) }
-{
-    let mut copy = Vec::new(alloc);
-    copy.extend_from_slice(bytes)?;
-    Ok(copy)
 }
 
 fn prepare<'a>(
@@ -60,7 +43,7 @@ fn prepare<'a>(
 {
     let facts = facts_of(upload);
     let valid = valid_prefix(upload);
-    let bytes = copied(alloc, valid)?;
+    let bytes = Vec::from_slice(alloc, valid)?;
     let file = NewFile {
         name: words.out,
         bytes,
@@ -74,7 +57,7 @@ fn prepare<'a>(
         upload: Some(file),
         held: None,
         note: String::new(alloc),
-        status: status_of(&facts),
+        status: status_of(facts.fault.is_none()),
     })
 }
 
@@ -86,10 +69,7 @@ fn keep<'a, W: World>(
     ensures { Does (valid_prefix_rule (valid_prefix_of words.now)) (W.run world.old)
         (W.run world.new) result }
 {
-    let upload = match load(world, words.upload) {
-        Ok(upload) => upload,
-        Err(halt) => return Err(halt),
-    };
+    let upload = load(world, words.upload)?;
     match prepare(alloc, words, &upload) {
         Ok(prepared) => carry_out(&prepared, world),
         Err(NoMemory) => Err(Halt(Outside::NoMemory, Fault::NoMemory)),

@@ -47,7 +47,6 @@ returns-in-Ok-merged g c =
           (sym c.deref-in-Ok-merged.ensures.value) (whole uploads is);
       made = refl;
       text = refl;
-      note = c.new.ensures.bytes;
       success = refl;
     })
 
