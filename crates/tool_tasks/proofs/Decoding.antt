@@ -1,13 +1,13 @@
 -- One upload more is decoded.
 use Rattle.std.proofs.Common.{◌≡◌, ◌∙◌, ◌+◌, ◌<◌, ℕ, Bool, Bor, true, false, List, [], ◌∷◌, ◌++◌}
 use Rattle.std.proofs.Common.{Option, ap, append-nil, append_assoc, drop, flat_map, get_or, length}
-use Rattle.std.proofs.Common.{map, inl, inr, refl, subst, sym, take, take-append-drop}
+use Rattle.std.proofs.Common.{map, inl, inr, refl, subst, sym}
 use Rattle.frame.proofs.Giving.{gave_load, part_text, stopped_at}
 use Rattle.frame.proofs.Outcomes.{stopped_early}
 use Rattle.frame.specs.Given.{Given, gave, load_of, with_loads, with_text}
 use Rattle.frame.specs.{Names.file_named, Outcome.IsHalted, Outsides.IsStoppedIn, Outsides.StopsIn}
 use Rattle.frame.specs.declared.outside.Outside.{Outside, TheVariants.NoMemory}
-use Rattle.std.proofs.lemmas.List.{map-append, take_more, Concat.flat_map-append}
+use Rattle.std.proofs.lemmas.List.{drop_more, map-append, Concat.flat_map-append}
 use Rattle.std.specs.Prelude.{◌&&◌, is_none}
 use Rattle.tap_rows.specs.{Decoded.IsDecoded, TapTables.head}
 use Rattle.tap_views.specs.declared.fault.LayoutFault.{LayoutFault}
@@ -52,26 +52,20 @@ whole_push (first ∷ decoded) one =
     and_assoc true b c = refl
     and_assoc false b c = refl
 
--- the words of one more
+-- the words of one more, and the rest
 pub words_push : (words : List (Bor (List ℕ))) (n : ℕ) (d : Bor (List ℕ)) (decoded : List Decoded)
-    (one : Decoded) → n < length words → words_of decoded ≡ map (λ w. w.now) (take n words)
-    → one.word ≡ (get_or words n d).now
-    → words_of (decoded ++ one ∷ []) ≡ map (λ w. w.now) (take (n + 1) words)
-words_push words n d decoded one within are is =
-    map-append (λ (o : Decoded). o.word) decoded (one ∷ [])
-    ∙ ap (λ ws. ws ++ one.word ∷ []) are
-    ∙ ap (λ w. map (λ w. w.now) (take n words) ++ w ∷ []) is
-    ∙ sym (ap (map (λ w. w.now)) (take_more words n d within)
-    ∙ map-append (λ (w : Bor (List ℕ)). w.now) (take n words) (get_or words n d ∷ []))
-
--- the words of the first uploads, and the rest
-pub words_rest : (words : List (Bor (List ℕ))) (n : ℕ) (decoded : List Decoded)
-    → words_of decoded ≡ map (λ w. w.now) (take n words)
+    (one : Decoded) → n < length words
     → map (λ w. w.now) words ≡ words_of decoded ++ map (λ w. w.now) (drop n words)
-words_rest words n decoded are =
-    ap (map (λ w. w.now)) (sym (take-append-drop n words))
-    ∙ map-append (λ (w : Bor (List ℕ)). w.now) (take n words) (drop n words)
-    ∙ ap (λ ws. ws ++ map (λ w. w.now) (drop n words)) (sym are)
+    → one.word ≡ (get_or words n d).now
+    → map (λ w. w.now) words
+    ≡ words_of (decoded ++ one ∷ []) ++ map (λ w. w.now) (drop (n + 1) words)
+words_push words n d decoded one within are is =
+    let rest = map (λ w. w.now) (drop (n + 1) words) in
+    are ∙ ap (λ (ws : List (Bor (List ℕ))). words_of decoded ++ map (λ w. w.now) ws)
+    (drop_more words n d within)
+    ∙ ap (λ w. words_of decoded ++ w ∷ rest) (sym is)
+    ∙ sym (append_assoc (words_of decoded) (one.word ∷ []) rest)
+    ∙ ap (λ ws. ws ++ rest) (sym (map-append (λ (o : Decoded). o.word) decoded (one ∷ [])))
 
 -- ---- stops
 -- it was loaded, and an allocation failed
@@ -105,18 +99,15 @@ halted_part words start new decoded note rest why named s = record {
 -- it came when one more was decoded
 pub halted_one : (words : List (Bor (List ℕ))) (start mid new : Run) (n : ℕ) (d : Bor (List ℕ))
     (decoded : List Decoded) (note : List ℕ) (why : Outside) → n < length words
-    → words_of decoded ≡ map (λ w. w.now) (take n words)
+    → map (λ w. w.now) words ≡ words_of decoded ++ map (λ w. w.now) (drop n words)
     → mid ≡ gave start (decoding_of decoded note)
     → StopsDecoding (map (λ w. w.now) words) (get_or words n d).now mid new why
     → IsHalted (decode_rule (map (λ w. w.now) words)) start new why
 halted_one words start mid new n d decoded note why within are is (inl leaves) =
     halted_part (map (λ w. w.now) words) start new decoded note (map (λ w. w.now) (drop n words)) why
-    (words_rest words n decoded are)
-    (stopped_at (map (λ w. w.now) words) start mid new (decoding_of decoded note) why is leaves)
+    are (stopped_at (map (λ w. w.now) words) start mid new (decoding_of decoded note) why is leaves)
 halted_one words start mid new n d decoded note why within are is (inr (one, word, stops)) =
     halted_part (map (λ w. w.now) words) start new (decoded ++ one ∷ []) note
-    (map (λ w. w.now) (drop (n + 1) words)) why
-    (words_rest words (n + 1) (decoded ++ one ∷ [])
-    (words_push words n d decoded one within are word))
+    (map (λ w. w.now) (drop (n + 1) words)) why (words_push words n d decoded one within are word)
     (subst (λ (whole : Given). IsStoppedIn (map (λ w. w.now) words) start new whole why)
     (decoding_push decoded one note) (stops start (decoding_of decoded note) is))

@@ -1,12 +1,11 @@
 //! `corrections`.
-ghost use Rattle.std.specs.Prelude.{◌≡◌, ◌++◌, ◌∷◌, [], List, IfErr, IfOk, None};
 ghost use Rattle.frame.specs.declared.outside.Outside.TheVariants.{NoMemory};
 ghost use Rattle.ledger_changes.specs.Given.{IsFaultOf, IsUnbegun, new_calls, old_calls};
 ghost use Rattle.recorded_lines.specs.Texts.{Follows, IsFresh, calls_of};
+ghost use Rattle.std.specs.Prelude.{◌≡◌, ◌++◌, ◌∷◌, [], List, IfErr, IfOk, None};
 ghost use Rattle.tool_tasks.specs.Corrections.{IsRemovedNote, corrections_stream};
-ghost use Rattle.tool_tasks.specs.Streams.{EndsBy, cut_of};
-ghost use Rattle.tool_tasks.specs.inside.{Corrections.IsStop, Corrections.IsWritten};
-ghost use Rattle.tool_tasks.specs.inside.Streams.{IsStreamed};
+ghost use Rattle.tool_tasks.specs.{Streams.EndsBy, Streams.cut_of, inside.Corrections.IsStop};
+ghost use Rattle.tool_tasks.specs.inside.{Corrections.IsWritten, Streams.IsStreamed};
 ghost use Rattle.tool_words.specs.Tasks.{corrections_of};
 ghost use Rattle.world.specs.Run.{Calls};
 
@@ -36,16 +35,12 @@ fn halt_of<'a>(words: &CorrectionsWords<'a>, fault: CorrectionsFault) -> Halt<'a
 {
     match fault {
         CorrectionsFault::Line(bill, number, why) => {
-            Halt(
-                Outside::Wrong,
-                Fault::Line(word_of(words, bill), number, ledger_text(why)),
-            )
+            let line = Fault::Line(word_of(words, bill), number, ledger_text(why));
+            Halt(Outside::Wrong, line)
         }
         CorrectionsFault::Unread(bill) => {
-            Halt(
-                Outside::Unread(LoadFault::Unread),
-                Fault::Unread(word_of(words, bill)),
-            )
+            let line = Fault::Unread(word_of(words, bill));
+            Halt(Outside::Unread(LoadFault::Unread), line)
         }
         CorrectionsFault::NoMemory => Halt(Outside::NoMemory, Fault::NoMemory),
     }

@@ -2,9 +2,8 @@
 ghost use Rattle.frame.specs.Names.{file_named};
 ghost use Rattle.recorded_lines.specs.Texts.{IsFresh, calls_of};
 ghost use Rattle.std.specs.Prelude.{◌≡◌, ◌++◌, [], List, IfErr, OnOk, All, map};
-ghost use Rattle.tool_tasks.specs.{Merge.merge_stream, Streams.EndsBy};
-ghost use Rattle.tool_tasks.specs.inside.{Merge.IsNoted, Merge.names_of, Streams.IsStreamed};
-ghost use Rattle.tool_tasks.specs.inside.Streams.{IsUnopened};
+ghost use Rattle.tool_tasks.specs.{Merge.merge_stream, Streams.EndsBy, inside.Merge.IsNoted};
+ghost use Rattle.tool_tasks.specs.inside.{Merge.names_of, Streams.IsStreamed, Streams.IsUnopened};
 ghost use Rattle.world.specs.Run.{Calls};
 
 use crate::fault::Fault;

@@ -12,7 +12,6 @@ ghost use Rattle.world.specs.{Origins.with_loads, Run.Load, Run.Run};
 use crate::counted::Counted;
 use crate::fault::Fault;
 use crate::loads::load_all;
-use crate::names::word_at;
 use crate::prepared::{Partial, Prepared, carry, new_file};
 use crate::stops::{Halt, ended, line_of};
 use frame::Outside;
@@ -54,11 +53,8 @@ fn status_of(ends: &[UploadEnd]) -> u8
 /// A line for each layout fault; nothing if there is none.
 fn note_of(alloc: Global, uploads: &[&str], ends: &[UploadEnd]) -> Result<String, AllocError> {
     let mut note = String::new(alloc);
-    for (number, end) in ends.iter().enumerate() {
-        if let (UploadEnd::Refused { offset, fault, .. }, Some(word)) = (
-            end,
-            word_at(uploads, number),
-        ) {
+    for (word, end) in uploads.iter().zip(ends.iter()) {
+        if let UploadEnd::Refused { offset, fault, .. } = end {
             let fault = Fault::Layout(word, *offset, *fault);
             write!(note, "{fault}\n")?;
         }

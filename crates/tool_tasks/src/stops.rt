@@ -24,8 +24,7 @@ impl From<AllocError> for Halt<'_> {
 
 impl<'a> From<Halt<'a>> for Fault<'a> {
     fn from(halt: Halt<'a>) -> Self {
-        let Halt(_, line) = halt;
-        line
+        halt.1
     }
 }
 

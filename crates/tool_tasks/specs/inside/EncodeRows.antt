@@ -4,9 +4,8 @@ use Rattle.std.specs.Prelude.{◌≡◌, ◌≢◌, ⊤, ℕ, Bool, List, [], No
 use Rattle.std.specs.declared.alloc.Global.{Global}
 use Rattle.tap_rows.specs.declared.agency.choice.Choice.{Choice}
 use Rattle.tool_tasks.specs.EncodeRows.{AddsCsv, Chain, Encoded, HasTried, IsGivenOf, Texts}
-use Rattle.tool_tasks.specs.EncodeRows.{nothing_encoded, rows_rule}
-use Rattle.tool_tasks.specs.{EncodeRows.word_in, EncodeTables.IsTableOf}
-use Rattle.tool_tasks.specs.declared.encode_csvs.Encoded.{Encoded as Held}
+use Rattle.tool_tasks.specs.EncodeRows.{nothing_encoded, rows_rule, word_in}
+use Rattle.tool_tasks.specs.{EncodeTables.IsTableOf, declared.encode_csvs.Encoded.Encoded as Held}
 use Rattle.tool_tasks.specs.declared.encode_loads.Texts.{Texts as HeldTexts}
 use Rattle.tool_tasks.specs.declared.prepared.{NewFile.NewFile, Prepared.Prepared}
 use Rattle.tool_tasks.specs.{declared.stops.Halt.Halt, inside.Does.Does, inside.Prepared.whole_of}

@@ -1,12 +1,13 @@
-use Rattle.std.proofs.Common.{◌≡◌, ◌∙◌, ◌++◌, ◌∷◌, [], Bool, Bor, List, ap, append-nil}
-use Rattle.std.proofs.Common.{if◌then◌else◌, map, refl, sym, take_all, ℕ}
+use Rattle.std.proofs.Common.{◌∙◌, ◌++◌, ◌∷◌, [], Bool, Bor, List, ap, append-nil, arith}
+use Rattle.std.proofs.Common.{if◌then◌else◌, map, refl, sym, ℕ}
+use Rattle.std.proofs.Math.ListN.{drop_of_length-le}
 use Rattle.frame.proofs.{Giving.gave_nothing, Outcomes.stopped_flush}
 use Rattle.frame.specs.Given.{Given, gave, nothing, with_note}
 use Rattle.std.proofs.lemmas.Result.{err_from_is_err_and}
 use Rattle.std.specs.Prelude.{◌&&◌, is_none}
 use Rattle.tool_tasks.proofs.Decoding.{decoding_push, halted_one, halted_part, whole_push}
 use Rattle.tool_tasks.proofs.{Decoding.words_push, Loading.word_contained}
-use Rattle.tool_tasks.specs.Decode.{Decoded, decoding_of, words_of}
+use Rattle.tool_tasks.specs.Decode.{decoding_of, words_of}
 use Rattle.world.specs.Run.{with_flushed}
 use Rattle.tool_tasks.proofs.decode.decode.Goals as goal
 
@@ -48,21 +49,16 @@ returns-in_err-is_whole g c =
     (c.in_err-is_whole.ensures.stopped (map (λ w. w.now) words)
     (word_contained words number _ c.loop-number-test.true)))
 
--- the words of all uploads
-all_words : (words : List (Bor (List ℕ))) (decoded : List Decoded) (first : List (Bor (List ℕ)))
-    → words_of decoded ≡ map (λ w. w.now) first → first ≡ words
-    → map (λ w. w.now) words ≡ words_of decoded
-all_words words decoded first are all = sym (are ∙ ap (map (λ w. w.now)) all)
-
 pub returns : goal.returns
 returns g c =
-    let words = c.args.words.now in
+    let words = c.args.words.now in let past = c.loop-number-test.false in
     let (decoded, note, are, whole, is) = c.loop-number.invariant in
     record {
       given = decoding_of decoded note;
       right = record {
         decoded = decoded;
-        named = all_words words decoded _ are (take_all _ words c.loop-number-test.false);
+        named = are ∙ ap (λ (ws : List (Bor (List ℕ))). words_of decoded ++ map (λ w. w.now) ws)
+            (drop_of_length-le words (omega (arith, past))) ∙ append-nil (words_of decoded);
         is = refl;
         status_is = c.status_of.ensures ∙ ap (λ (b : Bool). if b then 0 else 1) (sym whole);
       };
@@ -76,7 +72,5 @@ returns-in_err-flush g c =
     let words = c.args.words.now in let all = map (λ w. w.now) words in
     let old = g.W.Inputs.run c.args.world.now in
     let (decoded, note, are, whole, is) = c.loop-number.invariant in
-    rw (e.1, e.2) (halted_part all old _ decoded note [] _
-    (all_words words decoded _ are (take_all _ words c.loop-number-test.false)
-    ∙ sym (append-nil (words_of decoded)))
+    rw (e.1, e.2) (halted_part all old _ decoded note _ _ are
     (stopped_flush all old _ _ (decoding_of decoded note) _ is c.in_err-flush.ensures.cut))

@@ -1,7 +1,6 @@
 use Rattle.std.proofs.Common.{◌≡◌, List, [], arith, drop, refl, subst, sym, ℕ}
-use Rattle.std.proofs.Math.ListN.{drop_of_length-le}
+use Rattle.std.proofs.{Math.ListN.drop_of_length-le, lemmas.Result.err_from_is_err_and}
 use Rattle.std.specs.{Prelude.Vec, declared.alloc.Global.Global}
-use Rattle.std.proofs.lemmas.Result.{err_from_is_err_and}
 use Rattle.tool_tasks.proofs.EncodingRows.{chain_on, wrong_csv}
 use Rattle.tool_tasks.specs.EncodeRows.{AddsCsv, Chain}
 use Rattle.tool_tasks.specs.inside.EncodeRows.{csvs_of, encoded_of}

@@ -5,10 +5,9 @@ use Rattle.std.proofs.lemmas.Result.{MatchResult-weaker, err_from_is_err_and}
 use Rattle.std.specs.Prelude.{Contains, Err, MatchResult, Vec, option_copied, option_map}
 use Rattle.std.specs.declared.alloc.Global.{Global}
 use Rattle.tap_rows.specs.{Devices.devices_of, Keys.key_of}
-use Rattle.tap_rows.specs.declared.agency.{key.TokenKey.TokenKey, key.WrongKey.WrongKey}
+use Rattle.tap_rows.specs.declared.agency.key.{TokenKey.TokenKey, WrongKey.WrongKey}
 use Rattle.tool_tasks.specs.EncodeRows.{HasDevices, IsWrongCsv, word_in}
-use Rattle.tool_tasks.specs.EncodeTables.{HasNoZone, IsKey}
-use Rattle.tool_tasks.specs.declared.stops.Halt.{Halt}
+use Rattle.tool_tasks.specs.{EncodeTables.HasNoZone, EncodeTables.IsKey, declared.stops.Halt.Halt}
 use Rattle.tool_tasks.specs.inside.EncodeRows.{IsPrepared, IsTable, csvs_of, texts_in}
 use Rattle.tool_tasks.proofs.encode_tables.prepare.Goals as goal
 

@@ -47,14 +47,8 @@ returns-in_err-lines-clause-stopped g c =
     (word_contained c.args.words.now c.loop-word.word-index no_word c.loop-word-test.true) in
     rw (e.1, e.2) (calls, all ∙ ap (λ l. l ++ calls) c.loop-word.invariant.unchanged, unopened)
 
-pub returns-clause-fresh : goal.returns-clause-fresh
-returns-clause-fresh g c = c.loop-word.invariant.fresh
-
 pub returns-clause-named : goal.returns-clause-named
 returns-clause-named g c =
     c.loop-word.invariant.named
     ∙ ap (λ (ws : List (Bor (List ℕ))). map file_named (map (λ w. w.now) ws))
     (take_all _ c.args.words.now c.loop-word-test.false)
-
-pub returns-clause-unchanged : goal.returns-clause-unchanged
-returns-clause-unchanged g c = c.loop-word.invariant.unchanged

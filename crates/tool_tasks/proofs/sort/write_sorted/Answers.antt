@@ -1,8 +1,7 @@
 use Rattle.std.proofs.Common.{◌∙◌, List, ap, arith, if◌then◌else◌, refl, sym}
 use Rattle.frame.proofs.{Giving.known_whole, Outcomes.halted_loading}
 use Rattle.frame.specs.declared.outside.Outside.TheVariants.{NoMemory}
-use Rattle.tap_views.specs.UploadEnds.{are_posted}
-use Rattle.tap_views.specs.declared.upload_end.UploadEnd.{UploadEnd}
+use Rattle.tap_views.specs.{UploadEnds.are_posted, declared.upload_end.UploadEnd.UploadEnd}
 use Rattle.tool_tasks.proofs.Preparing.{carried}
 use Rattle.tool_tasks.specs.Sort.{Sorts, names_of}
 use Rattle.tool_words.specs.Tasks.{sorting_of}
