@@ -1,13 +1,14 @@
 -- One upload more is decoded.
-use Rattle.std.proofs.Common.{◌≡◌, ◌∙◌, ◌+◌, ◌<◌, ℕ, Bool, Bor, true, false, List, [], ◌∷◌, ◌++◌}
-use Rattle.std.proofs.Common.{Option, ap, append-nil, append_assoc, drop, flat_map, get_or, length}
-use Rattle.std.proofs.Common.{map, inl, inr, refl, subst, sym}
+use Rattle.std.proofs.Common.{◌≡◌, ◌∙◌, ◌+◌, ◌<◌, ℕ, Bor, List, [], ◌∷◌, ◌++◌, Option, ap}
+use Rattle.std.proofs.Common.{append-nil, append_assoc, drop, flat_map, get_or, length, map, inl}
+use Rattle.std.proofs.Common.{inr, refl, subst, sym}
 use Rattle.frame.proofs.Giving.{gave_load, part_text, stopped_at}
 use Rattle.frame.proofs.Outcomes.{stopped_early}
 use Rattle.frame.specs.Given.{Given, gave, load_of, with_loads, with_text}
 use Rattle.frame.specs.{Names.file_named, Outcome.IsHalted, Outsides.IsStoppedIn, Outsides.StopsIn}
 use Rattle.frame.specs.declared.outside.Outside.{Outside, TheVariants.NoMemory}
-use Rattle.std.proofs.lemmas.List.{drop_more, map-append, Concat.flat_map-append}
+use Rattle.std.proofs.{Math.Bool.and-true, lemmas.List.drop_more}
+use Rattle.std.proofs.lemmas.List.{map-append, Concat.flat_map-append, Folds.list_all-append}
 use Rattle.std.specs.Prelude.{◌&&◌, is_none}
 use Rattle.tap_rows.specs.{Decoded.IsDecoded, TapTables.head}
 use Rattle.tap_views.specs.declared.fault.LayoutFault.{LayoutFault}
@@ -39,18 +40,9 @@ decoding_push decoded one note =
 
 pub whole_push : (decoded : List Decoded) (one : Decoded)
     → are_whole (decoded ++ one ∷ []) ≡ (are_whole decoded && is_none one.fault)
-whole_push [] one = and_true (is_none one.fault)
-  where
-    and_true : (b : Bool) → (b && true) ≡ b
-    and_true true = refl
-    and_true false = refl
-whole_push (first ∷ decoded) one =
-    ap (λ (b : Bool). is_none first.fault && b) (whole_push decoded one)
-    ∙ and_assoc (is_none first.fault) (are_whole decoded) (is_none one.fault)
-  where
-    and_assoc : (a b c : Bool) → (a && (b && c)) ≡ ((a && b) && c)
-    and_assoc true b c = refl
-    and_assoc false b c = refl
+whole_push decoded one =
+    list_all-append (λ (d : Decoded). is_none d.fault) decoded (one ∷ [])
+    ∙ ap (λ b. are_whole decoded && b) (and-true (is_none one.fault))
 
 -- the words of one more, and the rest
 pub words_push : (words : List (Bor (List ℕ))) (n : ℕ) (d : Bor (List ℕ)) (decoded : List Decoded)

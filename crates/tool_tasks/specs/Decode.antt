@@ -1,7 +1,7 @@
 -- What `decode` does: of the words of its uploads.
 use Rattle.frame.specs.{Given.Given, Given.IsPart, Given.load_of, Outcome.Rule, Outsides.Leaves}
-use Rattle.std.specs.Prelude.{◌≡◌, ℕ, Bool, true, List, [], ◌∷◌, ◌++◌, ◌&&◌, Option, flat_map}
-use Rattle.std.specs.Prelude.{if◌then◌else◌, is_none, map}
+use Rattle.std.specs.{List.list_all, Prelude.◌≡◌, Prelude.ℕ, Prelude.Bool}
+use Rattle.std.specs.Prelude.{List, [], ◌∷◌, ◌++◌, Option, flat_map, if◌then◌else◌, is_none, map}
 use Rattle.tap_rows.specs.{Decoded.IsDecoded, TapTables.head}
 use Rattle.tap_views.specs.declared.fault.LayoutFault.{LayoutFault}
 
@@ -30,8 +30,7 @@ decoding_of decoded note = record {
 
 -- whether no upload has a layout fault
 abbrev pub are_whole : List Decoded → Bool
-are_whole [] = true
-are_whole (one ∷ decoded) = is_none one.fault && are_whole decoded
+are_whole decoded = list_all (λ one. is_none one.fault) decoded
 
 -- the uploads that the words name were decoded
 pub record IsTapTableOf (words : List (List ℕ)) (given : Given) (status : ℕ) : Type 0 where

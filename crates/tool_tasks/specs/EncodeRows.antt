@@ -223,9 +223,6 @@ rows_rule words csvs is_there = rule_of (EncodesRows words csvs is_there)
     (LoadsWrong words csvs is_there) (names_of words csvs)
 
 -- THE rule of `encode` of an agency's own CSVs
-pub record EndsRows (words : RowsWords) (csvs : List (List ℕ)) (old new : Run) (status : ℕ)
-    : Type 0 where
-  pub is_there : Bool
-  pub started : Run
-  pub tried : HasTried words is_there old started
-  pub ends : Ends (rows_rule words csvs is_there) started new status
+abbrev pub EndsRows : RowsWords → List (List ℕ) → Run → Run → ℕ → Type 0
+EndsRows words csvs old new status = (is_there : Bool) × (started : Run)
+    × HasTried words is_there old started × Ends (rows_rule words csvs is_there) started new status

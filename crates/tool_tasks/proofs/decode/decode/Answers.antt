@@ -1,9 +1,8 @@
 use Rattle.std.proofs.Common.{◌∙◌, ◌++◌, ◌∷◌, [], Bool, Bor, List, ap, append-nil, arith}
 use Rattle.std.proofs.Common.{if◌then◌else◌, map, refl, sym, ℕ}
-use Rattle.std.proofs.Math.ListN.{drop_of_length-le}
 use Rattle.frame.proofs.{Giving.gave_nothing, Outcomes.stopped_flush}
 use Rattle.frame.specs.Given.{Given, gave, nothing, with_note}
-use Rattle.std.proofs.lemmas.Result.{err_from_is_err_and}
+use Rattle.std.proofs.{Math.ListN.drop_of_length-le, lemmas.Result.err_from_is_err_and}
 use Rattle.std.specs.Prelude.{◌&&◌, is_none}
 use Rattle.tool_tasks.proofs.Decoding.{decoding_push, halted_one, halted_part, whole_push}
 use Rattle.tool_tasks.proofs.{Decoding.words_push, Loading.word_contained}
