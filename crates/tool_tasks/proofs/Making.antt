@@ -1,7 +1,7 @@
 -- Uploads that are sorted or merged: what was loaded, and what is made of them.
 use Rattle.std.proofs.Common.{◌≡◌, ◌∙◌, ◌++◌, ◌∷◌, ◌<◌, ◌+◌, [], Bor, ℕ, List, None, Option, Some}
 use Rattle.std.proofs.Common.{append-nil, ap, arith, get_or, length, map, refl, sym, take, unwrap_or}
-use Rattle.std.proofs.lemmas.List.{map-append, take_more}
+use Rattle.std.proofs.lemmas.List.{map-append, map_push, take_more}
 use Rattle.frame.specs.{Given.load_of, Names.file_named}
 use Rattle.report_texts.specs.Report.{upload_lines}
 use Rattle.tap_views.specs.declared.upload_end.UploadEnd.{UploadEnd}
@@ -24,13 +24,13 @@ loads_next words n d old mid new texts bytes within all is =
     let more = load_of word bytes ∷ [] in
     record {
       loads = all.loads ++ more;
-      named = map-append (λ (load : Load). load.name) all.loads more
-          ∙ ap (λ (xs : List (Option (List ℕ))). xs ++ file_named word ∷ []) all.named
-          ∙ sym (ap (λ (ws : List (Bor (List ℕ))). map file_named (map (λ w. w.now) ws))
-          (take_more words n d within)
-          ∙ ap (map file_named)
-          (map-append (λ (w : Bor (List ℕ)). w.now) (take n words) (get_or words n d ∷ []))
-          ∙ map-append file_named (map (λ w. w.now) (take n words)) (word ∷ []));
+      named = rw (
+        take_more words n d within,
+        map_push (λ (w : Bor (List ℕ)). w.now) (take n words) (get_or words n d),
+        map_push file_named (map (λ w. w.now) (take n words)) word,
+        map-append (λ (load : Load). load.name) all.loads more,
+        all.named,
+      ) refl;
       bytes = map-append (λ (load : Load). load.bytes) all.loads more
           ∙ ap (λ (xs : List (List ℕ)). xs ++ bytes ∷ []) all.bytes;
       all = is ∙ ap (λ r. with_load r (file_named word) bytes) all.all
