@@ -47,7 +47,6 @@ fn halt_of<'a>(words: &CorrectionsWords<'a>, fault: CorrectionsFault) -> Halt<'a
 }
 
 /// Writes the whole text, and gives how many lines are removed.
-#[tactic(auto, using(recorded_lines::proofs::Reading::follows_on))]
 fn write_all<'a, W: World>(
     alloc: Global,
     words: &CorrectionsWords<'a>,

@@ -63,17 +63,21 @@ pub(crate) fn finish<'a, W: World>(
     ensures { IsFinished streamed.entry (W.run world.old) (W.run world.new) result }
 {
     match streamed {
-        Ok(note) => {
-            world.flush()?;
-            world.say(&note);
-            Ok(0)
-        }
+        Ok(note) => match world.flush() {
+            Ok(()) => {
+                world.say(&note);
+                Ok(0)
+            }
+            Err(why) => Err(Halt(Outside::Unwritten(why), Fault::from(why))),
+        },
         Err(halt) => {
             if let Outside::Unwritten(_) = halt.0 {
                 return Err(halt);
             }
-            world.flush()?;
-            Err(halt)
+            match world.flush() {
+                Ok(()) => Err(halt),
+                Err(why) => Err(Halt(Outside::Unwritten(why), Fault::from(why))),
+            }
         }
     }
 }

@@ -43,6 +43,12 @@ loop-init g c = record {
   );
 }
 
+pub returns-in-Err-next-clause-follow : goal.returns-in-Err-next-clause-follow
+returns-in-Err-next-clause-follow g c = (
+  follows_on _ _ _ c.loop.invariant.follow_old c.next.ensures.follow.0,
+  follows_on _ _ _ c.loop.invariant.follow_new c.next.ensures.follow.1,
+)
+
 pub returns-in-Err-next-clause-written : goal.returns-in-Err-next-clause-written
 returns-in-Err-next-clause-written g c =
     let by_token = c.args.words.now.is_by_token in
@@ -52,6 +58,12 @@ returns-in-Err-next-clause-written g c =
       c.halt_of-in-Err-next.ensures.stop _ _ (c.in-Err-next.ensures.wrong by_token text has),
       rw c.halt_of-in-Err-next.ensures.uncut run,
     )
+
+pub returns-in_err-write-2-clause-follow : goal.returns-in_err-write-2-clause-follow
+returns-in_err-write-2-clause-follow g c = (
+  follows_on _ _ _ c.loop.invariant.follow_old c.next.ensures.follow.0,
+  follows_on _ _ _ c.loop.invariant.follow_new c.next.ensures.follow.1,
+)
 
 pub returns-in_err-write-2-clause-written : goal.returns-in_err-write-2-clause-written
 returns-in_err-write-2-clause-written g c =
@@ -70,6 +82,12 @@ returns-in_err-write-2-clause-written g c =
       cut_on (g.W.Inputs.run c.args.world.now) (g.W.Inputs.run c.loop.world) _ text
           c.deref.result.now c.in_err-write-2.field-0.0 run cut,
     )
+
+pub returns-in-Some-clause-follow : goal.returns-in-Some-clause-follow
+returns-in-Some-clause-follow g c = (
+  follows_on _ _ _ c.loop.invariant.follow_old c.next.ensures.follow.0,
+  follows_on _ _ _ c.loop.invariant.follow_new c.next.ensures.follow.1,
+)
 
 pub returns-in-Some-clause-written : goal.returns-in-Some-clause-written
 returns-in-Some-clause-written g c =

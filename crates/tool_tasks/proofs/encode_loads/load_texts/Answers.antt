@@ -1,4 +1,5 @@
 use Rattle.std.proofs.Common.{◌∙◌, ◌≡◌, [], List, Option, arith, map, refl, subst, sym, true, ℕ}
+use Rattle.frame.specs.declared.outside.Outside.TheVariants.{Unread}
 use Rattle.std.proofs.lemmas.Result.{err_from_is_err_and}
 use Rattle.tool_tasks.proofs.EncodingRows.{is_in, later_csv, zone_in}
 use Rattle.tool_tasks.proofs.Loading.{loads_after, stops_after}
@@ -35,7 +36,8 @@ returns-in-Err-clause-stopped g c =
       c.in_ok-found.found.0,
       started,
       tried,
-      stops_after names started _ _ _ _ was
+      stops_after names started _ (g.W.Inputs.run c.load_named.new.world) _
+          (Unread c.in-Err.why) was
           (c.in-Err.ensures.refused names (is_in names (word_in words.key) (2, omega arith, refl))),
     )
 
@@ -47,7 +49,8 @@ returns-in-Err-load_named-clause-stopped g c =
       c.in_ok-found.found.0,
       started,
       tried,
-      stops_after names started _ _ _ _
+      stops_after names started _ (g.W.Inputs.run c.load_named-2.new.world) _
+          (Unread c.in-Err-load_named.why)
           (loads_after started _ _ _ _ was c.in-Ok.ensures.loaded)
           (c.in-Err-load_named.ensures.refused names (zone_in names (word_in words.zone)
           (word_in c.name_in.result) (c.name_in.ensures ∙ c.in_ok-path.ensures) (3, omega arith, refl))),

@@ -10,13 +10,15 @@ use Rattle.tool_tasks.proofs.prepared.carry.Goals as goal
 
 pub returns-in-Err : goal.returns-in-Err
 returns-in-Err g c = λ words start loads was named partial.
-    rw c.discard.ensures (stopped_whole words start _ loads _ _ _
+    rw c.discard.ensures (stopped_whole words start _ loads c.args.prepared.now
+    (partial_files g.W.File.Write.contents c.args.partial) _
     (c.in-Err.ensures.stopped words named start (loaded_of loads) (was ∙ gave_loads start loads)))
 
 pub returns-in_err-finish_partial : goal.returns-in_err-finish_partial
 returns-in_err-finish_partial g c = λ words start loads was named partial.
     let e = err_from_is_err_and c.from_residual.result c.from_residual.ensures.1 in
-    rw (e.1, e.2) (stopped_whole words start _ loads _ _ _
+    rw (e.1, e.2) (stopped_whole words start _ loads c.args.prepared.now
+    (partial_files g.W.File.Write.contents c.args.partial) _
     (stopped_at words start _ _ (with_prepared (loaded_of loads) c.args.prepared.now) _
     (c.in_default.ensures.given start (loaded_of loads) (was ∙ gave_loads start loads))
     (c.in_err-finish_partial.ensures.stopped words partial)))
