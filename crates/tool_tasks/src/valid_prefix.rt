@@ -1,6 +1,6 @@
 //! `uploads --good-part`: lines of an upload, and a file of its batches before its layout fault.
 ghost use Rattle.frame.specs.{Given.load_of, Outcome.Ends};
-ghost use Rattle.std.specs.Prelude.{◌∷◌, [], IfOk};
+ghost use Rattle.std.specs.Prelude.{◌≡◌, ◌∷◌, [], IfOk, if◌then◌else◌, is_none};
 ghost use Rattle.tool_tasks.specs.ValidPrefix.{HasValidPrefix, valid_prefix_rule};
 ghost use Rattle.tool_tasks.specs.inside.{Does.Does, Prepared.AreNamed, Prepared.whole_of};
 ghost use Rattle.tool_words.specs.Tasks.{valid_prefix_of};
@@ -8,7 +8,7 @@ ghost use Rattle.tool_words.specs.Tasks.{valid_prefix_of};
 use crate::fault::Fault;
 use crate::loads::load;
 use crate::prepared::{NewFile, Prepared, carry_out};
-use crate::stops::{Halt, ended, status_of};
+use crate::stops::{Halt, ended};
 use crate::uploads::{push_tokens, upload_text};
 use frame::Outside;
 use std::alloc::Global;
@@ -30,6 +30,15 @@ fn lines_of(
         push_tokens(&mut text, &tokens)?;
     }
     Ok(text)
+}
+
+fn status_of(facts: &Facts) -> u8
+    ensures { result ≡ (if is_none facts.now.fault then 0 else 1) }
+{
+    match facts.fault {
+        Some(_) => 1,
+        None => 0,
+    }
 }
 
 fn prepare<'a>(
@@ -57,7 +66,7 @@ fn prepare<'a>(
         upload: Some(file),
         held: None,
         note: String::new(alloc),
-        status: status_of(facts.fault.is_none()),
+        status: status_of(&facts),
     })
 }
 

@@ -13,7 +13,8 @@ returns-in-None g c = λ words start loads was named.
 
 pub returns-in-Err : goal.returns-in-Err
 returns-in-Err g c = λ words start loads was named.
-    stopped_whole words start _ loads _ _ c.in-Err.why
+    stopped_whole words start _ loads c.args.prepared.now (files_in c.args.prepared.now.held)
+    c.in-Err.why
     (stopped_first words start _ _ (loaded_of loads) c.args.prepared.now c.in-Err.why
     (was ∙ gave_loads start loads)
     (c.in-Err.ensures.stopped words (subst (IsNamedIn words) c.in-Some.is named.held)))

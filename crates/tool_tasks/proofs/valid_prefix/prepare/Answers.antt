@@ -1,4 +1,4 @@
-use Rattle.std.proofs.Common.{◌∙◌, Bool, ap, arith, if◌then◌else◌, refl, subst, sym}
+use Rattle.std.proofs.Common.{arith, refl, subst, sym}
 use Rattle.tap_views.specs.Facts.{IsValidPrefix}
 use Rattle.tool_tasks.proofs.valid_prefix.prepare.Goals as goal
 
@@ -12,7 +12,7 @@ returns-clause-right c = record {
   made = refl;
   facts = c.facts_of-facts.result;
   are_facts = c.facts_of-facts.ensures;
-  status_is = c.status_of.ensures ∙ ap (λ (b : Bool). if b then 0 else 1) c.is_none.ensures;
+  status_is = c.status_of.ensures;
 }
 
 pub returns-clause-named : goal.returns-clause-named
