@@ -1,9 +1,9 @@
 -- The whole program: how what is asked for ends.
 use Rattle.frame.specs.Outcome.{Ends}
 use Rattle.std.specs.Prelude.{◌≡◌, ◌⊎◌, ⊤, ℕ, MatchBool, List, Option, map}
-use Rattle.tool_tasks.specs.{Corrections.corrections_rule, Decode.decode_rule, Encode.encode_rule}
-use Rattle.tool_tasks.specs.{EncodeRows.EndsRows, Merge.merge_rule, MergeSorted.merge_sorted_rule}
-use Rattle.tool_tasks.specs.{Sort.sort_rule, ValidPrefix.valid_prefix_rule}
+use Rattle.tool_tasks.specs.{Corrections.corrections_stream, Decode.decode_rule, Encode.encode_rule}
+use Rattle.tool_tasks.specs.{EncodeRows.EndsRows, Merge.merge_stream, MergeSorted.merge_sorted_rule}
+use Rattle.tool_tasks.specs.{Sort.sort_rule, Streams.EndsBy, ValidPrefix.valid_prefix_rule}
 use Rattle.tool_words.specs.Request.{Request, corrections, decode, encode, encode_rows, merge}
 use Rattle.tool_words.specs.Request.{misused, request_by, shows, sort, valid_prefix}
 use Rattle.tool_words.specs.{Tasks.rows_words_of, ToolLine.AsksForText, ToolLine.Parses}
@@ -24,9 +24,9 @@ IsRefused old new status = ((status ≡ 2) ⊎ (status ≡ 1)) × IsSaid old new
 abbrev pub IsFramed : (before after : List Calls) → (placed : List ℕ → Option (List ℕ)) → Request
     → Run → Run → ℕ → Type 0
 IsFramed before after placed (corrections ledgers) old new status =
-    Ends (corrections_rule ledgers before after) old new status
+    EndsBy (corrections_stream ledgers) before after old new status
 IsFramed before after placed (merge parts) old new status =
-    Ends (merge_rule parts before after) old new status
+    EndsBy (merge_stream parts) before after old new status
 IsFramed before after placed (encode word) old new status = Ends (encode_rule word) old new status
 IsFramed before after placed (encode_rows csvs request) old new status = (words : RowsWords)
     × (rows_words_of words ≡ request) × EndsRows words csvs old new status

@@ -11,7 +11,8 @@ use Rattle.ledger_changes.specs.declared.fault.Bill.TheVariants.{New, Old}
 use Rattle.std.specs.Prelude.{Contains, IfErr, IfOk, Vec}
 use Rattle.std.specs.declared.alloc.Global.{Global}
 use Rattle.tool_tasks.proofs.Streaming.{all_read}
-use Rattle.tool_tasks.specs.Corrections.{AreRead, Corrects, IsPart, IsRemovedNote, IsWrongLedger}
+use Rattle.tool_tasks.specs.Corrections.{AreRead, IsPart, IsRemovedNote, IsWrongLedger}
+use Rattle.tool_tasks.specs.Corrections.{corrections_stream}
 use Rattle.tool_tasks.specs.{Streams.CanStop, declared.stops.Halt.Halt}
 use Rattle.tool_tasks.specs.inside.{Corrections.IsStop, Corrections.IsWritten, Streams.IsStreamed}
 use Rattle.tool_words.specs.Request.{CorrectionsRequest}
@@ -92,8 +93,7 @@ module _ (request : CorrectionsRequest) (calls : List Calls) (old new : Calls)
       → IsWritten request.is_by_token old new run run' (Ok removed)
       → IfOk result (λ note. IsRemovedNote removed note.items)
       → IfErr result (λ halt. halt.0 ≡ outside.NoMemory)
-      → IsStreamed (Corrects request) (IsPart request) (IsWrongLedger request)
-      (request.old ∷ request.new ∷ []) calls run run' result
+      → IsStreamed (corrections_stream request calls) run run' result
   corrected run run' removed (Ok note) (text, is, all) noted none = (
     text,
     is,
@@ -109,7 +109,6 @@ module _ (request : CorrectionsRequest) (calls : List Calls) (old new : Calls)
 
   pub stopped : (run run' : Run) (halt : Halt)
       → IsWritten request.is_by_token old new run run' (Err halt)
-      → IsStreamed (Corrects request) (IsPart request) (IsWrongLedger request)
-      (request.old ∷ request.new ∷ []) calls run run' (Err halt)
+      → IsStreamed (corrections_stream request calls) run run' (Err halt)
   stopped run run' halt (text, part, stop, left) =
       (text, part_by text part, can_stop halt.0 stop, left)

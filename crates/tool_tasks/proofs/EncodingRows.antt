@@ -1,22 +1,20 @@
 -- What `encode` of an agency's own CSVs has loaded, prepared and done.
-use Rattle.std.proofs.Common.{◌≡◌, ◌∙◌, ◌∷◌, ◌++◌, ◌<◌, ◌≤◌, ◌+◌, ℕ, Bool, Bor, List, [], None, Ok}
-use Rattle.std.proofs.Common.{Option, Some, ap, arith, drop, false, get_or, if◌then◌else◌, inl}
-use Rattle.std.proofs.Common.{length, map, refl, subst, sym, true}
+use Rattle.std.proofs.Common.{◌≡◌, ◌∙◌, ◌∷◌, ◌<◌, ◌+◌, ℕ, Bool, List, [], None, Option, Some}
+use Rattle.std.proofs.Common.{ap, arith, drop, false, get_or, if◌then◌else◌, length, refl, subst}
+use Rattle.std.proofs.Common.{sym, true}
 use Rattle.frame.proofs.Outcomes.{stops_weaker}
 use Rattle.frame.specs.{Outsides.Stops, declared.outside.Outside.Outside}
 use Rattle.std.proofs.Math.ListN.{get_or-map}
 use Rattle.std.proofs.lemmas.List.{drop_more, length-map, Elements.Contains-append_right}
-use Rattle.std.specs.Prelude.{Contains, Err, Result, Vec, option_map, unwrap_or}
+use Rattle.std.specs.Prelude.{Contains, Vec, option_map, unwrap_or}
 use Rattle.std.specs.declared.alloc.Global.{Global}
-use Rattle.tap_rows.specs.{Agencies.IsFirstRefused, Agencies.IsRowsEncoded, Devices.Device}
-use Rattle.tap_rows.specs.declared.agency.choice.{Choice.Choice, LocalClock.LocalClock}
+use Rattle.tap_rows.specs.Agencies.{IsFirstRefused, IsRowsEncoded}
+use Rattle.tap_rows.specs.declared.agency.choice.Choice.{Choice}
 use Rattle.tap_rows.specs.declared.agency.{reading.Reason.Reason, summary.Summary.Summary}
-use Rattle.tool_tasks.specs.EncodeRows.{Chain, HasDevices, IsChoice, IsWrongCsv, Texts, names_of}
-use Rattle.tool_tasks.specs.EncodeRows.{word_in}
-use Rattle.tool_tasks.specs.EncodeTables.{IsClock, IsKey, zone_file, zone_loaded}
+use Rattle.tool_tasks.specs.EncodeRows.{Chain, IsWrongCsv, names_of, word_in}
+use Rattle.tool_tasks.specs.EncodeTables.{zone_file, zone_loaded}
 use Rattle.tool_tasks.specs.declared.prepared.{NewFile.NewFile, Prepared.Prepared}
-use Rattle.tool_tasks.specs.declared.stops.Halt.{Halt}
-use Rattle.tool_tasks.specs.inside.EncodeRows.{AreOf, IsMade, IsOf, Prepares, PreparesCsvs, csvs_of}
+use Rattle.tool_tasks.specs.inside.EncodeRows.{AreOf, IsOf, csvs_of}
 use Rattle.tool_tasks.specs.inside.{Loads.IsNameIn, Prepared.AreNamed, Prepared.IsNamedIn}
 use Rattle.tool_words.specs.declared.task.RowsWords.{RowsWords}
 
@@ -49,28 +47,6 @@ pub zone_in : (names : List (List ℕ)) (zone o : Option (List ℕ)) → o ≡ z
     → Contains names (unwrap_or (option_map zone_file zone) []) → IsNameIn names o
 zone_in names zone None is has = tt
 zone_in names zone (Some word) is has = subst (Contains names) (zone_named zone word (sym is)) has
-
--- ---- how rows are read
-pub made_choice : (words : RowsWords) (is_there : Bool) (texts : Texts)
-    (devices : Option (List Device)) (block : Option (List ℕ)) (clock : Option LocalClock)
-    (choice : Choice) → IsMade words devices block clock choice
-    → HasDevices words is_there texts devices → IsKey (word_in words.key) texts.key block
-    → IsClock (word_in words.zone) words.fold texts.zone clock
-    → IsChoice words is_there texts choice
-made_choice words is_there texts devices block clock choice made of_devices of_key of_clock = record {
-  columns = made.columns;
-  has_devices = subst (HasDevices words is_there texts) (sym made.has_devices) of_devices;
-  is_key = subst (IsKey (word_in words.key) texts.key) (sym made.has_key) of_key;
-  is_clock = subst (IsClock (word_in words.zone) words.fold texts.zone) (sym made.has_clock)
-      of_clock;
-}
-
-pub prepared_so : (words : RowsWords) (is_there : Bool) (texts : Texts) (choice : Choice)
-    (result : Result Prepared Halt) → IsChoice words is_there texts choice
-    → PreparesCsvs words choice texts.csvs result → Prepares words is_there texts result
-prepared_so words is_there texts choice (Ok prepared) is_choice is = (choice, is_choice, is)
-prepared_so words is_there texts choice (Err halt) is_choice stops =
-    stops_weaker (λ wrong. inl (choice, is_choice, wrong.0, wrong.1, wrong.2)) halt.0 stops
 
 -- ---- the names of the files
 is_named : (names : List (List ℕ)) (word : Option (List ℕ)) (file : Option NewFile)

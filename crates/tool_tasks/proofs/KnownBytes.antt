@@ -18,8 +18,7 @@ known_after a b (Ok n) bytes some is = grown a b _ some is
 known_after a b (Err e) bytes some is = known_kept a b some is
 
 pub is_known : (a : Option (List ℕ)) (bytes : List ℕ) → a ≡ Some bytes → a ≢ None
-is_known None bytes is = λ none. cc
-is_known (Some other) bytes is = λ none. cc
+is_known a bytes is = λ none. cc
 
 pub some_known : (a : Option (List ℕ)) → a ≢ None → (bytes : List ℕ) × (a ≡ Some bytes)
 some_known None some = absurd (some refl)

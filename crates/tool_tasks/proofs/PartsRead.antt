@@ -1,7 +1,7 @@
 -- Parts that are merged: what was read of them, and what is noted.
-use Rattle.std.proofs.Common.{◌≡◌, ◌∙◌, ◌⊎◌, ◌+◌, ◌<◌, ◌++◌, ◌∷◌, [], Bor, Err, List, Ok, Option}
-use Rattle.std.proofs.Common.{Result, Some, ap, append-nil, arith, get_or, inl, inr, length, map}
-use Rattle.std.proofs.Common.{refl, subst, suc, sym, take, zero, ℕ}
+use Rattle.std.proofs.Common.{◌≡◌, ◌∙◌, ◌+◌, ◌<◌, ◌++◌, ◌∷◌, [], Bor, Err, List, Ok, Option}
+use Rattle.std.proofs.Common.{Result, Some, ap, append-nil, arith, get_or, inr, length, map}
+use Rattle.std.proofs.Common.{refl, suc, sym, take, zero, ℕ}
 use Rattle.frame.specs.Names.{file_named}
 use Rattle.part_texts.proofs.Parts.{can_be_read}
 use Rattle.part_texts.specs.{Merged.merge_of, Reads.HasStarted, Reads.IsFaultOf, Reads.Leaves}
@@ -13,7 +13,7 @@ use Rattle.std.proofs.lemmas.List.{map_push, take_more, Elements.All-head, Eleme
 use Rattle.std.specs.{List.AllZip, Prelude.All, Prelude.Contains, Prelude.Vec, Prelude.slice_get}
 use Rattle.std.specs.declared.alloc.Global.{Global}
 use Rattle.tool_tasks.proofs.Streaming.{all_read}
-use Rattle.tool_tasks.specs.Merge.{AreOf, IsPrefix, IsWrongPart, Merges}
+use Rattle.tool_tasks.specs.Merge.{AreOf, IsWrongPart, merge_stream}
 use Rattle.tool_tasks.specs.{Streams.CanStop, Streams.with_stop, declared.stops.Halt.Halt}
 use Rattle.tool_tasks.specs.inside.{Merge.IsNoted, Merge.names_of, Merge.why_of, Streams.IsStreamed}
 use Rattle.world.specs.{Run.Calls, Run.Run, Run.with_written, Streams.IsWhole}
@@ -107,7 +107,7 @@ module _ (words : List (List ℕ)) (calls : List Calls) (are : AreOf words calls
 
   pub merged : (run run' : Run) (done : Result Unit MergeFault) (result : Result (Vec ℕ Global) Halt)
       → MergesAs calls run run' done → IsNoted done result
-      → IsStreamed (Merges words) (IsPrefix words) (IsWrongPart words) words calls run run' result
+      → IsStreamed (merge_stream words calls) run run' result
   merged run run' (Ok done) (Ok note) (whole, text, is, wrote) none =
       (text, wrote, inr (are, whole_started calls text whole is), (are, whole, is, none))
   merged run run' (Ok done) (Err halt) m bad = absurd bad

@@ -8,7 +8,7 @@ use Rattle.part_texts.proofs.Written.{written_none}
 use Rattle.recorded_lines.specs.Texts.{CanBe}
 use Rattle.std.proofs.lemmas.List.Elements.{Contains-append_left}
 use Rattle.std.specs.{Prelude.Vec, declared.alloc.Global.Global}
-use Rattle.tool_tasks.specs.Streams.{CanStop, IsKept, stream_rule, with_stop, written_of}
+use Rattle.tool_tasks.specs.Streams.{CanStop, IsKept, Stream, stream_rule, with_stop, written_of}
 use Rattle.tool_tasks.specs.{declared.stops.Halt.Halt, inside.Does.Does}
 use Rattle.tool_tasks.specs.inside.Streams.{IsFinished, IsStreamed, IsUnopened}
 use Rattle.world.specs.Run.{Calls, Run, with_cut, with_flushed, with_said, with_written}
@@ -28,36 +28,29 @@ gave_noted : (r : Run) (text note : List ℕ)
     ≡ with_flushed (gave r (written_of text note))
 gave_noted r text note = rw (append-nil r.loads, append-nil r.made) refl
 
-module _ (Whole : List Calls → List ℕ → List ℕ → Type 0) (Part : List Calls → List ℕ → Type 0)
-    (truth : List Calls → Type 0) (words : List (List ℕ)) (before after calls : List Calls)
-    (all : after ≡ before ++ calls) where
-  partial_by : (text : List ℕ) → (text ≡ []) ⊎ Part calls text
-      → (text ≡ []) ⊎ ((c : List Calls) × (after ≡ before ++ c) × Part c text)
-  partial_by text (inl none) = inl none
-  partial_by text (inr part) = inr (calls, all, part)
-
-  halted : (old new : Run) (text : List ℕ) (why : Outside) → (text ≡ []) ⊎ Part calls text
-      → CanStop (truth calls) words calls why → IsKept (with_stop (with_written old text) why) new
-      → IsHalted (stream_rule Whole Part truth words before after) old new why
+module _ (s : Stream) where
+  halted : (old new : Run) (text : List ℕ) (why : Outside) → (text ≡ []) ⊎ s.Part text
+      → CanStop s.Wrong s.words s.calls why → IsKept (with_stop (with_written old text) why) new
+      → IsHalted (stream_rule s) old new why
   halted old new text why part can kept = record {
     part = written_of text [];
-    partial = (text, refl, partial_by text part);
-    leaves = (calls, all, can, subst (λ r. IsKept (with_stop r why) new) (gave_part old text) kept);
+    partial = (refl, part);
+    leaves = (can, subst (λ r. IsKept (with_stop r why) new) (gave_part old text) kept);
   }
 
   pub streamed : (old mid new : Run) (done : Result (Vec ℕ Global) Halt) (result : Result ℕ Halt)
-      → IsStreamed Whole Part truth words calls old mid done → IsFinished done mid new result
-      → Does (stream_rule Whole Part truth words before after) old new result
+      → IsStreamed s old mid done → IsFinished done mid new result
+      → Does (stream_rule s) old new result
   streamed old mid new (Ok note) (Ok status) (text, is, part, whole) (zero, end) = record {
     given = written_of text note.items;
-    right = (calls, all, text, note.items, refl, whole, zero);
+    right = (refl, whole, zero);
     all = end ∙ ap (λ r. with_said (with_flushed r) note.items) is
         ∙ gave_noted old text note.items;
   }
   streamed old mid new (Ok note) (Err halt) (text, is, part, whole) (fault, why, cut) =
       halted old new text halt.0 part (rw why tt)
       (rw why (inl (cut ∙ ap (λ r. with_cut r fault) is)))
-  streamed old mid new (Err first) (Ok status) s bad = absurd bad
+  streamed old mid new (Err first) (Ok status) stops bad = absurd bad
   streamed old mid new (Err first) (Err halt) (text, part, can, left) (inl (why, kept)) =
       halted old new text halt.0 part (rw why can)
       (rw why (subst (λ r. IsKept r new) left kept))

@@ -1,11 +1,11 @@
 -- What `corrections` does.
-use Rattle.frame.specs.{Names.file_named, Outcome.Rule}
+use Rattle.frame.specs.Names.{file_named}
 use Rattle.ledger_changes.specs.Given.{HasStarted, IsAllGiven, calls_by}
 use Rattle.ledger_changes.specs.Ledgers.{rows_of}
 use Rattle.ledger_changes.specs.declared.fault.{Bill.Bill, WrongLine.WrongLine}
 use Rattle.recorded_lines.specs.Texts.{CanBe}
 use Rattle.std.specs.Prelude.{◌≡◌, ◌⊎◌, ℕ, List, [], ◌∷◌, ◌++◌, Err, codes, decimal}
-use Rattle.tool_tasks.specs.Streams.{stream_rule}
+use Rattle.tool_tasks.specs.Streams.{Stream}
 use Rattle.tool_words.specs.Request.{CorrectionsRequest}
 use Rattle.world.specs.Run.{Calls}
 
@@ -41,6 +41,11 @@ IsPart request calls text = (old : Calls) × (new : Calls) × AreRead request ca
     × HasStarted request.is_by_token text old new
 
 -- THE rule of `corrections`, by the calls that read the ledgers
-abbrev pub corrections_rule : CorrectionsRequest → List Calls → List Calls → Rule
-corrections_rule request before after = stream_rule (Corrects request) (IsPart request)
-    (IsWrongLedger request) (request.old ∷ request.new ∷ []) before after
+abbrev pub corrections_stream : CorrectionsRequest → List Calls → Stream
+corrections_stream request calls = record {
+  words = request.old ∷ request.new ∷ [];
+  calls = calls;
+  Whole = Corrects request calls;
+  Part = IsPart request calls;
+  Wrong = IsWrongLedger request calls;
+}

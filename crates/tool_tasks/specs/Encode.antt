@@ -6,12 +6,11 @@ use Rattle.tap_rows.specs.declared.fault.RowsFault.{RowsFault, TheVariants.NoMem
 use Rattle.world.specs.Run.{Load}
 
 -- The file that the word names was read to its end. What is written is the upload of exactly the taps
--- of the table, and nothing is noted.
+-- of the table.
 pub record EncodesTable (word : List ℕ) (given : Given) (status : ℕ) : Type 0 where
   pub text : List ℕ
   pub loaded : given.loads ≡ load_of word text ∷ []
   pub encoded : IsEncoded text given.text
-  pub note : given.note ≡ []
   pub files : given.files ≡ []
   pub success : status ≡ 0
 

@@ -52,9 +52,9 @@ devices_word words false = None
 
 -- what is loaded before the CSVs, in order
 abbrev pub first_loads : RowsWords → Bool → Texts → List Load
-first_loads words is_there texts = loads_in (devices_word words is_there) texts.devices
-    ++ (loads_in (word_in words.key) texts.key
-    ++ loads_in (zone_loaded (word_in words.zone)) texts.zone)
+first_loads words is_there texts = (loads_in (devices_word words is_there) texts.devices
+    ++ loads_in (word_in words.key) texts.key)
+    ++ loads_in (zone_loaded (word_in words.zone)) texts.zone
 
 -- All that the words name was loaded, in order, and has these texts.
 pub record AreRead (words : RowsWords) (csvs : List (List ℕ)) (is_there : Bool) (texts : Texts)
@@ -223,9 +223,6 @@ rows_rule words csvs is_there = rule_of (EncodesRows words csvs is_there)
     (LoadsWrong words csvs is_there) (names_of words csvs)
 
 -- THE rule of `encode` of an agency's own CSVs
-pub record EndsRows (words : RowsWords) (csvs : List (List ℕ)) (old new : Run) (status : ℕ)
-    : Type 0 where
-  pub is_there : Bool
-  pub started : Run
-  pub tried : HasTried words is_there old started
-  pub ends : Ends (rows_rule words csvs is_there) started new status
+abbrev pub EndsRows : RowsWords → List (List ℕ) → Run → Run → ℕ → Type 0
+EndsRows words csvs old new status = (is_there : Bool) × (started : Run)
+    × HasTried words is_there old started × Ends (rows_rule words csvs is_there) started new status

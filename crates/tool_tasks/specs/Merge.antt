@@ -1,11 +1,11 @@
 -- What `merge` does: of the words of its parts.
-use Rattle.frame.specs.{Names.file_named, Outcome.Rule}
+use Rattle.frame.specs.Names.{file_named}
 use Rattle.part_texts.specs.{Merged.merge_of, Reads.HasStarted, Reads.read_by}
 use Rattle.recorded_lines.specs.Texts.{CanBe}
 use Rattle.report_texts.specs.declared.wrong.Wrong.{Wrong}
 use Rattle.std.specs.List.{AllZip}
 use Rattle.std.specs.Prelude.{◌≡◌, ℕ, List, [], Ok, Err, All, map}
-use Rattle.tool_tasks.specs.Streams.{stream_rule}
+use Rattle.tool_tasks.specs.Streams.{Stream}
 use Rattle.world.specs.{Run.Calls, Streams.IsWhole}
 
 -- these calls read what the words name, in their order
@@ -29,6 +29,11 @@ abbrev pub IsPrefix : List (List ℕ) → List Calls → List ℕ → Type 0
 IsPrefix words calls text = AreOf words calls × HasStarted calls text
 
 -- THE rule of `merge`, by the calls that read the parts
-abbrev pub merge_rule : List (List ℕ) → List Calls → List Calls → Rule
-merge_rule words before after =
-    stream_rule (Merges words) (IsPrefix words) (IsWrongPart words) words before after
+abbrev pub merge_stream : List (List ℕ) → List Calls → Stream
+merge_stream words calls = record {
+  words = words;
+  calls = calls;
+  Whole = Merges words calls;
+  Part = IsPrefix words calls;
+  Wrong = IsWrongPart words calls;
+}

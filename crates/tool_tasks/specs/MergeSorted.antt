@@ -32,7 +32,6 @@ pub record Merges (request : SortRequest) (known : List (Option (List ℕ))) (gi
   pub whole : (uploads : List (List ℕ)) → known ≡ map Some uploads → IsMergeOf uploads ends file
   pub made : given.files ≡ files_of request (upload_lines 0 ends) file
   pub text : given.text ≡ []
-  pub note : given.note ≡ []
   pub success : status ≡ 0
 
 -- a fault that bytes show, and no failed read

@@ -1,5 +1,5 @@
 -- Texts that are made of files which are read in pieces: how a run over them ends.
-use Rattle.frame.specs.{Given.Given, Names.file_named, Outcome.Rule}
+use Rattle.frame.specs.{Given.Given, Names.file_named, Outcome.Ends, Outcome.Rule}
 use Rattle.frame.specs.declared.outside.Outside.{Outside}
 use Rattle.frame.specs.declared.outside.Outside.TheVariants.{NoMemory, Unread, Unwritten, Wrong}
 use Rattle.std.specs.Prelude.{◌≡◌, ◌⊎◌, ⊤, ℕ, Contains, List, [], ◌∷◌, ◌++◌, Option, None, Some}
@@ -36,15 +36,25 @@ cut_of _ = None
 abbrev pub with_stop : Run → Outside → Run
 with_stop r why = record r { cut = last_of r.cut (cut_of why) }
 
--- What is asked for of the calls that followed: a text and a note that are right, what may have been
--- written when something stops the run, and what is wrong with what was read.
-abbrev pub stream_rule : (List Calls → List ℕ → List ℕ → Type 0) → (List Calls → List ℕ → Type 0)
-    → (List Calls → Type 0) → List (List ℕ) → (before after : List Calls) → Rule
-stream_rule Whole Part truth words before after = record {
-  Right = λ given status. (calls : List Calls) × (after ≡ before ++ calls) × (text : List ℕ)
-      × (note : List ℕ) × (given ≡ written_of text note) × Whole calls text note × (status ≡ 0);
-  Partial = λ part. (text : List ℕ) × (part ≡ written_of text [])
-      × ((text ≡ []) ⊎ ((calls : List Calls) × (after ≡ before ++ calls) × Part calls text));
-  Leaves = λ part why old new. (calls : List Calls) × (after ≡ before ++ calls)
-      × CanStop (truth calls) words calls why × IsKept (with_stop old why) new;
+-- What is asked for of a run that read what these words name by these calls: a text and a note that
+-- are right, what may have been written when something stops the run, and what is true if what was
+-- read is wrong.
+pub record Stream : Type 1 where
+  pub words : List (List ℕ)
+  pub calls : List Calls
+  pub Whole : (text note : List ℕ) → Type 0
+  pub Part : List ℕ → Type 0
+  pub Wrong : Type 0
+
+abbrev pub stream_rule : Stream → Rule
+stream_rule s = record {
+  Right = λ given status. (given ≡ written_of given.text given.note)
+      × s.Whole given.text given.note × (status ≡ 0);
+  Partial = λ part. (part ≡ written_of part.text []) × ((part.text ≡ []) ⊎ s.Part part.text);
+  Leaves = λ part why old new. CanStop s.Wrong s.words s.calls why × IsKept (with_stop old why) new;
 }
+
+-- some calls followed, and what is asked for of them ends so
+abbrev pub EndsBy : (List Calls → Stream) → (before after : List Calls) → Run → Run → ℕ → Type 0
+EndsBy stream before after old new status = (calls : List Calls) × (after ≡ before ++ calls)
+    × Ends (stream_rule (stream calls)) old new status

@@ -5,7 +5,7 @@ use Rattle.tap_views.specs.{Facts.AreFacts, Facts.IsValidPrefix, declared.facts.
 use Rattle.tool_words.specs.Request.{ValidPrefixRequest}
 
 -- The upload was loaded, and the file was made of its batches before its first layout fault. Nothing
--- is said of the text.
+-- is said of the text and of the note.
 pub record HasValidPrefix (request : ValidPrefixRequest) (given : Given) (status : ℕ)
     : Type 0 where
   pub upload : List ℕ
@@ -16,7 +16,6 @@ pub record HasValidPrefix (request : ValidPrefixRequest) (given : Given) (status
   pub facts : Facts
   pub are_facts : AreFacts upload facts
   pub status_is : status ≡ (if is_none facts.fault then 0 else 1)
-  pub note : given.note ≡ []
 
 -- THE rule of `uploads --good-part`
 abbrev pub valid_prefix_rule : ValidPrefixRequest → Rule

@@ -3,7 +3,6 @@
 use crate::fault::Fault;
 use crate::informs::ended_informing;
 use crate::placed::{PlacedFiles, open_placed};
-use crate::stops::Halt;
 use fare_texts::Digits;
 use sorted_taps::{SortedFault, bounds_of_parts};
 use std::alloc::Global;
@@ -17,10 +16,7 @@ fn list_bounds<'a, D: PlacedFiles, W: World>(
     disk: &D,
     world: &mut W,
 ) -> Result<bool, Fault<'a>> {
-    let files = match open_placed(alloc, disk, &words.uploads) {
-        Ok(files) => files,
-        Err(Halt(_, line)) => return Err(line),
-    };
+    let files = open_placed(alloc, disk, &words.uploads)?;
     let bounds = match bounds_of_parts(alloc, &files, words.parts - 1) {
         Ok(bounds) => bounds,
         Err(SortedFault::NoMemory) => return Err(Fault::NoMemory),

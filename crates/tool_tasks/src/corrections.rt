@@ -1,12 +1,11 @@
 //! `corrections`.
-ghost use Rattle.std.specs.Prelude.{◌≡◌, ◌++◌, ◌∷◌, [], List, IfErr, IfOk, None};
-ghost use Rattle.frame.specs.{Outcome.Ends, declared.outside.Outside.TheVariants.NoMemory};
+ghost use Rattle.frame.specs.declared.outside.Outside.TheVariants.{NoMemory};
 ghost use Rattle.ledger_changes.specs.Given.{IsFaultOf, IsUnbegun, new_calls, old_calls};
 ghost use Rattle.recorded_lines.specs.Texts.{Follows, IsFresh, calls_of};
-ghost use Rattle.tool_tasks.specs.Corrections.{Corrects, IsPart, IsRemovedNote, IsWrongLedger};
-ghost use Rattle.tool_tasks.specs.{Corrections.corrections_rule, Streams.cut_of};
-ghost use Rattle.tool_tasks.specs.inside.{Corrections.IsStop, Corrections.IsWritten};
-ghost use Rattle.tool_tasks.specs.inside.Streams.{IsStreamed};
+ghost use Rattle.std.specs.Prelude.{◌≡◌, ◌++◌, ◌∷◌, [], List, IfErr, IfOk, None};
+ghost use Rattle.tool_tasks.specs.Corrections.{IsRemovedNote, corrections_stream};
+ghost use Rattle.tool_tasks.specs.{Streams.EndsBy, Streams.cut_of, inside.Corrections.IsStop};
+ghost use Rattle.tool_tasks.specs.inside.{Corrections.IsWritten, Streams.IsStreamed};
 ghost use Rattle.tool_words.specs.Tasks.{corrections_of};
 ghost use Rattle.world.specs.Run.{Calls};
 
@@ -14,6 +13,7 @@ use crate::fault::Fault;
 use crate::names::Name;
 use crate::stops::{Halt, ended};
 use crate::streams::{Streams, finish, open};
+use crate::wrong_tables::ledger_text;
 use frame::Outside;
 use ledger_changes::{Bill, Corrections, CorrectionsFault, corrections_head};
 use recorded_lines::Lines;
@@ -35,16 +35,12 @@ fn halt_of<'a>(words: &CorrectionsWords<'a>, fault: CorrectionsFault) -> Halt<'a
 {
     match fault {
         CorrectionsFault::Line(bill, number, why) => {
-            Halt(
-                Outside::Wrong,
-                Fault::Ledger(word_of(words, bill), number, why),
-            )
+            let line = Fault::Line(word_of(words, bill), number, ledger_text(why));
+            Halt(Outside::Wrong, line)
         }
         CorrectionsFault::Unread(bill) => {
-            Halt(
-                Outside::Unread(LoadFault::Unread),
-                Fault::Unread(word_of(words, bill)),
-            )
+            let line = Fault::Unread(word_of(words, bill));
+            Halt(Outside::Unread(LoadFault::Unread), line)
         }
         CorrectionsFault::NoMemory => Halt(Outside::NoMemory, Fault::NoMemory),
     }
@@ -68,10 +64,7 @@ fn write_all<'a, W: World>(
         Ok(()) => {}
         Err(fault) => return Err(halt_of(words, fault)),
     }
-    match world.write(corrections_head(words.is_by_token)) {
-        Ok(()) => {}
-        Err(why) => return Err(Halt(Outside::Unwritten(why), Fault::from(why))),
-    }
+    world.write(corrections_head(words.is_by_token))?;
     let mut piece = Vec::new(alloc);
     for _ in 0..u64::MAX {
         piece.clear();
@@ -79,10 +72,7 @@ fn write_all<'a, W: World>(
             Ok(next) => next,
             Err(fault) => return Err(halt_of(words, fault)),
         };
-        match world.write(&piece) {
-            Ok(()) => {}
-            Err(why) => return Err(Halt(Outside::Unwritten(why), Fault::from(why))),
-        }
+        world.write(&piece)?;
         if let Some(removed) = next {
             return Ok(removed);
         }
@@ -141,14 +131,10 @@ fn correct<'a, F: Streams, W: World>(
     world: &mut W,
 ) -> Result<Vec<u8>, Halt<'a>>
     ensures { (calls : List Calls) × (F.readings files.new ≡ F.readings files.old ++ calls)
-        × IsStreamed (Corrects (corrections_of words.now)) (IsPart (corrections_of words.now))
-        (IsWrongLedger (corrections_of words.now)) (words.now.old.now ∷ words.now.new.now ∷ [])
-        calls (W.run world.old) (W.run world.new) result }
+        × IsStreamed (corrections_stream (corrections_of words.now) calls) (W.run world.old)
+        (W.run world.new) result }
 {
-    let old = match open(files, words.old) {
-        Ok(lines) => lines,
-        Err(halt) => return Err(halt),
-    };
+    let old = open(files, words.old)?;
     let new = match open(files, words.new) {
         Ok(lines) => lines,
         Err(halt) => {
@@ -156,10 +142,8 @@ fn correct<'a, F: Streams, W: World>(
             return Err(halt);
         }
     };
-    match write_closed(alloc, words, old, new, files, world) {
-        Ok(removed) => removed_line(alloc, words, removed),
-        Err(halt) => Err(halt),
-    }
+    let removed = write_closed(alloc, words, old, new, files, world)?;
+    removed_line(alloc, words, removed)
 }
 
 /// Writes the corrections from the old ledger to the new one, or their sums by token: opens both,
@@ -172,8 +156,8 @@ pub fn corrections_over<F: Streams, W: World>(
     files: &mut F,
     world: &mut W,
 ) -> u8
-    ensures { Ends (corrections_rule (corrections_of words.now) (F.readings files.old)
-        (F.readings files.new)) (W.run world.old) (W.run world.new) result }
+    ensures { EndsBy (corrections_stream (corrections_of words.now)) (F.readings files.old)
+        (F.readings files.new) (W.run world.old) (W.run world.new) result }
 {
     let streamed = correct(alloc, words, files, world);
     let done = finish(streamed, world);

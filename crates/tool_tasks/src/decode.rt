@@ -1,53 +1,33 @@
 //! `decode`.
-ghost use Rattle.frame.specs.{Given.Adds, Outcome.Ends};
-ghost use Rattle.std.specs.Prelude.{◌≡◌, ◌&&◌, ℕ, Contains, IfErr, IfOk, List, if◌then◌else◌};
-ghost use Rattle.std.specs.Prelude.{is_none, map};
+ghost use Rattle.frame.specs.{Given.Adds, Given.with_note, Outcome.Ends};
+ghost use Rattle.std.specs.Prelude.{◌≡◌, ℕ, Contains, IfErr, IfOk, List, is_none, map};
 ghost use Rattle.tool_tasks.specs.Decode.{Decoded, decode_rule};
 ghost use Rattle.tool_tasks.specs.inside.{Decode.StopsDecoding, Decode.with_decoded, Does.Does};
 
 use crate::counted::Counted;
 use crate::fault::Fault;
 use crate::loads::load;
-use crate::stops::{Halt, ended, line_of};
-use frame::{Outside, write};
+use crate::stops::{Halt, ended, status_of};
+use frame::write;
 use std::alloc::Global;
 use world::World;
 
 /// The header line of a tap table.
 const HEAD: &[u8] = b"token,validator,moment\n";
 
-fn status_of(succeeded: bool) -> u8
-    ensures { result ≡ (if succeeded then 0 else 1) }
-{
-    if succeeded { 0 } else { 1 }
-}
-
-fn both(first: bool, second: bool) -> bool
-    ensures { result ≡ (first && second) }
-{
-    first && second
-}
-
 /// Writes the rows of the upload before its first layout fault, and reports this. Gives whether
 /// there is none.
 fn decode_one<'a, W: World>(alloc: Global, word: &'a str, world: &mut W) -> Result<bool, Halt<'a>>
     ensures decoded { IfOk result (λ is_whole. (one : Decoded) × (one.word ≡ word.entry.now)
-        × (is_none one.fault ≡ is_whole)
-        × Adds (W.run world.old) (W.run world.new) (λ g. with_decoded g one)) }
+        × (is_none one.fault ≡ is_whole) × (note : List ℕ)
+        × Adds (W.run world.old) (W.run world.new) (λ g. with_note (with_decoded g one) note)) }
     ensures stopped { (words : List (List ℕ)) → Contains words word.entry.now → IfErr result
         (λ halt. StopsDecoding words word.entry.now (W.run world.old) (W.run world.new) halt.0) }
 {
-    let upload = match load(world, word) {
-        Ok(upload) => upload,
-        Err(halt) => return Err(halt),
-    };
+    let upload = load(world, word)?;
     let mut rows = Vec::new(alloc);
-    let Ok(fault) = tap_rows::decode(&upload, &mut rows) else {
-        return Err(Halt(Outside::NoMemory, Fault::NoMemory));
-    };
-    if let Err(why) = write(&rows, world) {
-        return Err(Halt(why, line_of(why, word, Fault::Write)));
-    }
+    let fault = tap_rows::decode(&upload, &mut rows)?;
+    write(&rows, world)?;
     match fault {
         None => Ok(true),
         Some((offset, fault)) => {
@@ -65,21 +45,15 @@ fn decode<'a, W: World + Counted>(
     ensures { Does (decode_rule (map (λ w. w.now) words.now)) (W.run world.old) (W.run world.new)
         result }
 {
-    if let Err(why) = write(HEAD, world) {
-        return Err(Halt(why, line_of(why, "", Fault::Write)));
-    }
+    write(HEAD, world)?;
     let mut succeeded = true;
     for number in 0..words.len() {
         world.show_count(number, words.len());
-        match decode_one(alloc, words[number], world) {
-            Ok(is_whole) => succeeded = both(succeeded, is_whole),
-            Err(halt) => return Err(halt),
-        }
+        let is_whole = decode_one(alloc, words[number], world)?;
+        succeeded &= is_whole;
     }
-    match world.flush() {
-        Ok(()) => Ok(status_of(succeeded)),
-        Err(why) => Err(Halt(Outside::Unwritten(why), Fault::from(why))),
-    }
+    world.flush()?;
+    Ok(status_of(succeeded))
 }
 
 /// Decodes the uploads that the words name, `-` being standard input: writes the tap table of their

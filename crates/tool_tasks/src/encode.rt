@@ -7,6 +7,7 @@ use crate::fault::Fault;
 use crate::loads::load_whole;
 use crate::prepared::{Prepared, carry_out};
 use crate::stops::{Halt, ended};
+use crate::wrong_tables::fault_of_taps;
 use frame::Outside;
 use std::alloc::Global;
 use tap_rows::RowsFault;
@@ -19,10 +20,7 @@ fn encode<'a, W: World + Counted>(
 ) -> Result<u8, Halt<'a>>
     ensures { Does (encode_rule word.entry.now) (W.run world.old) (W.run world.new) result }
 {
-    let table = match load_whole(world, word) {
-        Ok(table) => table,
-        Err(halt) => return Err(halt),
-    };
+    let table = load_whole(world, word)?;
     match tap_rows::encode(alloc, &table) {
         Ok(upload) => {
             let prepared = Prepared {
@@ -37,7 +35,7 @@ fn encode<'a, W: World + Counted>(
         }
         Err(fault) => match fault {
             RowsFault::NoMemory => Err(Halt(Outside::NoMemory, Fault::NoMemory)),
-            _ => Err(Halt(Outside::Wrong, Fault::TapTable(word, fault))),
+            _ => Err(Halt(Outside::Wrong, fault_of_taps(word, fault))),
         },
     }
 }

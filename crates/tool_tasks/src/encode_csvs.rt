@@ -1,11 +1,12 @@
 //! What `encode` makes of an agency's own CSVs, once they are loaded and it is known how they are read.
 ghost use Rattle.frame.specs.Outsides.{Stops};
-ghost use Rattle.std.specs.Prelude.{◌≡◌, [], IfErr, IfOk, OnOk, option_map};
+ghost use Rattle.std.specs.Prelude.{◌≡◌, ℕ, [], Contains, IfErr, IfOk, List, MatchResult, OnOk};
+ghost use Rattle.std.specs.Prelude.{option_map};
 ghost use Rattle.tap_rows.specs.Devices.{devices_of};
 ghost use Rattle.tool_tasks.specs.EncodeRows.{AddsCsv, IsGivenOf, IsWrongCsv, device_files};
 ghost use Rattle.tool_tasks.specs.EncodeRows.{nothing_encoded, rows_status, upload_files};
 ghost use Rattle.tool_tasks.specs.EncodeRows.{upload_text, with_csv, word_in};
-ghost use Rattle.tool_tasks.specs.inside.EncodeRows.{AreOf, PreparesCsvs, csvs_of, encoded_of};
+ghost use Rattle.tool_tasks.specs.inside.EncodeRows.{AreOf, IsPrepared, csvs_of, encoded_of};
 ghost use Rattle.tool_tasks.specs.inside.Prepared.{files_in, whole_of};
 
 use crate::fault::Fault;
@@ -14,21 +15,13 @@ use crate::prepared::{NewFile, Prepared, new_file};
 use crate::quotes::open_quote;
 use crate::stops::Halt;
 use crate::uploads::push_moment;
-use crate::wrong_tables::WrongRows;
+use crate::wrong_tables::reason_text;
 use frame::Outside;
 use std::alloc::{AllocError, Global};
 use tap_rows::{
-    AgencyFault, Choice, Columns, Condition, EncodedRows, Summary, Wanted, device_text, encode_rows,
+    AgencyFault, Choice, Columns, EncodedRows, Summary, Wanted, device_text, encode_rows,
 };
 use tool_words::RowsWords;
-
-/// The name of the column of the condition at this position.
-fn condition_name<'a>(conditions: &[Condition<'a>], position: usize) -> &'a str {
-    match conditions.get(position) {
-        Some(condition) => condition.column,
-        None => "",
-    }
-}
 
 /// The name of a column.
 fn name_of<'a>(columns: &Columns<'a>, wanted: Wanted) -> &'a str {
@@ -36,8 +29,8 @@ fn name_of<'a>(columns: &Columns<'a>, wanted: Wanted) -> &'a str {
         Wanted::Token => columns.token,
         Wanted::Validator => columns.validator,
         Wanted::Moment => columns.moment,
-        Wanted::Only(position) => condition_name(&columns.only, position),
-        Wanted::Without(position) => condition_name(&columns.without, position),
+        Wanted::Only(position) => columns.only.get(position).map_or("", |only| only.column),
+        Wanted::Without(position) => columns.without.get(position).map_or("", |not| not.column),
         Wanted::Count => columns.count.unwrap_or(""),
     }
 }
@@ -121,19 +114,19 @@ fn encode_csv<'a>(
     more.clear();
     if let Some(line) = open_quote(text, words.columns.separator.byte) {
         write!(more, "\nfault: cannot read {}", Name(word))?;
-        let wrong = WrongRows::Quote(line);
-        return Err(Halt(Outside::Untraced, Fault::Rows(word, wrong)));
+        let wrong = Fault::Line(word, line, "a quote is not closed");
+        return Err(Halt(Outside::Untraced, wrong));
     }
     match encode_rows(alloc, choice, text, more) {
         Err(AgencyFault::NoMemory) => Err(Halt(Outside::NoMemory, Fault::NoMemory)),
         Err(AgencyFault::Column(wanted)) => {
-            let wrong = WrongRows::Column(name_of(&words.columns, wanted));
-            Err(Halt(Outside::Wrong, Fault::Rows(word, wrong)))
+            let wrong = Fault::Column(word, name_of(&words.columns, wanted));
+            Err(Halt(Outside::Wrong, wrong))
         }
         Ok(encoded) => match (words.refused, encoded.summary.first_refused) {
             (None, Some((number, reason))) => {
-                let wrong = WrongRows::Row(number, reason);
-                Err(Halt(Outside::Wrong, Fault::Rows(word, wrong)))
+                let wrong = Fault::Row(word, number, reason_text(reason));
+                Err(Halt(Outside::Wrong, wrong))
             }
             _ => {
                 all.add(is_many, word, &encoded)?;
@@ -246,17 +239,16 @@ pub(crate) fn prepare_csvs<'a>(
     csvs: &[Vec<u8>],
     more: &mut String,
 ) -> Result<Prepared<'a>, Halt<'a>>
-    ensures { PreparesCsvs words.now choice.now (csvs_of csvs.now) result }
+    ensures { MatchResult result (IsPrepared words.now choice.now (csvs_of csvs.now))
+        (λ halt. Stops ((csv : List ℕ) × Contains (csvs_of csvs.now) csv
+        × IsWrongCsv words.now choice.now csv) halt.0) }
 {
     let is_many = csvs.len() > 1;
     let mut all = Encoded::new(alloc);
     for number in 0..csvs.len() {
         let csv = &csvs[number];
         let word = word_at(names, number).unwrap_or("");
-        match encode_csv(alloc, words, is_many, choice, word, csv, more, &mut all) {
-            Ok(()) => {}
-            Err(halt) => return Err(halt),
-        }
+        encode_csv(alloc, words, is_many, choice, word, csv, more, &mut all)?;
     }
     match prepare_encoded(alloc, words, is_there, choice, all) {
         Ok(prepared) => Ok(prepared),

@@ -141,10 +141,8 @@ pub(crate) fn load_texts<'a, W: World + Counted>(
         × HasTried words.now is_there (W.run world.old) started × StopsLoading
         (names_of words.now (map (λ w. w.now) csvs.now)) halt.0 started (W.run world.new)) }
 {
-    let (is_there, devices) = match load_devices(alloc, words, world) {
-        Ok(found) => found,
-        Err(halt) => return Err(halt),
-    };
+    let path = zone_loaded(alloc, words.zone)?;
+    let found = load_devices(alloc, words, world)?;
     let key = match load_named(alloc, words.key, world) {
         Ok(key) => key,
         Err(why) => {
@@ -152,23 +150,17 @@ pub(crate) fn load_texts<'a, W: World + Counted>(
             return Err(Halt(Outside::Unread(why), line));
         }
     };
-    let Ok(path) = zone_loaded(alloc, words.zone) else {
-        return Err(Halt(Outside::NoMemory, Fault::NoMemory));
-    };
     let zone = match load_named(alloc, name_in(&path), world) {
         Ok(zone) => zone,
         Err(why) => return Err(Halt(Outside::Unread(why), zone_line(words.zone, why))),
     };
-    match load_all(alloc, csvs, true, world) {
-        Ok(csvs) => Ok((
-            is_there,
-            Texts {
-                devices,
-                key,
-                zone,
-                csvs,
-            },
-        )),
-        Err(halt) => Err(halt),
-    }
+    let csvs = load_all(alloc, csvs, true, world)?;
+    let (is_there, devices) = found;
+    let texts = Texts {
+        devices,
+        key,
+        zone,
+        csvs,
+    };
+    Ok((is_there, texts))
 }

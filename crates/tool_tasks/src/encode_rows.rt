@@ -23,14 +23,10 @@ fn encode<'a, W: World + Counted>(
     ensures { DoesRows words.now (map (λ w. w.now) csvs.now) (W.run world.old) (W.run world.new)
         result }
 {
-    let (is_there, texts) = match load_texts(alloc, words, csvs, world) {
-        Ok(found) => found,
-        Err(halt) => return Err(halt),
-    };
-    match prepare(alloc, seed, words, csvs, is_there, &texts, more) {
-        Ok(prepared) => carry_out(&prepared, world),
-        Err(halt) => Err(halt),
-    }
+    let found = load_texts(alloc, words, csvs, world)?;
+    let (is_there, texts) = found;
+    let prepared = prepare(alloc, seed, words, csvs, is_there, &texts, more)?;
+    carry_out(&prepared, world)
 }
 
 /// Encodes the rows of the agency's CSVs that these words name, `-` being standard input, as the

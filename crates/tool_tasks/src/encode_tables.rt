@@ -1,18 +1,22 @@
 //! How `encode` reads an agency's own CSVs: the devices, the key and the zone of what it loaded.
 ghost use Rattle.frame.specs.Outsides.{Stops};
-ghost use Rattle.std.specs.Prelude.{◌≡◌, ℕ, Err, IfErr, IfOk, List, OnOk, option_map};
+ghost use Rattle.std.specs.Prelude.{◌≡◌, ℕ, Bool, Err, IfErr, IfOk, List, MatchResult, OnOk};
+ghost use Rattle.std.specs.Prelude.{option_map};
 ghost use Rattle.tap_rows.specs.{Devices.devices_of, Keys.key_of, Numbering.IsNumbered};
+ghost use Rattle.tap_rows.specs.declared.agency.choice.Choice.{Choice as AChoice};
 ghost use Rattle.tap_rows.specs.declared.agency.key.WrongKey.{WrongKey};
 ghost use Rattle.tool_tasks.specs.EncodeRows.{AreOldDevices, AreUsedDevices, Chain, HasDevices};
-ghost use Rattle.tool_tasks.specs.EncodeRows.{IsWrongTable, word_in};
+ghost use Rattle.tool_tasks.specs.EncodeRows.{IsChoice, IsWrongTable, IsWrongText};
+ghost use Rattle.tool_tasks.specs.EncodeRows.{Texts as TextsRead, word_in};
 ghost use Rattle.tool_tasks.specs.EncodeTables.{HasNoZone, IsClock, IsKey};
-ghost use Rattle.tool_tasks.specs.inside.EncodeRows.{IsMade, IsTable, Prepares, csvs_of, texts_in};
+ghost use Rattle.tool_tasks.specs.inside.EncodeRows.{IsPrepared, IsTable, csvs_of, texts_in};
 
 use crate::encode_csvs::prepare_csvs;
 use crate::encode_loads::{Texts, is_zone_name, rule_of};
 use crate::fault::Fault;
 use crate::prepared::Prepared;
 use crate::stops::Halt;
+use crate::wrong_tables::{fault_of_devices, key_text};
 use frame::Outside;
 use jiff_core::Error;
 use jiff_tz::{TimeZone, Tzif};
@@ -43,7 +47,7 @@ fn old_devices<'a>(
     match read_devices(alloc, seed, words.columns.separator, text) {
         Ok(table) => Ok(table),
         Err(DevicesFault::NoMemory) => Err(Halt(Outside::NoMemory, Fault::NoMemory)),
-        Err(fault) => Err(Halt(Outside::Wrong, Fault::Devices(name, fault))),
+        Err(fault) => Err(Halt(Outside::Wrong, fault_of_devices(name, fault))),
     }
 }
 
@@ -102,14 +106,9 @@ fn used_devices<'a>(
     let Some(name) = words.devices else {
         return Ok(None);
     };
-    match old_devices(alloc, seed, words, is_there, name, &texts.devices) {
-        Ok(old) => {
-            let mut table = old;
-            number_if_made(alloc, words, &texts.csvs, &mut table)?;
-            Ok(Some(table))
-        }
-        Err(halt) => Err(halt),
-    }
+    let mut table = old_devices(alloc, seed, words, is_there, name, &texts.devices)?;
+    number_if_made(alloc, words, &texts.csvs, &mut table)?;
+    Ok(Some(table))
 }
 
 /// The key, if it has a word.
@@ -123,7 +122,7 @@ fn key_in<'a>(words: &RowsWords<'a>, text: &[u8]) -> Result<Option<TokenKey>, Ha
         None => Ok(None),
         Some(name) => match TokenKey::of_file(text) {
             Ok(key) => Ok(Some(key)),
-            Err(wrong) => Err(Halt(Outside::Wrong, Fault::Key(name, wrong))),
+            Err(wrong) => Err(Halt(Outside::Wrong, Fault::Key(name, key_text(wrong)))),
         },
     }
 }
@@ -178,8 +177,11 @@ fn choice<'c>(
     key: Option<&'c TokenKey>,
     clock: Option<LocalClock<'c>>,
 ) -> Choice<'c>
-    ensures { IsMade words.entry.now (option_map (λ d. devices_of d.now) devices.entry)
-        (option_map (λ k. k.now.block) key.entry) clock.entry result }
+    ensures { (is_there : Bool) (texts : TextsRead) → HasDevices words.entry.now is_there texts
+        (option_map (λ d. devices_of d.now) devices.entry)
+        → IsKey (word_in words.entry.now.key) texts.key (option_map (λ k. k.now.block) key.entry)
+        → IsClock (word_in words.entry.now.zone) words.entry.now.fold texts.zone clock.entry
+        → IsChoice words.entry.now is_there texts result }
 {
     Choice {
         columns: &words.columns,
@@ -200,20 +202,14 @@ pub(crate) fn prepare<'a>(
     texts: &Texts,
     more: &mut String,
 ) -> Result<Prepared<'a>, Halt<'a>>
-    ensures { Prepares words.now is_there (texts_in texts.now) result }
+    ensures { MatchResult result (λ prepared. (choice : AChoice)
+        × IsChoice words.now is_there (texts_in texts.now) choice
+        × IsPrepared words.now choice (texts_in texts.now).csvs prepared)
+        (λ halt. Stops (IsWrongText words.now is_there (texts_in texts.now)) halt.0) }
 {
-    let devices = match used_devices(alloc, seed, words, is_there, texts) {
-        Ok(devices) => devices,
-        Err(halt) => return Err(halt),
-    };
-    let key = match key_in(words, &texts.key) {
-        Ok(key) => key,
-        Err(halt) => return Err(halt),
-    };
-    let table = match table_in(alloc, words, &texts.zone) {
-        Ok(table) => table,
-        Err(halt) => return Err(halt),
-    };
+    let devices = used_devices(alloc, seed, words, is_there, texts)?;
+    let key = key_in(words, &texts.key)?;
+    let table = table_in(alloc, words, &texts.zone)?;
     let clock = clock_of(words, table.as_ref());
     let choice = choice(words, devices.as_ref(), key.as_ref(), clock);
     prepare_csvs(alloc, words, names, is_there, &choice, &texts.csvs, more)

@@ -1,62 +1,62 @@
 //! Why a subcommand is given up, and the line that says so.
 use crate::layout::Meaning;
 use crate::names::{Escaped, Name};
-use crate::wrong_tables::{WrongDevices, WrongFareTable, WrongRows, WrongTapTable};
 use fare_table::TableFault;
-use ledger_changes::WrongLine;
 use program_manners::LoadFault;
-use report_texts::Wrong;
 use std::alloc::{AllocError, AllocFailed};
-use std::fmt;
-use tap_rows::{DevicesFault, RowsFault, WrongKey};
 use tap_views::{LayoutFault, NoMemory};
+use thiserror::Error;
 use world::WriteFault;
 
 /// Why a subcommand is given up. A file is named by its word of the command line. Its `Display` is
 /// the fault line without its line feed.
-#[derive(Clone, Copy, Debug, PartialEq, Eq)]
+#[derive(Clone, Copy, Debug, PartialEq, Eq, Error)]
 pub enum Fault<'a> {
     /// The file could not be opened, or not be read to its end.
+    #[error("fault: cannot read {}", Name(.0))]
     Unread(&'a str),
-    /// A file could not be read.
+    #[error("fault: cannot read a file")]
     SomeUnread,
-    /// The file is longer than it may be.
+    #[error("fault: {} is too long", Name(.0))]
     TooLong(&'a str),
-    /// The file could not be opened, since the system has too many open.
+    #[error("fault: cannot open {}: too many files are open", Name(.0))]
     TooManyOpen(&'a str),
-    /// The file that was to be made is there already.
+    #[error("fault: {} is there already", Name(.0))]
     Exists(&'a str),
-    /// The file could not be made.
+    #[error("fault: cannot make {}", Name(.0))]
     Unmade(&'a str),
     /// The upload has this layout fault, in the batch at this offset in bytes.
+    #[error("fault: {} at {}: {}", Name(.0), .1, Meaning(*.2))]
     Layout(&'a str, u64, LayoutFault),
     /// The tap of this number, from 0, in this file, belongs before the tap before it.
+    #[error("fault: {}: tap {} is out of order", Name(.0), .1)]
     OutOfOrder(&'a str, u64),
-    /// The file is no tap table.
-    TapTable(&'a str, RowsFault),
-    /// The file is no CSV of the columns that are wanted, or one of its rows is no tap.
-    Rows(&'a str, WrongRows<'a>),
-    /// The file is no device table.
-    Devices(&'a str, DevicesFault),
-    /// The file is no key.
-    Key(&'a str, WrongKey),
+    /// The line of this number, from 1, of this file is wrong, for this reason.
+    #[error("fault: {} line {}: {}", Name(.0), .1, .2)]
+    Line(&'a str, u64, &'static str),
+    /// The row of this number is wrong, for this reason. The head is row 1.
+    #[error("fault: {} row {}: {}", Name(.0), .1, .2)]
+    Row(&'a str, u64, &'static str),
+    #[error("fault: {} row 1: there is not one column {}", Name(.0), Escaped(.1))]
+    Column(&'a str, &'a str),
+    /// The file is no key, for this reason.
+    #[error("fault: {}: {}", Name(.0), .1)]
+    Key(&'a str, &'static str),
     /// The word is neither a POSIX rule nor the name of a zone file that can be read.
+    #[error("fault: the zone {} is no POSIX rule, nor a file of /usr/share/zoneinfo", Escaped(.0))]
     Zone(&'a str),
-    /// The zone file of this name is none.
+    #[error("fault: the zone {} has a file that is wrong", Escaped(.0))]
     ZoneFile(&'a str),
-    /// The file is no fare table.
+    #[error("fault: {}: {}", Name(.0), .1)]
     FareTable(&'a str, TableFault),
-    /// The line of this number, from 1, of this part cannot be merged.
-    Part(&'a str, u64, Wrong),
-    /// The line of this number, from 1, of this ledger is wrong.
-    Ledger(&'a str, u64, WrongLine),
-    /// A file was another one when it was read again.
+    #[error("fault: a file changed while it was read")]
     SomeChanged,
-    /// A write failed.
+    #[error("fault: cannot write")]
     Write,
     /// A write failed since the reader is gone: nothing is said of it.
+    #[error("fault: cannot write")]
     Closed,
-    /// An allocation failed.
+    #[error("fault: out of memory")]
     NoMemory,
 }
 
@@ -94,76 +94,6 @@ impl From<WriteFault> for Fault<'_> {
         match why {
             WriteFault::Refused => Fault::Write,
             WriteFault::Closed => Fault::Closed,
-        }
-    }
-}
-
-impl fmt::Display for Fault<'_> {
-    fn fmt<W: fmt::Write>(&self, f: &mut fmt::Formatter<W>) -> fmt::Result {
-        match self {
-            Fault::Unread(word) => write!(f, "fault: cannot read {}", Name(word)),
-            Fault::SomeUnread => f.write_str("fault: cannot read a file"),
-            Fault::TooLong(word) => write!(f, "fault: {} is too long", Name(word)),
-            Fault::TooManyOpen(word) => {
-                let name = Name(word);
-                write!(f, "fault: cannot open {name}: too many files are open")
-            }
-            Fault::Exists(word) => write!(f, "fault: {} is there already", Name(word)),
-            Fault::Unmade(word) => write!(f, "fault: cannot make {}", Name(word)),
-            Fault::Layout(word, offset, fault) => {
-                write!(f, "fault: {} at {offset}: {}", Name(word), Meaning(*fault))
-            }
-            Fault::OutOfOrder(word, tap) => {
-                write!(f, "fault: {}: tap {tap} is out of order", Name(word))
-            }
-            Fault::TapTable(word, wrong) => {
-                write!(f, "fault: {} {}", Name(word), WrongTapTable(*wrong))
-            }
-            Fault::Rows(word, wrong) => write!(f, "fault: {} {wrong}", Name(word)),
-            Fault::Devices(word, wrong) => {
-                write!(f, "fault: {} {}", Name(word), WrongDevices(*wrong))
-            }
-            Fault::Key(word, wrong) => {
-                let why = match wrong {
-                    WrongKey::Empty => "the key is empty",
-                    WrongKey::Long => "the key has more than 65536 bytes",
-                };
-                write!(f, "fault: {}: {why}", Name(word))
-            }
-            Fault::Zone(word) => {
-                let name = Escaped(word);
-                write!(
-                    f,
-                    "fault: the zone {name} is no POSIX rule, nor a file of /usr/share/zoneinfo"
-                )
-            }
-            Fault::ZoneFile(word) => {
-                let name = Escaped(word);
-                write!(f, "fault: the zone {name} has a file that is wrong")
-            }
-            Fault::FareTable(word, fault) => {
-                let why = WrongFareTable(*fault);
-                write!(f, "fault: {}: {why}", Name(word))
-            }
-            Fault::Part(word, number, wrong) => {
-                let why = match wrong {
-                    Wrong::Form => "no such line stands there",
-                    Wrong::NotPosted => "the upload of a part was not posted",
-                    Wrong::Order => "it does not follow the line or the part before it",
-                    Wrong::Totals => "the sums do not add up to the totals",
-                };
-                write!(f, "fault: {} line {number}: {why}", Name(word))
-            }
-            Fault::Ledger(word, number, wrong) => {
-                let why = match wrong {
-                    WrongLine::Form => "no such line stands there",
-                    WrongLine::Order => "out of order; is the ledger settled?",
-                };
-                write!(f, "fault: {} line {number}: {why}", Name(word))
-            }
-            Fault::SomeChanged => f.write_str("fault: a file changed while it was read"),
-            Fault::Write | Fault::Closed => f.write_str("fault: cannot write"),
-            Fault::NoMemory => f.write_str("fault: out of memory"),
         }
     }
 }

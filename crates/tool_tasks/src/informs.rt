@@ -3,16 +3,8 @@ ghost use Rattle.std.specs.Prelude.{◌<◌, length};
 
 use crate::counted::Counted;
 use crate::fault::Fault;
-use crate::loads::load_word;
-use world::{Inputs, World};
-
-/// All bytes of the file that the word names.
-pub(crate) fn load_file<'a, I: Inputs>(word: &'a str, files: &mut I) -> Result<Vec<u8>, Fault<'a>> {
-    match load_word(files, word) {
-        Ok(bytes) => Ok(bytes),
-        Err(why) => Err(Fault::of_load(word, why)),
-    }
-}
+use crate::loads::load;
+use world::World;
 
 /// The upload of this number. Shows how many are read.
 pub(crate) fn load_upload<'a, I: Counted>(
@@ -23,7 +15,8 @@ pub(crate) fn load_upload<'a, I: Counted>(
     requires { number < length words.now }
 {
     files.show_count(number, words.len());
-    load_file(words[number], files)
+    let upload = load(files, words[number])?;
+    Ok(upload)
 }
 
 /// The status of what was printed and flushed. A fault is reported.

@@ -1,34 +1,5 @@
 //! Subcommands of the tools over any world: each from the words that name its files to the status,
 //! with its text and its fault line.
-//!
-//! | module | what it does |
-//! |---|---|
-//! | `names` | words that name files, as they are opened and shown |
-//! | `loads`, `counted` | files that a task loads, and what is shown of them |
-//! | `informs` | what only informs |
-//! | `prepared` | what is written, made and noted, once all is prepared |
-//! | `quotes` | a quote of a CSV that nothing closes |
-//! | `fault` | why a subcommand is given up, and the line that says so |
-//! | `stops` | what stops a subcommand, and its fault line |
-//! | `layout`, `wrong_tables` | what is wrong with an upload, or with a table, in words |
-//! | `encode` | `encode` of a tap table |
-//! | `encode_rows` | `encode` of an agency's own CSVs |
-//! | `encode_loads` | what it loads: devices, a key, a zone, the CSVs |
-//! | `encode_tables` | how the rows are read by them |
-//! | `encode_csvs` | what the rows are encoded as |
-//! | `decode` | `decode` |
-//! | `placed` | files that are read at any offset |
-//! | `sort` | `sort` of uploads that are loaded |
-//! | `merge_sorted`, `known` | `sort --merge`, and the file that it makes |
-//! | `bounds` | `bounds` |
-//! | `uploads` | `uploads`: what each upload has |
-//! | `upload_tokens` | `uploads --tokens` |
-//! | `valid_prefix` | `uploads --good-part` |
-//! | `look` | `uploads --look`: what each upload has, and what is found in them |
-//! | `streams` | files that are read in pieces, and texts that are made of them |
-//! | `corrections` | `corrections` |
-//! | `merge` | `merge` of parts |
-//! | `table` | `table` |
 #![tactic(auto)]
 
 mod bounds;
@@ -56,7 +27,6 @@ mod sort;
 mod stops;
 mod streams;
 mod table;
-mod upload_tokens;
 mod uploads;
 mod valid_prefix;
 mod wrong_tables;
@@ -78,4 +48,3 @@ pub use streams::Streams;
 pub use table::table_over;
 pub use uploads::uploads_over;
 pub use valid_prefix::valid_prefix_over;
-pub use wrong_tables::WrongRows;

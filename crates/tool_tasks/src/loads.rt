@@ -9,7 +9,7 @@ use crate::fault::Fault;
 use crate::placed::push;
 use crate::stops::Halt;
 use frame::{Outside, file_of};
-use std::alloc::{AllocError, Global};
+use std::alloc::Global;
 use world::{Inputs, LoadFault};
 
 /// All bytes of the file that the word names, `-` being standard input.
@@ -86,13 +86,8 @@ pub(crate) fn load_all<'a, I: Counted>(
 {
     let mut texts = Vec::new(alloc);
     for number in 0..words.len() {
-        let text = match load_one(words[number], number, words.len(), are_large, files) {
-            Ok(text) => text,
-            Err(halt) => return Err(halt),
-        };
-        if let Err(AllocError) = push(&mut texts, text) {
-            return Err(Halt(Outside::NoMemory, Fault::NoMemory));
-        }
+        let text = load_one(words[number], number, words.len(), are_large, files)?;
+        push(&mut texts, text)?;
     }
     Ok(texts)
 }

@@ -2,7 +2,8 @@
 
 use crate::counted::Counted;
 use crate::fault::Fault;
-use crate::informs::{ended_informing, load_file, load_upload};
+use crate::informs::{ended_informing, load_upload};
+use crate::loads::load;
 use crate::look::counts::counts_of;
 use crate::look::rows::table_of;
 use crate::uploads::upload_text;
@@ -70,7 +71,7 @@ fn look_at<'a, W: World + Counted>(
     world: &mut W,
 ) -> Result<bool, Fault<'a>> {
     let table = match words.table {
-        Some(word) => Some(read_table(alloc, word, &load_file(word, world)?)?),
+        Some(word) => Some(read_table(alloc, word, &load(world, word)?)?),
         None => None,
     };
     let mut uploads = Vec::new(alloc);

@@ -1,16 +1,17 @@
 //! `merge`.
-ghost use Rattle.frame.specs.{Names.file_named, Outcome.Ends};
+ghost use Rattle.frame.specs.Names.{file_named};
 ghost use Rattle.recorded_lines.specs.Texts.{IsFresh, calls_of};
 ghost use Rattle.std.specs.Prelude.{◌≡◌, ◌++◌, [], List, IfErr, OnOk, All, map};
-ghost use Rattle.tool_tasks.specs.Merge.{IsPrefix, IsWrongPart, Merges, merge_rule};
-ghost use Rattle.tool_tasks.specs.inside.{Merge.IsNoted, Merge.names_of, Streams.IsStreamed};
-ghost use Rattle.tool_tasks.specs.inside.Streams.{IsUnopened};
+ghost use Rattle.tool_tasks.specs.{Merge.merge_stream, Streams.EndsBy, inside.Merge.IsNoted};
+ghost use Rattle.tool_tasks.specs.inside.{Merge.names_of, Streams.IsStreamed, Streams.IsUnopened};
 ghost use Rattle.world.specs.Run.{Calls};
 
 use crate::fault::Fault;
 use crate::names::word_at;
+use crate::placed::push;
 use crate::stops::{Halt, ended};
 use crate::streams::{Streams, finish, open};
+use crate::wrong_tables::part_text;
 use frame::Outside;
 use part_texts::MergeFault;
 use recorded_lines::Lines;
@@ -33,14 +34,8 @@ fn open_all<'a, F: Streams>(
         × IsUnopened (map (λ w. w.now) words.now) calls halt.0) }
 {
     for word in words {
-        match open(files, word) {
-            Ok(lines) => {
-                let Ok(()) = parts.push(lines) else {
-                    return Err(Halt(Outside::NoMemory, Fault::NoMemory));
-                };
-            }
-            Err(halt) => return Err(halt),
-        }
+        let lines = open(files, word)?;
+        push(parts, lines)?;
     }
     Ok(())
 }
@@ -65,7 +60,7 @@ fn noted<'a>(
         Ok(()) => Ok(Vec::new(alloc)),
         Err(MergeFault::Line { text, number, why }) => {
             let word = word_at(words, text).unwrap_or("");
-            Err(Halt(Outside::Wrong, Fault::Part(word, number, why)))
+            Err(Halt(Outside::Wrong, Fault::Line(word, number, part_text(why))))
         }
         Err(MergeFault::Unread(text)) => {
             let word = word_at(words, text).unwrap_or("");
@@ -83,9 +78,8 @@ fn merge_parts<'a, F: Streams, W: World>(
     world: &mut W,
 ) -> Result<Vec<u8>, Halt<'a>>
     ensures { (calls : List Calls) × (F.readings files.new ≡ F.readings files.old ++ calls)
-        × IsStreamed (Merges (map (λ w. w.now) words.now)) (IsPrefix (map (λ w. w.now) words.now))
-        (IsWrongPart (map (λ w. w.now) words.now)) (map (λ w. w.now) words.now) calls
-        (W.run world.old) (W.run world.new) result }
+        × IsStreamed (merge_stream (map (λ w. w.now) words.now) calls) (W.run world.old)
+        (W.run world.new) result }
 {
     let mut parts = Vec::new(alloc);
     match open_all(words, files, &mut parts) {
@@ -110,8 +104,8 @@ pub fn merge_over<F: Streams, W: World>(
     files: &mut F,
     world: &mut W,
 ) -> u8
-    ensures { Ends (merge_rule (map (λ w. w.now) words.now) (F.readings files.old)
-        (F.readings files.new)) (W.run world.old) (W.run world.new) result }
+    ensures { EndsBy (merge_stream (map (λ w. w.now) words.now)) (F.readings files.old)
+        (F.readings files.new) (W.run world.old) (W.run world.new) result }
 {
     let streamed = merge_parts(alloc, words, files, world);
     let done = finish(streamed, world);

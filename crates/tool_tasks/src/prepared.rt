@@ -9,7 +9,7 @@ ghost use Rattle.world.specs.{Origins.with_loads, Run.Load, Run.Run};
 
 use crate::fault::Fault;
 use crate::stops::{Halt, line_of};
-use frame::{Outside, begin, finish, make, write};
+use frame::{begin, finish, make, write};
 use world::World;
 
 /// A file that is to be made; one that is not to be new replaces another.
@@ -89,16 +89,10 @@ fn give<'a, W: World>(prepared: &Prepared<'a>, world: &mut W) -> Result<(), Halt
         (λ halt. StopsIn words (W.run world.old) (W.run world.new)
         (λ g. with_prepared g prepared.now) halt.0) }
 {
-    match make_new(&prepared.first, world) {
-        Err(halt) => Err(halt),
-        Ok(()) => match write(&prepared.text, world) {
-            Err(why) => Err(Halt(why, line_of(why, "", Fault::Write))),
-            Ok(()) => match make_new(&prepared.upload, world) {
-                Err(halt) => Err(halt),
-                Ok(()) => Ok(()),
-            },
-        },
-    }
+    make_new(&prepared.first, world)?;
+    write(&prepared.text, world)?;
+    make_new(&prepared.upload, world)?;
+    Ok(())
 }
 
 /// Gives the file its name, if there is one.
@@ -150,25 +144,14 @@ pub(crate) fn carry<'a, W: World>(
         (given_of loads prepared.now (partial_files W.File.contents partial.entry))
         prepared.now.status (W.run world.new) result }
 {
-    match give(prepared, world) {
-        Err(halt) => {
-            discard(partial, world);
-            Err(halt)
-        }
-        Ok(()) => match finish_partial(partial, world) {
-            Err(halt) => Err(halt),
-            Ok(()) => match world.flush() {
-                Err(why) => {
-                    let why = Outside::Unwritten(why);
-                    Err(Halt(why, line_of(why, "", Fault::Write)))
-                }
-                Ok(()) => {
-                    world.say(prepared.note.as_bytes());
-                    Ok(prepared.status)
-                }
-            },
-        },
+    if let Err(halt) = give(prepared, world) {
+        discard(partial, world);
+        return Err(halt);
     }
+    finish_partial(partial, world)?;
+    world.flush()?;
+    world.say(prepared.note.as_bytes());
+    Ok(prepared.status)
 }
 
 /// The same, with the file that is held, if there is one.

@@ -10,39 +10,6 @@ enum Position {
     Quote,
 }
 
-#[derive(Clone, Copy, Debug)]
-struct Quotes {
-    position: Position,
-    /// The number of the line that is read, from 1.
-    line: u64,
-    /// That of the last quote that opened a field.
-    opened: u64,
-}
-
-impl Quotes {
-    fn pass(&mut self, byte: u8, separator: u8) {
-        let is_end = byte == separator || byte == b'\n' || byte == b'\r';
-        self.position = match self.position {
-            Position::Begin if byte == b'"' => {
-                self.opened = self.line;
-                Position::Quoted
-            }
-            // a byte order mark is before the first field
-            Position::Begin if self.line == 1 && (byte == 0xef || byte == 0xbb || byte == 0xbf) => {
-                Position::Begin
-            }
-            Position::Quoted if byte == b'"' => Position::Quote,
-            Position::Quote if byte == b'"' => Position::Quoted,
-            Position::Quoted => Position::Quoted,
-            _ if is_end => Position::Begin,
-            _ => Position::Plain,
-        };
-        if byte == b'\n' {
-            self.line = self.line.saturating_add(1);
-        }
-    }
-}
-
 /// Whether the text begins as gzip, zip or Parquet does: its quotes mean nothing.
 fn is_archive(text: &[u8]) -> bool {
     text.starts_with(&[0x1f, 0x8b]) || text.starts_with(b"PK\x03\x04") || text.starts_with(b"PAR1")
@@ -54,16 +21,28 @@ pub(crate) fn open_quote(text: &[u8], separator: u8) -> Option<u64> {
     if is_archive(text) {
         return None;
     }
-    let mut quotes = Quotes {
-        position: Position::Begin,
-        line: 1,
-        opened: 1,
-    };
+    let (mut position, mut line, mut opened) = (Position::Begin, 1u64, 1);
     for byte in text {
-        quotes.pass(*byte, separator);
+        let byte = *byte;
+        position = match position {
+            Position::Begin if byte == b'"' => {
+                opened = line;
+                Position::Quoted
+            }
+            // a byte order mark is before the first field
+            Position::Begin if line == 1 && matches!(byte, 0xef | 0xbb | 0xbf) => Position::Begin,
+            Position::Quoted if byte == b'"' => Position::Quote,
+            Position::Quote if byte == b'"' => Position::Quoted,
+            Position::Quoted => Position::Quoted,
+            _ if byte == separator || byte == b'\n' || byte == b'\r' => Position::Begin,
+            _ => Position::Plain,
+        };
+        if byte == b'\n' {
+            line = line.saturating_add(1);
+        }
     }
-    if quotes.position == Position::Quoted {
-        Some(quotes.opened)
+    if position == Position::Quoted {
+        Some(opened)
     } else {
         None
     }

@@ -3,7 +3,7 @@ ghost use Rattle.frame.specs.{Outcome.Ends, Outsides.Leaves};
 ghost use Rattle.report_texts.specs.Report.{upload_lines};
 ghost use Rattle.std.specs.Prelude.{◌≡◌, [], ℕ, Contains, IfOk, List, Some, if◌then◌else◌, map};
 ghost use Rattle.std.specs.Prelude.{string_bytes};
-ghost use Rattle.tap_views.specs.UploadEnds.{are_posted, is_posted};
+ghost use Rattle.tap_views.specs.UploadEnds.{are_posted};
 ghost use Rattle.tool_tasks.specs.{Sort.names_of, Sort.sort_rule, inside.Does.Does};
 ghost use Rattle.tool_tasks.specs.inside.{Loads.LoadsAll, Prepared.Carries, Sort.sorted_given};
 ghost use Rattle.tool_words.specs.Tasks.{sorting_of};
@@ -12,7 +12,6 @@ ghost use Rattle.world.specs.{Origins.with_loads, Run.Load, Run.Run};
 use crate::counted::Counted;
 use crate::fault::Fault;
 use crate::loads::load_all;
-use crate::names::word_at;
 use crate::prepared::{Partial, Prepared, carry, new_file};
 use crate::stops::{Halt, ended, line_of};
 use frame::Outside;
@@ -39,16 +38,10 @@ fn lines_of(alloc: Global, ends: &[UploadEnd]) -> Result<String, AllocError>
     Ok(text)
 }
 
-fn is_posted(end: UploadEnd) -> bool
-    ensures { result ≡ is_posted end }
-{
-    end.is_posted()
-}
-
 fn are_posted(ends: &[UploadEnd]) -> bool
     ensures { result ≡ are_posted ends.now }
 {
-    ends.iter().all(|end| is_posted(*end))
+    ends.iter().all(|end| end.is_posted())
 }
 
 fn status_of(ends: &[UploadEnd]) -> u8
@@ -60,11 +53,8 @@ fn status_of(ends: &[UploadEnd]) -> u8
 /// A line for each layout fault; nothing if there is none.
 fn note_of(alloc: Global, uploads: &[&str], ends: &[UploadEnd]) -> Result<String, AllocError> {
     let mut note = String::new(alloc);
-    for (number, end) in ends.iter().enumerate() {
-        if let (UploadEnd::Refused { offset, fault, .. }, Some(word)) = (
-            end,
-            word_at(uploads, number),
-        ) {
+    for (word, end) in uploads.iter().zip(ends.iter()) {
+        if let UploadEnd::Refused { offset, fault, .. } = end {
             let fault = Fault::Layout(word, *offset, *fault);
             write!(note, "{fault}\n")?;
         }

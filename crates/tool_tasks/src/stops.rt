@@ -1,10 +1,11 @@
 //! What stops a subcommand, and its fault line.
+ghost use Rattle.std.specs.Prelude.{◌≡◌, if◌then◌else◌};
 ghost use Rattle.tool_tasks.specs.inside.Does.{IsEnded};
 
 use crate::fault::Fault;
 use frame::{Outside, report};
 use std::alloc::AllocError;
-use world::{MakeFault, World};
+use world::{MakeFault, World, WriteFault};
 
 /// What stopped a run, and the line that says so.
 #[derive(Drop)]
@@ -21,6 +22,33 @@ impl From<AllocError> for Halt<'_> {
     }
 }
 
+impl<'a> From<Halt<'a>> for Fault<'a> {
+    fn from(halt: Halt<'a>) -> Self {
+        halt.1
+    }
+}
+
+impl From<Outside> for Halt<'_> {
+    ghost use Rattle.std.specs.Prelude.{◌≡◌};
+
+    ghost from_gives = { λ why halt. halt.0 ≡ why };
+
+    fn from(why: Outside) -> Self {
+        Halt(why, line_of(why, "", Fault::Write))
+    }
+}
+
+impl From<WriteFault> for Halt<'_> {
+    ghost use Rattle.std.specs.Prelude.{◌≡◌};
+    ghost use Rattle.frame.specs.declared.outside.Outside.TheVariants.{Unwritten};
+
+    ghost from_gives = { λ why halt. halt.0 ≡ Unwritten why };
+
+    fn from(why: WriteFault) -> Self {
+        Halt(Outside::Unwritten(why), Fault::from(why))
+    }
+}
+
 /// The line of what stopped a run. Of a file, this is its word, and the line if it is partial.
 pub(crate) fn line_of<'a>(why: Outside, word: &'a str, partial: Fault<'a>) -> Fault<'a> {
     match why {
@@ -32,6 +60,13 @@ pub(crate) fn line_of<'a>(why: Outside, word: &'a str, partial: Fault<'a>) -> Fa
         Outside::Unwritten(why) => Fault::from(why),
         _ => Fault::NoMemory,
     }
+}
+
+/// The status of what was done.
+pub(crate) fn status_of(succeeded: bool) -> u8
+    ensures { result ≡ (if succeeded then 0 else 1) }
+{
+    if succeeded { 0 } else { 1 }
 }
 
 /// The status of what was done; or reports what stopped it, of a wrong file with more to say.

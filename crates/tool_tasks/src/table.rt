@@ -5,7 +5,8 @@ mod texts;
 
 use crate::counted::Counted;
 use crate::fault::Fault;
-use crate::informs::{ended_informing, load_file, load_upload};
+use crate::informs::{ended_informing, load_upload};
+use crate::loads::load;
 use crate::names::Name;
 use following::{joined, spans_of};
 use jiff::Timestamp;
@@ -33,7 +34,7 @@ fn load_texts<'a, I: Inputs>(
 ) -> Result<Vec<Vec<u8>>, Fault<'a>> {
     let mut texts = Vec::new(alloc);
     for word in words {
-        let text = load_file(word, files)?;
+        let text = load(files, word)?;
         texts.push(text)?;
     }
     Ok(texts)

@@ -5,10 +5,10 @@ use crate::fault::Fault;
 use crate::informs::{ended_informing, load_upload};
 use crate::layout::Meaning;
 use crate::names::Name;
-use crate::upload_tokens::{add_tokens, no_tokens, tokens_text};
 use fare_texts::write_moment;
 use std::alloc::{AllocError, Global};
 use tap_views::{Facts, LayoutFault, facts_of};
+use upload_checks::CommonTokens;
 use world::World;
 
 /// In milliseconds since 1970-01-01T00:00Z, or `-` if there is none.
@@ -43,6 +43,15 @@ pub(crate) fn upload_text(
     Ok(text)
 }
 
+/// How many tokens each upload has, and how many of these another one has, too.
+pub(crate) fn push_tokens(text: &mut String, tokens: &CommonTokens) -> Result<(), AllocError> {
+    for (number, counts) in tokens.counts().iter().enumerate() {
+        let (all, shared) = (counts.all, counts.shared);
+        write!(text, "tokens {number} all {all} shared {shared}\n")?;
+    }
+    Ok(())
+}
+
 /// Writes the lines of each upload, then those of the tokens, if these are counted. Gives whether no
 /// upload has a layout fault.
 fn list_uploads<'a, W: World + Counted>(
@@ -51,20 +60,21 @@ fn list_uploads<'a, W: World + Counted>(
     has_tokens: bool,
     world: &mut W,
 ) -> Result<bool, Fault<'a>> {
-    let mut tokens = no_tokens(alloc, has_tokens);
+    let mut tokens = CommonTokens::new(alloc);
     let mut succeeded = true;
     for number in 0..words.len() {
         let upload = load_upload(words, number, world)?;
         let facts = facts_of(&upload);
         let text = upload_text(alloc, number, words[number], &facts)?;
         world.write(text.as_bytes())?;
-        add_tokens(&mut tokens, &upload)?;
+        if has_tokens {
+            tokens.add(&upload)?;
+        }
         succeeded &= facts.fault.is_none();
     }
-    if let Some(tokens) = &tokens {
-        let text = tokens_text(alloc, tokens.counts())?;
-        world.write(text.as_bytes())?;
-    }
+    let mut text = String::new(alloc);
+    push_tokens(&mut text, &tokens)?;
+    world.write(text.as_bytes())?;
     world.flush()?;
     Ok(succeeded)
 }

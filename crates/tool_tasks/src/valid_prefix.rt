@@ -9,12 +9,12 @@ use crate::fault::Fault;
 use crate::loads::load;
 use crate::prepared::{NewFile, Prepared, carry_out};
 use crate::stops::{Halt, ended};
-use crate::upload_tokens::{add_tokens, no_tokens, tokens_text};
-use crate::uploads::upload_text;
+use crate::uploads::{push_tokens, upload_text};
 use frame::Outside;
-use std::alloc::{AllocError, Global};
+use std::alloc::Global;
 use tap_views::{Facts, NoMemory, facts_of, valid_prefix};
 use tool_words::ValidPrefixWords;
+use upload_checks::CommonTokens;
 use world::World;
 
 fn lines_of(
@@ -23,11 +23,11 @@ fn lines_of(
     upload: &[u8],
     facts: &Facts,
 ) -> Result<String, NoMemory> {
-    let mut tokens = no_tokens(alloc, words.has_tokens);
     let mut text = upload_text(alloc, 0, words.upload, facts)?;
-    add_tokens(&mut tokens, upload)?;
-    if let Some(tokens) = &tokens {
-        text.push_str(&tokens_text(alloc, tokens.counts())?)?;
+    if words.has_tokens {
+        let mut tokens = CommonTokens::new(alloc);
+        tokens.add(upload)?;
+        push_tokens(&mut text, &tokens)?;
     }
     Ok(text)
 }
@@ -41,14 +41,6 @@ fn status_of(facts: &Facts) -> u8
     }
 }
 
-fn copied(alloc: Global, bytes: &[u8]) -> Result<Vec<u8>, AllocError>
-    ensures { IfOk result (λ copy. copy.items ≡ bytes.now) }
-{
-    let mut copy = Vec::new(alloc);
-    copy.extend_from_slice(bytes)?;
-    Ok(copy)
-}
-
 fn prepare<'a>(
     alloc: Global,
     words: &ValidPrefixWords<'a>,
@@ -60,7 +52,7 @@ fn prepare<'a>(
 {
     let facts = facts_of(upload);
     let valid = valid_prefix(upload);
-    let bytes = copied(alloc, valid)?;
+    let bytes = Vec::from_slice(alloc, valid)?;
     let file = NewFile {
         name: words.out,
         bytes,
@@ -86,10 +78,7 @@ fn keep<'a, W: World>(
     ensures { Does (valid_prefix_rule (valid_prefix_of words.now)) (W.run world.old)
         (W.run world.new) result }
 {
-    let upload = match load(world, words.upload) {
-        Ok(upload) => upload,
-        Err(halt) => return Err(halt),
-    };
+    let upload = load(world, words.upload)?;
     match prepare(alloc, words, &upload) {
         Ok(prepared) => carry_out(&prepared, world),
         Err(NoMemory) => Err(Halt(Outside::NoMemory, Fault::NoMemory)),

@@ -1,12 +1,12 @@
 -- Files that are loaded and made: what private functions alone cite.
-use Rattle.frame.specs.{Given.Given, Names.file_named, declared.outside.Outside.Outside}
+use Rattle.frame.specs.{Given.Given, declared.outside.Outside.Outside}
 use Rattle.report_texts.specs.Report.{upload_lines}
 use Rattle.sorted_taps.specs.declared.fault.SortedFault.{SortedFault}
-use Rattle.std.specs.Prelude.{◌≡◌, ℕ, List, [], map}
+use Rattle.std.specs.Prelude.{ℕ, List, []}
 use Rattle.tap_views.specs.declared.upload_end.UploadEnd.{UploadEnd}
 use Rattle.tool_tasks.specs.Sort.{files_of}
 use Rattle.tool_words.specs.Request.{SortRequest}
-use Rattle.world.specs.{Origins.with_loads, Run.Load, Run.Run}
+use Rattle.world.specs.Run.{Load}
 use Rattle.frame.specs.declared.outside.Outside.TheVariants as outside
 use Rattle.sorted_taps.specs.declared.fault.SortedFault.TheVariants as sorted
 

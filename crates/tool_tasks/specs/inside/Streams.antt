@@ -3,7 +3,7 @@ use Rattle.frame.specs.declared.outside.Outside.{Outside}
 use Rattle.frame.specs.declared.outside.Outside.TheVariants.{NoMemory, Unread, Unwritten}
 use Rattle.std.specs.Prelude.{◌≡◌, ◌⊎◌, ⊤, ℕ, List, [], Result, Ok, Err, Vec}
 use Rattle.std.specs.declared.alloc.Global.{Global}
-use Rattle.tool_tasks.specs.Streams.{CanStop, HasFailed, IsKept, with_stop}
+use Rattle.tool_tasks.specs.Streams.{CanStop, HasFailed, IsKept, Stream, with_stop}
 use Rattle.tool_tasks.specs.declared.stops.Halt.{Halt}
 use Rattle.world.specs.Run.{Calls, Run, with_cut, with_flushed, with_said, with_written}
 use Rattle.world.specs.declared.faults.WriteFault.{WriteFault}
@@ -15,14 +15,11 @@ IsUnopened words calls NoMemory = ⊤
 IsUnopened words calls _ = ⊥
 
 -- a text was written, and the note is right with it; or a part of one
-abbrev pub IsStreamed : (List Calls → List ℕ → List ℕ → Type 0) → (List Calls → List ℕ → Type 0)
-    → (List Calls → Type 0) → List (List ℕ) → List Calls → Run → Run → Result (Vec ℕ Global) Halt → Type 0
-IsStreamed Whole Part truth words calls old new (Ok note) = (text : List ℕ)
-    × (new ≡ with_written old text) × ((text ≡ []) ⊎ Part calls text)
-    × Whole calls text note.items
-IsStreamed Whole Part truth words calls old new (Err halt) = (text : List ℕ)
-    × ((text ≡ []) ⊎ Part calls text) × CanStop (truth calls) words calls halt.0
-    × (new ≡ with_stop (with_written old text) halt.0)
+abbrev pub IsStreamed : Stream → Run → Run → Result (Vec ℕ Global) Halt → Type 0
+IsStreamed s old new (Ok note) = (text : List ℕ) × (new ≡ with_written old text)
+    × ((text ≡ []) ⊎ s.Part text) × s.Whole text note.items
+IsStreamed s old new (Err halt) = (text : List ℕ) × ((text ≡ []) ⊎ s.Part text)
+    × CanStop s.Wrong s.words s.calls halt.0 × (new ≡ with_stop (with_written old text) halt.0)
 
 -- the flush failed
 abbrev pub IsCutBy : Outside → Run → Run → Type 0

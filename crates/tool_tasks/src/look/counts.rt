@@ -1,7 +1,7 @@
 //! How much is found in uploads, in lines.
 
 use crate::look::found_texts::{push_day, push_tap};
-use crate::upload_tokens::tokens_text;
+use crate::uploads::push_tokens;
 use std::alloc::{AllocError, Global};
 use tap_views::{NoMemory, TapFields};
 use tool_words::LookWords;
@@ -46,15 +46,6 @@ fn push_inactive(text: &mut String, silent: &InactiveDays) -> Result<(), AllocEr
     }
 }
 
-fn push_tokens(text: &mut String, alloc: Global, uploads: &[Vec<u8>]) -> Result<(), NoMemory> {
-    let mut common = CommonTokens::new(alloc);
-    for upload in uploads {
-        common.add(upload)?;
-    }
-    text.push_str(tokens_text(alloc, common.counts())?.as_str())?;
-    Ok(())
-}
-
 /// How many tokens the uploads have, if requested, and how much is found of each requested kind.
 pub(crate) fn counts_of(
     alloc: Global,
@@ -65,12 +56,13 @@ pub(crate) fn counts_of(
 ) -> Result<String, NoMemory> {
     let mut text = String::new(alloc);
     if words.has_tokens {
-        push_tokens(&mut text, alloc, uploads)?;
+        let mut tokens = CommonTokens::new(alloc);
+        for upload in uploads {
+            tokens.add(upload)?;
+        }
+        push_tokens(&mut text, &tokens)?;
     }
-    let double = match found.duplicates.first() {
-        Some(double) => Some(&double.tap),
-        None => None,
-    };
+    let double = found.duplicates.first().map(|double| &double.tap);
     push_count(&mut text, "doubles", found.duplicates.len(), double)?;
     if words.first.is_some() {
         let taps = found.before.as_slice();

@@ -1,12 +1,11 @@
 use Rattle.std.proofs.Common.{Bor, List, map, refl, subst, ℕ}
-use Rattle.frame.specs.Outcome.{Ends}
-use Rattle.tool_tasks.specs.{EncodeRows.EndsRows, Merge.merge_rule}
+use Rattle.tool_tasks.specs.{EncodeRows.EndsRows, Merge.merge_stream, Streams.EndsBy}
 use Rattle.tool_program.proofs.program.task_over.Goals as goal
 
 pub returns-in-Merge : goal.returns-in-Merge
 returns-in-Merge g c =
-    rw c.in-Merge.is (subst (λ (ps : List (Bor (List ℕ))). Ends (merge_rule (map (λ w. w.now) ps)
-    (g.F.Streams.readings c.args.streams.now) (g.F.Streams.readings c.merge_over.new.files))
+    rw c.in-Merge.is (subst (λ (ps : List (Bor (List ℕ))). EndsBy (merge_stream (map (λ w. w.now) ps))
+    (g.F.Streams.readings c.args.streams.now) (g.F.Streams.readings c.merge_over.new.files)
     (g.W.Inputs.run c.args.world.now) (g.W.Inputs.run c.merge_over.new.world) c.merge_over.result)
     c.deref-in-Merge.ensures.value c.merge_over.ensures)
 

@@ -2,6 +2,7 @@ use Rattle.std.proofs.Common.{◌∙◌, ◌++◌, [], List, None, Option, ap, i
 use Rattle.ledger_changes.specs.{Given.IsGivenAfter, Tokens.head_of}
 use Rattle.part_texts.proofs.Written.{cut_on, written_none, written_on}
 use Rattle.recorded_lines.proofs.Reading.{follows_on}
+use Rattle.std.proofs.lemmas.Result.{err_from_is_err_and}
 use Rattle.tool_tasks.proofs.Corrected.{after_started, started_part, given_head}
 use Rattle.world.specs.Run.{with_written}
 use Rattle.tool_tasks.proofs.corrections.write_all.Goals as goal
@@ -14,10 +15,12 @@ returns-in-Err-clause-written g c = (
   rw c.halt_of.ensures.uncut (written_none (g.W.Inputs.run c.args.world.now)),
 )
 
-pub returns-in-Err-write-clause-written : goal.returns-in-Err-write-clause-written
-returns-in-Err-write-clause-written g c =
+pub returns-in_err-write-clause-written : goal.returns-in_err-write-clause-written
+returns-in_err-write-clause-written g c =
+    let e = err_from_is_err_and c.from_residual.result c.from_residual.ensures.1 in
     let by_token = c.args.words.now.is_by_token in
-    let cut = c.in-Err-write.ensures.cut in (
+    let cut = c.in_err-write.ensures.cut in
+    rw (e.1, e.2) (
       cut.front,
       inr (started_part by_token [] (head_of by_token) cut.front cut.rest _ _
           (sym c.corrections_head.ensures ∙ cut.whole)
@@ -33,7 +36,7 @@ loop-init g c = record {
   follow_new = c.begin.ensures.follow.1;
   given = (
     head_of c.args.words.now.is_by_token,
-    c.in-Ok-write.ensures.whole
+    c.in_ok-write.ensures.whole
         ∙ ap (λ (t : List ℕ). with_written (g.W.Inputs.run c.args.world.now) t)
         c.corrections_head.ensures,
     given_head c.begin.new.self _ c.args.words.now.is_by_token c.requires.by c.in-Ok.ensures.given,
@@ -56,17 +59,20 @@ returns-in-Err-next-clause-written g c =
       rw c.halt_of-in-Err-next.ensures.uncut run,
     )
 
-pub returns-in-Err-write-2-clause-follow : goal.returns-in-Err-write-2-clause-follow
-returns-in-Err-write-2-clause-follow g c = (
+pub returns-in_err-write-2-clause-follow : goal.returns-in_err-write-2-clause-follow
+returns-in_err-write-2-clause-follow g c = (
   follows_on _ _ _ c.loop.invariant.follow_old c.next.ensures.follow.0,
   follows_on _ _ _ c.loop.invariant.follow_new c.next.ensures.follow.1,
 )
 
-pub returns-in-Err-write-2-clause-written : goal.returns-in-Err-write-2-clause-written
-returns-in-Err-write-2-clause-written g c =
+pub returns-in_err-write-2-clause-written : goal.returns-in_err-write-2-clause-written
+returns-in_err-write-2-clause-written g c =
+    let e = err_from_is_err_and c.from_residual-in_err-write-2.result
+    c.from_residual-in_err-write-2.ensures.1 in
     let by_token = c.args.words.now.is_by_token in
     let (text, run, has) = c.loop.invariant.given in
-    let cut = c.in-Err-write-2.ensures.cut in (
+    let cut = c.in_err-write-2.ensures.cut in
+    rw (e.1, e.2) (
       text ++ cut.front,
       inr (started_part by_token text c.next.new.piece.items cut.front cut.rest _ _
           (sym c.deref.ensures.value ∙ cut.whole)
@@ -74,7 +80,7 @@ returns-in-Err-write-2-clause-written g c =
           (c.in-Ok-next.ensures.given by_token text has))),
       tt,
       cut_on (g.W.Inputs.run c.args.world.now) (g.W.Inputs.run c.loop.world) _ text
-          c.deref.result.now c.in-Err-write-2.why run cut,
+          c.deref.result.now c.in_err-write-2.field-0.0 run cut,
     )
 
 pub returns-in-Some-clause-follow : goal.returns-in-Some-clause-follow
@@ -89,7 +95,7 @@ returns-in-Some-clause-written g c =
     let (text, run, has) = c.loop.invariant.given in (
       text ++ c.next.new.piece.items,
       written_on (g.W.Inputs.run c.args.world.now) (g.W.Inputs.run c.loop.world) _ text
-          c.next.new.piece.items run (c.in-Ok-write-2.ensures.whole
+          c.next.new.piece.items run (c.in_ok-write-2.ensures.whole
           ∙ ap (λ (t : List ℕ). with_written (g.W.Inputs.run c.loop.world) t)
           c.deref.ensures.value),
       subst (λ (end : Option ℕ). IsGivenAfter c.next.new.self by_token end
@@ -106,7 +112,7 @@ loop-preserved g c = record {
       let (text, run, has) = c.loop.invariant.given in (
         text ++ c.next.new.piece.items,
         written_on (g.W.Inputs.run c.args.world.now) (g.W.Inputs.run c.loop.world) _ text
-            c.next.new.piece.items run (c.in-Ok-write-2.ensures.whole
+            c.next.new.piece.items run (c.in_ok-write-2.ensures.whole
             ∙ ap (λ (t : List ℕ). with_written (g.W.Inputs.run c.loop.world) t)
             c.deref.ensures.value),
         subst (λ (end : Option ℕ). IsGivenAfter c.next.new.self by_token end

@@ -4,9 +4,4 @@ use Rattle.tool_tasks.proofs.encode_rows.encode_rows_over.Goals as goal
 pub returns : goal.returns
 returns g c =
     let (is_there, started, tried, is) = c.encode-done.ensures in
-    record {
-      is_there = is_there;
-      started = started;
-      tried = tried;
-      ends = ends _ _ _ _ _ _ is c.ended.ensures;
-    }
+    (is_there, started, tried, ends _ _ _ _ _ _ is c.ended.ensures)

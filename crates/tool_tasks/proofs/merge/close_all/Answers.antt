@@ -1,39 +1,35 @@
-use Rattle.std.proofs.Common.{◌≡◌, ◌∙◌, ◌++◌, ◌∷◌, [], ap, append-nil, append_assoc, arith, length, map}
-use Rattle.std.proofs.Common.{sym}
-use Rattle.std.proofs.lemmas.List.{map_push, nil_from_length}
-use Rattle.recorded_lines.specs.Texts.{calls_of}
+use Rattle.std.proofs.Common.{◌≡◌, ◌∙◌, ◌++◌, ◌∷◌, [], List, ap, append-nil, append_assoc, arith}
+use Rattle.std.proofs.Common.{length, map, sym}
+use Rattle.recorded_lines.specs.{Texts.calls_of, declared.text.Lines.Lines}
+use Rattle.std.proofs.lemmas.List.{nil_from_length}
+use Rattle.world.specs.Run.{Calls}
 use Rattle.tool_tasks.proofs.merge.close_all.Goals as goal
 
 pub loop-part-init : goal.loop-part-init
 loop-part-init g c = record {
   may = tt;
   ends = tt;
-  all = c.into_iter-part-iterator.ensures.into_iter_gives.0;
-  read = sym (append-nil (g.F.Streams.readings c.args.files.now));
+  read = ap (λ (parts : List Lines). g.F.Streams.readings c.args.files.now ++ map calls_of parts)
+      c.into_iter-part-iterator.ensures.into_iter_gives.0;
 }
 
 pub loop-part-preserved : goal.loop-part-preserved
 loop-part-preserved g c =
-    let split = c.in-Some.ensures.steps.0 in
-    let before = g.F.Streams.readings c.args.files.now in
+    let before = g.F.Streams.readings c.loop-part.files in
+    let rest = c.next.new.self.rest.items in
     record {
       may = tt;
       ends = tt;
-      all = append_assoc c.loop-part.yielded (c.in-Some.part ∷ []) c.next.new.self.rest.items
-          ∙ ap (λ left. c.loop-part.yielded ++ left) (sym split) ∙ c.loop-part.invariant.all;
-      read = c.close.ensures
-          ∙ ap (λ l. l ++ calls_of c.in-Some.part ∷ []) c.loop-part.invariant.read
-          ∙ append_assoc before (map calls_of c.loop-part.yielded) (calls_of c.in-Some.part ∷ [])
-          ∙ ap (λ l. before ++ l) (sym (map_push calls_of c.loop-part.yielded c.in-Some.part));
+      read = ap (λ (calls : List Calls). calls ++ map calls_of rest) c.close.ensures
+          ∙ append_assoc before (calls_of c.in-Some.part ∷ []) (map calls_of rest)
+          ∙ ap (λ (parts : List Lines). before ++ map calls_of parts)
+          (sym c.in-Some.ensures.steps.0) ∙ c.loop-part.invariant.read;
     }
 
 pub returns : goal.returns
 returns g c =
     let none : length c.loop-part.part-iterator.rest.items ≡ 0 =
     omega (arith, c.loop-part.part-iterator.rest.ok.0, c.in-None.ensures.steps.0) in
-    c.loop-part.invariant.read
-    ∙ ap (λ l. g.F.Streams.readings c.args.files.now ++ map calls_of l)
-    (sym (append-nil c.loop-part.yielded)
-    ∙ ap (λ l. c.loop-part.yielded ++ l)
-    (sym (nil_from_length c.loop-part.part-iterator.rest.items none))
-    ∙ c.loop-part.invariant.all)
+    sym (ap (λ (parts : List Lines). g.F.Streams.readings c.loop-part.files ++ map calls_of parts)
+    (nil_from_length c.loop-part.part-iterator.rest.items none)
+    ∙ append-nil (g.F.Streams.readings c.loop-part.files)) ∙ c.loop-part.invariant.read

@@ -6,6 +6,6 @@ abbrev pub invariant-loop-part : goal.invariant-loop-part
 invariant-loop-part g l = record {
   may : (goal.iterator-loop-part g).can_next l.part-iterator;
   ends : (goal.iterator-loop-part g).is_finite l.part-iterator;
-  all : l.yielded ++ l.part-iterator.rest.items ≡ l.fn.parts.items;
-  read : g.F.Streams.readings l.files ≡ g.F.Streams.readings l.fn.files ++ map calls_of l.yielded;
+  read : g.F.Streams.readings l.files ++ map calls_of l.part-iterator.rest.items
+      ≡ g.F.Streams.readings l.fn.files ++ map calls_of l.fn.parts.items;
 }

@@ -1,14 +1,13 @@
 use Rattle.std.proofs.Common.{◌≡◌, ◌∙◌, [], Bor, IfSome, List, Option, Some, ap, arith, map, refl}
 use Rattle.std.proofs.Common.{subst, sym, ℕ}
-use Rattle.frame.proofs.Outcomes.{halted_by}
-use Rattle.frame.specs.Outsides.{Leaves, LeavesBy, Stops}
+use Rattle.frame.proofs.Outcomes.{halted_by, halted_loading}
+use Rattle.frame.specs.Outsides.{Stops}
 use Rattle.tool_tasks.proofs.{KnownBytes.some_known, MergedUploads.whole_file}
 use Rattle.tool_tasks.proofs.Preparing.{carried, halted_early}
 use Rattle.tool_tasks.specs.MergeSorted.{IsMergeOf, IsUnsorted, Merges}
 use Rattle.tool_tasks.specs.{Sort.names_of, declared.stops.Halt.Halt}
 use Rattle.tool_words.specs.Tasks.{sorting_of}
 use Rattle.world.proofs.Laws.{no_loads}
-use Rattle.world.specs.Run.{Run}
 use Rattle.tool_tasks.proofs.merge_sorted.merge.Goals as goal
 
 pub returns-in-Err : goal.returns-in-Err
@@ -47,17 +46,15 @@ returns-in-Ok-merged g c =
           (sym c.deref-in-Ok-merged.ensures.value) (whole uploads is);
       made = refl;
       text = refl;
-      note = c.new.ensures.bytes;
       success = refl;
     })
 
 pub returns-in-None : goal.returns-in-None
 returns-in-None g c =
     let request = sorting_of c.args.words.now in let old = g.W.Inputs.run c.args.world.now in
-    halted_early (Merges request _) _ (names_of request) old _ c.failed.result.0
-    (subst (λ (r : Run). Leaves (names_of request) c.failed.result.0 r
-    (g.W.Inputs.run c.failed.new.world)) c.in-Ok.ensures.unchanged
-    (c.failed.ensures (names_of request) (0, omega arith, refl)))
+    halted_loading (Merges request _) _ (names_of request) old _ _ [] c.failed.result.0
+    (c.in-Ok.ensures.unchanged ∙ sym (no_loads old))
+    (c.failed.ensures (names_of request) (0, omega arith, refl))
 
 pub returns-in-Some : goal.returns-in-Some
 returns-in-Some g c =
@@ -72,6 +69,5 @@ returns-in-Some g c =
     let stops = subst (λ (ws : List (Bor (List ℕ))). Stops (IsUnsorted (map (λ w. w.now) ws)
     (map under (map (λ w. w.now) ws))) halt.0) c.deref.ensures.value stopped in
     halted_by (Merges request known) (λ loads. IsUnsorted request.uploads known) (names_of request)
-    old _ _ [] halt.0 (sym (no_loads old))
-    (subst (λ (r : Run). LeavesBy (IsUnsorted request.uploads known) (names_of request) halt.0 old r)
-    (sym (c.discard.ensures ∙ c.in-Ok.ensures.unchanged)) (stops (names_of request) old))
+    old _ _ [] halt.0 (c.in-Ok.ensures.unchanged ∙ sym (no_loads old))
+    (rw c.discard.ensures (stops (names_of request) _))

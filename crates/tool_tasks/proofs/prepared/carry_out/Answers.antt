@@ -1,11 +1,8 @@
-use Rattle.std.proofs.Common.{◌∙◌, [], List, Option, Some, ap, string_bytes, subst, sym, ℕ}
-use Rattle.frame.proofs.Giving.{part_files, part_note}
-use Rattle.frame.proofs.Outcomes.{gave_loads, stopped_early}
-use Rattle.frame.specs.Given.{Given, with_files, with_note}
-use Rattle.tool_tasks.proofs.Preparing.{stopped_first}
+use Rattle.std.proofs.Common.{◌∙◌, List, Option, Some, ap, subst, sym, ℕ}
+use Rattle.frame.proofs.Outcomes.{gave_loads, loaded_of}
+use Rattle.tool_tasks.proofs.Preparing.{stopped_first, stopped_whole}
 use Rattle.tool_tasks.specs.declared.prepared.NewFile.{NewFile}
 use Rattle.tool_tasks.specs.inside.Prepared.{Carries, IsNamedIn, files_in, given_of, known_file}
-use Rattle.tool_tasks.specs.inside.Prepared.{with_prepared}
 use Rattle.tool_tasks.proofs.prepared.carry_out.Goals as goal
 
 pub returns-in-None : goal.returns-in-None
@@ -16,15 +13,11 @@ returns-in-None g c = λ words start loads was named.
 
 pub returns-in-Err : goal.returns-in-Err
 returns-in-Err g c = λ words start loads was named.
-    let p = c.args.prepared.now in
-    let none : Given = record { loads = loads; text = []; note = []; files = [] } in
-    stopped_early words start _ (with_prepared none p)
-    (λ g'. with_note (with_files g' (files_in p.held)) (string_bytes p.note)) c.in-Err.why
-    (λ part g' is_part. part_note part (with_files g' (files_in p.held)) (string_bytes p.note)
-    (part_files part g' (files_in p.held) is_part))
-    (stopped_first words start _ _ none p c.in-Err.why (was ∙ gave_loads start loads)
-    (c.in-Err.ensures.stopped words
-    (subst (IsNamedIn words) c.in-Some.is named.held)))
+    stopped_whole words start _ loads c.args.prepared.now (files_in c.args.prepared.now.held)
+    c.in-Err.why
+    (stopped_first words start _ _ (loaded_of loads) c.args.prepared.now c.in-Err.why
+    (was ∙ gave_loads start loads)
+    (c.in-Err.ensures.stopped words (subst (IsNamedIn words) c.in-Some.is named.held)))
 
 pub returns-in-Ok : goal.returns-in-Ok
 returns-in-Ok g c = λ words start loads was named.

@@ -3,14 +3,8 @@ use Rattle.world.specs.{Loads.IsRefused, Run.Run, Run.nothing_yet}
 use Rattle.world.specs.declared.faults.LoadFault.{LoadFault}
 use Rattle.tool_tasks.proofs.streams.open.Goals as goal
 
-pub returns-in-Ok-clause-fresh : goal.returns-in-Ok-clause-fresh
-returns-in-Ok-clause-fresh g c = c.in-Ok.ensures.fresh
-
 pub returns-in-Ok-clause-named : goal.returns-in-Ok-clause-named
 returns-in-Ok-clause-named g c = c.in-Ok.ensures.named ∙ c.file_of.ensures
-
-pub returns-in-Ok-clause-unchanged : goal.returns-in-Ok-clause-unchanged
-returns-in-Ok-clause-unchanged g c = c.in-Ok.ensures.unchanged
 
 pub returns-in-Err-Unread-clause-stopped : goal.returns-in-Err-Unread-clause-stopped
 returns-in-Err-Unread-clause-stopped g c = λ words has.
@@ -21,7 +15,6 @@ returns-in-Err-Unread-clause-stopped g c = λ words has.
     ∙ ap (λ (name : Option (List ℕ)). name ∷ []) c.file_of.ensures in
     (calls ∷ [], all, (c.args.word.now, has, calls, (0, omega arith, refl), unread))
 
-pub returns-in-Err : goal.returns-in-Err
-returns-in-Err g c =
-    let (calls, all, refused) = c.in-Err.ensures.refused in
-    record { fresh = tt; named = tt; unchanged = tt; stopped = λ words has. (calls ∷ [], all, tt) }
+pub returns-in-Err-clause-stopped : goal.returns-in-Err-clause-stopped
+returns-in-Err-clause-stopped g c =
+    let (calls, all, refused) = c.in-Err.ensures.refused in λ words has. (calls ∷ [], all, tt)

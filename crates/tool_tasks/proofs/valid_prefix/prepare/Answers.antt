@@ -7,13 +7,12 @@ returns-clause-right c = record {
   upload = c.args.upload.now;
   loaded = refl;
   file = c.in_ok-bytes.bytes.items;
-  valid = subst (IsValidPrefix c.args.upload.now) (sym c.in_ok-bytes.ensures)
+  valid = subst (IsValidPrefix c.args.upload.now) (sym c.in_ok-bytes.ensures.items)
       c.valid_prefix-valid.ensures;
   made = refl;
   facts = c.facts_of-facts.result;
   are_facts = c.facts_of-facts.ensures;
   status_is = c.status_of.ensures;
-  note = c.new.ensures.bytes;
 }
 
 pub returns-clause-named : goal.returns-clause-named
