@@ -4,7 +4,7 @@ ghost use Rattle.histories.specs.declared.entry.Entry.{Entry};
 ghost use Rattle.ledger_check.specs.{Ledger.IsLedgerOf, Sums.AreSumsOf};
 ghost use Rattle.omny_audit.specs.Reports.{IsVerdictOn, are_whole, damage_line, damage_lines};
 ghost use Rattle.omny_audit.specs.Reports.{damage_text, report_text, verdict_lines};
-ghost use Rattle.omny_audit.specs.inside.Reports.{fits, text_of};
+ghost use Rattle.omny_audit.specs.inside.Audits.{fits, text_of};
 ghost use Rattle.std.specs.{Fmt.decimal, Prelude.◌≡◌, Prelude.◌++◌, Prelude.ℕ, Prelude.List};
 ghost use Rattle.std.specs.Prelude.{IfOk, IfSome, OnOk, codes, string_bytes, option_map, true};
 ghost use Rattle.tap_views.specs.UploadEnds.{are_posted};
