@@ -242,8 +242,7 @@ pub went_further : {start before after : Stream} {head : List ℕ} (name : Optio
     → after.trace.reading ≡ record { name = name; bytes = bytes ++ piece }
     → (before.from ≡ None → after ≡ before) → GoesOn start after head
 went_further {start} {before} {after} {head} name bytes piece goes was read same = record {
-  name = ap (λ (x : Load). x.name) (read ∙ sym (ap (λ (x : Load).
-      record { name = x.name; bytes = bytes ++ piece }) was)) ∙ goes.name;
+  name = ap (λ (x : Load). x.name) read ∙ sym (ap (λ (x : Load). x.name) was) ∙ goes.name;
   rest = goes.rest ++ piece;
   begins = ap (λ (x : Load). x.bytes) read
       ∙ ap (λ (t : List ℕ). t ++ piece) (sym (ap (λ (x : Load). x.bytes) was) ∙ goes.begins)

@@ -83,7 +83,7 @@ impl Audit<'_> {
         let mut text = reported.into_bytes();
         let is_whole = found.is_legal & is_right;
         let verdict = verdict_on(alloc, is_whole, &self.report, &found.sums, self.ends)?;
-        let Ok(()) = write_last_lines(alloc, &mut text, &verdict, self.ends) else {
+        let Ok(()) = write_last_lines(&mut text, &verdict, self.ends) else {
             return Err(NoMemory);
         };
         let is_fit = fits(&self.report, &verdict) & are_whole(self.ends);

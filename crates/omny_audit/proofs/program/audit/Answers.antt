@@ -79,6 +79,9 @@ audit_over-requires-clause-audited g c = (
   },
 )
 
+pub audit_over-requires-clause-read : goal.audit_over-requires-clause-read
+audit_over-requires-clause-read g c = (_, c.in_ok-head.ensures.read)
+
 -- the tables, the uploads and the report were loaded, and then the ledger was audited
 pub returns : goal.returns
 returns g c =
