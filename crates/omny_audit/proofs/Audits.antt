@@ -183,7 +183,7 @@ interrupted {given} {audit} {file} {old} {new} was piece ledger fault read is =
     (remarked given audit ledger file piece was.written read was.has)
     (sym (append-nil was.written)) (ap (λ r. r.written) was.wrote) (ap (λ r. r.said) was.wrote) is
 
-module _ {given : Given} {before after : Audit} {file piece text : List ℕ} {old now new : Run}
+module _ {given : Given} {before after : Audit} {file piece text : List ℕ} {old now : Run}
     {ended : Option Bool} {ledger : Stream} {name : Option (List ℕ)}
     (was : SoFar given before file old now) (steps : Steps before after piece text ended)
     (read : HasRead ledger name (file ++ piece)) (whole : piece ≡ [] → ledger.from ≡ None) where
@@ -195,9 +195,9 @@ module _ {given : Given} {before after : Audit} {file piece text : List ℕ} {ol
       (λ none. whole_at_end ledger name (file ++ piece) read (whole none))
 
   -- an audit that goes on after a piece
-  pub went_on : ended ≡ None → new ≡ with_written now text
+  pub went_on : (new : Run) → ended ≡ None → new ≡ with_written now text
       → SoFar given after (file ++ piece) old new
-  went_on none wrote = record {
+  went_on new none wrote = record {
     written = was.written ++ text;
     has = subst (λ (f : List ℕ). HasAudited given after false f (was.written ++ text)) bytes
         (subst (HoldsNow given after ledger.trace (was.written ++ text)) none holds_now);
@@ -205,19 +205,19 @@ module _ {given : Given} {before after : Audit} {file piece text : List ℕ} {ol
   }
 
   -- all that is found was written and flushed
-  pub all_found : (success : Bool) → ended ≡ Some success
+  pub all_found : (new : Run) (success : Bool) → ended ≡ Some success
       → new ≡ with_flushed (with_written now text)
       → EndsAs given ledger.trace old new (Ok success)
-  all_found success is wrote = (
+  all_found new success is wrote = (
     was.written ++ text,
     subst (HoldsNow given after ledger.trace (was.written ++ text)) is holds_now,
     wrote ∙ ap with_flushed (written_after old now was.written text was.wrote),
   )
 
   -- a write failed
-  pub cut_off : (why : WriteFault) → IsCut now new text why
+  pub cut_off : (new : Run) (why : WriteFault) → IsCut now new text why
       → EndsAs given ledger.trace old new (Err (Unwritten why))
-  cut_off why cut =
+  cut_off new why cut =
       failed given ledger.trace old new (was.written ++ text) (was.written ++ cut.front) cut.rest
       (Unwritten why) (left_now given after ledger.trace (was.written ++ text) ended holds_now)
       (ap (λ (t : List ℕ). was.written ++ t) cut.whole
@@ -229,19 +229,19 @@ module _ {given : Given} {before after : Audit} {file piece text : List ℕ} {ol
       (ap (λ (r : Run). r.cut) cut.prefix)
 
   -- all was written, and the flush failed
-  pub unflushed : (why : WriteFault) → new ≡ with_cut (with_written now text) why
+  pub unflushed : (new : Run) (why : WriteFault) → new ≡ with_cut (with_written now text) why
       → EndsAs given ledger.trace old new (Err (Unwritten why))
-  unflushed why cut = cut_off why
+  unflushed new why cut = cut_off new why
       (record { front = text; rest = []; whole = sym (append-nil text); prefix = cut })
 
 -- ---- the reads of the ledger
 -- what was read so far goes on
-pub went_further : {start before after : Stream} {head : List ℕ} (name : Option (List ℕ))
-    (bytes piece : List ℕ) → GoesOn start before head
+pub went_further : {start before : Stream} {head : List ℕ} (after : Stream)
+    (name : Option (List ℕ)) (bytes piece : List ℕ) → GoesOn start before head
     → before.trace.reading ≡ record { name = name; bytes = bytes }
     → after.trace.reading ≡ record { name = name; bytes = bytes ++ piece }
     → (before.from ≡ None → after ≡ before) → GoesOn start after head
-went_further {start} {before} {after} {head} name bytes piece goes was read same = record {
+went_further {start} {before} {head} after name bytes piece goes was read same = record {
   name = ap (λ (x : Load). x.name) read ∙ sym (ap (λ (x : Load). x.name) was) ∙ goes.name;
   rest = goes.rest ++ piece;
   begins = ap (λ (x : Load). x.bytes) read

@@ -18,13 +18,20 @@ verdict_text (Wants line wanted) =
     codes "line " ++ (decimal line ++ (codes " wants " ++ string_bytes wanted))
 verdict_text (NoLine line) = codes "line " ++ (decimal line ++ codes " is no ledger line\n")
 
+-- the token, and the space after it
+unfoldable pub token_and_space : TapFields → List ℕ
+token_and_space tap = encode_lower tap.token ++ codes " "
+
+-- the space before the validator, the validator and the newline
+unfoldable pub space_and_validator : TapFields → List ℕ
+space_and_validator tap = codes " " ++ (decimal tap.validator ++ codes "\n")
+
 -- `missing tap 000000000000000000000000000000a1 2024-03-08T17:00:00.000Z 1000` or other words before
 -- the tap, with its newline
 pub record IsTapLine (words : List ℕ) (tap : TapFields) (text : List ℕ) : Type 0 where
   pub moment : List ℕ
   pub is : IsMomentText tap.moment moment
-  pub shown : text ≡ words ++ (encode_lower tap.token ++ (codes " " ++ (moment ++ (codes " "
-      ++ (decimal tap.validator ++ codes "\n")))))
+  pub shown : text ≡ words ++ (token_and_space tap ++ (moment ++ space_and_validator tap))
 
 -- `all taps of the uploads`; `missing tap ..`, if the uploads have it more often than the ledger,
 -- `surplus tap ..`, if the ledger has it more often

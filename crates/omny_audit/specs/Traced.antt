@@ -112,19 +112,22 @@ IsPositionFault None read fault = fault ≡ None
 IsPositionFault (Some uploads) read fault =
     IsFaultAfter uploads (have_position read) (wrong_position uploads read) fault
 
--- `all places of the uploads`, `line 3 has another tap than upload 0 has at place 2`, `line 4 has
--- upload 0 place 2 again` or `no line has upload 0 place 3`
-unfoldable pub positions_text : Option PositionFault → List ℕ
-positions_text None = codes "all places of the uploads\n"
-positions_text (Some (OtherTap line upload position)) =
+-- `line 3 has another tap than upload 0 has at place 2`, `line 4 has upload 0 place 2 again` or `no
+-- line has upload 0 place 3`, with its newline
+abbrev pub fault_text : PositionFault → List ℕ
+fault_text (OtherTap line upload position) =
     codes "line " ++ (decimal line ++ (codes " has another tap than upload " ++ (decimal upload
     ++ (codes " has at place " ++ (decimal position ++ codes "\n")))))
-positions_text (Some (Repeated line upload position)) =
+fault_text (Repeated line upload position) =
     codes "line " ++ (decimal line ++ (codes " has upload " ++ (decimal upload
     ++ (codes " place " ++ (decimal position ++ codes " again\n")))))
-positions_text (Some (NoLine upload position)) =
+fault_text (NoLine upload position) =
     codes "no line has upload "
     ++ (decimal upload ++ (codes " place " ++ (decimal position ++ codes "\n")))
+
+abbrev pub positions_text : Option PositionFault → List ℕ
+positions_text None = codes "all places of the uploads\n"
+positions_text (Some fault) = fault_text fault
 
 -- what is reported of the places, if there are uploads
 abbrev pub position_text : Option (List (List TapFields)) → Option PositionFault → List ℕ

@@ -6,6 +6,7 @@ ghost use Rattle.omny_audit.specs.Reports.{IsVerdictOn, are_whole, damage_line, 
 ghost use Rattle.omny_audit.specs.Reports.{damage_text, report_text, verdict_lines};
 ghost use Rattle.omny_audit.specs.inside.Audits.{fits, text_of};
 ghost use Rattle.std.specs.Prelude.{◌≡◌, ◌++◌, ℕ, List, IfOk, IfSome, OnOk, option_map, true};
+ghost use Rattle.tap_views.specs.UploadEnds.{are_posted};
 ghost use Rattle.tariffs.specs.Fares.{Fares};
 
 use histories::HashSeed;
@@ -42,10 +43,13 @@ fn write_verdict(text: &mut Vec<u8>, verdict: &ReportVerdict) -> io::Result<()>
             line,
             uploads,
             ledger,
-        } => write!(
-            text,
-            "wrong report line {line}: the uploads have {uploads} taps, the ledger {ledger}\n"
-        ),
+        } => {
+            write!(
+                text,
+                "wrong report line {line}: the uploads have {uploads} taps, the ledger "
+            )?;
+            write!(text, "{ledger}\n")
+        }
     }
 }
 
@@ -108,13 +112,19 @@ pub(crate) fn fits(report: &Option<HeldReport>, verdict: &Option<ReportVerdict>)
     }
 }
 
+fn are_posted(ends: &[UploadEnd]) -> bool
+    ensures { result ≡ are_posted ends.now }
+{
+    ends.iter().all(|end| end.is_posted())
+}
+
 /// Whether no upload has a layout fault.
 pub(crate) fn are_whole(ends: Option<&[UploadEnd]>) -> bool
     ensures { result ≡ are_whole (option_map (λ e. e.now) ends.entry) }
 {
     match ends {
         None => true,
-        Some(ends) => ends.iter().all(|end| end.is_posted()),
+        Some(ends) => are_posted(ends),
     }
 }
 

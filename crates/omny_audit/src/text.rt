@@ -2,7 +2,7 @@
 
 ghost use Rattle.std.specs.Prelude.{◌≡◌, ◌++◌, ℕ, List, OnOk, string_bytes};
 ghost use Rattle.omny_audit.specs.Text.{AreTapLines, IsDifferenceText, IsDifferencesText, IsTapLine};
-ghost use Rattle.omny_audit.specs.Text.{verdict_text};
+ghost use Rattle.omny_audit.specs.Text.{space_and_validator, token_and_space, verdict_text};
 
 use fare_texts::{Digits, write_moment};
 use ledger_check::{Difference, Verdict, write_legal};
@@ -21,15 +21,33 @@ pub(crate) fn write_verdict(text: &mut String, verdict: &Verdict) -> Result<(), 
     }
 }
 
+#[tactic(auto, unfolding(crate::specs::Text::token_and_space))]
+fn write_token(text: &mut String, tap: &TapFields) -> Result<(), AllocError>
+    ensures { OnOk result
+        (string_bytes text.new ≡ string_bytes text.old ++ token_and_space tap.now) }
+{
+    let digits = Digits(Token::of(&tap.token));
+    write!(text, "{digits} ")
+}
+
+#[tactic(auto, unfolding(crate::specs::Text::space_and_validator))]
+fn write_validator(text: &mut String, tap: &TapFields) -> Result<(), AllocError>
+    ensures { OnOk result
+        (string_bytes text.new ≡ string_bytes text.old ++ space_and_validator tap.now) }
+{
+    let validator = tap.validator;
+    write!(text, " {validator}\n")
+}
+
 fn write_tap_line(text: &mut String, words: &str, tap: &TapFields) -> Result<(), AllocError>
     ensures { OnOk result ((written : List ℕ) × IsTapLine words.now tap.now written
         × (string_bytes text.new ≡ string_bytes text.old ++ written)) }
 {
-    let digits = Digits(Token::of(&tap.token));
-    let validator = tap.validator;
-    write!(text, "{words}{digits} ")?;
+    text.push_str(words)?;
+    write_token(text, tap)?;
     write_moment(text, tap.moment)?;
-    write!(text, " {validator}\n")
+    write_validator(text, tap)?;
+    Ok(())
 }
 
 pub(crate) fn write_difference(

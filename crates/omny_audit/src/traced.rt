@@ -6,7 +6,8 @@ ghost use Rattle.ledger_check.specs.{Lines.IsLine, Lines.lines_of, Positions.Has
 ghost use Rattle.ledger_check.specs.{Positions.is_named, Positions.uploads_of, Taps.IsTapOfLine};
 ghost use Rattle.omny_audit.specs.Traced.{AreColumnsReported, IsFaultAfter, IsPositionFault};
 ghost use Rattle.omny_audit.specs.Traced.{NamesTapWithColumns, ReadLine, class_fault, class_text};
-ghost use Rattle.omny_audit.specs.Traced.{fault_by, lines_read, position_text, positions_text};
+ghost use Rattle.omny_audit.specs.Traced.{fault_by, fault_text, lines_read, position_text};
+ghost use Rattle.omny_audit.specs.Traced.{positions_text};
 ghost use Rattle.omny_audit.specs.declared.traced.PositionFault.{PositionFault as AFault};
 ghost use Rattle.omny_audit.specs.inside.Traced.{HasLines, HasPositions, HasReadAll};
 ghost use Rattle.omny_audit.specs.inside.Traced.{HasReadAs, HasTraced, HaveNamed, IsKeptOf};
@@ -355,24 +356,32 @@ impl TracedPieces {
     }
 }
 
-#[tactic(auto, unfolding(crate::specs::Traced::positions_text))]
+fn write_fault(text: &mut String, fault: &PositionFault) -> Result<(), AllocError>
+    ensures { OnOk result
+        (string_bytes text.new ≡ string_bytes text.old ++ fault_text fault.now) }
+{
+    match fault {
+        PositionFault::OtherTap(line, upload, position) => write!(
+            text,
+            "line {line} has another tap than upload {upload} has at place {position}\n"
+        ),
+        PositionFault::Repeated(line, upload, position) => write!(
+            text,
+            "line {line} has upload {upload} place {position} again\n"
+        ),
+        PositionFault::NoLine(upload, position) => {
+            write!(text, "no line has upload {upload} place {position}\n")
+        }
+    }
+}
+
 fn write_position(text: &mut String, fault: &Option<PositionFault>) -> Result<(), AllocError>
     ensures { OnOk result
         (string_bytes text.new ≡ string_bytes text.old ++ positions_text fault.now) }
 {
     match fault {
         None => text.push_str("all places of the uploads\n"),
-        Some(PositionFault::OtherTap(line, upload, position)) => write!(
-            text,
-            "line {line} has another tap than upload {upload} has at place {position}\n"
-        ),
-        Some(PositionFault::Repeated(line, upload, position)) => write!(
-            text,
-            "line {line} has upload {upload} place {position} again\n"
-        ),
-        Some(PositionFault::NoLine(upload, position)) => {
-            write!(text, "no line has upload {upload} place {position}\n")
-        }
+        Some(fault) => write_fault(text, fault),
     }
 }
 

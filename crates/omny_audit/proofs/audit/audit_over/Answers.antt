@@ -45,10 +45,10 @@ loop-piece-preserved g c =
       file = bytes;
       read = read;
       whole = c.in_default-read.ensures.whole;
-      goes = went_further before.name bytes _ before.goes before.read.reading read.reading
-          (λ ended. (c.read.ensures.ended ended).0);
+      goes = went_further c.read.new.self before.name bytes c.read.new.piece.items before.goes
+          before.read.reading read.reading (λ ended. (c.read.ensures.ended ended).0);
       so_far = λ given has. went_on (before.so_far given has)
-          (rw c.deref.ensures.value at c.in-Ok.ensures) before.read before.whole none
+          (rw c.deref.ensures.value at c.in-Ok.ensures) before.read before.whole _ none
           (rw c.as_slice.ensures.value at c.in_default-write.ensures.whole);
     }
 
@@ -70,7 +70,7 @@ pub returns-in-Err-clause-ends : goal.returns-in-Err-clause-ends
 returns-in-Err-clause-ends g c = λ given has.
     let before = c.loop-piece.invariant in
     cut_off (before.so_far given has) (rw c.deref.ensures.value at c.in-Ok.ensures) before.read
-    before.whole c.in-Err.why (rw c.as_slice.ensures.value at c.in-Err.ensures.cut)
+    before.whole _ c.in-Err.why (rw c.as_slice.ensures.value at c.in-Err.ensures.cut)
 
 -- all that is found was written, and the flush failed
 pub returns-in-Err-flush-clause-ends : goal.returns-in-Err-flush-clause-ends
@@ -79,7 +79,7 @@ returns-in-Err-flush-clause-ends g c = λ given has.
     let why = c.in-Err-flush.unflushed in
     let wrote = rw c.as_slice.ensures.value at c.in_default-write.ensures.whole in
     unflushed (before.so_far given has) (rw c.deref.ensures.value at c.in-Ok.ensures) before.read
-    before.whole why (c.in-Err-flush.ensures.cut ∙ ap (λ (r : Run). with_cut r why) wrote)
+    before.whole _ why (c.in-Err-flush.ensures.cut ∙ ap (λ (r : Run). with_cut r why) wrote)
 
 -- all that is found was written
 pub returns-in-Some-clause-ends : goal.returns-in-Some-clause-ends
@@ -87,7 +87,7 @@ returns-in-Some-clause-ends g c = λ given has.
     let before = c.loop-piece.invariant in
     let wrote = rw c.as_slice.ensures.value at c.in_default-write.ensures.whole in
     all_found (before.so_far given has) (rw c.deref.ensures.value at c.in-Ok.ensures) before.read
-    before.whole c.in-Some.succeeded c.in-Some.is
+    before.whole _ c.in-Some.succeeded c.in-Some.is
     (c.in_default-flush.ensures.flushed ∙ ap with_flushed wrote)
 
 -- a read of the ledger failed
@@ -98,7 +98,7 @@ returns-in-Err-read-clause-ends g c = λ given has.
     let none : c.in-Ok.next.1 ≡ None = first_of (cc, search (rules, tests)) in
     let read = c.in-Err-read.ensures.unread before.name bytes before.read in
     interrupted (went_on (before.so_far given has) (rw c.deref.ensures.value at c.in-Ok.ensures)
-    before.read before.whole none (rw c.as_slice.ensures.value at c.in_default-write.ensures.whole))
+    before.read before.whole _ none (rw c.as_slice.ensures.value at c.in_default-write.ensures.whole))
     [] c.read.new.self.trace (Ledger c.in-Err-read.why)
     (ap (λ (x : Load). x.bytes) read.0 ∙ sym (append-nil bytes))
     (subst (λ (n : Option (List ℕ)). IsShown c.read.new.self.trace.run (n, c.in-Err-read.why))
@@ -110,6 +110,6 @@ returns-in-Err-read-clause-goes g c =
     let before = c.loop-piece.invariant in
     let bytes = before.file ++ c.loop-piece.piece.items in
     let read = c.in-Err-read.ensures.unread before.name bytes before.read in
-    went_further before.name bytes [] before.goes before.read.reading
+    went_further c.read.new.self before.name bytes [] before.goes before.read.reading
     (read.0 ∙ ap (λ (t : List ℕ). record { name = before.name; bytes = t }) (sym (append-nil bytes)))
     (λ ended. (c.read.ensures.ended ended).0)

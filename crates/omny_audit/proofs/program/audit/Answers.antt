@@ -27,8 +27,10 @@ returns-in_err-uploads g c =
     let start = c.args.files.now.loads in
     let loads = c.load_uploads.new.files.loads in
     let ledger = c.args.ledger.now.trace in
-    stopped_before request (did_by start loads ledger run run) _ _ c.from_residual.ensures.1 refl
-    (load_cause request start loads ledger run run request.uploads _ (among_uploads request)
+    let fault = c.in_err-uploads.field-0.0 in
+    stopped_before request (did_by start loads ledger run run) c.from_residual.result fault
+    c.from_residual.ensures.1 refl
+    (load_cause request start loads ledger run run request.uploads fault (among_uploads request)
     (rw c.as_slice-names.ensures.value at c.in_err-uploads.ensures.fault))
 
 pub returns-in_err-report : goal.returns-in_err-report
@@ -38,9 +40,10 @@ returns-in_err-report g c =
     let start = c.args.files.now.loads in
     let loads = c.load_report.new.files.loads in
     let ledger = c.args.ledger.now.trace in
-    stopped_before request (did_by start loads ledger run run) _ _
-    c.from_residual-in_err-report.ensures.1 refl
-    (load_cause request start loads ledger run run (named_file request.report) _
+    let fault = c.in_err-report.field-0.0 in
+    stopped_before request (did_by start loads ledger run run) c.from_residual-in_err-report.result
+    fault c.from_residual-in_err-report.ensures.1 refl
+    (load_cause request start loads ledger run run (named_file request.report) fault
     (among_reports request) c.in_err-report.ensures.fault)
 
 pub returns-in_err-head : goal.returns-in_err-head
@@ -49,8 +52,10 @@ returns-in_err-head g c =
     let run = g.W.Inputs.run c.args.world.now in
     let did = did_by c.args.files.now.loads c.load_report.new.files.loads
     c.read_head.new.ledger.trace run run in
-    stopped_before request did _ _ c.from_residual-in_err-head.ensures.1 refl
-    (stream_cause request did _ (c.in_err-head.ensures.fault run.cut))
+    let fault = c.in_err-head.field-0.0 in
+    stopped_before request did c.from_residual-in_err-head.result fault
+    c.from_residual-in_err-head.ensures.1 refl
+    (stream_cause request did fault (c.in_err-head.ensures.fault run.cut))
 
 pub returns-in_err-trace : goal.returns-in_err-trace
 returns-in_err-trace g c =
@@ -58,8 +63,10 @@ returns-in_err-trace g c =
     let run = g.W.Inputs.run c.args.world.now in
     let did = did_by c.args.files.now.loads c.load_report.new.files.loads
     c.read_head.new.ledger.trace run run in
-    stopped_before request did _ _ c.from_residual-in_err-trace.ensures.1 refl
-    (class_cause request did _ _ _ _ c.in-Ok.ensures.ok c.in_err-trace.ensures.fault)
+    let fault = c.in_err-trace.field-0.0 in
+    stopped_before request did c.from_residual-in_err-trace.result fault
+    c.from_residual-in_err-trace.ensures.1 refl
+    (class_cause request did _ _ _ fault c.in-Ok.ensures.ok c.in_err-trace.ensures.fault)
 
 pub trace_of-requires-clause-positions : goal.trace_of-requires-clause-positions
 trace_of-requires-clause-positions g c =
