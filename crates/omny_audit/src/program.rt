@@ -13,7 +13,7 @@ ghost use Rattle.program_manners.specs.Refusals.{IsShown, refusal_of};
 ghost use Rattle.program_manners.specs.{TableLoads.LoadsTables, TableViews.names_of};
 ghost use Rattle.program_manners.specs.{TableWords.wrong_word, Words.IsRequest};
 ghost use Rattle.std.specs.{List.slice_get, Prelude.◌≡◌};
-ghost use Rattle.std.specs.Prelude.{◌<◌, ◌≤◌, ◌⊎◌, [], List, ℕ, IfErr, IfOk, None, OnOk, Option, Some};
+ghost use Rattle.std.specs.Prelude.{◌<◌, ◌≤◌, ◌⊎◌, [], List, ℕ, IfErr, IfOk, None, Option, Some};
 ghost use Rattle.std.specs.Prelude.{false, length, map, IfSome, option_map, string_bytes};
 ghost use Rattle.tap_views.specs.declared.encoder.TapFields.{TapFields};
 ghost use Rattle.world.specs.{Run.Load, Run.no_calls, Streams.HasRead, Writes.IsSaid};

@@ -43,13 +43,10 @@ fn write_verdict(text: &mut Vec<u8>, verdict: &ReportVerdict) -> io::Result<()>
             line,
             uploads,
             ledger,
-        } => {
-            write!(
-                text,
-                "wrong report line {line}: the uploads have {uploads} taps, the ledger "
-            )?;
-            write!(text, "{ledger}\n")
-        }
+        } => write!(
+            text,
+            "wrong report line {line}: the uploads have {uploads} taps, the ledger {ledger}\n"
+        ),
     }
 }
 
