@@ -11,9 +11,9 @@ use Rattle.omny_audit.specs.declared.check.Check.TheVariants.{First, All}
 use Rattle.omny_audit.specs.declared.check.Found.{Found}
 use Rattle.omny_audit.specs.declared.fault.Fault.{Fault, TheVariants.Unwritten}
 use Rattle.omny_audit.specs.declared.traced.TracedPieces.{TracedPieces}
-use Rattle.omny_audit.specs.inside.Audits.{EndsAs, HasAudited, HoldsNow, Steps, given_in}
+use Rattle.omny_audit.specs.inside.Audits.{EndsAs, GoesOn, HasAudited, HoldsNow, Steps, given_in}
 use Rattle.omny_audit.specs.inside.Checks.{Finds, HasChecked, is_all, is_decided}
-use Rattle.omny_audit.specs.inside.Fault.{IsStreamFault}
+use Rattle.omny_audit.specs.inside.Program.{IsStreamFault}
 use Rattle.omny_audit.specs.inside.Traced.{HasReadAll, HasReadAs, wanted_by}
 use Rattle.std.proofs.lemmas.Bool.{true≢false}
 use Rattle.std.specs.Prelude.{◌⊎◌, ◌||◌, Err, Ok, is_some}
@@ -138,17 +138,6 @@ left_now given audit ledger text None has =
 left_now given audit ledger text (Some success) found =
     inr (λ more end. inl (success, found.0 more end))
 
-pub started_weaker : (Right Other : List ℕ → Type 0) (out out' : List ℕ)
-    → ((text : List ℕ) → Right text → Other text) → HasStarted Right out out'
-    → HasStarted Other out out'
-started_weaker Right Other out out' weaker started = record {
-  front = started.front;
-  grown = started.grown;
-  rest = started.rest;
-  right = ⊎_elim (λ none. inl none) (λ is. inr (weaker (started.front ++ started.rest) is))
-      started.right;
-}
-
 no_front : (front rest : List ℕ) → front ++ rest ≡ [] → front ≡ []
 no_front [] rest is = refl
 no_front (byte ∷ front) rest is = absurd cc
@@ -156,7 +145,7 @@ no_front (byte ∷ front) rest is = absurd cc
 -- a prefix of it was written
 failed : (given : Given) (ledger : Calls) (old new : Run) (text front rest : List ℕ) (fault : Fault)
     → MayBeLeft given ledger text → text ≡ front ++ rest → new.written ≡ old.written ++ front
-    → new.said ≡ old.said → IsStreamFault ledger new.cut fault
+    → new.said ≡ old.said → IsStreamFault ledger.reading.name ledger.run new.cut fault
     → EndsAs given ledger old new (Err fault)
 failed given ledger old new text front rest fault left whole grown quiet is = (
   is,
@@ -184,30 +173,31 @@ written_after r now xs ys is =
     ∙ ap (λ all. record r { written = all }) (append_assoc r.written xs ys)
 
 -- an audit that fails before a piece
-pub interrupted : (given : Given) (audit : Audit) (file piece : List ℕ) (ledger : Calls)
-    (old new : Run) (fault : Fault) → ledger.reading.bytes ≡ file ++ piece
-    → SoFar given audit file old new → IsStreamFault ledger new.cut fault
+pub interrupted : {given : Given} {audit : Audit} {file : List ℕ} {old new : Run}
+    → SoFar given audit file old new → (piece : List ℕ) (ledger : Calls) (fault : Fault)
+    → ledger.reading.bytes ≡ file ++ piece
+    → IsStreamFault ledger.reading.name ledger.run new.cut fault
     → EndsAs given ledger old new (Err fault)
-interrupted given audit file piece ledger old new fault read was is =
+interrupted {given} {audit} {file} {old} {new} was piece ledger fault read is =
     failed given ledger old new was.written was.written [] fault
     (remarked given audit ledger file piece was.written read was.has)
     (sym (append-nil was.written)) (ap (λ r. r.written) was.wrote) (ap (λ r. r.said) was.wrote) is
 
-module _ (given : Given) (before after : Audit) (file piece text : List ℕ) (old now new : Run)
-    (ended : Option Bool) (was : SoFar given before file old now)
-    (steps : Steps before after piece text ended) (ledger : Stream) (name : Option (List ℕ))
+module _ {given : Given} {before after : Audit} {file piece text : List ℕ} {old now : Run}
+    {ended : Option Bool} {ledger : Stream} {name : Option (List ℕ)}
+    (was : SoFar given before file old now) (steps : Steps before after piece text ended)
     (read : HasRead ledger name (file ++ piece)) (whole : piece ≡ [] → ledger.from ≡ None) where
   bytes : ledger.trace.reading.bytes ≡ file ++ piece
   bytes = ap (λ (x : Load). x.bytes) read.reading
 
   holds_now : HoldsNow given after ledger.trace (was.written ++ text) ended
-  holds_now = steps given file was.written ledger.trace was.has bytes
+  holds_now = steps.holds given file was.written ledger.trace was.has bytes
       (λ none. whole_at_end ledger name (file ++ piece) read (whole none))
 
   -- an audit that goes on after a piece
-  pub went_on : ended ≡ None → new ≡ with_written now text
+  pub went_on : (new : Run) → ended ≡ None → new ≡ with_written now text
       → SoFar given after (file ++ piece) old new
-  went_on none wrote = record {
+  went_on new none wrote = record {
     written = was.written ++ text;
     has = subst (λ (f : List ℕ). HasAudited given after false f (was.written ++ text)) bytes
         (subst (HoldsNow given after ledger.trace (was.written ++ text)) none holds_now);
@@ -215,19 +205,19 @@ module _ (given : Given) (before after : Audit) (file piece text : List ℕ) (ol
   }
 
   -- all that is found was written and flushed
-  pub all_found : (success : Bool) → ended ≡ Some success
+  pub all_found : (new : Run) (success : Bool) → ended ≡ Some success
       → new ≡ with_flushed (with_written now text)
       → EndsAs given ledger.trace old new (Ok success)
-  all_found success is wrote = (
+  all_found new success is wrote = (
     was.written ++ text,
     subst (HoldsNow given after ledger.trace (was.written ++ text)) is holds_now,
     wrote ∙ ap with_flushed (written_after old now was.written text was.wrote),
   )
 
   -- a write failed
-  pub cut_off : (why : WriteFault) → IsCut now new text why
+  pub cut_off : (new : Run) (why : WriteFault) → IsCut now new text why
       → EndsAs given ledger.trace old new (Err (Unwritten why))
-  cut_off why cut =
+  cut_off new why cut =
       failed given ledger.trace old new (was.written ++ text) (was.written ++ cut.front) cut.rest
       (Unwritten why) (left_now given after ledger.trace (was.written ++ text) ended holds_now)
       (ap (λ (t : List ℕ). was.written ++ t) cut.whole
@@ -239,7 +229,23 @@ module _ (given : Given) (before after : Audit) (file piece text : List ℕ) (ol
       (ap (λ (r : Run). r.cut) cut.prefix)
 
   -- all was written, and the flush failed
-  pub unflushed : (why : WriteFault) → new ≡ with_cut (with_written now text) why
+  pub unflushed : (new : Run) (why : WriteFault) → new ≡ with_cut (with_written now text) why
       → EndsAs given ledger.trace old new (Err (Unwritten why))
-  unflushed why cut = cut_off why
+  unflushed new why cut = cut_off new why
       (record { front = text; rest = []; whole = sym (append-nil text); prefix = cut })
+
+-- ---- the reads of the ledger
+-- what was read so far goes on
+pub went_further : {start before : Stream} {head : List ℕ} (after : Stream)
+    (name : Option (List ℕ)) (bytes piece : List ℕ) → GoesOn start before head
+    → before.trace.reading ≡ record { name = name; bytes = bytes }
+    → after.trace.reading ≡ record { name = name; bytes = bytes ++ piece }
+    → (before.from ≡ None → after ≡ before) → GoesOn start after head
+went_further {start} {before} {head} after name bytes piece goes was read same = record {
+  name = ap (λ (x : Load). x.name) read ∙ sym (ap (λ (x : Load). x.name) was) ∙ goes.name;
+  rest = goes.rest ++ piece;
+  begins = ap (λ (x : Load). x.bytes) read
+      ∙ ap (λ (t : List ℕ). t ++ piece) (sym (ap (λ (x : Load). x.bytes) was) ∙ goes.begins)
+      ∙ append_assoc head goes.rest piece;
+  ended = λ none. same (ap (λ (s : Stream). s.from) (goes.ended none) ∙ none) ∙ goes.ended none;
+}

@@ -2,11 +2,11 @@
 use Rattle.clap.specs.Words.{IsAmong, Text, fault_of}
 use Rattle.clap.specs.declared.error.kind.ErrorKind.TheVariants.{DisplayHelp, DisplayVersion}
 use Rattle.class_names.specs.{ClassFaults.IsWrongAt, declared.names.WrongNames.WrongNames}
-use Rattle.frame.specs.Failing.{HasStarted}
+use Rattle.frame.specs.{Failing.HasStarted, Outsides.is_closed}
 use Rattle.ledger_check.specs.Columns.{has_ledger_head}
-use Rattle.omny_audit.specs.{Fault.IsReported, Options.AuditRequest}
-use Rattle.omny_audit.specs.Options.{audit_program, audit_request_by, files_of, ledger_name}
-use Rattle.omny_audit.specs.{Program.HasFound, Program.IsTextOf, declared.fault.Fault.Fault}
+use Rattle.omny_audit.specs.Options.{AuditRequest, audit_program, audit_request_by, files_of}
+use Rattle.omny_audit.specs.{Options.ledger_name, Program.HasFound, Program.IsTextOf}
+use Rattle.omny_audit.specs.declared.fault.Fault.{Fault}
 use Rattle.omny_audit.specs.declared.fault.Fault.TheVariants.{Class, File, GivenLedger, Ledger}
 use Rattle.omny_audit.specs.declared.fault.Fault.TheVariants.{NoMemory, NotMade, Tables, Unwritten}
 use Rattle.program_manners.specs.Refusals.{HasRefused, IsShown, refusal_of}
@@ -15,10 +15,10 @@ use Rattle.program_manners.specs.TableWords.{TableNames, table_files, wrong_word
 use Rattle.program_manners.specs.TablesFaults.{IsTablesFault}
 use Rattle.program_manners.specs.declared.recorded_loads.RecordedLoads.{RecordedLoads}
 use Rattle.std.specs.Prelude.{◌≡◌, ◌⊎◌, ⊤, ℕ, Bool, true, false, List, [], ◌∷◌, ◌++◌, Option, None}
-use Rattle.std.specs.Prelude.{Some, Contains, suc, zero}
+use Rattle.std.specs.Prelude.{Some, Contains, MatchBool, suc, zero}
 use Rattle.tariffs.specs.Fares.{Fares}
 use Rattle.world.specs.Run.{Calls, Load, Run, no_calls, with_flushed, with_written}
-use Rattle.world.specs.declared.faults.LoadFault.{LoadFault}
+use Rattle.world.specs.{Writes.IsSaid, declared.faults.LoadFault.LoadFault}
 use Rattle.class_names.specs.declared.names.ClassFault.TheVariants as class
 
 -- one of the texts names a class that no ledger can have
@@ -80,6 +80,15 @@ IsRightFault request did (Class file is_alone) = Contains (table_files request.t
 IsRightFault request did (Unwritten why) = did.new.cut ≡ Some why
 IsRightFault request did (NotMade name) = ⊥
 IsRightFault request did NoMemory = ⊤
+
+-- whether the reader of the text is gone
+abbrev pub is_quiet : Fault → Bool
+is_quiet (Unwritten why) = is_closed why
+is_quiet _ = false
+
+-- Something was said, and nothing else was done; or the reader of the text is gone, and nothing was.
+abbrev pub IsReported : Fault → Run → Run → Type 0
+IsReported fault before after = MatchBool (is_quiet fault) (after ≡ before) (IsSaid before after)
 
 -- a prefix of a right text was written
 abbrev pub HasStartedText : AuditRequest → Did → Type 0

@@ -11,19 +11,15 @@ use Rattle.std.specs.Prelude.{ℕ, Bool, true, false, List, [], ◌++◌, map, O
 use Rattle.tap_views.specs.declared.encoder.TapFields.{TapFields}
 use Rattle.tariffs.specs.Fares.{Fares}
 
--- the difference is that of the valid taps and the ledger's, whatever entries the ledger has
-abbrev pub IsDifferenceOf : Fares → List ℕ → List TapFields → Option Difference → Type 0
-IsDifferenceOf fares text valid difference =
-    (entries : List Entry) → IsLedgerOf fares entries text
-    → IsDifference valid (map tap_of_entry entries) difference
-
 -- What follows the line of the verdict, which is legal or not: nothing, or, if it is legal and
--- there are uploads, the line of the difference.
+-- there are uploads, the line of the difference of their taps and the ledger's, whatever entries it
+-- has.
 abbrev pub IsDifferenceLine : Fares → List ℕ → Option (List TapFields) → Bool → List ℕ → Type 0
 IsDifferenceLine fares text valid false rest = rest ≡ []
 IsDifferenceLine fares text None true rest = rest ≡ []
 IsDifferenceLine fares text (Some valid) true rest = (difference : Option Difference)
-    × IsDifferenceText difference rest × IsDifferenceOf fares text valid difference
+    × IsDifferenceText difference rest × ((entries : List Entry) → IsLedgerOf fares entries text
+    → IsDifference valid (map tap_of_entry entries) difference)
 
 -- what is found of the text up to its first wrong line, beside the valid taps of the uploads, if
 -- there are uploads: a true verdict, and the difference
@@ -63,12 +59,9 @@ abbrev pub HasValidTaps : Option (List TapFields) → List TapFields → Type 0
 HasValidTaps None taps = Unit {0}
 HasValidTaps (Some valid) taps = IsPermutation valid taps
 
--- the taps are in order, unless a live ledger is well
-abbrev pub HasOrder : Bool → List TapFields → Type 0
-HasOrder live taps = (live || are_settled taps) ≡ true
-
 -- the text is, whole, a ledger of legal histories, has the taps of the uploads, and is settled if a
 -- live one is not well
 abbrev pub IsRightLedger : Bool → Fares → List ℕ → Option (List TapFields) → Type 0
 IsRightLedger live fares text valid = (ledger : IsLedger fares text)
-    × (HasValidTaps valid (map tap_of_entry ledger.0) × HasOrder live (map tap_of_entry ledger.0))
+    × (HasValidTaps valid (map tap_of_entry ledger.0)
+    × ((live || are_settled (map tap_of_entry ledger.0)) ≡ true))

@@ -1,5 +1,4 @@
 pub mod Ends
-pub mod Fault
 pub mod Findings
 pub mod Options
 pub mod Program

@@ -5,9 +5,8 @@ use Rattle.ledger_check.specs.{Balances.AreValidFields, Columns.has_traced_head}
 use Rattle.omny_audit.specs.{Options.AuditRequest, Options.has_uploads, Reports.Given}
 use Rattle.omny_audit.specs.{Reports.IsAudit, Reports.IsAuditText, Traced.Wanted}
 use Rattle.program_manners.specs.TableLoads.{LoadsTables}
-use Rattle.std.specs.{List.AllZip, List.flat_map, Prelude.◌≡◌}
+use Rattle.std.specs.{Bool.then_some, List.AllZip, List.flat_map, Prelude.◌≡◌}
 use Rattle.std.specs.Prelude.{ℕ, Bool, true, false, List, [], ◌∷◌, ◌++◌, map, Option, None, Some}
-use Rattle.std.specs.Prelude.{if◌then◌else◌}
 use Rattle.tap_views.specs.UploadEnds.{ArePlainEnds}
 use Rattle.tap_views.specs.declared.{encoder.TapFields.TapFields, upload_end.UploadEnd.UploadEnd}
 use Rattle.tariffs.specs.Fares.{Fares}
@@ -22,18 +21,9 @@ pub record LoadsNamedFiles (names : List Text) (loaded loaded' : List Load)
   pub bytes : map (λ load. load.bytes) loads ≡ files
   pub is_loaded : loaded' ≡ loaded ++ loads
 
--- the fields of the valid taps of each upload
-abbrev pub AreValidFieldsOfEach : List (List ℕ) → List (List TapFields) → Type 0
-AreValidFieldsOfEach uploads lists = AllZip AreValidFields uploads lists
-
--- the fields of the valid taps of the uploads, one upload after another
-abbrev pub AreValidFieldsOfAll : List (List ℕ) → List TapFields → Type 0
-AreValidFieldsOfAll uploads taps = (lists : List (List TapFields))
-    × AreValidFieldsOfEach uploads lists × (taps ≡ flat_map (λ list. list) lists)
-
--- what a ledger is compared with, if uploads are named
-abbrev pub compared : {A : Type 0} → Bool → A → Option A
-compared named valid = if named then Some valid else None
+-- the taps of uploads, one upload after another
+abbrev pub taps_in : List (List TapFields) → List TapFields
+taps_in lists = flat_map (λ list. list) lists
 
 -- a file was loaded, if it is named
 abbrev pub LoadsReport : Option Text → List Load → List Load → Option (List ℕ) → Type 0
@@ -69,10 +59,9 @@ pub record HasLoaded (request : AuditRequest) (loaded loaded' : List Load) (ledg
   pub loads_tables : LoadsTables request.table (Some loaded) (Some after_table) texts fares
   pub uploads : List (List ℕ)
   pub loads_uploads : LoadsNamedFiles request.uploads after_table after_uploads uploads
-  pub valid : List TapFields
-  pub are_valid : AreValidFieldsOfAll uploads valid
+  -- the fields of the valid taps of each upload
   pub lists : List (List TapFields)
-  pub are_lists : AreValidFieldsOfEach uploads lists
+  pub are_lists : AllZip AreValidFields uploads lists
   pub report : Option (List ℕ)
   pub loads_report : LoadsReport request.report after_uploads loaded' report
   pub ends : List UploadEnd
@@ -83,7 +72,7 @@ pub record HasLoaded (request : AuditRequest) (loaded loaded' : List Load) (ledg
   pub traced : Bool
   pub is_traced : HoldsOfRead ledger (λ file. traced ≡ has_traced_head file)
   pub wanted : Option Wanted
-  pub are_wanted : AreWanted fares texts traced (compared (has_uploads request) lists) wanted
+  pub are_wanted : AreWanted fares texts traced (then_some (has_uploads request) lists) wanted
 
 -- what the ledger is audited by, of these files
 abbrev pub given_of : (request : AuditRequest) {loaded loaded' : List Load} {ledger : Calls}
@@ -93,8 +82,8 @@ given_of request files = record {
   live = request.live;
   fares = files.fares;
   wanted = files.wanted;
-  valid = compared (has_uploads request) files.valid;
-  ends = compared (has_uploads request) files.ends;
+  valid = then_some (has_uploads request) (taps_in files.lists);
+  ends = then_some (has_uploads request) files.ends;
   report = files.report;
 }
 

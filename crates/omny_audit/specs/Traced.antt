@@ -94,11 +94,6 @@ wrong_position uploads [] = None
 wrong_position uploads (read ∷ earlier) = option_or (wrong_position uploads earlier)
     (position_fault uploads earlier (length earlier + 1) read.traced)
 
--- the place is the first that was not named
-abbrev pub IsFirstLeft : List (List TapFields) → (ℕ → ℕ → Bool) → PositionFault → Type 0
-IsFirstLeft uploads named (NoLine upload position) = IsFirstUnnamed uploads named upload position
-IsFirstLeft uploads named _ = ⊥
-
 -- after lines of which one is wrong this is the fault; else it is the first place that was not
 -- named, if there is one
 abbrev pub IsFaultAfter : List (List TapFields) → (ℕ → ℕ → Bool) → Option PositionFault
@@ -106,7 +101,9 @@ abbrev pub IsFaultAfter : List (List TapFields) → (ℕ → ℕ → Bool) → O
 IsFaultAfter uploads named (Some wrong) fault = fault ≡ Some wrong
 IsFaultAfter uploads named None None =
     (upload position : ℕ) → ¬ (IsUnnamed uploads named upload position)
-IsFaultAfter uploads named None (Some fault) = IsFirstLeft uploads named fault
+IsFaultAfter uploads named None (Some (NoLine upload position)) =
+    IsFirstUnnamed uploads named upload position
+IsFaultAfter uploads named None (Some _) = ⊥
 
 -- what is wrong first with the places of the lines, if there are uploads
 abbrev pub IsPositionFault : Option (List (List TapFields)) → List ReadLine → Option PositionFault
@@ -115,26 +112,22 @@ IsPositionFault None read fault = fault ≡ None
 IsPositionFault (Some uploads) read fault =
     IsFaultAfter uploads (have_position read) (wrong_position uploads read) fault
 
--- `upload 0 place 2`
-abbrev pub upload_position_text : ℕ → ℕ → List ℕ
-upload_position_text upload position =
-    codes "upload " ++ (decimal upload ++ (codes " place " ++ decimal position))
-
 -- `line 3 has another tap than upload 0 has at place 2`, `line 4 has upload 0 place 2 again` or `no
--- line has upload 0 place 3`
+-- line has upload 0 place 3`, with its newline
 abbrev pub fault_text : PositionFault → List ℕ
 fault_text (OtherTap line upload position) =
     codes "line " ++ (decimal line ++ (codes " has another tap than upload " ++ (decimal upload
-    ++ (codes " has at place " ++ decimal position))))
+    ++ (codes " has at place " ++ (decimal position ++ codes "\n")))))
 fault_text (Repeated line upload position) =
-    codes "line " ++ (decimal line ++ (codes " has " ++ (upload_position_text upload position
-    ++ codes " again")))
+    codes "line " ++ (decimal line ++ (codes " has upload " ++ (decimal upload
+    ++ (codes " place " ++ (decimal position ++ codes " again\n")))))
 fault_text (NoLine upload position) =
-    codes "no line has upload " ++ (decimal upload ++ (codes " place " ++ decimal position))
+    codes "no line has upload "
+    ++ (decimal upload ++ (codes " place " ++ (decimal position ++ codes "\n")))
 
 abbrev pub positions_text : Option PositionFault → List ℕ
 positions_text None = codes "all places of the uploads\n"
-positions_text (Some fault) = fault_text fault ++ codes "\n"
+positions_text (Some fault) = fault_text fault
 
 -- what is reported of the places, if there are uploads
 abbrev pub position_text : Option (List (List TapFields)) → Option PositionFault → List ℕ

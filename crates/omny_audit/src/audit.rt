@@ -1,10 +1,9 @@
 //! The audit of a ledger that comes in pieces.
 
-ghost use Rattle.std.specs.Prelude.{◌≡◌, ◌++◌, ◌||◌, ◌==◌, ℕ, List, [], Bool, IfOk, None, OnOk};
-ghost use Rattle.std.specs.Prelude.{false, length, string_bytes, true};
-ghost use Rattle.omny_audit.specs.Reports.{Given, IsAudit};
+ghost use Rattle.std.specs.Prelude.{◌≡◌, ◌++◌, ◌||◌, ◌==◌, ℕ, List, [], IfOk, None, OnOk, Option};
+ghost use Rattle.std.specs.Prelude.{false, length, string_bytes};
+ghost use Rattle.omny_audit.specs.Reports.{Given};
 ghost use Rattle.omny_audit.specs.inside.Audits.{EndsAs, GoesOn, HasAudited, Steps};
-ghost use Rattle.omny_audit.specs.inside.Checks.{is_decided};
 ghost use Rattle.world.specs.Streams.{HasRead};
 
 use crate::check::Check;
@@ -61,20 +60,21 @@ impl Audit<'_> {
         Ok(())
     }
 
-    /// Returns whether all is right.
-    fn end(&mut self, alloc: Global, mut reported: String) -> Result<(Vec<u8>, bool), NoMemory>
-        requires { (given : Given) × (whole : Bool) × (file written : List ℕ)
-            × HasAudited given self.old whole file written }
-        ensures decided { IfOk result
-            (λ ended. is_decided self.old.check ≡ true → ended.1 ≡ false) }
-        ensures ended { IfOk result (λ ended. (given : Given) (whole : Bool)
-            (file before more : List ℕ)
-            → HasAudited given self.old whole file (before ++ string_bytes reported)
-            → (whole || is_decided self.old.check) ≡ true → (whole ≡ true → more ≡ [])
-            → IsAudit given (file ++ more) (before ++ ended.0.items) ended.1) }
+    /// What is reported of the piece, which without bytes is the file's end. At the end of the
+    /// finding, also whether all is right: after the first wrong line nothing is read.
+    fn next(&mut self, alloc: Global, piece: &[u8]) -> Result<(Vec<u8>, Option<bool>), NoMemory>
+        requires { (given : Given) × (file written : List ℕ)
+            × HasAudited given self.old false file written }
+        ensures { IfOk result (λ next. Steps self.old self.new piece.now next.0.items next.1) }
     {
         // proof: a report fits exactly if it is that of the ledger's entries
         report_verdicts_decide();
+        let mut reported = String::new(alloc);
+        self.read(alloc, piece, &mut reported)?;
+        let is_last = piece.is_empty() | self.check.is_decided();
+        if !is_last {
+            return Ok((reported.into_bytes(), None));
+        }
         let all = self.check.is_all();
         let found = self
             .check
@@ -83,28 +83,11 @@ impl Audit<'_> {
         let mut text = reported.into_bytes();
         let is_whole = found.is_legal & is_right;
         let verdict = verdict_on(alloc, is_whole, &self.report, &found.sums, self.ends)?;
-        let Ok(()) = write_last_lines(alloc, &mut text, &verdict, self.ends) else {
+        let Ok(()) = write_last_lines(&mut text, &verdict, self.ends) else {
             return Err(NoMemory);
         };
-        let is_last = fits(&self.report, &verdict) & are_whole(self.ends);
-        Ok((text, found.is_sound & (is_right & is_last)))
-    }
-
-    /// A piece without bytes is the file's end. At the end of the finding, returns whether all is
-    /// right: after the first wrong line nothing is read.
-    fn next(&mut self, alloc: Global, piece: &[u8]) -> Result<(Vec<u8>, Option<bool>), NoMemory>
-        requires { (given : Given) × (file written : List ℕ)
-            × HasAudited given self.old false file written }
-        ensures { IfOk result (λ next. Steps self.old self.new piece.now next.0.items next.1) }
-    {
-        let mut reported = String::new(alloc);
-        self.read(alloc, piece, &mut reported)?;
-        let is_last = piece.is_empty() | self.check.is_decided();
-        if is_last {
-            let ended = self.end(alloc, reported)?;
-            return Ok((ended.0, Some(ended.1)));
-        }
-        Ok((reported.into_bytes(), None))
+        let is_fit = fits(&self.report, &verdict) & are_whole(self.ends);
+        Ok((text, Some(found.is_sound & (is_right & is_fit))))
     }
 }
 
@@ -118,7 +101,7 @@ pub(crate) fn audit_over<'a, W: World>(
     world: &mut W,
 ) -> Result<bool, Fault<'a>>
     requires audited { (given : Given) × HasAudited given audit.old false [] [] }
-    requires read { HasRead ledger.old ledger.old.trace.reading.name head.items }
+    requires read { (name : Option (List ℕ)) × HasRead ledger.old name head.items }
     requires whole { head.items ≡ [] → ledger.old.from ≡ None }
     ensures goes { GoesOn ledger.old ledger.new head.items }
     ensures ends { (given : Given) → HasAudited given audit.old false [] []

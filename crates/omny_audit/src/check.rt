@@ -7,9 +7,9 @@ ghost use Rattle.ledger_check.specs.{Orders.tap_of_entry, Sums.AreSumsOf};
 ghost use Rattle.ledger_check.specs.Verdicts.{IsVerdict, early_in, is_legal};
 ghost use Rattle.omny_audit.specs.Findings.{HasValidTaps, IsDifferencesEnd};
 ghost use Rattle.omny_audit.specs.inside.Checks.{Finds, HasChecked, IsCompared, is_all, is_decided};
+ghost use Rattle.std.specs.Bool.{then_some};
 ghost use Rattle.std.specs.Prelude.{◌≡◌, ◌++◌, ◌↔◌, ◌&&◌, ◌||◌, ℕ, List, [], IfOk, IfSome, IsTrue};
-ghost use Rattle.std.specs.Prelude.{None, OnOk, Bool, Some, if◌then◌else◌, is_some, map, not};
-ghost use Rattle.std.specs.Prelude.{string_bytes, true, false};
+ghost use Rattle.std.specs.Prelude.{None, OnOk, Bool, is_some, map, not, string_bytes, true, false};
 ghost use Rattle.tap_views.specs.declared.encoder.TapFields.{TapFields as ATap};
 ghost use Rattle.tariffs.specs.Fares.{Fares};
 
@@ -121,7 +121,7 @@ impl Check {
         ensures found { IfOk result (λ found. (fares : Fares) (valid : List ATap)
             (text written : List ℕ) → HasChecked fares subtracts valid self.old text written
             → (more : List ℕ) × (string_bytes reported.new ≡ string_bytes reported.old ++ more)
-            × Finds (is_all self.old) live fares text (if subtracts then Some valid else None)
+            × Finds (is_all self.old) live fares text (then_some subtracts valid)
             (written ++ more) found) }
         ensures decided { IfOk result
             (λ found. is_decided self.old ≡ true → found.is_legal ≡ false) }
@@ -180,7 +180,7 @@ fn finding(
         → IsBalance balance.now valid (map tap_of_entry entries)
         × IfSome sums (AreSumsOf entries))
         → (more : List ℕ) × (string_bytes reported.new ≡ string_bytes reported.old ++ more)
-        × Finds false live fares text (if subtracts then Some valid else None) more found) }
+        × Finds false live fares text (then_some subtracts valid) more found) }
     ensures legal { IfOk result (λ found. found.is_legal ≡ is_legal verdict.now) }
 {
     // proof: the verdict is `legal` exactly if the text is a ledger
@@ -211,8 +211,8 @@ fn write_lacking(
     ensures { IfOk result (λ even. (rest : List ℕ)
         × (string_bytes reported.new ≡ string_bytes reported.old ++ rest)
         × ((valid taps : List ATap) → (subtracts ≡ true → IsFullBalance full.now valid taps)
-        → IsDifferencesEnd (if subtracts then Some valid else None) taps rest
-        × ((even ≡ true) ↔ HasValidTaps (if subtracts then Some valid else None) taps))) }
+        → IsDifferencesEnd (then_some subtracts valid) taps rest
+        × ((even ≡ true) ↔ HasValidTaps (then_some subtracts valid) taps))) }
 {
     // proof: neither side lacks a tap exactly if both have the same taps
     even_sides_lack_nothing();
@@ -240,7 +240,7 @@ fn full_finding(
     ensures { IfOk result (λ found. (fares : Fares) (valid : List ATap) (text written : List ℕ)
         → HasFullyChecked fares full_check.old subtracts full.now text written valid
         → (more : List ℕ) × (string_bytes reported.new ≡ string_bytes reported.old ++ more)
-        × Finds true live fares text (if subtracts then Some valid else None) (written ++ more)
+        × Finds true live fares text (then_some subtracts valid) (written ++ more)
         found) }
 {
     // proof: no line is wrong exactly if the text is a ledger

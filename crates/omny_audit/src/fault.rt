@@ -1,6 +1,6 @@
 //! Why the program fails, with the line that says so.
 ghost use Rattle.std.specs.Prelude.{◌≡◌};
-ghost use Rattle.omny_audit.specs.Fault.{IsReported, is_quiet};
+ghost use Rattle.omny_audit.specs.Ends.{IsReported, is_quiet};
 
 use program_manners::{FileFault, NamedClassLine, TableLine, TablesFault};
 use std::alloc::{AllocError, AllocFailed};
@@ -50,6 +50,10 @@ impl From<AllocError> for Fault<'_> {
 }
 
 impl<T: Drop> From<AllocFailed<T>> for Fault<'_> {
+    ghost use Rattle.omny_audit.specs.declared.fault.Fault.TheVariants.{NoMemory};
+
+    ghost from_gives = { λ _ fault. fault ≡ NoMemory };
+
     fn from(_refused: AllocFailed<T>) -> Self {
         Fault::NoMemory
     }

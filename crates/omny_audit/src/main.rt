@@ -7,7 +7,6 @@ mod audit;
 mod check;
 mod fault;
 mod input_words;
-mod ledger;
 mod made_by;
 mod options;
 mod program;

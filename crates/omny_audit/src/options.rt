@@ -3,7 +3,7 @@ ghost use Rattle.clap.specs.Words.{FailsBy, app_of, fault_of, found_of, matches_
 ghost use Rattle.clap.specs.Words.{rule_of};
 ghost use Rattle.frame.specs.Names.{file_named};
 ghost use Rattle.omny_audit.specs.Options.{audit_program, audit_request_by, required_table_option};
-ghost use Rattle.omny_audit.specs.inside.Options.{audit_request_of};
+ghost use Rattle.omny_audit.specs.inside.Program.{audit_request_of};
 ghost use Rattle.program_manners.specs.{TableViews.names_of, TableWords.tables_in};
 ghost use Rattle.std.specs.Prelude.{◌≡◌, IfOk, Some, false, map, option_and_then, option_map};
 ghost use Rattle.std.specs.Prelude.{string_bytes};
@@ -12,7 +12,7 @@ use clap::{Arg, ArgAction, ArgMatches, Command, Error};
 use frame::file_of;
 use program_manners::{
     ListFault, ListWords, TableWords, add_list_args, files_arg, flag_arg, flag_in, names_in,
-    new_command, option_arg, positional_arg, repeated_arg, value_in,
+    new_command, option_arg, positional_arg, repeated_arg, value_in, with_arg,
 };
 use std::alloc::{AllocError, Global};
 
@@ -163,23 +163,18 @@ fn table_arg<'a>(alloc: Global) -> Arg<'a>
 fn command<'a>(alloc: Global) -> Result<Command<'a>, AllocError>
     ensures { IfOk result (λ command. app_of command ≡ audit_program) }
 {
-    let table = table_arg(alloc);
-    let all = flag_arg(alloc, "all", ALL_HELP);
+    let command = new_command(alloc, "omny_audit", ABOUT, NOTES);
+    let command = with_arg(command, table_arg(alloc))?;
+    let command = with_arg(command, flag_arg(alloc, "all", ALL_HELP))?;
     let live = flag_arg(alloc, "live", "Take a ledger of a run without --settle");
-    let uploads = files_arg(alloc, "uploads", UPLOADS_HELP);
-    let report = option_arg(alloc, "report", "REPORT", REPORT_HELP);
-    let made_by = option_arg(alloc, "made-by", "FILE", MADE_BY_HELP);
-    let format = option_arg(alloc, "format", "FORM", FORMAT_HELP);
+    let command = with_arg(command, live)?;
+    let command = with_arg(command, files_arg(alloc, "uploads", UPLOADS_HELP))?;
+    let command = with_arg(command, option_arg(alloc, "report", "REPORT", REPORT_HELP))?;
+    let command = with_arg(command, option_arg(alloc, "made-by", "FILE", MADE_BY_HELP))?;
+    let command = with_arg(command, option_arg(alloc, "format", "FORM", FORMAT_HELP))?;
+    let command = add_list_args(alloc, command)?;
     let ledger = positional_arg(alloc, "LEDGER", ArgAction::Set, LEDGER_HELP);
-    let command = new_command(alloc, "omny_audit", ABOUT, NOTES)
-        .arg(table)?
-        .arg(all)?
-        .arg(live)?
-        .arg(uploads)?
-        .arg(report)?
-        .arg(made_by)?
-        .arg(format)?;
-    add_list_args(alloc, command)?.arg(ledger)
+    with_arg(command, ledger)
 }
 
 fn matched<'a>(alloc: Global, words: &'a [String]) -> Result<ArgMatches<'a>, Error>

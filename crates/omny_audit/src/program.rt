@@ -1,27 +1,27 @@
 //! The whole program.
 ghost use Rattle.clap.specs.Words.{kind_of};
 ghost use Rattle.class_names.specs.ClassFaults.{IsWrongAt};
-ghost use Rattle.ledger_check.specs.Columns.{has_traced_head};
+ghost use Rattle.ledger_check.specs.Columns.{has_traced_head, traced_head};
 ghost use Rattle.omny_audit.specs.Ends.{Did, Ends, EndsRun, did_by};
 ghost use Rattle.omny_audit.specs.Options.{AuditRequest, named_file};
-ghost use Rattle.omny_audit.specs.Program.{AreWanted, LoadsNamedFiles, LoadsReport, compared};
-ghost use Rattle.omny_audit.specs.inside.{Ends.EndsAudit, Fault.IsClassFault, Fault.IsLoadFault};
-ghost use Rattle.omny_audit.specs.inside.{Fault.IsUnopened, Options.audit_request_of};
-ghost use Rattle.omny_audit.specs.inside.{Reports.text_of, Traced.HasReadAs, Traced.HaveNamed};
-ghost use Rattle.omny_audit.specs.inside.{Traced.uploads_in, Traced.wanted_by, Uploads.AreUploads};
+ghost use Rattle.omny_audit.specs.Program.{AreWanted, LoadsNamedFiles, LoadsReport};
+ghost use Rattle.omny_audit.specs.inside.Audits.{text_of};
+ghost use Rattle.omny_audit.specs.inside.Program.{AreUploads, EndsAudit, IsClassFault, IsLoadFault};
+ghost use Rattle.omny_audit.specs.inside.Program.{IsStreamFault, audit_request_of};
+ghost use Rattle.omny_audit.specs.inside.Traced.{HasReadAs, HaveNamed, uploads_in, wanted_by};
 ghost use Rattle.program_manners.specs.Refusals.{IsShown, refusal_of};
 ghost use Rattle.program_manners.specs.{TableLoads.LoadsTables, TableViews.names_of};
 ghost use Rattle.program_manners.specs.{TableWords.wrong_word, Words.IsRequest};
 ghost use Rattle.std.specs.{List.slice_get, Prelude.◌≡◌};
-ghost use Rattle.std.specs.Prelude.{◌<◌, ◌++◌, ◌∷◌, [], List, ℕ, IfErr, IfOk, None, OnOk, Option};
-ghost use Rattle.std.specs.Prelude.{Some, false, length, map, IfSome, option_map, string_bytes};
+ghost use Rattle.std.specs.Prelude.{◌<◌, ◌≤◌, ◌⊎◌, [], List, ℕ, IfErr, IfOk, None, Option, Some};
+ghost use Rattle.std.specs.Prelude.{false, length, map, IfSome, option_map, string_bytes};
 ghost use Rattle.tap_views.specs.declared.encoder.TapFields.{TapFields};
 ghost use Rattle.world.specs.{Run.Load, Run.no_calls, Streams.HasRead, Writes.IsSaid};
+ghost use Rattle.world.specs.declared.faults.WriteFault.{WriteFault as AWriteFault};
 
 use crate::audit::{Audit, audit_over};
 use crate::check::Check;
 use crate::fault::{Fault, fail};
-use crate::ledger::read_head;
 use crate::options::Options;
 use crate::report::HeldReport;
 use crate::traced::TracedPieces;
@@ -30,11 +30,11 @@ use clap::error::ErrorKind;
 use class_names::{ClassFault, ClassNames, WrongNames};
 use file_sources::Host;
 use histories::HashSeed;
-use ledger_check::{Balance, Positions, has_ledger_head, has_traced_head};
+use ledger_check::{Balance, Positions, has_ledger_head, has_traced_head, traced_head_line};
 use program_manners::{
     FileFault, STANDARD_INPUT, TableWord, TableWords, Tables, load_named, load_tables,
 };
-use std::alloc::{AllocError, Global};
+use std::alloc::Global;
 use std::fmt::Display;
 use std::random::RandomSource;
 use tap_views::{UploadEnd, facts_of};
@@ -52,31 +52,15 @@ struct Uploads {
     ends: Vec<UploadEnd>,
 }
 
-fn add_upload(alloc: Global, uploads: &mut Uploads, upload: &[u8]) -> Result<(), AllocError>
-    ensures { OnOk result ((files : List (List ℕ)) (valid : List TapFields)
-        (lists : List (List TapFields)) → AreUploads files valid lists uploads.old
-        → (more : List TapFields) × (list : List TapFields)
-        × AreUploads (files ++ upload.now ∷ []) (valid ++ more) (lists ++ list ∷ []) uploads.new) }
-{
-    uploads.balance.add_upload(upload)?;
-    uploads.positions.add_upload(alloc, upload)?;
-    let facts = facts_of(upload);
-    uploads
-        .ends
-        .push(UploadEnd::by_fault(facts.taps, facts.fault))?;
-    Ok(())
-}
-
 /// One upload is in memory at a time. A ledger is refused as an upload.
 fn load_uploads<'a>(
     alloc: Global,
     names: &[&'a str],
     files: &mut Files<'_>,
 ) -> Result<Uploads, Fault<'a>>
-    ensures ok { IfOk result (λ uploads. (bytes : List (List ℕ)) × (valid : List TapFields)
-        × (lists : List (List TapFields)) × LoadsNamedFiles (map (λ n. n.now) names.now)
-        files.old.loads.trace.run.loads files.new.loads.trace.run.loads bytes
-        × AreUploads bytes valid lists uploads) }
+    ensures ok { IfOk result (λ uploads. (bytes : List (List ℕ)) × (lists : List (List TapFields))
+        × LoadsNamedFiles (map (λ n. n.now) names.now) files.old.loads.trace.run.loads
+        files.new.loads.trace.run.loads bytes × AreUploads bytes lists uploads) }
     ensures fault { IfErr result (IsLoadFault (map (λ n. n.now) names.now) files.new.loads) }
 {
     let mut uploads = Uploads {
@@ -85,19 +69,19 @@ fn load_uploads<'a>(
         ends: Vec::new(alloc),
     };
     for name in names {
-        let upload = load_named(files, name)?;
-        if has_ledger_head(&upload) {
+        let file = load_named(files, name)?;
+        let upload = file.as_slice();
+        if has_ledger_head(upload) {
             return Err(Fault::GivenLedger(name));
         }
-        add_upload(alloc, &mut uploads, &upload)?;
+        uploads.balance.add_upload(upload)?;
+        uploads.positions.add_upload(alloc, upload)?;
+        let facts = facts_of(upload);
+        uploads
+            .ends
+            .push(UploadEnd::by_fault(facts.taps, facts.fault))?;
     }
     Ok(uploads)
-}
-
-fn kept_if<T: Drop>(is_kept: bool, value: T) -> Option<T>
-    ensures { result ≡ compared is_kept value }
-{
-    if is_kept { Some(value) } else { None }
 }
 
 fn load_report<'a, R: RandomSource>(
@@ -171,24 +155,39 @@ fn trace_of<'a>(
     }
 }
 
-/// Opens the ledger, or standard input if none is named.
-fn open_ledger<'a>(
+/// Opens the ledger, or standard input if none is named. Its first bytes show whether it is traced.
+fn read_head<'a>(
     rt: &HostRuntime,
     name: Option<&'a str>,
     ledger: &mut Stream,
-) -> Result<(), Fault<'a>>
+) -> Result<Vec<u8>, Fault<'a>>
     requires { ledger.old.trace ≡ no_calls }
-    ensures opened { OnOk result (HasRead ledger.new (option_map (λ n. n.now) name.entry) []) }
-    ensures fault { IfErr result (IsUnopened (option_map (λ n. n.now) name.entry)
-        ledger.new.trace.run) }
+    ensures read { IfOk result
+        (λ head. HasRead ledger.new (option_map (λ n. n.now) name.entry) head.items) }
+    ensures enough { IfOk result (λ head. (ledger.new.from ≡ None)
+        ⊎ (length traced_head ≤ length head.items)) }
+    ensures whole { IfOk result (λ head. head.items ≡ [] → ledger.new.from ≡ None) }
+    ensures fault { IfErr result (λ fault. (cut : Option AWriteFault)
+        → IsStreamFault (option_map (λ n. n.now) name.entry) ledger.new.trace.run cut fault) }
 {
-    match ledger.open(rt, name) {
-        Ok(()) => Ok(()),
-        Err(fault) => {
-            let name = name.unwrap_or(STANDARD_INPUT);
-            Err(Fault::File(FileFault { name, fault }))
+    if let Err(fault) = ledger.open(rt, name) {
+        let name = name.unwrap_or(STANDARD_INPUT);
+        return Err(Fault::File(FileFault { name, fault }));
+    }
+    let needed = traced_head_line().len();
+    let mut head = Vec::new(rt.alloc());
+    let mut piece = Vec::new(rt.alloc());
+    for _piece in 0..u64::MAX {
+        if let Err(why) = ledger.read(&mut piece) {
+            return Err(Fault::Ledger(why));
+        }
+        head.extend_from_slice(&piece)?;
+        if piece.is_empty() || head.len() >= needed {
+            return Ok(head);
         }
     }
+    // no run makes so many reads
+    Err(Fault::NoMemory)
 }
 
 /// Returns whether all is right. The tables are loaded first, then the uploads and the report, and
@@ -216,15 +215,14 @@ fn audit<'a, W: World>(
     let names = options.uploads.as_slice();
     let uploads = load_uploads(alloc, names, files)?;
     let report = load_report(rt, options.report, files)?;
-    open_ledger(rt, options.ledger, ledger)?;
-    let head = read_head(alloc, ledger)?;
+    let head = read_head(rt, options.ledger, ledger)?;
     let has_uploads = !names.is_empty();
     let Uploads {
         balance,
         positions,
         ends,
     } = uploads;
-    let kept = kept_if(has_uploads, positions);
+    let kept = has_uploads.then_some(positions);
     let trace = trace_of(alloc, &head, &options.table, &tables, kept)?;
     let seed = report.as_ref().map(|report| report.seed);
     let mut audit = Audit {
@@ -232,7 +230,7 @@ fn audit<'a, W: World>(
         clock: &clock,
         live: options.live,
         subtracts: has_uploads,
-        ends: kept_if(has_uploads, ends.as_slice()),
+        ends: has_uploads.then_some(ends.as_slice()),
         check: Check::new(alloc, options.all, balance, seed),
         trace,
         report,

@@ -4,9 +4,8 @@ ghost use Rattle.histories.specs.declared.entry.Entry.{Entry};
 ghost use Rattle.ledger_check.specs.{Ledger.IsLedgerOf, Sums.AreSumsOf};
 ghost use Rattle.omny_audit.specs.Reports.{IsVerdictOn, are_whole, damage_line, damage_lines};
 ghost use Rattle.omny_audit.specs.Reports.{damage_text, report_text, verdict_lines};
-ghost use Rattle.omny_audit.specs.inside.Reports.{fits, text_of};
-ghost use Rattle.std.specs.{Fmt.decimal, Prelude.◌≡◌, Prelude.◌++◌, Prelude.ℕ, Prelude.List};
-ghost use Rattle.std.specs.Prelude.{IfOk, IfSome, OnOk, codes, string_bytes, option_map, true};
+ghost use Rattle.omny_audit.specs.inside.Audits.{fits, text_of};
+ghost use Rattle.std.specs.Prelude.{◌≡◌, ◌++◌, ℕ, List, IfOk, IfSome, OnOk, option_map, true};
 ghost use Rattle.tap_views.specs.UploadEnds.{are_posted};
 ghost use Rattle.tariffs.specs.Fares.{Fares};
 
@@ -26,19 +25,8 @@ pub(crate) struct HeldReport {
     pub(crate) seed: HashSeed,
 }
 
-fn taps_text(alloc: Global, line: u64, uploads: u128, ledger: u128) -> Result<String, AllocError>
-    ensures { IfOk result (λ text. string_bytes text
-        ≡ codes "wrong report line " ++ (decimal line ++ (codes ": the uploads have "
-        ++ (decimal uploads ++ (codes " taps, the ledger "
-        ++ (decimal ledger ++ codes "\n")))))) }
-{
-    format!(in alloc;
-        "wrong report line {line}: the uploads have {uploads} taps, the ledger {ledger}\n"
-    )
-}
-
 #[tactic(auto, unfolding(crate::specs::Reports::report_text))]
-fn write_verdict(alloc: Global, text: &mut Vec<u8>, verdict: &ReportVerdict) -> io::Result<()>
+fn write_verdict(text: &mut Vec<u8>, verdict: &ReportVerdict) -> io::Result<()>
     ensures { OnOk result (text.new.items ≡ text.old.items ++ report_text verdict.now) }
 {
     match verdict {
@@ -55,17 +43,15 @@ fn write_verdict(alloc: Global, text: &mut Vec<u8>, verdict: &ReportVerdict) -> 
             line,
             uploads,
             ledger,
-        } => {
-            let words = taps_text(alloc, *line, *uploads, *ledger)?;
-            text.extend_from_slice(words.as_bytes())?;
-            Ok(())
-        }
+        } => write!(
+            text,
+            "wrong report line {line}: the uploads have {uploads} taps, the ledger {ledger}\n"
+        ),
     }
 }
 
 /// If there is a verdict.
 fn write_verdict_lines(
-    alloc: Global,
     text: &mut Vec<u8>,
     verdict: &Option<ReportVerdict>,
     ends: Option<&[UploadEnd]>,
@@ -76,7 +62,7 @@ fn write_verdict_lines(
     let Some(verdict) = verdict else {
         return Ok(());
     };
-    write_verdict(alloc, text, verdict)?;
+    write_verdict(text, verdict)?;
     match ends {
         Some(_) => Ok(()),
         None => write!(text, "upload lines not compared\n"),
@@ -149,19 +135,21 @@ fn write_damaged(text: &mut Vec<u8>, upload: u64, end: &UploadEnd) -> io::Result
     write!(text, "upload {upload} {end}\n")
 }
 
-#[tactic(auto, using(crate::proofs::Damage::damage_more))]
 fn write_damage(text: &mut Vec<u8>, ends: &[UploadEnd]) -> io::Result<()>
     ensures { OnOk result (text.new.items ≡ text.old.items ++ damage_lines 0 ends.now) }
 {
-    for (upload, end) in ends.iter().enumerate() {
-        write_damaged(text, upload as u64, end)?;
+    let mut upload = 0;
+    let mut rest = ends;
+    while let Some((end, trailing)) = rest.split_first() {
+        write_damaged(text, upload, end)?;
+        upload += 1;
+        rest = trailing;
     }
     Ok(())
 }
 
 /// What is said of the report, and the lines of damaged uploads.
 pub(crate) fn write_last_lines(
-    alloc: Global,
     text: &mut Vec<u8>,
     verdict: &Option<ReportVerdict>,
     ends: Option<&[UploadEnd]>,
@@ -170,7 +158,7 @@ pub(crate) fn write_last_lines(
         ++ (verdict_lines (option_map (λ e. e.now) ends.entry) verdict.now
         ++ damage_text (option_map (λ e. e.now) ends.entry))) }
 {
-    write_verdict_lines(alloc, text, verdict, ends)?;
+    write_verdict_lines(text, verdict, ends)?;
     match ends {
         None => Ok(()),
         Some(ends) => write_damage(text, ends),

@@ -6,8 +6,8 @@ ghost use Rattle.ledger_check.specs.{Lines.IsLine, Lines.lines_of, Positions.Has
 ghost use Rattle.ledger_check.specs.{Positions.is_named, Positions.uploads_of, Taps.IsTapOfLine};
 ghost use Rattle.omny_audit.specs.Traced.{AreColumnsReported, IsFaultAfter, IsPositionFault};
 ghost use Rattle.omny_audit.specs.Traced.{NamesTapWithColumns, ReadLine, class_fault, class_text};
-ghost use Rattle.omny_audit.specs.Traced.{fault_by, fault_text, lines_read, positions_text};
-ghost use Rattle.omny_audit.specs.Traced.{position_text, upload_position_text};
+ghost use Rattle.omny_audit.specs.Traced.{fault_by, fault_text, lines_read, position_text};
+ghost use Rattle.omny_audit.specs.Traced.{positions_text};
 ghost use Rattle.omny_audit.specs.declared.traced.PositionFault.{PositionFault as AFault};
 ghost use Rattle.omny_audit.specs.inside.Traced.{HasLines, HasPositions, HasReadAll};
 ghost use Rattle.omny_audit.specs.inside.Traced.{HasReadAs, HasTraced, HaveNamed, IsKeptOf};
@@ -23,7 +23,6 @@ use ledger_check::{
     CutLine, PositionFinding, Positions, cut_line, split_line, tap_of_line, traced_head_line,
 };
 use std::alloc::{AllocError, Global};
-use std::fmt;
 use tap_views::TapFields;
 
 /// The most bytes of a traced ledger's line, with its line feed.
@@ -47,44 +46,6 @@ pub(crate) enum PositionFault {
     Repeated(u64, u32, u64),
     /// No line has this upload and place, which are those of a tap.
     NoLine(u64, u64),
-}
-
-/// An upload, from 0, and an index there, from 1.
-#[derive(Clone, Copy)]
-struct UploadPosition {
-    upload: u32,
-    position: u64,
-}
-
-impl fmt::Display for UploadPosition {
-    ghost output = { λ at. Some (upload_position_text at.upload at.position) };
-
-    fn fmt<W: fmt::Write>(&self, f: &mut fmt::Formatter<W>) -> fmt::Result {
-        write!(f, "upload {} place {}", self.upload, self.position)
-    }
-}
-
-impl fmt::Display for PositionFault {
-    ghost output = { λ fault. Some (fault_text fault) };
-
-    fn fmt<W: fmt::Write>(&self, f: &mut fmt::Formatter<W>) -> fmt::Result {
-        match self {
-            PositionFault::OtherTap(line, upload, position) => write!(
-                f,
-                "line {line} has another tap than upload {upload} has at place {position}"
-            ),
-            PositionFault::Repeated(line, upload, position) => {
-                let at = UploadPosition {
-                    upload: *upload,
-                    position: *position,
-                };
-                write!(f, "line {line} has {at} again")
-            }
-            PositionFault::NoLine(upload, position) => {
-                write!(f, "no line has upload {upload} place {position}")
-            }
-        }
-    }
 }
 
 /// In place of a line that does not have the form of a traced one.
@@ -395,13 +356,32 @@ impl TracedPieces {
     }
 }
 
+fn write_fault(text: &mut String, fault: &PositionFault) -> Result<(), AllocError>
+    ensures { OnOk result
+        (string_bytes text.new ≡ string_bytes text.old ++ fault_text fault.now) }
+{
+    match fault {
+        PositionFault::OtherTap(line, upload, position) => write!(
+            text,
+            "line {line} has another tap than upload {upload} has at place {position}\n"
+        ),
+        PositionFault::Repeated(line, upload, position) => write!(
+            text,
+            "line {line} has upload {upload} place {position} again\n"
+        ),
+        PositionFault::NoLine(upload, position) => {
+            write!(text, "no line has upload {upload} place {position}\n")
+        }
+    }
+}
+
 fn write_position(text: &mut String, fault: &Option<PositionFault>) -> Result<(), AllocError>
     ensures { OnOk result
         (string_bytes text.new ≡ string_bytes text.old ++ positions_text fault.now) }
 {
     match fault {
         None => text.push_str("all places of the uploads\n"),
-        Some(fault) => write!(text, "{fault}\n"),
+        Some(fault) => write_fault(text, fault),
     }
 }
 

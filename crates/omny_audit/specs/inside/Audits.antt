@@ -1,15 +1,26 @@
 -- What an audit has read: what private functions alone cite.
 use Rattle.frame.specs.Failing.{HasStarted}
-use Rattle.omny_audit.specs.Program.{HoldsOfRead}
-use Rattle.omny_audit.specs.Reports.{Given, IsAudit, IsAuditText}
-use Rattle.omny_audit.specs.declared.{audit.Audit.Audit, fault.Fault.Fault}
-use Rattle.omny_audit.specs.inside.{Checks.HasChecked, Checks.is_all, Fault.IsStreamFault}
-use Rattle.omny_audit.specs.inside.{Reports.text_of, Traced.HasReadAs, Traced.wanted_by}
-use Rattle.std.specs.Prelude.{◌≡◌, ◌++◌, ℕ, Bool, false, List, [], Option, None, Some, true}
-use Rattle.std.specs.Prelude.{if◌then◌else◌, option_map, Result, Ok, Err}
+use Rattle.omny_audit.specs.{Program.HoldsOfRead, Reports.Given, Reports.IsAudit}
+use Rattle.omny_audit.specs.{Reports.IsAuditText, declared.audit.Audit.Audit}
+use Rattle.omny_audit.specs.declared.{fault.Fault.Fault, report.HeldReport.HeldReport}
+use Rattle.omny_audit.specs.inside.{Checks.HasChecked, Checks.is_all, Program.IsStreamFault}
+use Rattle.omny_audit.specs.inside.Traced.{HasReadAs, wanted_by}
+use Rattle.report_check.specs.{Reports.is_of_ledger, declared.verdict.ReportVerdict.ReportVerdict}
+use Rattle.std.specs.{Bool.then_some, Prelude.◌≡◌, Prelude.◌++◌, Prelude.option_map}
+use Rattle.std.specs.Prelude.{ℕ, Bool, false, List, [], Option, None, Some, true, Result, Ok, Err}
 use Rattle.tap_views.specs.declared.encoder.TapFields.{TapFields}
 use Rattle.world.specs.Run.{Calls, Run, with_flushed, with_written}
 use Rattle.world.specs.{Streams.IsWhole, declared.stream.Stream.Stream}
+
+-- the text of the report, if there is one
+abbrev pub text_of : Option HeldReport → Option (List ℕ)
+text_of report = option_map (λ r. r.text.items) report
+
+-- whether the verdict is that the report is the ledger's, if there is a report
+abbrev pub fits : Option (List ℕ) → Option ReportVerdict → Bool
+fits None verdict = true
+fits (Some report) None = false
+fits (Some report) (Some verdict) = is_of_ledger verdict
 
 -- what the ledger is audited by, if these are the valid taps of the uploads
 abbrev pub given_in : Audit → List TapFields → Given
@@ -18,7 +29,7 @@ given_in audit valid = record {
   live = audit.live;
   fares = audit.table.now;
   wanted = wanted_by audit.trace;
-  valid = if audit.subtracts then Some valid else None;
+  valid = then_some audit.subtracts valid;
   ends = option_map (λ e. e.now) audit.ends;
   report = text_of audit.report;
 }
@@ -46,17 +57,18 @@ HoldsNow given audit ledger written None = HasAudited given audit false ledger.r
 HoldsNow given audit ledger written (Some success) = IsFound given ledger written success
 
 -- the audit of a piece reports this text
-abbrev pub Steps : Audit → Audit → List ℕ → List ℕ → Option Bool → Type 0
-Steps before after piece text ended = (given : Given) (file written : List ℕ) (ledger : Calls)
-    → HasAudited given before false file written → ledger.reading.bytes ≡ file ++ piece
-    → (piece ≡ [] → IsWhole ledger) → HoldsNow given after ledger (written ++ text) ended
+pub record Steps (before after : Audit) (piece text : List ℕ) (ended : Option Bool) : Type 0 where
+  pub holds : (given : Given) (file written : List ℕ) (ledger : Calls)
+      → HasAudited given before false file written → ledger.reading.bytes ≡ file ++ piece
+      → (piece ≡ [] → IsWhole ledger) → HoldsNow given after ledger (written ++ text) ended
 
 -- What is found of the ledger was written and flushed; or the run failed, and what was written is a
 -- prefix of it. Nothing was said.
 abbrev pub EndsAs : Given → Calls → Run → Run → Result Bool Fault → Type 0
 EndsAs given ledger old new (Ok success) = (text : List ℕ) × IsFound given ledger text success
     × (new ≡ with_flushed (with_written old text))
-EndsAs given ledger old new (Err fault) = IsStreamFault ledger new.cut fault
+EndsAs given ledger old new (Err fault) =
+    IsStreamFault ledger.reading.name ledger.run new.cut fault
     × HasStarted (λ text. HoldsOfRead ledger (λ file. IsAuditText given file text)) old.written
     new.written × (new.said ≡ old.said)
 

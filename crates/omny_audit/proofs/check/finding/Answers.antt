@@ -1,19 +1,18 @@
 use Rattle.std.proofs.Common.{◌≡◌, ◌∙◌, ◌++◌, [], Bool, List, ap, append-nil, append_assoc, map}
-use Rattle.std.proofs.Common.{refl, None, Option, Some, false, if◌then◌else◌, rules, string_bytes}
-use Rattle.std.proofs.Common.{subst, sym, tests, true, ℕ}
+use Rattle.std.proofs.Common.{refl, Option, false, rules, string_bytes, subst, sym, tests, true, ℕ}
 use Rattle.ledger_check.specs.{Ledger.IsLedger, Orders.tap_of_entry, Verdicts.IsVerdict}
 use Rattle.ledger_check.specs.{Verdicts.is_legal, declared.checker.Verdict.TheVariants.Legal}
 use Rattle.omny_audit.proofs.FindingLemmas.{early_is, even_taps, second_line, sound_is}
 use Rattle.omny_audit.specs.{Findings.IsDifferenceLine, Text.verdict_text}
 use Rattle.std.proofs.lemmas.Bool.{false≢true, true≢false}
-use Rattle.std.specs.Prelude.{is_some, not}
+use Rattle.std.specs.{Bool.then_some, Prelude.is_some, Prelude.not}
 use Rattle.omny_audit.proofs.check.finding.Goals as goal
 
 -- no ledger has a wrong line
 pub returns-in_default-clause-found : goal.returns-in_default-clause-found
 returns-in_default-clause-found c = λ fares text valid is right.
     let verdict = c.args.verdict.now in
-    let uploads = if c.args.subtracts then Some valid else None in
+    let uploads = then_some c.args.subtracts valid in
     let no : is_legal verdict ≡ false = first_of (cc, search (rules, tests)) in
     let never : IsLedger fares text → ⊥ = λ ledger. true≢false
     (sym ((c.verdicts_decide.ensures fares text verdict is).1 ledger) ∙ no) in (
@@ -38,7 +37,7 @@ returns-clause-found c = λ fares text valid is right.
     let verdict = c.args.verdict.now in
     let balance = c.args.balance.now in
     let subtracts = c.args.subtracts in
-    let uploads = if subtracts then Some valid else None in
+    let uploads = then_some subtracts valid in
     let early = c.in-Legal.early in
     let legal : IsVerdict fares text (Legal c.in-Legal.field-0 early) = rw c.in-Legal.is at is in
     let yes : is_legal verdict ≡ true = ap is_legal c.in-Legal.is in

@@ -1,11 +1,11 @@
 use Rattle.std.proofs.Common.{◌≡◌, ◌∙◌, ◌++◌, ℕ, List, ap, append_assoc, string_bytes, subst}
-use Rattle.std.proofs.Common.{None, Some, eqb-true, if◌then◌else◌, sym, true}
+use Rattle.std.proofs.Common.{eqb-true, sym, true}
 use Rattle.histories.specs.declared.entry.Entry.{Entry}
 use Rattle.ledger_check.specs.FullChecks.{taps_from, wrong_count}
 use Rattle.ledger_check.specs.{Ledger.IsLedger, Orders.are_settled, Sums.AreSumsOf}
-use Rattle.omny_audit.proofs.{FindingLemmas.sound_is, FullFindingLemmas.full_check_legal}
+use Rattle.omny_audit.proofs.FindingLemmas.{full_check_legal, sound_is}
 use Rattle.omny_audit.specs.Findings.{HasValidTaps}
-use Rattle.std.specs.Prelude.{◌↔◌, IfSome}
+use Rattle.std.specs.{Bool.then_some, Prelude.◌↔◌, Prelude.IfSome}
 use Rattle.tap_views.specs.declared.encoder.TapFields.{TapFields}
 use Rattle.omny_audit.proofs.check.full_finding.Goals as goal
 
@@ -15,7 +15,7 @@ returns c = λ fares valid text written has.
     let ended = c.in_ok-fully_checked.ensures fares c.args.subtracts c.args.full.now text written
     valid has in
     let taken = ended.0 in
-    let uploads = if c.args.subtracts then Some valid else None in
+    let uploads = then_some c.args.subtracts valid in
     let decides = c.full_checks_decide.ensures fares text taken ended.1 in
     let legal : (checked.is_legal ≡ true) ↔ IsLedger fares text =
     rw ended.2 (full_check_legal fares text taken decides) in

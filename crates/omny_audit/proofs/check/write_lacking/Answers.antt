@@ -1,6 +1,6 @@
 use Rattle.std.proofs.Common.{◌≡◌, [], true, false, refl, sym, append-nil, rules, tests}
 use Rattle.std.proofs.Common.{string_bytes}
-use Rattle.omny_audit.proofs.FullFindingLemmas.{none_is}
+use Rattle.omny_audit.proofs.FindingLemmas.{none_is}
 use Rattle.omny_audit.proofs.check.write_lacking.Goals as goal
 
 pub returns-then-not-subtracts : goal.returns-then-not-subtracts

@@ -1,6 +1,6 @@
 use Rattle.std.proofs.Common.{[], refl}
 use Rattle.omny_audit.specs.{Options.named_file, declared.fault.Fault.TheVariants.File}
-use Rattle.omny_audit.specs.inside.Fault.{IsLoadFault}
+use Rattle.omny_audit.specs.inside.Program.{IsLoadFault}
 use Rattle.program_manners.proofs.Refusals.{has_refused}
 use Rattle.program_manners.specs.Refusals.{refusal_of}
 use Rattle.std.proofs.lemmas.List.Elements.{Contains-push}

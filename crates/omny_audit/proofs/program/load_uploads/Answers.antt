@@ -1,15 +1,17 @@
 use Rattle.std.proofs.Common.{◌≡◌, ◌∙◌, ◌++◌, ◌∷◌, ◌<◌, [], Bor, List, Some, ℕ, ap, append-nil}
 use Rattle.std.proofs.Common.{get_or, length, map, refl, subst, sym, take}
-use Rattle.ledger_check.specs.Columns.{has_ledger_head}
-use Rattle.omny_audit.proofs.{Causes.contained, ProgramLemmas.loads_push}
-use Rattle.omny_audit.specs.declared.fault.Fault.TheVariants.{File}
-use Rattle.omny_audit.specs.inside.{Fault.IsLoadFault, Uploads.AreUploads}
+use Rattle.ledger_check.specs.{Balances.AreValidFields, Balances.IsBalance, Columns.has_ledger_head}
+use Rattle.omny_audit.proofs.ProgramLemmas.{contained, loads_push, same_fields}
+use Rattle.omny_audit.specs.{Program.taps_in, declared.fault.Fault.TheVariants.File}
+use Rattle.omny_audit.specs.inside.Program.{IsLoadFault}
 use Rattle.program_manners.proofs.Refusals.{has_refused}
 use Rattle.program_manners.specs.Refusals.{refusal_of}
-use Rattle.std.proofs.lemmas.{List.map_more, List.take_all, Option.slice_get-get_or}
+use Rattle.std.proofs.lemmas.List.{flat_map_more, map_more, take_all}
+use Rattle.std.proofs.lemmas.Option.{slice_get-get_or}
 use Rattle.std.specs.Prelude.{Contains}
-use Rattle.tap_views.proofs.Choices.{IfErr_handed_on}
-use Rattle.tap_views.specs.UploadEnds.{ArePlainEnds}
+use Rattle.tap_views.proofs.{Choices.IfErr_handed_on, Lists.AllZip-append}
+use Rattle.tap_views.specs.UploadEnds.{ArePlainEnds, IsPlainEnd, end_by}
+use Rattle.tap_views.specs.declared.encoder.TapFields.{TapFields}
 use Rattle.omny_audit.proofs.program.load_uploads.Goals as goal
 
 abbrev no_name : Bor (List ℕ)
@@ -25,7 +27,6 @@ pub loop-name-init : goal.loop-name-init
 loop-name-init c = (
   [],
   [],
-  [],
   record {
     loads = [];
     named = refl;
@@ -33,9 +34,8 @@ loop-name-init c = (
     is_loaded = sym (append-nil c.args.files.now.loads.trace.run.loads);
   },
   record {
-    are_valid = ([], tt, refl);
-    balance = c.new.ensures;
     are_lists = tt;
+    balance = c.new.ensures;
     positions = c.new-2.ensures;
     ends = subst (ArePlainEnds []) (sym c.new-3.ensures.items) tt;
   },
@@ -45,15 +45,40 @@ pub loop-name-preserved : goal.loop-name-preserved
 loop-name-preserved c =
     let names = c.args.names.now in
     let k = c.loop-name.name-index in
-    let before = c.loop-name.invariant in
-    let added = c.in_ok-add_upload.ensures before.0 before.1 before.2 before.4 in (
-      before.0 ++ c.in_ok-upload.upload.items ∷ [],
-      before.1 ++ added.0,
-      before.2 ++ added.1 ∷ [],
+    let (files, lists, loads, are) = c.loop-name.invariant in
+    let upload = c.as_slice-upload.result.now in
+    let (taps, valid, balanced) = c.in_ok-add_upload.ensures in
+    let (list, are_list, placed) = c.in_ok-add_upload-2.ensures in
+    let facts = c.facts_of-facts.ensures in
+    let fault = c.facts_of-facts.result.fault in
+    let all : taps_in lists ++ taps ≡ taps_in (lists ++ list ∷ []) =
+    ap (λ (t : List TapFields). taps_in lists ++ t) (same_fields upload taps list valid are_list)
+    ∙ flat_map_more (λ (l : List TapFields). l) [] lists list in (
+      files ++ upload ∷ [],
+      lists ++ list ∷ [],
       rw (map_more (λ (n : Bor (List ℕ)). n.now) names k no_name c.loop-name-test.true)
-          (loads_push _ _ _ _ _ _ _ before.3 c.in_ok-upload.ensures.ok),
-      subst (λ (u : List ℕ). AreUploads (before.0 ++ u ∷ []) (before.1 ++ added.0)
-          (before.2 ++ added.1 ∷ []) c.add_upload.new.uploads) c.deref-in-loop-name.ensures.value added.2,
+          (loads_push _ _ _ _ _ _ _ loads (rw (sym c.as_slice-upload.ensures.value) at
+          c.in_ok-file.ensures.ok)),
+      record {
+        are_lists = AllZip-append AreValidFields files lists (upload ∷ []) (list ∷ []) are.are_lists
+            (are_list, tt);
+        balance = subst (λ (t : List TapFields). IsBalance c.add_upload.new.self t []) all
+            (balanced (taps_in lists) are.balance);
+        positions = placed lists are.positions;
+        ends = subst (ArePlainEnds (files ++ upload ∷ [])) (sym c.in_ok-push.ensures.items)
+            (AllZip-append IsPlainEnd files c.loop-name.uploads.ends.items (upload ∷ [])
+            (c.by_fault.result ∷ []) are.ends (
+              record {
+                batches = facts.read_batches;
+                rest = facts.read.rest;
+                fault = fault;
+                is_file = facts.read.is_file;
+                is_fault = facts.read.is_end;
+                ended = c.by_fault.ensures ∙ ap (λ (n : ℕ). end_by n fault) facts.tap_number;
+              },
+              tt,
+            ));
+      },
     )
 
 pub returns-clause-ok : goal.returns-clause-ok
@@ -62,16 +87,16 @@ returns-clause-ok c =
     take_all _ c.args.names.now c.loop-name-test.false in
     rw all at c.loop-name.invariant
 
-pub returns-in_err-upload-clause-fault : goal.returns-in_err-upload-clause-fault
-returns-in_err-upload-clause-fault c =
-    let file = c.in_err-upload.field-0.0 in
+pub returns-in_err-file-clause-fault : goal.returns-in_err-file-clause-fault
+returns-in_err-file-clause-fault c =
+    let file = c.in_err-file.field-0.0 in
     let loads = c.load_named.new.source.loads in
     IfErr_handed_on c.from_residual.result (File file)
     (IsLoadFault (map (λ n. n.now) c.args.names.now) loads) c.from_residual.ensures.1
-    (rw c.in_err-upload.ensures.named (
+    (rw c.in_err-file.ensures.named (
       named c.args.names.now c.loop-name.name-index c.loop-name-test.true,
       has_refused (Some (refusal_of loads.last.value)) (Some _) file.fault
-          c.in_err-upload.ensures.refused,
+          c.in_err-file.ensures.refused,
     ))
 
 pub returns-then-has_ledger_head-clause-fault : goal.returns-then-has_ledger_head-clause-fault
@@ -79,9 +104,9 @@ returns-then-has_ledger_head-clause-fault c = (
   named c.args.names.now c.loop-name.name-index c.loop-name-test.true,
   record {
     loaded = c.loop-name.files.loads.trace.run.loads;
-    text = c.in_ok-upload.upload.items;
-    loads = c.in_ok-upload.ensures.ok;
-    begins = ap has_ledger_head (sym c.deref.ensures.value) ∙ sym c.has_ledger_head.ensures
-        ∙ c.if-has_ledger_head.true;
+    text = c.in_ok-file.file.items;
+    loads = c.in_ok-file.ensures.ok;
+    begins = ap has_ledger_head (sym c.as_slice-upload.ensures.value)
+        ∙ sym c.has_ledger_head.ensures ∙ c.if-has_ledger_head.true;
   },
 )

@@ -1,12 +1,11 @@
 use Rattle.std.proofs.Common.{List, ℕ, map, take}
-use Rattle.omny_audit.specs.{Program.LoadsNamedFiles, inside.Uploads.AreUploads}
+use Rattle.omny_audit.specs.{Program.LoadsNamedFiles, inside.Program.AreUploads}
 use Rattle.tap_views.specs.declared.encoder.TapFields.{TapFields}
 use Rattle.omny_audit.proofs.program.load_uploads.Given as goal
 
 -- so far these were loaded
 abbrev pub invariant-loop-name : goal.invariant-loop-name
-invariant-loop-name l = (bytes : List (List ℕ)) × (valid : List TapFields)
-    × (lists : List (List TapFields))
+invariant-loop-name l = (bytes : List (List ℕ)) × (lists : List (List TapFields))
     × LoadsNamedFiles (map (λ n. n.now) (take l.name-index l.names))
     l.fn.files.loads.trace.run.loads l.files.loads.trace.run.loads bytes
-    × AreUploads bytes valid lists l.uploads
+    × AreUploads bytes lists l.uploads

@@ -3,10 +3,10 @@ use Rattle.std.proofs.Common.{subst, sym, tests}
 use Rattle.clap.specs.Words.{HasKind, IsAmong, Kinds, kind_of}
 use Rattle.clap.specs.declared.error.{Error.Error, kind.ErrorKind.ErrorKind}
 use Rattle.clap.specs.declared.error.kind.ErrorKind.TheVariants.{DisplayHelp, DisplayVersion}
-use Rattle.omny_audit.proofs.Causes.{started_none}
+use Rattle.omny_audit.proofs.ProgramLemmas.{started_none}
 use Rattle.omny_audit.specs.{Ends.did_by, Options.AuditRequest}
 use Rattle.omny_audit.specs.declared.fault.Fault.TheVariants.{NoMemory}
-use Rattle.omny_audit.specs.inside.Options.{audit_request_of}
+use Rattle.omny_audit.specs.inside.Program.{audit_request_of}
 use Rattle.program_manners.proofs.Refusals.{only_memory}
 use Rattle.program_manners.specs.TableViews.{names_of, wrong_of}
 use Rattle.program_manners.specs.{TableWords.wrong_word, Words.IsRequest}

@@ -1,6 +1,6 @@
 -- The file of the table whose class is wrong is one of the tables'.
 use Rattle.std.proofs.Common.{[], ◌∷◌, Bor, List, ℕ, map, subst, sym}
-use Rattle.omny_audit.proofs.Causes.{contained}
+use Rattle.omny_audit.proofs.ProgramLemmas.{contained}
 use Rattle.program_manners.specs.TableWords.{file_named}
 use Rattle.std.proofs.lemmas.List.Elements.{Contains-append_left, Contains-append_right}
 use Rattle.std.proofs.lemmas.List.Elements.{Contains-push}
