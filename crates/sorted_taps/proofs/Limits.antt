@@ -145,12 +145,12 @@ sorted_meeting before one (x ∷ rest) begin at first last up over meet =
     let all = length-append before list in
     let long = length-append one (x ∷ rest) in
     let back : at - 1 ≡ length before + (length one - 1) = omega (arith, last, some) in
-    let place : List TapFields → ℕ → TapFields = λ l k. get_or l k d in
+    let item : List TapFields → ℕ → TapFields = λ l k. get_or l k d in
     subst (λ t. IsNotBefore t x)
-    (ap (place (before ++ list)) back ∙ get_or-append-add before list (length one - 1) d
+    (ap (item (before ++ list)) back ∙ get_or-append-add before list (length one - 1) d
     ∙ get_or_append_left one (x ∷ rest) d (length one - 1) (omega (arith, some)))
     (subst (IsNotBefore (get_or (before ++ list) (at - 1) d))
-    (ap (place (before ++ list)) last ∙ get_or-append-add before list (length one) d
+    (ap (item (before ++ list)) last ∙ get_or-append-add before list (length one) d
     ∙ get_or-append_seam one x rest d)
     (meet d (omega (arith, first, last, some)) (omega (arith, last, all, long)))))) over
 
