@@ -57,3 +57,9 @@ returns-in_err-_counted-clause-fault g c =
           (whole.begins refl) (whole.ends refl);
       counted = have.counted;
     }) (subst (λ (ns : List ℕ). 2 ^ 46 < sum ns) c.deref-2.ensures.value many.1))
+
+pub returns-in_err-ends-clause-fault : goal.returns-in_err-ends-clause-fault
+returns-in_err-ends-clause-fault g c =
+    let p = err_from_is_err_and c.from_residual-in_err-ends.result
+    c.from_residual-in_err-ends.ensures.1 in
+    rw (p.1, p.2) (λ all are. tt)

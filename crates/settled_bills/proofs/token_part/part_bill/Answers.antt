@@ -1,5 +1,5 @@
 use Rattle.std.proofs.Common.{[], map, ap, ◌∙◌, arith, refl}
-use Rattle.std.proofs.lemmas.Result.{IfOk-at_ok}
+use Rattle.std.proofs.lemmas.Result.{IfOk-at_ok, err_from_is_err_and}
 use Rattle.tap_views.specs.declared.upload_end.UploadEnd.TheVariants.{Posted}
 use Rattle.settlement.specs.Posted.{posted}
 use Rattle.settlement.proofs.TokenRuns.{posted_length}
@@ -31,3 +31,9 @@ returns-clause-billed g c =
                 ∙ ap (map Posted) (c.deref-2.ensures.value ∙ have.counted),
           ),
     )
+
+pub returns-in_err-ends-clause-fault : goal.returns-in_err-ends-clause-fault
+returns-in_err-ends-clause-fault g c =
+    let p = err_from_is_err_and c.from_residual-in_err-ends.result
+    c.from_residual-in_err-ends.ensures.1 in
+    rw (p.1, p.2) (λ all are. tt)
