@@ -78,28 +78,6 @@ impl<D: Disk> Uploads for NamedFiles<'_, D> {
     }
 }
 
-impl<D: Disk> NamedFiles<'_, D> {
-    ghost use Rattle.std.specs.Prelude.{◌<◌, IfOk, length, map};
-    ghost use Rattle.fare_program.specs.FilesLoaded.{text_at};
-    ghost use Rattle.world.specs.Origins.{IsProvided};
-
-    /// All bytes of a file, read into the memory of `room`.
-    fn read(&self, upload: usize, room: Vec<u8>, calls: &mut Trace) -> Result<Vec<u8>, AllocError>
-        requires { upload < length self.now.names.now }
-        ensures { IfOk result (λ bytes. IsProvided (D.origin self.now.disk.now
-            (text_at (map (λ n. n.now) self.now.names.now) upload)) calls.old.run calls.new.run
-            bytes.items) }
-    {
-        let mut room = room;
-        // one byte more shows that the file has ended
-        room.resize(self.size(upload).saturating_add(1), 0)?;
-        match self.disk.read_into(self.names[upload], room, calls) {
-            Ok(bytes) => Ok(bytes),
-            Err(_) => Err(AllocError),
-        }
-    }
-}
-
 impl<D: Disk> UploadSource for NamedFiles<'_, D> {
     ghost use Rattle.std.specs.Prelude.{map};
     ghost use Rattle.fare_program.specs.inside.PostedFiles.{unless_memory};
@@ -117,8 +95,13 @@ impl<D: Disk> UploadSource for NamedFiles<'_, D> {
         room: &'b mut Vec<u8>,
         calls: &mut Trace,
     ) -> Option<&'b [u8]> {
-        let taken = mem::replace(room, Vec::new(self.alloc));
-        let Ok(bytes) = self.read(upload as usize, taken, calls) else {
+        let mut taken = mem::replace(room, Vec::new(self.alloc));
+        // one byte more shows that the file has ended
+        let size = self.size(upload as usize).saturating_add(1);
+        if taken.resize(size, 0).is_err() {
+            return None;
+        }
+        let Ok(bytes) = self.disk.read_into(self.names[upload as usize], taken, calls) else {
             return None;
         };
         *room = bytes;

@@ -14,7 +14,7 @@ use std::sync::atomic::{AtomicU64, Ordering};
 use std::test::Fail;
 use std::thread::Threads;
 use tap_views::{TapFields, encode};
-use world::{Loaded, Trace};
+use world::{Loaded, MemoryStream, Trace};
 
 /// The token of most taps.
 const TOKEN: &str = "000000000000000000000000000000a1";
@@ -32,6 +32,8 @@ impl<'a> Disk for TwoFiles<'a> {
     ghost use Rattle.world.specs.Origins.{nowhere};
 
     type File = InMemory<'a>;
+
+    type Stream = MemoryStream<'static>;
 
     ghost origin = { λ _ _. nowhere };
 
@@ -52,6 +54,10 @@ impl<'a> Disk for TwoFiles<'a> {
     }
 
     fn read_into(&self, _: &str, _: Vec<u8>, _: &mut Trace) -> Result<Vec<u8>, LoadFault> {
+        Err(LoadFault::Unread)
+    }
+
+    fn open_stream(&self, _: &str) -> Result<MemoryStream<'static>, LoadFault> {
         Err(LoadFault::Unread)
     }
 
@@ -231,6 +237,8 @@ struct FickleDisk<'a> {
 impl<'a> Disk for FickleDisk<'a> {
     type File = FickleFile<'a>;
 
+    type Stream = MemoryStream<'static>;
+
     fn open_placed(&self, _: &str) -> Result<FickleFile<'a>, Unopened> {
         self.opened
     }
@@ -244,6 +252,10 @@ impl<'a> Disk for FickleDisk<'a> {
     }
 
     fn read_into(&self, _: &str, _: Vec<u8>, _: &mut Trace) -> Result<Vec<u8>, LoadFault> {
+        Err(LoadFault::Unread)
+    }
+
+    fn open_stream(&self, _: &str) -> Result<MemoryStream<'static>, LoadFault> {
         Err(LoadFault::Unread)
     }
 
