@@ -25,6 +25,5 @@ pub use listing::{ListCounts, Listing, Word};
 pub use note::Note;
 pub use program::main_over;
 pub use program_manners::{
-    Complaints, FileSource, LOAD_LIMIT_BYTES, LoadFault, Output, WordsFault,
-    unread_words, words_of,
+    Complaints, FileSource, LOAD_LIMIT_BYTES, LoadFault, Output, WordsFault, unread_words, words_of,
 };

@@ -101,7 +101,10 @@ impl<D: Disk> UploadSource for NamedFiles<'_, D> {
         if taken.resize(size, 0).is_err() {
             return None;
         }
-        let Ok(bytes) = self.disk.read_into(self.names[upload as usize], taken, calls) else {
+        let Ok(bytes) = self
+            .disk
+            .read_into(self.names[upload as usize], taken, calls)
+        else {
             return None;
         };
         *room = bytes;

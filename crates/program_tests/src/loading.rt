@@ -2,9 +2,7 @@
 
 use super::running::{NoDisk, run_over};
 use super::shelf::{Content, Shelf};
-use fare_program::{
-    Disk, FileSource, Host, LOAD_LIMIT_BYTES, LoadFault, Source, prefetch_files,
-};
+use fare_program::{Disk, FileSource, Host, LOAD_LIMIT_BYTES, LoadFault, Source, prefetch_files};
 use placed_files::{InMemory, Unopened};
 use std::alloc::{AllocError, Global};
 use std::io::Read;
