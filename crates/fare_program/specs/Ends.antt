@@ -81,12 +81,12 @@ pub record HasFinished (request : Request) (did : Did) (success : Bool) : Type 0
   pub flushed : did.flushed ≡ true
   pub quiet : Keeps did.said did.said'
 
--- The right fault was reported. That of a write is reported only if the output remembers one that
+-- A fault was reported, that of a load is the right one. That of a write is reported only if the output remembers one that
 -- failed.
 pub record HasFailed (request : Request) (did : Did) : Type 0 where
   pub fault : Fault
   pub usable : is_usable request ≡ true
-  pub right : IsRightFault request did.under did.loaded did.loaded' did.refused fault
+  pub right : IsRightFault request did.loaded did.loaded' did.refused fault
   pub line_reported : LineWritten did.said did.said' did.failed (fault_text fault)
   pub write_failed : fault ≡ Write → did.end ≢ None
   pub left : Leaves request did fault

@@ -1,8 +1,9 @@
 //! Why the program fails, with the line that says so.
-ghost use Rattle.fare_program.specs.{Causes.IsRightOfSorted, Fault.fault_text, inside.Ends.IsLate};
-ghost use Rattle.fare_program.specs.inside.Fault.{IsOfOutput, as_remembered, ended_as, printed_as};
-ghost use Rattle.settled_bills.specs.Faults.{IsBeforeText, IsBillFault};
-ghost use Rattle.std.specs.Prelude.{◌≡◌, ◌≢◌, ℕ, List, Option, Some, IfErr, map};
+ghost use Rattle.fare_program.specs.{Fault.fault_text, inside.Ends.IsLate};
+ghost use Rattle.fare_program.specs.inside.Fault.{IsOfCharging, as_remembered, ended_as};
+ghost use Rattle.fare_program.specs.inside.Fault.{printed_as};
+ghost use Rattle.settled_bills.specs.Faults.{IsBeforeText};
+ghost use Rattle.std.specs.Prelude.{◌≡◌, ◌≢◌, Some, IfErr};
 
 use fare_service::{GatherFault, PrintFault};
 use placed_files::Unopened;
@@ -86,9 +87,6 @@ impl<'a> Fault<'a> {
     pub(crate) fn of_bill(names: &[&'a str], fault: BillFault) -> Fault<'a>
         ensures before { result ≢ Fault.Write → (IsLate result → ⊥) → IsBeforeText fault }
         ensures write { result ≡ Fault.Write → fault ≡ BillFault.Write }
-        ensures right { (known : List (Option (List ℕ)))
-            → ((all : List (List ℕ)) → known ≡ map Some all → IsBillFault all fault)
-            → IsRightOfSorted (map (λ n. n.now) names.now) known result }
     {
         match fault {
             BillFault::File(refused) => match names.get(refused.index) {
@@ -119,7 +117,7 @@ impl<'a> Fault<'a> {
 /// What the writing of a text comes to, of uploads that are whole or not.
 pub(crate) fn ended<'a>(written: Result<(), PrintFault>, success: bool) -> Result<bool, Fault<'a>>
     ensures ended { result ≡ ended_as written success }
-    ensures output { IfErr result IsOfOutput }
+    ensures fault { IfErr result IsOfCharging }
 {
     match written {
         Ok(()) => Ok(success),

@@ -7,18 +7,6 @@ use program_manners::{ListFault, ListWords, TableWord, flag_in, names_in};
 use std::alloc::Global;
 use tap_views::NoMemory;
 
-/// What the words say of the form of the text.
-#[derive(Clone, Copy, Debug)]
-pub struct FormatWords<'a> {
-    /// The form, if it is named.
-    pub form: Option<&'a str>,
-    pub has_table: bool,
-    /// Whether the text is a statement.
-    pub has_token: bool,
-    /// The first option of those beside which no form can be named.
-    pub other: Option<&'static str>,
-}
-
 fn other_of(matches: &ArgMatches<'_>) -> Option<&'static str> {
     for name in ["list", "ledger", "json"] {
         if flag_in(matches, name) {
@@ -33,18 +21,8 @@ fn other_of(matches: &ArgMatches<'_>) -> Option<&'static str> {
     None
 }
 
-impl<'a> FormatWords<'a> {
-    fn of(matches: &ArgMatches<'a>, has_table: bool) -> FormatWords<'a> {
-        FormatWords {
-            form: matches.get_str("format"),
-            has_table,
-            has_token: matches.get_str("token").is_some(),
-            other: other_of(matches),
-        }
-    }
-}
-
-/// The files that the words name. Words that are not a command line name none.
+/// The files that the words name, and what they say of the form of the text. Words that are not a
+/// command line name none.
 #[derive(Drop)]
 pub struct FileWords<'a> {
     /// The fare tables, without their dates.
@@ -53,7 +31,12 @@ pub struct FileWords<'a> {
     pub uploads: Vec<&'a str>,
     /// The file that is to say what made the text.
     pub made_by: Option<&'a str>,
-    pub format: FormatWords<'a>,
+    /// The form of the text, if it is named.
+    pub form: Option<&'a str>,
+    /// Whether the text is a statement.
+    pub has_token: bool,
+    /// The first option of those beside which no form can be named.
+    pub other: Option<&'static str>,
 }
 
 impl<'a> FileWords<'a> {
@@ -65,12 +48,13 @@ impl<'a> FileWords<'a> {
                 for word in &names_in(alloc, &matches, "table")? {
                     tables.push(TableWord::of(word).name)?;
                 }
-                let has_table = !tables.is_empty();
                 Ok(FileWords {
                     tables,
                     uploads: names_in(alloc, &matches, "FILE")?,
                     made_by: matches.get_str("made-by"),
-                    format: FormatWords::of(&matches, has_table),
+                    form: matches.get_str("format"),
+                    has_token: matches.get_str("token").is_some(),
+                    other: other_of(&matches),
                 })
             }
             Err(error) if error.kind() == ErrorKind::OutOfMemory => Err(NoMemory),
@@ -78,12 +62,9 @@ impl<'a> FileWords<'a> {
                 tables,
                 uploads: Vec::new(alloc),
                 made_by: None,
-                format: FormatWords {
-                    form: None,
-                    has_table: false,
-                    has_token: false,
-                    other: None,
-                },
+                form: None,
+                has_token: false,
+                other: None,
             }),
         }
     }

@@ -20,7 +20,7 @@ mod traced;
 mod usage;
 
 pub use file_sources::{Amount, Disk, Host, Source, prefetch_files};
-pub use file_words::{FileWords, FormatWords, list_words};
+pub use file_words::{FileWords, list_words};
 pub use listing::{ListCounts, Listing, Word};
 pub use note::Note;
 pub use program::main_over;

@@ -1,12 +1,11 @@
 //! Named files that are read while their taps are charged.
 ghost use Rattle.fare_program.specs.Program.{Charges};
-ghost use Rattle.fare_program.specs.inside.{Ends.Gives, Ends.IsLate, Options.request_of};
+ghost use Rattle.fare_program.specs.inside.{Ends.Gives, Fault.IsOfCharging, Options.request_of};
 ghost use Rattle.std.specs.Io.KnownBytes.{Keeps};
 ghost use Rattle.std.specs.Prelude.{◌≡◌, ◌<◌, length, None, Some, IfErr, IfSome};
 
 use crate::fault::Fault;
-use crate::noting::NotingGatekeeper;
-use crate::options::Options;
+use crate::options::Job;
 use crate::posting::charge_provided;
 use crate::settle::charge_settled;
 use fare_service::UploadSource;
@@ -20,7 +19,6 @@ use std::mem;
 use std::random::RandomSource;
 use std::sync::Wait;
 use std::thread::Threads;
-use tap_views::Token;
 use world::Trace;
 
 /// Files of a disk, each of which is read when its turn comes.
@@ -118,38 +116,29 @@ pub(crate) fn sizes_of<D: Disk>(alloc: Global, disk: &D, names: &[&str]) -> Opti
 
 /// Each file is read when its turn comes. Returns whether each was posted whole.
 fn charge_named<'a, R: Threads + Wait + RandomSource + Sync, D: Disk + Sync, W: Write>(
-    rt: &R,
-    alloc: Global,
-    disk: &D,
-    options: &Options<'a>,
+    job: &Job<'_, 'a, R, D>,
     table: &FareTable,
-    token: Option<Token>,
     sizes: &[u64],
     calls: &mut Trace,
     out: &mut W,
 ) -> Result<bool, Fault<'a>>
-    requires { 0 < length options.now.files.items }
-    ensures ends { Gives (Charges (request_of options.now) (D.origin disk.now) table.now token
-        (Some calls.old.run.loads) (Some calls.new.run.loads)) (W.contents out.old)
+    requires { 0 < length job.now.options.files.items }
+    ensures ends { Gives (Charges (request_of job.now.options) (D.origin job.now.disk.now) table.now
+        job.now.token (Some calls.old.run.loads) (Some calls.new.run.loads)) (W.contents out.old)
         (W.contents out.new) result }
-    ensures early { IfErr result (λ fault. IsLate fault → ⊥) }
+    ensures fault { IfErr result IsOfCharging }
 {
+    let options = &job.options;
     let uploads = NamedFiles {
-        alloc,
-        disk,
+        alloc: job.alloc,
+        disk: job.disk,
         names: options.files.as_slice(),
         sizes,
     };
     if options.settle {
-        return charge_settled(rt, alloc, disk, options, table, token, &uploads, calls, out);
+        return charge_settled(job, table, &uploads, calls, out);
     }
-    let Ok(own) = table.try_clone(alloc) else {
-        return Err(Fault::NoMemory);
-    };
-    let keeper = NotingGatekeeper::new(disk, sizes);
-    charge_provided(
-        rt, alloc, disk, options, own, token, uploads, &keeper, calls, out,
-    )
+    charge_provided(job, table, uploads, sizes, calls, out)
 }
 
 /// Charges the named files while they are read, if all may be read before their turns. Returns
@@ -164,32 +153,27 @@ pub(crate) fn charge_prefetched<
     S: Source,
     W: Write,
 >(
-    rt: &R,
-    alloc: Global,
-    disk: &D,
-    options: &Options<'a>,
+    job: &Job<'_, 'a, R, D>,
     table: &FareTable,
-    token: Option<Token>,
     source: &mut S,
     out: &mut W,
 ) -> Option<Result<bool, Fault<'a>>>
-    ensures ends { IfSome result (Gives (Charges (request_of options.now) (D.origin disk.now)
-        table.now token (S.loaded source.old) (S.loaded source.new)) (W.contents out.old)
-        (W.contents out.new)) }
+    ensures ends { IfSome result (Gives (Charges (request_of job.now.options)
+        (D.origin job.now.disk.now) table.now job.now.token (S.loaded source.old)
+        (S.loaded source.new)) (W.contents out.old) (W.contents out.new)) }
     ensures fault { IfSome result (λ ended. IfErr ended (λ fault. fault ≡ Fault.Write)) }
     ensures none { result ≡ None → Keeps (W.contents out.old) (W.contents out.new) }
     ensures unloaded { result ≡ None → S.loaded source.new ≡ S.loaded source.old }
 {
+    let options = &job.options;
     if options.files.is_empty() {
         return None;
     }
-    let Some(sizes) = sizes_of(alloc, disk, options.files.as_slice()) else {
+    let Some(sizes) = sizes_of(job.alloc, job.disk, options.files.as_slice()) else {
         return None;
     };
     let mut calls = Trace::new();
-    match charge_named(
-        rt, alloc, disk, options, table, token, &sizes, &mut calls, out,
-    ) {
+    match charge_named(job, table, &sizes, &mut calls, out) {
         Ok(success) => {
             source.join(calls);
             Some(Ok(success))

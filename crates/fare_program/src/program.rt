@@ -1,20 +1,21 @@
 //! The whole program, over any source of bytes and any two writers.
-ghost use Rattle.fare_program.specs.Causes.{IsFileFault, IsRightFault, names_reported};
+ghost use Rattle.fare_program.specs.Causes.{IsFaultOfFiles, IsFileFault, IsRightFault};
+ghost use Rattle.fare_program.specs.Causes.{names_reported};
 ghost use Rattle.fare_program.specs.{Ends.Ends, Ends.IsPartLedger, Ends.did_over, Fault.fault_text};
 ghost use Rattle.fare_program.specs.FilesLoaded.{LoadsFiles, names_to_load};
 ghost use Rattle.fare_program.specs.Program.{Does, IsTokenIn, Lists};
 ghost use Rattle.fare_program.specs.TokenRanges.{range_fault};
 ghost use Rattle.fare_program.specs.inside.{Ends.Gives, Ends.GivesIf, Options.request_of};
-ghost use Rattle.program_manners.specs.{LineWritten.LineWritten, Loads.Loaded};
+ghost use Rattle.program_manners.specs.LineWritten.{LineWritten};
 ghost use Rattle.program_manners.specs.TableWords.{wrong_word};
 ghost use Rattle.std.specs.Option.{option_and_then, option_copied};
-ghost use Rattle.std.specs.Prelude.{◌≡◌, ◌≢◌, ◌++◌, ◌∷◌, [], List, Option, None, Err, IfErr, IfOk};
+ghost use Rattle.std.specs.Prelude.{◌≡◌, ◌≢◌, ◌++◌, ◌∷◌, [], None, Err, IfErr, IfOk};
 ghost use Rattle.std.specs.Prelude.{OnOk, is_ok, map, string_bytes, true};
 
 use crate::fault::Fault;
 use crate::lister::listing_text;
 use crate::named_files::charge_prefetched;
-use crate::options::Options;
+use crate::options::{Job, Options};
 use crate::posting::charge;
 use crate::sorted::work_sorted;
 use crate::traced::write_traced;
@@ -65,18 +66,17 @@ fn add<'a>(
 /// are loaded in their turns, if they were not read while they were settled. Else several may be
 /// read at once.
 pub(crate) fn load_files<'a, R: Threads + Sync, D: Disk + Sync, S: Source>(
-    rt: &R,
-    alloc: Global,
-    disk: &D,
-    options: &Options<'a>,
+    job: &Job<'_, 'a, R, D>,
     source: &mut S,
 ) -> Result<Vec<Vec<u8>>, FileFault<'a>>
-    ensures ok { IfOk result (λ files. LoadsFiles (names_to_load (request_of options.now).files)
-        (S.loaded source.old) (S.loaded source.new) (map (λ f. f.items) files.items)) }
-    ensures fault { IfErr result (IsFileFault (names_reported (request_of options.now).files)
+    ensures ok { IfOk result (λ files. LoadsFiles
+        (names_to_load (request_of job.now.options).files) (S.loaded source.old)
+        (S.loaded source.new) (map (λ f. f.items) files.items)) }
+    ensures fault { IfErr result (IsFileFault (names_reported (request_of job.now.options).files)
         (S.refused source.new)) }
 {
-    let mut files = Vec::new(alloc);
+    let options = &job.options;
+    let mut files = Vec::new(job.alloc);
     if options.files.is_empty() {
         add(&mut files, STANDARD_INPUT, source.input())?;
         return Ok(files);
@@ -86,7 +86,13 @@ pub(crate) fn load_files<'a, R: Threads + Sync, D: Disk + Sync, S: Source>(
     } else {
         options.workers.max(READERS) as usize
     };
-    source.keep_prefetched(prefetch_files(rt, alloc, disk, &options.files, threads));
+    source.keep_prefetched(prefetch_files(
+        job.rt,
+        job.alloc,
+        job.disk,
+        &options.files,
+        threads,
+    ));
     for name in &options.files {
         add(&mut files, name, source.load(name))?;
     }
@@ -96,26 +102,22 @@ pub(crate) fn load_files<'a, R: Threads + Sync, D: Disk + Sync, S: Source>(
 /// Lists the files, and says whether none of them has a layout fault. The whole text is made before
 /// it is written.
 fn list_files<'a, R: Threads + Sync, D: Disk + Sync, S: Source, W: Write>(
-    rt: &R,
-    alloc: Global,
-    disk: &D,
-    options: &Options<'a>,
+    job: &Job<'_, 'a, R, D>,
     table: Option<&FareTable>,
     source: &mut S,
     out: &mut W,
 ) -> Result<bool, Fault<'a>>
-    ensures ends { Gives (Lists (request_of options.now) (option_copied table.entry)
+    ensures ends { Gives (Lists (request_of job.now.options) (option_copied table.entry)
         (S.loaded source.old) (S.loaded source.new)) (W.contents out.old) (W.contents out.new)
         result }
-    ensures right { IfErr result (λ fault. (loaded : Option (List Loaded))
-        → IsRightFault (request_of options.now) (D.bytes_under disk.now) loaded
-        (S.loaded source.new) (S.refused source.new) fault) }
+    ensures right { IfErr result (IsFaultOfFiles (request_of job.now.options).files
+        (S.refused source.new)) }
 {
-    let files = match load_files(rt, alloc, disk, options, source) {
+    let files = match load_files(job, source) {
         Ok(files) => files,
         Err(file) => return Err(Fault::File(file)),
     };
-    let (text, clean) = match listing_text(alloc, table, &files) {
+    let (text, clean) = match listing_text(job.alloc, table, &files) {
         Ok(listing) => listing,
         Err(_) => return Err(Fault::NoMemory),
     };
@@ -130,46 +132,42 @@ fn list_files<'a, R: Threads + Sync, D: Disk + Sync, S: Source, W: Write>(
 /// are loaded, and all memory is taken, before the first byte is written. Sorted files are opened, and
 /// read in pieces.
 fn work<'a, R: Threads + Wait + RandomSource + Sync, D: Disk + Sync, S: Source, W: Write>(
-    rt: &R,
-    alloc: Global,
-    disk: &D,
-    options: &Options<'a>,
-    token: Option<Token>,
+    job: &Job<'_, 'a, R, D>,
     source: &mut S,
     out: &mut W,
 ) -> Result<bool, Fault<'a>>
-    requires range { option_and_then range_fault (request_of options.now).tokens ≡ None }
-    requires dates { option_and_then wrong_word (request_of options.now).table ≡ None }
-    requires token { IsTokenIn (request_of options.now).token token }
-    ensures ends { GivesIf (¬ IsPartLedger (request_of options.now))
-        (Does (request_of options.now) (D.bytes_under disk.now) (D.origin disk.now)
-        (S.loaded source.old) (S.loaded source.new)) (W.contents out.old) (W.contents out.new)
-        result }
-    ensures right { IfErr result (IsRightFault (request_of options.now) (D.bytes_under disk.now)
-        (S.loaded source.old) (S.loaded source.new) (S.refused source.new)) }
+    requires range { option_and_then range_fault (request_of job.now.options).tokens ≡ None }
+    requires dates { option_and_then wrong_word (request_of job.now.options).table ≡ None }
+    requires token { IsTokenIn (request_of job.now.options).token job.now.token }
+    ensures ends { GivesIf (¬ IsPartLedger (request_of job.now.options))
+        (Does (request_of job.now.options) (D.bytes_under job.now.disk.now)
+        (D.origin job.now.disk.now) (S.loaded source.old) (S.loaded source.new))
+        (W.contents out.old) (W.contents out.new) result }
+    ensures right { IfErr result (IsRightFault (request_of job.now.options) (S.loaded source.old)
+        (S.loaded source.new) (S.refused source.new)) }
 {
+    let options = &job.options;
     let Some(words) = &options.table else {
-        return list_files(rt, alloc, disk, options, None, source, out);
+        return list_files(job, None, source, out);
     };
-    let tables = match load_tables(alloc, words, source) {
+    let tables = match load_tables(job.alloc, words, source) {
         Ok(tables) => tables,
         Err(fault) => return Err(Fault::Tables(fault)),
     };
     if options.list {
-        let table = Some(&tables.fares);
-        return list_files(rt, alloc, disk, options, table, source, out);
+        return list_files(job, Some(&tables.fares), source, out);
     }
     if options.traced {
-        return write_traced(rt, alloc, disk, options, words, &tables, source, out);
+        return write_traced(job, words, &tables, source, out);
     }
     let table = tables.fares;
     if options.sorted {
-        return work_sorted(rt, alloc, disk, options, &table, token, out);
+        return work_sorted(job, &table, out);
     }
-    match charge_prefetched(rt, alloc, disk, options, &table, token, source, out) {
+    match charge_prefetched(job, &table, source, out) {
         Some(ended) => ended,
-        None => match load_files(rt, alloc, disk, options, source) {
-            Ok(files) => charge(rt, alloc, disk, options, table, token, files, out),
+        None => match load_files(job, source) {
+            Ok(files) => charge(job, &table, &files, out),
             Err(file) => Err(Fault::File(file)),
         },
     }
@@ -223,7 +221,14 @@ pub fn main_over<
             return 2;
         }
     };
-    let succeeded = match work(rt, alloc, disk, &options, token, source, out) {
+    let job = Job {
+        rt,
+        alloc,
+        disk,
+        options,
+        token,
+    };
+    let succeeded = match work(&job, source, out) {
         Ok(succeeded) => succeeded,
         Err(fault) => return report(err, &fault.as_remembered(out.end())),
     };

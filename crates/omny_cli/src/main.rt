@@ -136,7 +136,7 @@ fn run<R: Threads + Wait + Clock + RandomSource + Sync + AllocGlobal>(
     let ticker = ticker_for(rt, words, sums);
     let err = Recorded::new(Overheard::new(Escaping::new(rt.stderr())));
     let mut err = Complaints::new(Hushing::new(handles, &ticker, err, false));
-    let layout = if files.format.has_token {
+    let layout = if files.has_token {
         STATEMENT
     } else {
         REPORT
@@ -191,7 +191,7 @@ fn main(rt: HostRuntime) -> ExitCode {
         err.report_line(INPUT_TWICE);
         return ExitCode::from(2);
     }
-    match form_of(&files.format, &mut err) {
+    match form_of(&files, &mut err) {
         Some(form) => ExitCode::from(run(&rt, &rt, &words, &files, form)),
         None => ExitCode::from(2),
     }

@@ -1,11 +1,8 @@
 -- How the writing of a text ends: what private functions alone cite.
-use Rattle.fare_program.specs.{Options.Request, Parts.IsPartText, Settling.ShowsSettled}
 use Rattle.fare_program.specs.declared.fault.Fault.{Fault, TheVariants.Late, TheVariants.Write}
 use Rattle.fare_texts.specs.WrittenOut.{Begins}
 use Rattle.std.specs.Io.KnownBytes.{Appends, Keeps}
-use Rattle.std.specs.Prelude.{◌≡◌, ℕ, List, Bool, Option, Some, Result, Ok, Err, false, map, true}
-use Rattle.tap_views.specs.declared.token.Token.{Token}
-use Rattle.tariffs.specs.Fares.{Fares}
+use Rattle.std.specs.Prelude.{◌≡◌, ℕ, List, Bool, Option, Some, Result, Ok, Err, map, true}
 
 -- the text of sorted files was broken off: one of them was refused after all were checked
 abbrev pub IsLate : Fault → Type 0
@@ -33,24 +30,8 @@ abbrev pub Gives : (List ℕ → Bool → Type 0) → Option (List ℕ) → Opti
     → Result Bool Fault → Type 0
 Gives = GivesIf (Unit {0})
 
--- what is right of files of which this is known
-abbrev pub IfKnown : List (Option (List ℕ)) → (List (List ℕ) → List ℕ → Type 0) → List ℕ → Type 0
-IfKnown known Right text = (files : List (List ℕ)) → known ≡ map Some files → Right files text
-
--- A text of sorted files of which this is known is written whole, and succeeds, unless a fault stops
--- it. The text of which a prefix was written is right if this is given.
-abbrev pub GivesKnown : Type 0 → List (Option (List ℕ)) → (List (List ℕ) → List ℕ → Type 0)
-    → Option (List ℕ) → Option (List ℕ) → Result Bool Fault → Type 0
-GivesKnown Given known Right =
-    GivesIf Given (λ text success. (success ≡ true) × IfKnown known Right text)
-
--- So is what is requested of settled files.
-abbrev pub GivesSettled : Request → List (Option (List ℕ)) → Fares → Option Token
-    → Option (List ℕ) → Option (List ℕ) → Result Bool Fault → Type 0
-GivesSettled request known fares token = Gives (λ text success. (success ≡ true)
-    × IfKnown known (λ files text. ShowsSettled request fares files token text true) text)
-
--- So is the text of a part. Nothing is said of a prefix of its ledger.
-abbrev pub GivesPart : Bool → List (Option (List ℕ)) → Fares → Option (List ℕ) → Option (List ℕ)
-    → Result Bool Fault → Type 0
-GivesPart ledger known fares = GivesKnown (ledger ≡ false) known (IsPartText ledger fares)
+-- A text of sorted files of which this is known succeeds, and is right of them.
+abbrev pub OfKnown : List (Option (List ℕ)) → (List (List ℕ) → List ℕ → Type 0) → List ℕ → Bool
+    → Type 0
+OfKnown known Right text success =
+    (success ≡ true) × ((files : List (List ℕ)) → known ≡ map Some files → Right files text)

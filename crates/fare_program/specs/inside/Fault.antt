@@ -1,11 +1,10 @@
 -- Faults: what private functions alone cite.
-use Rattle.std.specs.Prelude.{◌<◌, ℕ, Bool, Err, None, Ok, Option, Result}
-use Rattle.fare_service.specs.Faults.{IsForMemory}
+use Rattle.std.specs.Prelude.{Bool, Err, None, Ok, Option, Result}
 use Rattle.program_manners.specs.declared.output.WriteEnd.{WriteEnd}
 use Rattle.fare_texts.specs.declared.print_fault.PrintFault.{PrintFault}
 use Rattle.fare_texts.specs.declared.print_fault.PrintFault.TheVariants as print
-use Rattle.fare_program.specs.declared.fault.Fault.{Fault}
-use Rattle.fare_program.specs.declared.fault.Fault.TheVariants.{Gather, NoMemory, Uploads, Write}
+use Rattle.fare_program.specs.Causes.{IsFaultOf}
+use Rattle.fare_program.specs.declared.fault.Fault.{Fault, TheVariants.NoMemory, TheVariants.Write}
 
 -- why a text was not printed
 abbrev pub printed_as : PrintFault → Fault
@@ -23,17 +22,6 @@ abbrev pub as_remembered : Option WriteEnd → Fault → Fault
 as_remembered None Write = NoMemory
 as_remembered end fault = fault
 
--- a write failed, or an allocation failed
-abbrev pub IsOfOutput : Fault → Type 0
-IsOfOutput Write = Unit {0}
-IsOfOutput NoMemory = Unit {0}
-IsOfOutput fault = ⊥
-
--- A fault of this number of uploads is the right one: there are too many of them. A write may fail at
--- any time, and so may memory, also for gathering the shares of workers.
-abbrev pub IsRightOfUploads : ℕ → Fault → Type 0
-IsRightOfUploads uploads Uploads = 65535 < uploads
-IsRightOfUploads uploads (Gather fault) = IsForMemory fault
-IsRightOfUploads uploads Write = Unit {0}
-IsRightOfUploads uploads NoMemory = Unit {0}
-IsRightOfUploads uploads fault = ⊥
+-- the fault is of no load, and of no sorted file that was checked
+abbrev pub IsOfCharging : Fault → Type 0
+IsOfCharging = IsFaultOf (λ file. ⊥)

@@ -1,13 +1,13 @@
 use Rattle.std.proofs.Common.{◌<◌, [], arith, ap, inl, inr, length}
-use Rattle.fare_program.proofs.{Causes.early, Ends.gives_by, PostedTexts.settled_request}
+use Rattle.fare_program.proofs.{Ends.gives_by, PostedTexts.settled_request}
 use Rattle.fare_program.proofs.Prefetched.{drawn_files, read_files}
-use Rattle.fare_program.specs.inside.{Fault.IsOfOutput, Fault.IsRightOfUploads, Options.request_of}
-use Rattle.std.proofs.lemmas.Result.{IfErr-weaker}
+use Rattle.fare_program.specs.inside.Options.{request_of}
 use Rattle.fare_program.proofs.named_files.charge_named.Goals as goal
 
 pub returns-then-options-clause-ends : goal.returns-then-options-clause-ends
 returns-then-options-clause-ends g c =
-    let origin = g.D.Disk.origin c.args.disk.now in
+    let job = c.args.job.now in
+    let origin = g.D.Disk.origin job.disk.now in
     let words = c.as_slice.result.now in
     let some : 0 < length words = omega (arith, c.requires, ap length c.as_slice.ensures.value) in
     gives_by _ _ _ _ _ _ c.charge_settled.result (λ given. given)
@@ -16,14 +16,14 @@ returns-then-options-clause-ends g c =
       drawn = [];
       loads_files = λ of_system. inl (rw c.as_slice.ensures.value at
           (read_files origin of_system words is.0 _ _ some is.1));
-      shows = settled_request (request_of c.args.options.now) c.args.table.now is.0 c.args.token text
-          success [] c.if-options.true is.2;
+      shows = settled_request (request_of job.options) c.args.table.now is.0 job.token text success
+          [] c.if-options.true is.2;
     })
     c.charge_settled.ensures.ends
 
 pub returns-clause-ends : goal.returns-clause-ends
 returns-clause-ends g c =
-    let origin = g.D.Disk.origin c.args.disk.now in
+    let origin = g.D.Disk.origin c.args.job.now.disk.now in
     let words = c.as_slice.result.now in
     gives_by _ _ _ _ _ _ c.charge_provided.result (λ given. given)
     (λ text success is. record {
@@ -33,16 +33,6 @@ returns-clause-ends g c =
         c.if-options.false,
         rw c.as_slice.ensures.value at (drawn_files origin of_system words is.0 _ _ is.1 is.2),
       );
-      shows = rw c.in-Ok.ensures at is.3;
+      shows = is.3;
     })
     c.charge_provided.ensures.ends
-
-pub returns-then-options-clause-early : goal.returns-then-options-clause-early
-returns-then-options-clause-early g c =
-    IfErr-weaker c.charge_settled.result _ _
-    (early IsOfOutput (λ why late. late)) c.charge_settled.ensures.output
-
-pub returns-clause-early : goal.returns-clause-early
-returns-clause-early g c =
-    IfErr-weaker c.charge_provided.result _ _
-    (early (IsRightOfUploads _) (λ why late. late)) c.charge_provided.ensures.right

@@ -1,4 +1,4 @@
-use Rattle.std.proofs.Common.{◌≡◌, ◌∙◌, ℕ, List, [], Vec, Global, ap, length, map}
+use Rattle.std.proofs.Common.{◌≡◌, ℕ, List, [], Vec, Global, length, map}
 use Rattle.fare_program.proofs.{Ends.gives_by, PostedTexts.settled_request}
 use Rattle.fare_program.specs.inside.Options.{request_of}
 use Rattle.fare_service.proofs.UploadFileSource.{known_files}
@@ -23,19 +23,16 @@ pub returns-clause-ends : goal.returns-clause-ends
 returns-clause-ends g c =
     gives_by _ _ _ _ _ _ c.charge_provided.result (λ given. given)
     (λ text success is.
-    let known = known_files bytes_in c.as_slice.result.now is.0 is.2.provided
-    ∙ ap (map bytes_in) c.as_slice.ensures.value in
-    (is.1, rw known at is.3))
+    (is.1, rw (known_files bytes_in c.args.files.now is.0 is.2.provided) at is.3))
     c.charge_provided.ensures.ends
 
 pub returns-then-options-clause-ends : goal.returns-then-options-clause-ends
 returns-then-options-clause-ends g c =
     gives_by _ _ _ _ _ _ c.charge_settled.result (λ given. given)
-    (λ text success is.
-    let known = read_files c.deref.result.now is.0 _ _ is.1
-    ∙ ap (map bytes_in) c.deref.ensures.value in (
+    (λ text success is. (
       [],
-      settled_request (request_of c.args.options.now) c.args.table (map bytes_in c.args.files.items)
-          c.args.token text success [] c.if-options.true (rw known at is.2),
+      settled_request (request_of c.args.job.now.options) c.args.table.now
+          (map bytes_in c.args.files.now) c.args.job.now.token text success [] c.if-options.true
+          (rw (read_files c.args.files.now is.0 _ _ is.1) at is.2),
     ))
     c.charge_settled.ensures.ends

@@ -39,7 +39,7 @@ loop-name-preserved g c =
 
 pub returns-clause-ok : goal.returns-clause-ok
 returns-clause-ok g c =
-    let names = c.args.options.now.files.items in
+    let names = c.args.job.now.options.files.items in
     let some : 0 < length names = search rules in
     let all : take c.loop-name.name-index names ≡ names =
     take_all _ names (rw c.deref-name-items.ensures.value at c.loop-name-test.false) in
@@ -49,7 +49,7 @@ pub returns-in_err-add-2-clause-fault : goal.returns-in_err-add-2-clause-fault
 returns-in_err-add-2-clause-fault g c =
     let file = c.in_err-add-2.field-0.0 in
     let (named, loaded) = c.in_err-add-2.ensures.fault in
-    let names = c.args.options.now.files.items in
+    let names = c.args.job.now.options.files.items in
     let refused = g.S.FileSource.refused c.load.new.self in
     let one : IsOneOf file.name.now (map (λ n. n.now) names) = rw (← c.deref-name-items.ensures.value)
     (is_one_at c.deref-name-items.result.now c.loop-name.name-index no_name _ c.loop-name-test.true named) in

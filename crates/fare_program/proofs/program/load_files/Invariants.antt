@@ -4,6 +4,6 @@ use Rattle.fare_program.proofs.program.load_files.Given as goal
 
 abbrev pub invariant-loop-name : goal.invariant-loop-name
 invariant-loop-name g l =
-    LoadsFiles (map (λ n. Some n.now) (take l.name-index l.options.files.items))
+    LoadsFiles (map (λ n. Some n.now) (take l.name-index l.job.options.files.items))
     (g.S.FileSource.loaded l.fn.source)
     (g.S.FileSource.loaded l.source) (map (λ f. f.items) l.files.items)

@@ -62,12 +62,12 @@ some_end end why is none = cc
 
 module _ (request : Request) (did : Did) where
   abbrev RightFault : Fault → Type 0
-  RightFault fault = IsRightFault request did.under did.loaded did.loaded' did.refused fault
+  RightFault fault = IsRightFault request did.loaded did.loaded' did.refused fault
 
   right_remembered : (end : Option WriteEnd) (fault : Fault) → RightFault fault
       → RightFault (as_remembered end fault)
   right_remembered (Some why) fault right = right
-  right_remembered None Write right = tt
+  right_remembered None Write right = λ unsorted. tt
   right_remembered None fault right = right
 
   abbrev Requested : List ℕ → Type 0
@@ -171,7 +171,7 @@ returns g c =
     (ends_by _ _ _ _ _ _ c.in-Ok.ensures.request c.in-Ok.ensures.kinds (inr (record {
       fault = Write;
       usable = c.in-Ok-checked.ensures.usable;
-      right = tt;
+      right = λ unsorted. tt;
       line_reported = c.report-in-Err-finish.ensures.line;
       write_failed = λ write. some_end _ _ c.in-Err-finish.ensures.noted;
       left = (

@@ -1,17 +1,19 @@
-use Rattle.std.proofs.Common.{◌≡◌, ℕ, Bool, List, Option, Some, ap, arith, inl, length, map}
-use Rattle.std.proofs.Common.{option_map, refl}
-use Rattle.fare_program.proofs.Causes.{many_named, right_sorted, right_uploads}
+use Rattle.std.proofs.Common.{◌≡◌, ◌∙◌, ℕ, Bool, List, Option, Some, Result, Ok, Err, ap, inl, map}
+use Rattle.std.proofs.Common.{option_map, refl, sym}
+use Rattle.fare_program.proofs.Causes.{of_charging, right_of_files}
 use Rattle.fare_program.proofs.Choices.{if_false, if_some, if_true}
 use Rattle.fare_program.proofs.Ends.{gives_by, gives_kept}
 use Rattle.fare_program.specs.{Options.Request, inside.Options.request_of}
 use Rattle.fare_program.specs.Program.{Does, DoesBy, IsTokenIn}
+use Rattle.program_manners.proofs.NextTables.{tables_counted}
 use Rattle.program_manners.specs.{Loads.Loaded, TableLoads.LoadsTables, TableViews.names_of}
 use Rattle.program_manners.specs.TableWords.{TableNames}
 use Rattle.tap_views.proofs.Choices.{MatchOption_none}
 use Rattle.tap_views.specs.declared.token.Token.{Token}
 use Rattle.tariffs.specs.Fares.{Fares}
 use Rattle.world.specs.Origins.{Origin}
-use Rattle.std.proofs.lemmas.{List.length-map, Result.IfErr-weaker}
+use Rattle.std.proofs.lemmas.{Bool.false≢true, List.length-map, Result.IfErr-weaker}
+use Rattle.std.specs.Prelude.{IfErr}
 use Rattle.fare_program.proofs.program.work.Goals as goal
 
 module _ (request : Request) (known : List ℕ → Option (List ℕ)) (origin : List ℕ → Origin)
@@ -31,12 +33,17 @@ module _ (request : Request) (known : List ℕ → Option (List ℕ)) (origin : 
     does = does;
   })
 
+any_fault : {T E : Type 0} (r : Result T E) (P : E → Type 0) → ((fault : E) → P fault) → IfErr r P
+any_fault (Ok x) P holds = tt
+any_fault (Err e) P holds = holds e
+
 pub load_tables-requires : goal.load_tables-requires
 load_tables-requires g c = rw c.in-Some.is at c.requires.dates
 
 pub returns-in_default-clause-right : goal.returns-in_default-clause-right
 returns-in_default-clause-right g c =
-    IfErr-weaker c.list_files.result _ _ (λ fault right. right _) c.list_files.ensures.right
+    IfErr-weaker c.list_files.result _ _ (λ fault right unsorted. right_of_files _ _ _ _ fault right)
+    c.list_files.ensures.right
 
 pub returns-in_default-clause-ends : goal.returns-in_default-clause-ends
 returns-in_default-clause-ends g c =
@@ -47,15 +54,31 @@ returns-in_default-clause-ends g c =
 pub returns-then-options-clause-ends : goal.returns-then-options-clause-ends
 returns-then-options-clause-ends g c =
     gives_by _ _ _ _ _ _ c.list_files-then-options.result (λ given. tt)
-    (λ text success is. by_tables (request_of c.args.options.now) _ _ _ _ _ _ _ _ _
+    (λ text success is. by_tables (request_of c.args.job.now.options) _ _ _ _ _ _ _ _ _
     (ap (option_map names_of) c.in-Some.is) c.in-Ok.ensures.ok c.requires.token text success
     (if_true _ _ c.if-options.true is))
     c.list_files-then-options.ensures.ends
 
+pub returns-then-options-clause-right : goal.returns-then-options-clause-right
+returns-then-options-clause-right g c =
+    IfErr-weaker c.list_files-then-options.result _ _
+    (λ fault right unsorted. right_of_files _ _ _ _ fault right)
+    c.list_files-then-options.ensures.right
+
+pub write_traced-requires : goal.write_traced-requires
+write_traced-requires g c =
+    let (texts, words) = tables_counted _ _ _ _ _ c.in-Ok.ensures.ok in
+    sym (length-map c.in-Ok.tables.texts.items (λ t. t.items)) ∙ texts
+
+pub returns-then-options-2-clause-right : goal.returns-then-options-2-clause-right
+returns-then-options-2-clause-right g c =
+    IfErr-weaker c.write_traced.result _ _
+    (λ fault right unsorted. right_of_files _ _ _ _ fault right) c.write_traced.ensures.right
+
 pub returns-then-options-2-clause-ends : goal.returns-then-options-2-clause-ends
 returns-then-options-2-clause-ends g c =
     gives_by _ _ _ _ _ _ c.write_traced.result (λ given. tt)
-    (λ text success is. by_tables (request_of c.args.options.now) _ _ _ _ _ _ _ _ _
+    (λ text success is. by_tables (request_of c.args.job.now.options) _ _ _ _ _ _ _ _ _
     (ap (option_map names_of) c.in-Some.is) c.in-Ok.ensures.ok c.requires.token text success
     (if_false _ _ c.if-options.false (if_true _ _ c.if-options-2.true is)))
     c.write_traced.ensures.ends
@@ -63,7 +86,7 @@ returns-then-options-2-clause-ends g c =
 pub returns-then-options-3-clause-ends : goal.returns-then-options-3-clause-ends
 returns-then-options-3-clause-ends g c =
     gives_by _ _ _ _ _ _ c.work_sorted.result (λ given. given)
-    (λ text success is. by_tables (request_of c.args.options.now) _ _ _ _ _ _ _ _ _
+    (λ text success is. by_tables (request_of c.args.job.now.options) _ _ _ _ _ _ _ _ _
     (ap (option_map names_of) c.in-Some.is) c.in-Ok.ensures.ok c.requires.token text success
     (if_false _ _ c.if-options.false (if_false _ _ c.if-options-2.false
     (if_true _ _ c.if-options-3.true (refl, is)))))
@@ -71,14 +94,13 @@ returns-then-options-3-clause-ends g c =
 
 pub returns-then-options-3-clause-right : goal.returns-then-options-3-clause-right
 returns-then-options-3-clause-right g c =
-    IfErr-weaker c.work_sorted.result _ _
-    (λ fault right. right_sorted (request_of c.args.options.now) _ _ _ _ c.if-options-3.true fault right)
-    c.work_sorted.ensures.right
+    any_fault c.work_sorted.result _
+    (λ fault unsorted. absurd (false≢true (sym unsorted ∙ c.if-options-3.true)))
 
 pub returns-in-Some-charge_prefetched-clause-ends : goal.returns-in-Some-charge_prefetched-clause-ends
 returns-in-Some-charge_prefetched-clause-ends g c =
     gives_by _ _ _ _ _ _ c.in-Some-charge_prefetched.ended (λ given. tt)
-    (λ text success is. by_tables (request_of c.args.options.now) _ _ _ _ _ _ _ _ _
+    (λ text success is. by_tables (request_of c.args.job.now.options) _ _ _ _ _ _ _ _ _
     (ap (option_map names_of) c.in-Some.is) c.in-Ok.ensures.ok c.requires.token text success
     (if_false _ _ c.if-options.false (if_false _ _ c.if-options-2.false
     (if_false _ _ c.if-options-3.false is))))
@@ -89,7 +111,7 @@ pub returns-in-Ok-load_files-clause-ends : goal.returns-in-Ok-load_files-clause-
 returns-in-Ok-load_files-clause-ends g c =
     let unloaded = c.in-None.ensures.unloaded refl in
     gives_by _ _ _ _ _ _ c.charge.result (λ given. tt)
-    (λ text success is. by_tables (request_of c.args.options.now) _ _ _ _ _ _ _ _ _
+    (λ text success is. by_tables (request_of c.args.job.now.options) _ _ _ _ _ _ _ _ _
     (ap (option_map names_of) c.in-Some.is) c.in-Ok.ensures.ok c.requires.token text success
     (if_false _ _ c.if-options.false (if_false _ _ c.if-options-2.false
     (if_false _ _ c.if-options-3.false (record {
@@ -102,16 +124,6 @@ returns-in-Ok-load_files-clause-ends g c =
 
 pub returns-in-Ok-load_files-clause-right : goal.returns-in-Ok-load_files-clause-right
 returns-in-Ok-load_files-clause-right g c =
-    let loaded = c.in-Ok-load_files.ensures.ok in
     IfErr-weaker c.charge.result _ _
-    (λ fault right. right_uploads (request_of c.args.options.now) _ _ _ _ _
-    (λ many. many_named _ (omega (
-      arith,
-      many,
-      ap length loaded.under,
-      ap length loaded.bytes,
-      length-map loaded.loads (λ (l : Loaded). l.name),
-      length-map loaded.loads (λ (l : Loaded). l.bytes),
-      length-map c.in-Ok-load_files.files.items (λ f. f.items),
-    ))) fault right)
-    c.charge.ensures.right
+    (λ fault is unsorted. right_of_files _ _ _ _ fault (of_charging _ fault is))
+    c.charge.ensures.fault

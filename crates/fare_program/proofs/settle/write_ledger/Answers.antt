@@ -24,9 +24,11 @@ returns-clause-ends g c =
     (λ text success is. (
       files,
       read,
-      shows_ledger (request_of c.args.options.now) c.args.table.now files text success _
+      shows_ledger (request_of c.args.job.now.options) c.args.table.now files
+          c.args.job.now.token text success _
           (c.posted_taps.ensures.history c.args.table.now files _ made) _ ended
-          (is.0 ∙ c.are_posted.ensures ∙ ap are_posted c.deref-2.ensures.value) c.requires
+          (is.0 ∙ c.are_posted.ensures ∙ ap are_posted c.deref-2.ensures.value) c.requires.all
+          c.requires.ledger
           (rw c.deref.ensures.value at is.1),
     ))
     (gives_printed g.W.Write.contents _ _ _ c.write_settled_ledger-written.result c.are_posted.result c.write_settled_ledger-written.ensures.ok

@@ -6,8 +6,8 @@ use Rattle.part_texts.specs.Heads.{part_head}
 use Rattle.fare_program.proofs.Ends.{printed, unwritten}
 use Rattle.fare_program.proofs.sorted.write_ledger_of_part.Goals as goal
 
-pub returns-in-Ok-write_part_ledger-clause-ends : goal.returns-in-Ok-write_part_ledger-clause-ends
-returns-in-Ok-write_part_ledger-clause-ends g c =
+pub returns-in-Ok-write_part_ledger : goal.returns-in-Ok-write_part_ledger
+returns-in-Ok-write_part_ledger g c =
     let old = g.W.Write.contents c.args.out.now in
     let mid = g.W.Write.contents c.write_part_head.new.out in
     let new = g.W.Write.contents c.write_part_ledger.new.out in
@@ -33,28 +33,28 @@ returns-in-Ok-write_part_ledger-clause-ends g c =
     )
 
 -- nothing is known of a prefix of it
-pub returns-in-Err-write_part_head-clause-ends : goal.returns-in-Err-write_part_head-clause-ends
-returns-in-Err-write_part_head-clause-ends g c = rw c.of_print.ensures
+pub returns-in-Err-write_part_head : goal.returns-in-Err-write_part_head
+returns-in-Err-write_part_head g c = rw c.of_print.ensures
     (printed g.W.Write.contents _ _ _ c.in-Err-write_part_head.fault c.in-Err-write_part_head.ensures.fault
     (λ write. (
       part_head c.deref-2.result.now,
-      (λ given. absurd (cc)),
+      (λ given. absurd given),
       c.in-Err-write_part_head.ensures.started write,
     )))
 
-pub returns-in-Err-Write-clause-ends : goal.returns-in-Err-Write-clause-ends
-returns-in-Err-Write-clause-ends g c =
+pub returns-in-Err-Write : goal.returns-in-Err-Write
+returns-in-Err-Write g c =
     let old = g.W.Write.contents c.args.out.now in
     let mid = g.W.Write.contents c.write_part_head.new.out in
     let new = g.W.Write.contents c.write_part_ledger.new.out in
     let (taps, lines, along, started) = c.in-Err-Write.ensures.started c.in-Err-Write.field-0-is in (
       part_head c.deref-2.result.now ++ (head_text ++ lines),
-      (λ given. absurd (cc)),
+      (λ given. absurd given),
       begins_after old mid new (part_head c.deref-2.result.now) _
           c.in_default.ensures.ok started,
     )
 
-pub returns-in-Err-clause-ends : goal.returns-in-Err-clause-ends
-returns-in-Err-clause-ends g c =
+pub returns-in-Err : goal.returns-in-Err
+returns-in-Err g c =
     unwritten _ _ c.of_bill.result
     (λ write. c.in-Err.ensures.unwritten (c.of_bill.ensures.write write))

@@ -6,8 +6,8 @@ use Rattle.fare_program.specs.Parts.{report_over}
 use Rattle.fare_program.proofs.Ends.{printed, started_of}
 use Rattle.fare_program.proofs.sorted.write_made.Goals as goal
 
-pub returns-in-Err-clause-ends : goal.returns-in-Err-clause-ends
-returns-in-Err-clause-ends g c history is =
+pub returns-in-Err : goal.returns-in-Err
+returns-in-Err g c history is =
     let made = c.args.made in
     let old = g.W.Write.contents c.args.out.now in
     let new = g.W.Write.contents c.write_part_head.new.out in
@@ -19,8 +19,8 @@ returns-in-Err-clause-ends g c history is =
           (rw c.deref.ensures.value at (c.in-Err.ensures.started write)),
     )))
 
-pub returns-in-Ok-clause-ends : goal.returns-in-Ok-clause-ends
-returns-in-Ok-clause-ends g c history is =
+pub returns-in-Ok : goal.returns-in-Ok
+returns-in-Ok g c history is =
     let old = g.W.Write.contents c.args.out.now in
     let mid = g.W.Write.contents c.write_part_head.new.out in
     let new = g.W.Write.contents c.write_billed.new.out in
@@ -32,8 +32,8 @@ returns-in-Ok-clause-ends g c history is =
           (rw c.deref.ensures.value at c.in_default.ensures.ok) written,
     )
 
-pub returns-in-Err-Write-clause-ends : goal.returns-in-Err-Write-clause-ends
-returns-in-Err-Write-clause-ends g c history is =
+pub returns-in-Err-Write : goal.returns-in-Err-Write
+returns-in-Err-Write g c history is =
     let old = g.W.Write.contents c.args.out.now in
     let mid = g.W.Write.contents c.write_part_head.new.out in
     let new = g.W.Write.contents c.write_billed.new.out in

@@ -1,43 +1,12 @@
-use Rattle.std.proofs.Common.{◌∙◌, ap, arith, length, map, sym}
+use Rattle.std.proofs.Common.{◌∙◌, ap, length}
 use Rattle.class_names.proofs.Classes.{class_kept}
-use Rattle.class_names.specs.{ClassFaults.IsWrongAt, Names.class_by}
+use Rattle.class_names.specs.Names.{class_by}
 use Rattle.fare_program.proofs.Ends.{gives_by}
-use Rattle.program_manners.proofs.NextTables.{tables_counted}
-use Rattle.std.proofs.lemmas.{List.length-map, Option.slice_get_within}
 use Rattle.fare_program.proofs.traced.write_traced.Goals as goal
 
 -- there is a text for each table
 pub of_texts-requires : goal.of_texts-requires
-of_texts-requires g c =
-    let (texts, words) = tables_counted _ _ _ _ _ c.requires.loaded.1 in
-    ap length c.deref.ensures.value
-    ∙ sym (length-map c.args.tables.now.texts.items (λ t. t.items)) ∙ texts
-
-pub wrong_file-requires : goal.wrong_file-requires
-wrong_file-requires g c =
-    let (texts, words) = tables_counted _ _ _ _ _ c.requires.loaded.1 in
-    let at : IsWrongAt (map (λ t. t.items) c.args.tables.now.texts.items) c.in-Err.wrong =
-    rw c.deref.ensures.value at c.in-Err.ensures.fault in
-    omega (
-      arith,
-      words,
-      slice_get_within (map (λ t. t.items) c.args.tables.now.texts.items)
-          c.in-Err.wrong.position at.text at.holds,
-    )
-
-pub returns-in-Err-clause-right : goal.returns-in-Err-clause-right
-returns-in-Err-clause-right g c = λ loaded loads. (
-  c.requires.traced,
-  rw c.requires.named (record {
-    texts = _;
-    fares = _;
-    loads = loads;
-    wrong = c.in-Err.wrong;
-    names = rw c.deref.ensures.value at c.in-Err.ensures.fault;
-    kind = c.in-Some.ensures.0;
-    of_file = c.in-Some.ensures.1;
-  }),
-)
+of_texts-requires g c = ap length c.deref.ensures.value ∙ c.requires
 
 pub returns-clause-ends : goal.returns-clause-ends
 returns-clause-ends g c =
