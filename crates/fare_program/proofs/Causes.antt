@@ -1,9 +1,9 @@
 -- The fault that is reported is the right one.
 use Rattle.std.proofs.Common.{◌∷◌, ℕ, List, [], Option}
-use Rattle.fare_program.specs.Causes.{HasCause, IsFaultOf, IsFaultOfFiles, names_reported}
+use Rattle.fare_program.specs.Causes.{HasCause, names_reported}
 use Rattle.fare_program.specs.{Options.Request, declared.fault.Fault.Fault}
 use Rattle.fare_program.specs.declared.fault.Fault.TheVariants.{File, Late, Tables}
-use Rattle.fare_program.specs.inside.Fault.{IsOfCharging}
+use Rattle.fare_program.specs.inside.Fault.{IsFaultOf, IsFaultOfFiles, IsOfCharging}
 use Rattle.program_manners.specs.{Loads.Loaded, Refusals.IsOneOf}
 use Rattle.program_manners.specs.declared.loading.FileFault.{FileFault}
 use Rattle.world.specs.declared.faults.LoadFault.{LoadFault}

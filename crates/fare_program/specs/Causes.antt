@@ -1,7 +1,6 @@
 -- Why the program gives up is the case, if a file or a table was not loaded.
-use Rattle.fare_program.specs.Options.{Request}
-use Rattle.fare_program.specs.declared.fault.Fault.{Fault, TheVariants.File, TheVariants.Late}
-use Rattle.fare_program.specs.declared.fault.Fault.TheVariants.{Tables}
+use Rattle.fare_program.specs.{Options.Request, declared.fault.Fault.Fault}
+use Rattle.fare_program.specs.declared.fault.Fault.TheVariants.{File, Late, Tables}
 use Rattle.program_manners.specs.{Loads.Loaded, Refusals.IsOneOf, Refusals.HasRefused}
 use Rattle.program_manners.specs.{TablesFaults.IsTablesFault, declared.loading.FileFault.FileFault}
 use Rattle.std.specs.Prelude.{◌≡◌, ◌≢◌, ℕ, List, [], ◌∷◌, Option, MatchOption, codes, false}
@@ -18,19 +17,7 @@ abbrev pub IsFileFault : List (List ℕ) → Option (Option (List ℕ) × LoadFa
 IsFileFault names refused file = file.fault ≢ load.NoMemory
     → IsOneOf file.name.now names × HasRefused refused file.name.now file.fault
 
--- the fault is of no table, and of no sorted file that was checked, and that of a file is so
-abbrev pub IsFaultOf : (FileFault → Type 0) → Fault → Type 0
-IsFaultOf IsSo (File file) = IsSo file
-IsFaultOf IsSo (Tables fault) = ⊥
-IsFaultOf IsSo (Late fault) = ⊥
-IsFaultOf IsSo fault = Unit {0}
-
--- that of a file is the right one of these that are asked for
-abbrev pub IsFaultOfFiles : List (List ℕ) → Option (Option (List ℕ) × LoadFault) → Fault → Type 0
-IsFaultOfFiles files refused = IsFaultOf (IsFileFault (names_reported files) refused)
-
--- The fault of a file or of a table is the right one. It is not said why there is another, and of
--- none with sorted files.
+-- the fault of a file or of a table is the right one, and it is not said why there is another
 abbrev pub HasCause : Request → Option (List Loaded) → Option (List Loaded)
     → Option (Option (List ℕ) × LoadFault) → Fault → Type 0
 HasCause request loaded loaded' refused (Tables fault) =
@@ -39,6 +26,7 @@ HasCause request loaded loaded' refused (File file) =
     IsFileFault (names_reported request.files) refused file
 HasCause request loaded loaded' refused fault = Unit {0}
 
+-- so it is without sorted files
 abbrev pub IsRightFault : Request → Option (List Loaded) → Option (List Loaded)
     → Option (Option (List ℕ) × LoadFault) → Fault → Type 0
 IsRightFault request loaded loaded' refused fault =

@@ -5,10 +5,9 @@ ghost use Rattle.fare_program.specs.inside.{Ends.Gives, Fault.IsOfCharging, Opti
 ghost use Rattle.fare_program.specs.inside.PostedFiles.{Posts};
 ghost use Rattle.fare_service.specs.Headline.{HasRun};
 ghost use Rattle.fare_texts.specs.{PrintFaults.UnchangedUnlessWrite, WrittenOut.Begins};
-ghost use Rattle.std.specs.{Io.KnownBytes.Appends, Prelude.◌≡◌};
-ghost use Rattle.std.specs.Prelude.{IfErr, List, OnOk, Option, false, map, true, ℕ};
-ghost use Rattle.tap_views.specs.UploadEnds.{are_posted};
-ghost use Rattle.tap_views.specs.declared.token.Token.{Token};
+ghost use Rattle.std.specs.Io.KnownBytes.{Appends};
+ghost use Rattle.std.specs.Prelude.{◌≡◌, IfErr, List, OnOk, Option, false, map, true, ℕ};
+ghost use Rattle.tap_views.specs.{UploadEnds.are_posted, declared.token.Token.Token};
 ghost use Rattle.tariffs.specs.Fares.{Fares};
 
 use crate::fault::{Fault, ended};

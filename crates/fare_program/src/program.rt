@@ -1,16 +1,14 @@
 //! The whole program, over any source of bytes and any two writers.
-ghost use Rattle.fare_program.specs.Causes.{IsFaultOfFiles, IsFileFault, IsRightFault};
-ghost use Rattle.fare_program.specs.Causes.{names_reported};
+ghost use Rattle.fare_program.specs.Causes.{IsFileFault, IsRightFault, names_reported};
 ghost use Rattle.fare_program.specs.{Ends.Ends, Ends.IsPartLedger, Ends.did_over, Fault.fault_text};
 ghost use Rattle.fare_program.specs.FilesLoaded.{LoadsFiles, names_to_load};
 ghost use Rattle.fare_program.specs.Program.{Does, IsTokenIn, Lists};
-ghost use Rattle.fare_program.specs.TokenRanges.{range_fault};
-ghost use Rattle.fare_program.specs.inside.{Ends.Gives, Ends.GivesIf, Options.request_of};
-ghost use Rattle.program_manners.specs.LineWritten.{LineWritten};
-ghost use Rattle.program_manners.specs.TableWords.{wrong_word};
+ghost use Rattle.fare_program.specs.{TokenRanges.range_fault, inside.Ends.Gives};
+ghost use Rattle.fare_program.specs.inside.{Ends.GivesIf, Fault.IsFaultOfFiles, Options.request_of};
+ghost use Rattle.program_manners.specs.{LineWritten.LineWritten, TableWords.wrong_word};
 ghost use Rattle.std.specs.Option.{option_and_then, option_copied};
-ghost use Rattle.std.specs.Prelude.{◌≡◌, ◌≢◌, ◌++◌, ◌∷◌, [], None, Err, IfErr, IfOk};
-ghost use Rattle.std.specs.Prelude.{OnOk, is_ok, map, string_bytes, true};
+ghost use Rattle.std.specs.Prelude.{◌≡◌, ◌≢◌, ◌++◌, ◌∷◌, [], None, Err, IfErr, IfOk, OnOk, is_ok};
+ghost use Rattle.std.specs.Prelude.{map, string_bytes, true};
 
 use crate::fault::Fault;
 use crate::lister::listing_text;
@@ -86,13 +84,7 @@ pub(crate) fn load_files<'a, R: Threads + Sync, D: Disk + Sync, S: Source>(
     } else {
         options.workers.max(READERS) as usize
     };
-    source.keep_prefetched(prefetch_files(
-        job.rt,
-        job.alloc,
-        job.disk,
-        &options.files,
-        threads,
-    ));
+    source.keep_prefetched(prefetch_files(job.rt, job.alloc, job.disk, &options.files, threads));
     for name in &options.files {
         add(&mut files, name, source.load(name))?;
     }

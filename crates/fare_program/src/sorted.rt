@@ -1,15 +1,13 @@
 //! What is requested of sorted files, which are read in pieces and merged, or of a part of them.
 ghost use Rattle.fare_program.specs.{Ends.IsPartLedger, Parts.IsPartText, Parts.report_over};
 ghost use Rattle.fare_program.specs.{Program.Merges, Settling.ShowsSettled};
-ghost use Rattle.fare_program.specs.TokenRanges.{range_fault};
-ghost use Rattle.fare_program.specs.inside.Ends.{Gives, GivesIf, OfKnown};
-ghost use Rattle.fare_program.specs.inside.Options.{request_of};
+ghost use Rattle.fare_program.specs.{TokenRanges.range_fault, inside.Ends.Gives};
+ghost use Rattle.fare_program.specs.inside.{Ends.GivesIf, Ends.OfKnown, Options.request_of};
 ghost use Rattle.histories.specs.declared.entry.Entry.{Entry};
 ghost use Rattle.part_texts.specs.Heads.{part_head};
 ghost use Rattle.settlement.specs.Bills.{IsBillOf};
-ghost use Rattle.std.specs.Option.{option_and_then};
-ghost use Rattle.std.specs.Prelude.{◌++◌, ◌^◌, ◌≡◌, ◌≤◌, IfOk, List, None, false, length, map};
-ghost use Rattle.std.specs.Prelude.{true};
+ghost use Rattle.std.specs.{Option.option_and_then, Prelude.◌++◌};
+ghost use Rattle.std.specs.Prelude.{◌^◌, ◌≡◌, ◌≤◌, IfOk, List, None, false, length, map, true};
 
 use crate::fault::{Fault, LateFault};
 use crate::options::Job;

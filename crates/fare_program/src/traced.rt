@@ -1,7 +1,7 @@
 //! The traced ledger of files.
 ghost use Rattle.class_names.specs.Names.{class_by};
-ghost use Rattle.fare_program.specs.{Causes.IsFaultOfFiles, Program.Traces};
-ghost use Rattle.fare_program.specs.inside.{Ends.Gives, Fault.IsOfCharging, Options.request_of};
+ghost use Rattle.fare_program.specs.{Program.Traces, inside.Ends.Gives, inside.Options.request_of};
+ghost use Rattle.fare_program.specs.inside.Fault.{IsFaultOfFiles, IsOfCharging};
 ghost use Rattle.settled_bills.specs.Ledgers.{IsTracedLedger};
 ghost use Rattle.std.specs.Prelude.{◌≡◌, ◌+◌, IfErr, length, map};
 

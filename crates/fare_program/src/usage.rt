@@ -192,8 +192,8 @@ impl TokenRange {
         let (from, below) = (bytes_of_side(from)?, bytes_of_side(below)?);
         check_order(&from, &below)?;
         Ok(TokenRange {
-            from: as_token(from),
-            below: as_token(below),
+            from: from.map(|bytes| Token::of(&bytes)),
+            below: below.map(|bytes| Token::of(&bytes)),
         })
     }
 }
@@ -232,11 +232,4 @@ fn check_order(from: &Option<[u8; 16]>, below: &Option<[u8; 16]>) -> Result<(), 
         return Ok(());
     }
     Err(RangeFault::Order)
-}
-
-fn as_token(bytes: Option<[u8; 16]>) -> Option<Token> {
-    match bytes {
-        Some(bytes) => Some(Token::of(&bytes)),
-        None => None,
-    }
 }

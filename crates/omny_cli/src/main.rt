@@ -136,11 +136,7 @@ fn run<R: Threads + Wait + Clock + RandomSource + Sync + AllocGlobal>(
     let ticker = ticker_for(rt, words, sums);
     let err = Recorded::new(Overheard::new(Escaping::new(rt.stderr())));
     let mut err = Complaints::new(Hushing::new(handles, &ticker, err, false));
-    let layout = if files.has_token {
-        STATEMENT
-    } else {
-        REPORT
-    };
+    let layout = if files.has_token { STATEMENT } else { REPORT };
     let out = Recorded::new(Shaped::new(rt.alloc(), rt.stdout(), layout, form));
     let mut out = Output::new(Hushing::of_text(handles, &ticker, out, writes_to_file(rt)));
     let status = run_system(

@@ -1,10 +1,12 @@
 -- Faults: what private functions alone cite.
-use Rattle.std.specs.Prelude.{Bool, Err, None, Ok, Option, Result}
-use Rattle.program_manners.specs.declared.output.WriteEnd.{WriteEnd}
+use Rattle.fare_program.specs.Causes.{IsFileFault, names_reported}
+use Rattle.fare_program.specs.declared.fault.Fault.{Fault}
+use Rattle.fare_program.specs.declared.fault.Fault.TheVariants.{File, Late, NoMemory, Tables, Write}
 use Rattle.fare_texts.specs.declared.print_fault.PrintFault.{PrintFault}
+use Rattle.program_manners.specs.declared.{loading.FileFault.FileFault, output.WriteEnd.WriteEnd}
+use Rattle.std.specs.Prelude.{ℕ, Bool, Err, List, None, Ok, Option, Result}
+use Rattle.world.specs.declared.faults.LoadFault.{LoadFault}
 use Rattle.fare_texts.specs.declared.print_fault.PrintFault.TheVariants as print
-use Rattle.fare_program.specs.Causes.{IsFaultOf}
-use Rattle.fare_program.specs.declared.fault.Fault.{Fault, TheVariants.NoMemory, TheVariants.Write}
 
 -- why a text was not printed
 abbrev pub printed_as : PrintFault → Fault
@@ -22,6 +24,17 @@ abbrev pub as_remembered : Option WriteEnd → Fault → Fault
 as_remembered None Write = NoMemory
 as_remembered end fault = fault
 
--- the fault is of no load, and of no sorted file that was checked
+-- the fault is of no table, and of no sorted file that was checked, and that of a file is so
+abbrev pub IsFaultOf : (FileFault → Type 0) → Fault → Type 0
+IsFaultOf IsSo (File file) = IsSo file
+IsFaultOf IsSo (Tables fault) = ⊥
+IsFaultOf IsSo (Late fault) = ⊥
+IsFaultOf IsSo fault = Unit {0}
+
+-- that of a file is the right one of these that are asked for
+abbrev pub IsFaultOfFiles : List (List ℕ) → Option (Option (List ℕ) × LoadFault) → Fault → Type 0
+IsFaultOfFiles files refused = IsFaultOf (IsFileFault (names_reported files) refused)
+
+-- it is of no file that is loaded either
 abbrev pub IsOfCharging : Fault → Type 0
 IsOfCharging = IsFaultOf (λ file. ⊥)

@@ -1,6 +1,5 @@
 use Rattle.std.proofs.Common.{◌∙◌, ap}
-use Rattle.fare_program.proofs.Ends.{gives_by, gives_printed}
-use Rattle.fare_program.proofs.PostedTexts.{live_request}
+use Rattle.fare_program.proofs.{Ends.gives_by, Ends.gives_printed, PostedTexts.live_request}
 use Rattle.fare_program.specs.inside.{Fault.ended_as, Options.request_of}
 use Rattle.fare_service.specs.Headline.{drawn_by}
 use Rattle.tap_views.specs.UploadEnds.{are_posted}

@@ -1,19 +1,18 @@
 use Rattle.std.proofs.Common.{◌≡◌, ◌∙◌, ℕ, Bool, List, Option, Some, Result, Ok, Err, ap, inl, map}
 use Rattle.std.proofs.Common.{option_map, refl, sym}
-use Rattle.fare_program.proofs.Causes.{of_charging, right_of_files}
-use Rattle.fare_program.proofs.Choices.{if_false, if_some, if_true}
-use Rattle.fare_program.proofs.Ends.{gives_by, gives_kept}
-use Rattle.fare_program.specs.{Options.Request, inside.Options.request_of}
-use Rattle.fare_program.specs.Program.{Does, DoesBy, IsTokenIn}
+use Rattle.fare_program.proofs.{Causes.of_charging, Causes.right_of_files, Choices.if_false}
+use Rattle.fare_program.proofs.{Choices.if_some, Choices.if_true, Ends.gives_by, Ends.gives_kept}
+use Rattle.fare_program.specs.{Options.Request, Program.Does, Program.DoesBy, Program.IsTokenIn}
+use Rattle.fare_program.specs.inside.Options.{request_of}
 use Rattle.program_manners.proofs.NextTables.{tables_counted}
 use Rattle.program_manners.specs.{Loads.Loaded, TableLoads.LoadsTables, TableViews.names_of}
 use Rattle.program_manners.specs.TableWords.{TableNames}
+use Rattle.std.proofs.lemmas.{Bool.false≢true, List.length-map, Result.IfErr-weaker}
+use Rattle.std.specs.Prelude.{IfErr}
 use Rattle.tap_views.proofs.Choices.{MatchOption_none}
 use Rattle.tap_views.specs.declared.token.Token.{Token}
 use Rattle.tariffs.specs.Fares.{Fares}
 use Rattle.world.specs.Origins.{Origin}
-use Rattle.std.proofs.lemmas.{Bool.false≢true, List.length-map, Result.IfErr-weaker}
-use Rattle.std.specs.Prelude.{IfErr}
 use Rattle.fare_program.proofs.program.work.Goals as goal
 
 module _ (request : Request) (known : List ℕ → Option (List ℕ)) (origin : List ℕ → Origin)
