@@ -7,7 +7,7 @@ ghost use Rattle.histories.specs.{Entry.own, declared.entry.Entry.Entry};
 ghost use Rattle.settlement.specs.{Bills.IsBillOf, Posted.posted, Posted.token_of_tap};
 ghost use Rattle.settlement.specs.SettledTaps.{AreSettledTapsOf};
 ghost use Rattle.std.specs.{Io.KnownBytes.Appends, Prelude.◌^◌, Prelude.◌≡◌, Prelude.◌≤◌};
-ghost use Rattle.std.specs.Prelude.{All, IfErr, List, None, OnOk, Some, length, true, ℕ};
+ghost use Rattle.std.specs.Prelude.{All, IfErr, List, OnOk, Some, length, ℕ};
 ghost use Rattle.tap_views.specs.{Encoding.AreEarly, UploadEnds.ArePlainEnds};
 ghost use Rattle.tap_views.specs.UploadEnds.{are_posted};
 
@@ -33,33 +33,6 @@ use std::thread::Threads;
 use tap_views::{TapFields, Token};
 use world::Trace;
 
-/// Returns whether each file was posted whole.
-fn write_ledger<'a, R: Threads + Sync, D, U: Uploads + Sync, W: Write>(
-    job: &Job<'_, 'a, R, D>,
-    table: &FareTable,
-    uploads: &U,
-    calls: &mut Trace,
-    out: &mut W,
-) -> Result<bool, Fault<'a>>
-    requires all { job.now.token ≡ None }
-    requires ledger { (request_of job.now.options).ledger ≡ true }
-    ensures ends { Gives (Settles (request_of job.now.options) table.now job.now.token
-        (U.origin uploads.now) (U.number uploads.now) calls.old.run calls.new.run)
-        (W.contents out.old) (W.contents out.new) result }
-    ensures fault { IfErr result IsOfCharging }
-{
-    let workers = job.options.workers;
-    let made = match settled_taps(job.rt, job.alloc, uploads, workers, calls) {
-        Ok(made) => made,
-        Err(_) => return Err(Fault::NoMemory),
-    };
-    let SettledTaps { ends, lists } = made;
-    // proof: the taps, posted in their order, are the settled history
-    laws::posted_taps();
-    let written = write_settled_ledger(job.rt, job.alloc, table, &lists, workers, out);
-    ended(written, are_posted(&ends))
-}
-
 /// Settles the uploads, and writes what is requested. Returns whether each file was posted whole.
 /// The number of workers does not change a report. If no upload has the requested token, that is
 /// noted on the disk.
@@ -81,20 +54,28 @@ pub(crate) fn charge_settled<
         (W.contents out.old) (W.contents out.new) result }
     ensures fault { IfErr result IsOfCharging }
 {
-    let options = &job.options;
+    let (rt, alloc, options) = (job.rt, job.alloc, &job.options);
+    let workers = options.workers;
     match job.token {
-        Some(token) => match settled_taps_of(job.rt, job.alloc, uploads, token, calls) {
+        Some(token) => match settled_taps_of(rt, alloc, uploads, token, calls) {
             Ok(made) => write_taps(job, table, token, made, out),
             Err(_) => Err(Fault::NoMemory),
         },
-        None if options.ledger => write_ledger(job, table, uploads, calls, out),
+        None if options.ledger => match settled_taps(rt, alloc, uploads, workers, calls) {
+            Ok(SettledTaps { ends, lists }) => {
+                // proof: the taps, posted in their order, are the settled history
+                laws::posted_taps();
+                let written = write_settled_ledger(rt, alloc, table, &lists, workers, out);
+                ended(written, are_posted(&ends))
+            }
+            Err(_) => Err(Fault::NoMemory),
+        },
         None => {
-            let Ok(seed) = HashSeed::new(job.rt) else {
+            let Ok(seed) = HashSeed::new(rt) else {
                 return Err(Fault::NoMemory);
             };
-            let workers = options.workers;
-            match settled_bill(job.rt, job.alloc, table, seed, uploads, workers, calls) {
-                Ok(made) => write_billed(job.alloc, made, out),
+            match settled_bill(rt, alloc, table, seed, uploads, workers, calls) {
+                Ok(made) => write_billed(alloc, made, out),
                 Err(_) => Err(Fault::NoMemory),
             }
         }
