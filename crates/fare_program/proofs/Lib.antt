@@ -5,5 +5,4 @@ pub mod Drawn
 pub mod Ends
 pub mod Ledgers
 pub mod Loads
-pub mod PostedTexts
 pub mod Prefetched

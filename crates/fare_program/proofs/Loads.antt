@@ -1,10 +1,10 @@
 -- One more file that was loaded.
-use Rattle.std.proofs.Common.{◌≡◌, ◌<◌, ◌∙◌, ℕ, List, [], ◌∷◌, ◌++◌, length, map, refl, ap, arith}
+use Rattle.std.proofs.Common.{◌≡◌, ◌<◌, ◌∙◌, ℕ, List, [], ◌∷◌, ◌++◌, length, map, ap, arith, sym}
 use Rattle.std.proofs.Common.{Option, Some, Bor}
 use Rattle.fare_program.specs.FilesLoaded.{LoadsFiles, names_to_load}
 use Rattle.program_manners.specs.Loads.{Loaded, LoadsOne}
 use Rattle.program_manners.proofs.LoadsOn.{loads_more}
-use Rattle.std.proofs.lemmas.List.{map-append}
+use Rattle.std.proofs.lemmas.{List.map-append, Simd.map-map}
 
 pub loads_push : (names : List (Option (List ℕ))) (name : Option (List ℕ))
     (loaded loaded' loaded'' : Option (List Loaded)) (files : List (List ℕ)) (bytes : List ℕ)
@@ -20,12 +20,8 @@ loads_push names name loaded loaded' loaded'' files bytes all one =
       are_all = loads_more loaded loaded' loaded'' all.loads _ all.are_all one;
     }
 
-names_are : (names : List (Bor (List ℕ)))
-    → map (λ n. Some n.now) names ≡ map Some (map (λ n. n.now) names)
-names_are [] = refl
-names_are (n ∷ names) = ap (λ xs. Some n.now ∷ xs) (names_are names)
-
 pub names_to_load_are : (names : List (Bor (List ℕ))) → 0 < length names
     → map (λ n. Some n.now) names ≡ names_to_load (map (λ n. n.now) names)
 names_to_load_are [] some = absurd (omega arith)
-names_to_load_are (n ∷ names) some = names_are (n ∷ names)
+names_to_load_are (n ∷ names) some =
+    sym (map-map (λ (x : List ℕ). Some x) (λ (w : Bor (List ℕ)). w.now) (n ∷ names))

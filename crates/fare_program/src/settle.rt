@@ -62,7 +62,8 @@ pub(crate) fn charge_settled<
             Err(_) => Err(Fault::NoMemory),
         },
         None if options.ledger => match settled_taps(rt, alloc, uploads, workers, calls) {
-            Ok(SettledTaps { ends, lists }) => {
+            Ok(made) => {
+                let SettledTaps { ends, lists } = made;
                 // proof: the taps, posted in their order, are the settled history
                 laws::posted_taps();
                 let written = write_settled_ledger(rt, alloc, table, &lists, workers, out);

@@ -1,13 +1,11 @@
 use Rattle.std.proofs.Common.{◌<◌, [], arith, ap, inl, inr, length}
-use Rattle.fare_program.proofs.{Ends.gives_by, PostedTexts.settled_request}
+use Rattle.fare_program.proofs.{Choices.if_true, Ends.gives_by}
 use Rattle.fare_program.proofs.Prefetched.{drawn_files, read_files}
-use Rattle.fare_program.specs.inside.Options.{request_of}
 use Rattle.fare_program.proofs.named_files.charge_named.Goals as goal
 
 pub returns-then-options-clause-ends : goal.returns-then-options-clause-ends
 returns-then-options-clause-ends g c =
-    let job = c.args.job.now in
-    let origin = g.D.Disk.origin job.disk.now in
+    let origin = g.D.Disk.origin c.args.job.now.disk.now in
     let words = c.as_slice.result.now in
     let some : 0 < length words = omega (arith, c.requires, ap length c.as_slice.ensures.value) in
     gives_by _ _ _ _ _ _ c.charge_settled.result (λ given. given)
@@ -16,8 +14,7 @@ returns-then-options-clause-ends g c =
       drawn = [];
       loads_files = λ of_system. inl (rw c.as_slice.ensures.value at
           (read_files origin of_system words is.0 _ _ some is.1));
-      shows = settled_request (request_of job.options) c.args.table.now is.0 job.token text success
-          [] c.if-options.true is.2;
+      shows = if_true _ _ c.if-options.true is.2;
     })
     c.charge_settled.ensures.ends
 

@@ -1,6 +1,5 @@
 use Rattle.std.proofs.Common.{◌≡◌, ℕ, List, [], Vec, Global, length, map}
-use Rattle.fare_program.proofs.{Ends.gives_by, PostedTexts.settled_request}
-use Rattle.fare_program.specs.inside.Options.{request_of}
+use Rattle.fare_program.proofs.{Choices.if_true, Ends.gives_by}
 use Rattle.fare_service.proofs.UploadFileSource.{known_files}
 use Rattle.settlement.proofs.LoadedFiles.{loaded_files}
 use Rattle.settlement.specs.Reading.{AreRead}
@@ -31,8 +30,6 @@ returns-then-options-clause-ends g c =
     gives_by _ _ _ _ _ _ c.charge_settled.result (λ given. given)
     (λ text success is. (
       [],
-      settled_request (request_of c.args.job.now.options) c.args.table.now
-          (map bytes_in c.args.files.now) c.args.job.now.token text success [] c.if-options.true
-          (rw (read_files c.args.files.now is.0 _ _ is.1) at is.2),
+      if_true _ _ c.if-options.true (rw (read_files c.args.files.now is.0 _ _ is.1) at is.2),
     ))
     c.charge_settled.ensures.ends
