@@ -107,9 +107,7 @@ impl<D: Disk> UploadSource for NamedFiles<'_, D> {
 pub(crate) fn sizes_of<D: Disk>(alloc: Global, disk: &D, names: &[&str]) -> Option<Vec<u64>> {
     let mut sizes = Vec::new(alloc);
     for name in names {
-        if sizes.push(disk.prefetch_size(name)?).is_err() {
-            return None;
-        }
+        sizes.push(disk.prefetch_size(name)?).ok()?;
     }
     Some(sizes)
 }

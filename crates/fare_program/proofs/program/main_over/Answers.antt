@@ -57,9 +57,6 @@ write_remembered (Some why) fault write none = cc
 write_remembered None Write write none = cc
 write_remembered None fault write none = cc
 
-some_end : (end : Option WriteEnd) (why : WriteEnd) → end ≡ Some why → end ≢ None
-some_end end why is none = cc
-
 module _ (request : Request) (did : Did) where
   abbrev RightFault : Fault → Type 0
   RightFault fault = IsRightFault request did.loaded did.loaded' did.refused fault
@@ -173,7 +170,7 @@ returns g c =
       usable = c.in-Ok-checked.ensures.usable;
       right = λ unsorted. tt;
       line_reported = c.report-in-Err-finish.ensures.line;
-      write_failed = λ write. some_end _ _ c.in-Err-finish.ensures.noted;
+      write_failed = λ write none. let noted = c.in-Err-finish.ensures.noted in cc;
       left = (
         text,
         (λ given. (c.in-Ok-work.succeeded, does)),
