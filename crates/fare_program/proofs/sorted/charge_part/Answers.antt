@@ -29,7 +29,7 @@ returns-in-Ok-part_bill g c =
     ))
     (c.write_made.ensures history is))
 
-pub returns-in-Err-part_bill : goal.returns-in-Err-part_bill
-returns-in-Err-part_bill g c =
+pub returns-in-Err : goal.returns-in-Err
+returns-in-Err g c =
     unwritten _ _ c.of_bill.result
-    (λ write. c.in-Err-part_bill.ensures.unwritten (c.of_bill.ensures.write write))
+    (λ write. c.in-Err.ensures.unwritten (c.of_bill.ensures.write write))
