@@ -38,11 +38,17 @@ impl fmt::Display for UsageError<'_> {
     }
 }
 
+fn are_kept(rules: &[(bool, &str)]) -> bool
+    ensures { result ≡ list_all (λ rule. rule.0) rules.now }
+{
+    rules.iter().all(|rule| rule.0)
+}
+
 /// The text of the first rule that is broken.
 fn first_broken(rules: &[(bool, &'static str)]) -> Option<&'static str>
     ensures { is_none result ≡ list_all (λ rule. rule.0) rules.now }
 {
-    if rules.iter().all(|rule| rule.0) {
+    if are_kept(rules) {
         return None;
     }
     for rule in rules {

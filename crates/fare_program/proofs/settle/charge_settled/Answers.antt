@@ -34,7 +34,7 @@ returns-in-Ok-settled_taps-clause-ends g c =
       read,
       shows_ledger (request_of c.args.job.now.options) fares files c.args.job.now.token text success
           _ (c.posted_taps.ensures.history fares files _ made) _ ends
-          (is.0 ∙ c.are_posted.ensures ∙ ap are_posted c.deref-2.ensures.value) c.in-None.is
+          (is.0 ∙ c.are_posted.ensures ∙ ap are_posted c.deref-in-Ok-settled_taps.ensures.value) c.in-None.is
           (search rules) (rw c.deref.ensures.value at is.1),
     ))
     (gives_printed g.W.Write.contents _ _ _ c.write_settled_ledger-written.result c.are_posted.result c.write_settled_ledger-written.ensures.ok
