@@ -161,7 +161,7 @@ fn charge_part<'a, R: Threads + RandomSource + Sync, D, F: Placed, W: Write>(
     files: &[F],
     out: &mut W,
 ) -> Result<bool, Fault<'a>>
-    requires { range_fault word.now ≡ None }
+    requires word { range_fault word.now ≡ None }
     ensures { GivesIf ((request_of job.now.options).ledger ≡ false) (OfKnown
         (map F.bytes files.now) (IsPartText (request_of job.now.options).ledger table.now))
         (W.contents out.old) (W.contents out.new) result }

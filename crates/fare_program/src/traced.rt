@@ -55,7 +55,7 @@ pub(crate) fn write_traced<'a, R: Threads + Sync, D: Disk + Sync, S: Source, W: 
     source: &mut S,
     out: &mut W,
 ) -> Result<bool, Fault<'a>>
-    requires { length tables.now.texts.items ≡ length tables.now.fares.later + 1 }
+    requires texts { length tables.now.texts.items ≡ length tables.now.fares.later + 1 }
     ensures ends { Gives (Traces (request_of job.now.options)
         (map (λ t. t.items) tables.now.texts.items) tables.now.fares (S.loaded source.old)
         (S.loaded source.new)) (W.contents out.old) (W.contents out.new) result }

@@ -41,7 +41,7 @@ load_tables-requires g c = rw c.in-Some.is at c.requires.dates
 
 pub returns-in_default-clause-right : goal.returns-in_default-clause-right
 returns-in_default-clause-right g c =
-    IfErr-weaker c.list_files.result _ _ (λ fault right unsorted. right_of_files _ _ _ _ fault right)
+    IfErr-weaker c.list_files.result _ _ (λ fault right unsorted. right_of_files (request_of c.args.job.now.options) _ _ _ fault right)
     c.list_files.ensures.right
 
 pub returns-in_default-clause-ends : goal.returns-in_default-clause-ends
@@ -61,18 +61,18 @@ returns-then-options-clause-ends g c =
 pub returns-then-options-clause-right : goal.returns-then-options-clause-right
 returns-then-options-clause-right g c =
     IfErr-weaker c.list_files-then-options.result _ _
-    (λ fault right unsorted. right_of_files _ _ _ _ fault right)
+    (λ fault right unsorted. right_of_files (request_of c.args.job.now.options) _ _ _ fault right)
     c.list_files-then-options.ensures.right
 
-pub write_traced-requires : goal.write_traced-requires
-write_traced-requires g c =
+pub write_traced-requires-clause-texts : goal.write_traced-requires-clause-texts
+write_traced-requires-clause-texts g c κs within =
     let (texts, words) = tables_counted _ _ _ _ _ c.in-Ok.ensures.ok in
     sym (length-map c.in-Ok.tables.texts.items (λ t. t.items)) ∙ texts
 
 pub returns-then-options-2-clause-right : goal.returns-then-options-2-clause-right
 returns-then-options-2-clause-right g c =
     IfErr-weaker c.write_traced.result _ _
-    (λ fault right unsorted. right_of_files _ _ _ _ fault right) c.write_traced.ensures.right
+    (λ fault right unsorted. right_of_files (request_of c.args.job.now.options) _ _ _ fault right) c.write_traced.ensures.right
 
 pub returns-then-options-2-clause-ends : goal.returns-then-options-2-clause-ends
 returns-then-options-2-clause-ends g c =
@@ -89,7 +89,7 @@ returns-then-options-3-clause-ends g c =
     (ap (option_map names_of) c.in-Some.is) c.in-Ok.ensures.ok c.requires.token text success
     (if_false _ _ c.if-options.false (if_false _ _ c.if-options-2.false
     (if_true _ _ c.if-options-3.true (refl, is)))))
-    c.work_sorted.ensures.ends
+    c.work_sorted.ensures
 
 pub returns-then-options-3-clause-right : goal.returns-then-options-3-clause-right
 returns-then-options-3-clause-right g c =
@@ -117,12 +117,12 @@ returns-in-Ok-load_files-clause-ends g c =
       files = map (λ f. f.items) c.in-Ok-load_files.files.items;
       drawn = is.0;
       loads_files = λ of_system. inl (rw unloaded at c.in-Ok-load_files.ensures.ok);
-      shows = is.1;
+      shows = rw c.deref.ensures.value at is.1;
     })))))
     (gives_kept _ _ _ _ c.charge.result (c.in-None.ensures.none refl) c.charge.ensures.ends)
 
 pub returns-in-Ok-load_files-clause-right : goal.returns-in-Ok-load_files-clause-right
 returns-in-Ok-load_files-clause-right g c =
     IfErr-weaker c.charge.result _ _
-    (λ fault is unsorted. right_of_files _ _ _ _ fault (of_charging _ fault is))
+    (λ fault is unsorted. right_of_files (request_of c.args.job.now.options) _ _ _ fault (of_charging _ fault is))
     c.charge.ensures.fault

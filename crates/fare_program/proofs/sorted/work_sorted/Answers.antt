@@ -12,8 +12,8 @@ not_true : (b : Bool) → (b ≡ true → ⊥) → b ≡ false
 not_true true never = absurd (never refl)
 not_true false never = refl
 
-pub charge_part-requires : goal.charge_part-requires
-charge_part-requires g c = rw c.in-Some.is at c.requires
+pub charge_part-requires-clause-word : goal.charge_part-requires-clause-word
+charge_part-requires-clause-word g c κs within = rw c.in-Some.is at c.requires
 
 pub returns-in-Some : goal.returns-in-Some
 returns-in-Some g c =

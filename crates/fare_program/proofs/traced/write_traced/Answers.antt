@@ -6,7 +6,7 @@ use Rattle.fare_program.proofs.traced.write_traced.Goals as goal
 
 -- there is a text for each table
 pub of_texts-requires : goal.of_texts-requires
-of_texts-requires g c = ap length c.deref.ensures.value ∙ c.requires
+of_texts-requires g c = ap length c.deref.ensures.value ∙ c.requires.texts
 
 pub returns-clause-ends : goal.returns-clause-ends
 returns-clause-ends g c =
