@@ -1,5 +1,5 @@
 use Rattle.std.proofs.Common.{◌≡◌, ◌∙◌, ◌<◌, ◌++◌, ◌∷◌, [], Some, List, ℕ, length, map, take, ap}
-use Rattle.std.proofs.Common.{get_or, Bor, ◌+◌, sym, Result, Ok, Err, true, rules}
+use Rattle.std.proofs.Common.{get_or, Bor, ◌+◌, Result, Ok, Err, true, rules}
 use Rattle.fare_program.proofs.{Causes.named_one, Loads.loads_push, Loads.names_to_load_are}
 use Rattle.program_manners.proofs.Refusals.{has_refused, is_one_at}
 use Rattle.program_manners.specs.Refusals.{IsOneOf, Refuses}

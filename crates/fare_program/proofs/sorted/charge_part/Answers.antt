@@ -1,4 +1,4 @@
-use Rattle.std.proofs.Common.{ap, map, rules}
+use Rattle.std.proofs.Common.{ap}
 use Rattle.fare_program.proofs.Ends.{gives_by, unwritten}
 use Rattle.fare_program.specs.Parts.{report_over}
 use Rattle.fare_program.proofs.sorted.charge_part.Goals as goal
