@@ -17,6 +17,7 @@ ghost use Rattle.std.specs.Prelude.{IsTrue, slice_get};
 ghost use Rattle.tap_views.specs.{Token.bytes_of, Token.token_eq, declared.token.Token.Token};
 ghost use Rattle.tariffs.specs.Fares.{Fares, has_caps_or_prices};
 
+use crate::hints::Hints;
 use account_rule::{Account, Reply, TapIn};
 use fare_caps::{CappedAccount, Further};
 use histories::{Counts, HashSeed, TokenCounts};
@@ -45,6 +46,8 @@ pub(crate) struct Accounts {
     further: IndexMap<Token, Further, HashSeed>,
     /// False once one of the counts would be too large.
     counting: bool,
+    /// Where an account may be, tried before its token is looked up.
+    pub(crate) hints: Hints,
 }
 
 impl Accounts {
@@ -57,6 +60,7 @@ impl Accounts {
             map: IndexMap::with_hasher(alloc, seed),
             further: IndexMap::with_hasher(alloc, seed),
             counting: true,
+            hints: Hints::new(alloc),
         }
     }
 
@@ -90,10 +94,12 @@ impl Accounts {
         }
     }
 
-    /// The one look-up that a tap takes. With the most accounts it reports an allocation failure.
-    #[inline(always)]
+    /// The one look-up that a tap takes if its hint is wrong: nearly all are right. With the most
+    /// accounts it reports an allocation failure.
+    #[cold]
+    #[inline(never)]
     #[tactic(auto, unfolding(crate::specs::inside::Accounts::kept_at))]
-    pub(crate) fn open(&mut self, token: Token) -> Result<u32, NoMemory>
+    fn open(&mut self, token: Token) -> Result<u32, NoMemory>
         ensures made { IfOk result (HasPositionFor self.old self.new token) }
         ensures others { OnOk result ((other : Token) → token_eq token other ≡ false
             → kept_at self.new other ≡ kept_at self.old other) }
@@ -108,12 +114,17 @@ impl Accounts {
             return Err(NoMemory);
         }
         match self.map.entry(token)? {
-            MapEntry::Occupied(kept) => Ok(kept.index() as u32),
+            MapEntry::Occupied(kept) => {
+                let position = kept.index() as u32;
+                self.hints.keep(token, position, last);
+                Ok(position)
+            }
             MapEntry::Vacant(position) => {
                 position.insert(KeptAccount {
                     account: CappedAccount::fresh().account,
                     counts: Counts::new(),
                 });
+                self.hints.keep(token, last as u32, last);
                 Ok(last as u32)
             }
         }
@@ -121,7 +132,7 @@ impl Accounts {
 
     #[inline(always)]
     #[tactic(auto, unfolding(crate::specs::inside::Accounts::kept_at))]
-    pub(crate) fn is_at(&self, position: u32, token: Token) -> bool
+    fn is_at(&self, position: u32, token: Token) -> bool
         ensures { IsTrue result → IsPosition self.now token position }
     {
         match self.map.get_index(position as usize) {
@@ -130,24 +141,8 @@ impl Accounts {
         }
     }
 
-    /// Kept out of its callers: nearly all known indices are right.
-    #[cold]
-    #[inline(never)]
-    fn open_again(&mut self, token: Token) -> Result<u32, NoMemory>
-        ensures made { IfOk result (HasPositionFor self.old self.new token) }
-        ensures others { OnOk result ((other : Token) → token_eq token other ≡ false
-            → kept_at self.new other ≡ kept_at self.old other) }
-        ensures counting { self.new.counting ≡ self.old.counting }
-        ensures further { self.new.further ≡ self.old.further }
-        ensures positions { KeepPositions (tokens_of self.old) (tokens_of self.new) }
-        ensures err { OnErr result ((other : Token)
-            → kept_at self.new other ≡ kept_at self.old other) }
-    {
-        self.open(token)
-    }
-
     #[inline(always)]
-    fn position(&mut self, token: Token, known: u32) -> Result<u32, NoMemory>
+    pub(crate) fn position(&mut self, token: Token, known: u32) -> Result<u32, NoMemory>
         ensures made { IfOk result (HasPositionFor self.old self.new token) }
         ensures others { OnOk result ((other : Token) → token_eq token other ≡ false
             → kept_at self.new other ≡ kept_at self.old other) }
@@ -160,7 +155,7 @@ impl Accounts {
         if self.is_at(known, token) {
             Ok(known)
         } else {
-            self.open_again(token)
+            self.open(token)
         }
     }
 

@@ -9,8 +9,8 @@ ghost use Rattle.std.specs.Prelude.{IsTrue, Some};
 ghost use Rattle.tap_views.specs.{Shards.shard_of_token, Token.bytes_of};
 
 use crate::accounts::Accounts;
+use crate::hints::NO_POSITION;
 use crate::packed::PackedEntry;
-use crate::prefetch::NO_POSITION;
 use account_rule::{Reply, TapIn};
 use fare_caps::CappedAccount;
 use histories::{Entry, HashSeed, TokenCounts};

@@ -6,7 +6,8 @@ ghost use Rattle.histories.specs.History.{IsLegal};
 ghost use Rattle.shard_book.specs.Visits.{PostsRun};
 
 use crate::book::ShardBook;
-use crate::prefetch::{AT_ONCE, NO_POSITION};
+use crate::hints::NO_POSITION;
+use crate::prefetch::AT_ONCE;
 use crate::run_end::RunEnd;
 use histories::Replies;
 use tap_views::Run;

@@ -7,12 +7,10 @@ ghost use Rattle.shard_book.specs.inside.Packed.{KeepPositions, tokens_of};
 
 use crate::accounts::{Accounts, KeptAccount};
 use crate::book::ShardBook;
+use crate::hints::NO_POSITION;
 use tap_views::{NoMemory, RunTaps, Token};
 
 pub(crate) const AT_ONCE: usize = 16;
-
-/// An index at which no account is.
-pub(crate) const NO_POSITION: u32 = u32::MAX;
 
 impl KeptAccount {
     /// Prefetch: reads the account and its counts, two cache lines. True unless no cent more can be
@@ -26,18 +24,15 @@ impl KeptAccount {
 impl Accounts {
     /// If there is none, an account without taps is opened.
     #[inline(always)]
-    pub(crate) fn open_early(&mut self, token: Token, known: u32) -> Result<u32, NoMemory>
+    pub(crate) fn open_early(&mut self, token: Token) -> Result<u32, NoMemory>
         ensures stays { (other : Token)
             → StillRepresents (kept_at self.old other) (kept_at self.new other) }
         ensures further { self.new.further ≡ self.old.further }
         ensures counting { self.new.counting ≡ self.old.counting }
         ensures positions { KeepPositions (tokens_of self.old) (tokens_of self.new) }
     {
-        if self.is_at(known, token) {
-            Ok(known)
-        } else {
-            self.open(token)
-        }
+        let hint = self.hints.of(token);
+        self.position(token, hint)
     }
 
     /// Prefetch: returns the index, or `NO_POSITION`.
@@ -53,10 +48,10 @@ impl Accounts {
 impl ShardBook {
     /// If there is none, an account without taps is opened: the book stays as it is.
     #[inline(always)]
-    pub(crate) fn open_early(&mut self, token: Token, known: u32) -> Result<u32, NoMemory>
+    pub(crate) fn open_early(&mut self, token: Token) -> Result<u32, NoMemory>
         ensures { self.new ≡ self.old }
     {
-        self.accounts.open_early(token, known)
+        self.accounts.open_early(token)
     }
 
     #[inline(always)]
@@ -84,14 +79,11 @@ impl ShardBook {
     ) -> Result<(), NoMemory>
         ensures { self.new ≡ self.old }
     {
-        // Taps in canonical order mostly have the token of the tap before.
-        let mut before = positions[AT_ONCE - 1];
         for position in positions.iter_mut() {
             let Some(tap) = ahead.next() else {
                 break;
             };
-            before = self.open_early(Token::of(tap.token()), before)?;
-            *position = before;
+            *position = self.open_early(Token::of(tap.token()))?;
         }
         // A loop of its own, so short that all its reads wait side by side.
         for position in positions.iter_mut() {
