@@ -1,13 +1,12 @@
 -- Books and the drawing are closed.
-use Rattle.std.proofs.Common.{refl, sym, ◌∙◌, ap, inl, inr, subst, arith, get_or, eqb-true, eq-eqb}
+use Rattle.std.proofs.Common.{refl, sym, ◌∙◌, ap, inl, inr, subst, arith, get_or}
 use Rattle.fare_service.proofs.Signing.{all_signed, signs_visits}
 use Rattle.fare_service.specs.Claims.{HaveAllClaims}
 use Rattle.fare_service.specs.Closing.{IsHistoryOf, HoldAllVisits, ReportsFirst}
 use Rattle.fare_service.specs.{Faults.uploads_held, ShareView.ShareView, Shares.books_of}
 use Rattle.fare_service.specs.{Shares.marks_at, declared.faults.GatherFault.GatherFault}
 use Rattle.fare_service.specs.declared.faults.GatherFault.TheVariants.{NoMemory, Missing, Drawn}
-use Rattle.fare_service.specs.inside.Closing.{AreClosed, AreUnseen, IsClosedBy, IsUnseen}
-use Rattle.fare_service.specs.inside.Closing.{IsClosedWork, IsFirstMissing, IsFirstUnseen}
+use Rattle.fare_service.specs.inside.Closing.{AreClosed, IsClosedBy, IsClosedWork, IsFirstMissing}
 use Rattle.fare_service.specs.inside.Closing.{LacksClaims}
 use Rattle.fare_service.specs.inside.Joining.{AreSigns, IsJoinedOf, IsSign}
 use Rattle.shard_book.specs.Book.{Book}
@@ -21,53 +20,13 @@ use Rattle.std.specs.List.{flat_map}
 use Rattle.std.specs.Prelude.{ℕ, zero, suc, ◌≡◌, ◌⊎◌, ◌+◌, ◌<◌, ◌≤◌, List, [], ◌∷◌, length}
 use Rattle.std.specs.Prelude.{slice_get, Some, option_map, sum_by, remove, Bool, true, false, ◌==◌}
 
--- whether there is no share
-pub no_shares : (shares : List ShareView) (none : Bool) (number : ℕ) → number ≡ length shares
-    → none ≡ (number == 0) → none ≡ true → shares ≡ []
-no_shares [] none number is reports holds = refl
-no_shares (share ∷ shares) none number is reports holds =
-    absurd (omega (arith, is, eqb-true number 0 (sym reports ∙ holds)))
-
 -- the first of some shares was taken out
 pub some_shares : (shares : List ShareView) (first : ShareView) (rest : List ShareView)
-    (none : Bool) (number : ℕ) → number ≡ length shares → none ≡ (number == 0) → none ≡ false
-    → first ≡ get_or shares 0 first → rest ≡ remove shares 0 → shares ≡ first ∷ rest
-some_shares [] first rest none number is reports fails at left =
-    let h : true ≡ false = sym (eq-eqb number 0 is) ∙ sym reports ∙ fails in absurd (cc)
-some_shares (x ∷ xs) first rest none number is reports fails at left =
+    → 0 < length shares → first ≡ get_or shares 0 first → rest ≡ remove shares 0
+    → shares ≡ first ∷ rest
+some_shares [] first rest some at left = absurd (omega (arith, some))
+some_shares (x ∷ xs) first rest some at left =
     ap (λ y. y ∷ xs) (sym at) ∙ ap (λ ys. first ∷ ys) (sym left)
-
--- the history of a book without a visit
-unseen_history : (opened : List SharedBookView) (shard : ℕ) (book : Book)
-    → IsUnseen opened shard book → IsHistoryOf opened [] shard book
-unseen_history opened shard book u = record {
-  visits = [];
-  history = ap (λ b. b.entries) u.none;
-  signed = All-nil (λ v. v.worker < 0);
-  order = λ w share at. absurd (cc);
-  seen = All-nil (λ share. length (marks_at shard share.passes) ≤ 0);
-  shared = u.shared;
-  at = u.at;
-  table = ap (λ b. b.table) u.none;
-  its_shard = ap (λ b. b.shard) u.none;
-  of_shards = ap (λ b. b.shards) u.none;
-  legal = u.legal;
-  limits = u.limits;
-}
-
--- nothing was seen, if there is no share
-pub closed_none : (opened : List SharedBookView) (shares : List ShareView) (closed : List Book)
-    → shares ≡ [] → length closed ≡ length opened → AreUnseen opened closed
-    → IsClosedWork opened shares closed
-closed_none opened shares closed none number unseen =
-    let P : List ShareView → Type 0 = λ ss. IsClosedWork opened ss closed in
-    subst P (sym none) (record {
-      number = number;
-      books = λ shard book at. unseen_history opened shard book (unseen shard book at);
-      once = λ x. omega arith;
-      undrawn = λ upload h. All-nil (λ share. share.drawer.seen ≤ upload);
-      last = λ upload h x above. omega arith;
-    })
 
 marks_of : (shard : ℕ) (passes : List PassView) (pass : PassView)
     → slice_get passes shard ≡ Some pass → marks_at shard passes ≡ pass.marks
@@ -166,11 +125,6 @@ whole_closed drawing opened shares drawer passes closed all books shard within =
     let b = there closed shard within in
     (b.0, history_of drawing opened shares drawer passes shard b.0 all (books shard b.0 b.1))
 
-whole_unseen : (opened : List SharedBookView) (closed : List Book) → AreUnseen opened closed
-    → (shard : ℕ) → shard < length closed → HoldAllVisits opened [] shard
-whole_unseen opened closed unseen shard within = let b = there closed shard within in
-    (b.0, unseen_history opened shard b.0 (unseen shard b.0 b.1))
-
 -- the first shard that misses visits
 pub first_missing : (drawing : Drawing) (opened : List SharedBookView) (uploads : ℕ)
     (shares : List ShareView) (drawer : DrawerView) (passes : List PassView) (closed : List Book)
@@ -187,19 +141,6 @@ first_missing drawing opened uploads shares drawer passes closed (Missing shard 
 first_missing drawing opened uploads shares drawer passes closed NoMemory all m = absurd m
 first_missing drawing opened uploads shares drawer passes closed (Drawn held drawn) all m = absurd m
 
-pub first_unseen : (opened : List SharedBookView) (uploads : ℕ) (shares : List ShareView)
-    (closed : List Book) (fault : GatherFault) → shares ≡ [] → IsFirstUnseen opened closed fault
-    → ReportsFirst opened uploads shares fault
-first_unseen opened uploads shares closed (Missing shard held kept) none m =
-    let P : List ShareView → Type 0 =
-    λ ss. ReportsFirst opened uploads ss (Missing shard held kept) in
-    subst P (sym none) (
-      λ earlier h. whole_unseen opened closed m.1 earlier (omega (arith, h, m.0)),
-      All-nil (λ share. length (marks_at shard share.passes) ≤ kept),
-    )
-first_unseen opened uploads shares closed NoMemory none m = absurd m
-first_unseen opened uploads shares closed (Drawn held drawn) none m = absurd m
-
 -- missing uploads, if all books were closed
 pub first_drawn : (drawing : Drawing) (opened : List SharedBookView) (shares : List ShareView)
     (drawer : DrawerView) (passes : List PassView) (closed : List Book) (held drawn : ℕ)
@@ -213,18 +154,6 @@ first_drawn drawing opened shares drawer passes closed held drawn all books numb
       (λ s h. omega (arith, h, is.later)) shares all.seen,
   omega (arith, is.within, ap (λ d. d.numbers) all.drawn_from),
 )
-
-pub first_undrawn : (opened : List SharedBookView) (uploads : ℕ) (shares : List ShareView)
-    (closed : List Book) (held drawn : ℕ) → shares ≡ [] → AreUnseen opened closed
-    → length closed ≡ length opened → drawn ≤ uploads
-    → ReportsFirst opened uploads shares (Drawn held drawn)
-first_undrawn opened uploads shares closed held drawn none unseen number few =
-    let P : List ShareView → Type 0 = λ ss. ReportsFirst opened uploads ss (Drawn held drawn) in
-    subst P (sym none) (
-      λ shard h. whole_unseen opened closed unseen shard (omega (arith, h, number)),
-      All-nil (λ share. share.drawer.seen ≤ drawn),
-      few,
-    )
 
 -- how many uploads the shares hold
 pub held_drawn : (drawing : Drawing) (opened : List SharedBookView) (nobody : ℕ)
@@ -248,15 +177,6 @@ joined_whole drawing shares first others drawer passes opened slice is same all 
     let S : List ShareView → Type 0 =
     λ ss. IsJoinedOf drawing opened (length shares) ss drawer passes in
     subst S (sym is) (subst N number (subst B same all))
-
--- if there is no share, there is no claim
-pub none_whole : (shards : ℕ) (shares : List ShareView) → shares ≡ [] → HaveAllClaims shards shares
-    → ⊥
-none_whole shards shares none h =
-    let P : List ShareView → Type 0 = HaveAllClaims shards in
-    let all = (subst P none h).drawing in
-    let zero_is : sum_by (λ (share : ShareView). share.drawer.claims) [] ≡ 0 = refl in
-    omega arith
 
 -- a pass that lacks claims is not of shares that have them all
 pub lacks_whole : (drawing : Drawing) (books : List SharedBookView) (nobody : ℕ)

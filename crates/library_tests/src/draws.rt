@@ -77,19 +77,6 @@ fn drawing_ends_well_before_all_are_drawn(rt: HostRuntime) -> Result<(), Fail> {
     Ok(())
 }
 
-#[test]
-fn an_owner_without_a_drawer_finishes_too(rt: HostRuntime) -> Result<(), Fail> {
-    let (draw, _) = Draw::new(rt.alloc(), 2)?;
-    assert!(rt; draw.finish_unseen().is_ok());
-    let (draw, one, _) = drawn_by_two(&rt, rt.alloc())?;
-    drop(one);
-    let Err(missing) = draw.finish_unseen() else {
-        panic!(rt; "two numbers were drawn")
-    };
-    assert_eq!(rt; (missing.held, missing.drawn), (0, 2));
-    Ok(())
-}
-
 fn draw_all(draw: &Draw, mut drawer: Drawer) -> Drawer
     requires belongs { drawer.drawn_from ≡ draw.now }
     ensures { result.drawn_from ≡ draw.now }

@@ -1,6 +1,6 @@
 //! Worked rows on shares, on workers and on numbers out of range; ends that no command line shows.
 
-ghost use Rattle.std.specs.Prelude.{All, IfOk};
+ghost use Rattle.std.specs.Prelude.{◌<◌, All, IfOk, length};
 ghost use Rattle.fare_service.specs.Shares.{IsShareOf};
 
 use crate::runs::{
@@ -172,35 +172,29 @@ fn both_worked<'a, R: Threads + Wait + RandomSource + Sync>(
 /// How often shares are held back: each time the schedule is another.
 const TIMES: u32 = 100;
 
-/// Two shares posted `taps` taps each, and `shares` of them are gathered: one or none.
+/// Two shares posted `taps` taps each, and one of them is gathered.
 fn fault_with<R: Threads + Wait + RandomSource + Sync + Abort>(
     rt: &R,
     alloc: Global,
     uploads: &[Vec<u8>],
     taps: u128,
-    shares: u32,
 ) -> Result<Option<GatherFault>, Fail> {
     let (service, one, two) = both_worked(rt, alloc, uploads)?;
     assert_eq!(rt; (one.sums().taps, two.sums().taps), (taps, taps));
     drop(two);
-    if shares == 1 {
-        return Ok(service.gather(alloc, vec![in alloc; one]?).err());
-    }
-    drop(one);
-    Ok(service.gather(alloc, Vec::new(alloc)).err())
+    Ok(service.gather(alloc, vec![in alloc; one]?).err())
 }
 
-/// Of the two visits to the only shard only those of the gathered shares are reported.
+/// Of the two visits to the only shard only that of the gathered share is reported.
 #[test]
 fn a_share_held_back_is_missing(rt: HostRuntime) -> Result<(), Fail> {
     let alloc = rt.alloc();
     let uploads = two_taps(alloc)?;
-    for turn in 0..2 * TIMES {
-        let shares = turn % 2;
-        let fault = fault_with(&rt, alloc, uploads.as_slice(), 1, shares)?;
+    for _ in 0..TIMES {
+        let fault = fault_with(&rt, alloc, uploads.as_slice(), 1)?;
         let missing = GatherFault::Missing {
             shard: 0,
-            held: u64::from(shares),
+            held: 1,
             kept: 2,
         };
         assert_eq!(rt; fault, Some(missing));
@@ -216,7 +210,8 @@ fn pair(
 ) -> Result<Vec<Share>, Fail>
     requires one { IsShareOf service.now one }
     requires two { IsShareOf service.now two }
-    ensures { IfOk result (λ shares. All (IsShareOf service.now) shares.items) }
+    ensures shares { IfOk result (λ shares. All (IsShareOf service.now) shares.items) }
+    ensures some { IfOk result (λ shares. 0 < length shares.items) }
 {
     let mut shares = Vec::new(alloc);
     shares.push(one)?;
@@ -246,15 +241,14 @@ fn both_shares_are_gathered(rt: HostRuntime) -> Result<(), Fail> {
     Ok(())
 }
 
-/// Of the two uploads without taps that were drawn only those of the gathered shares are reported.
+/// Of the two uploads without taps that were drawn only that of the gathered share is reported.
 #[test]
 fn an_upload_held_back_is_missing(rt: HostRuntime) -> Result<(), Fail> {
     let alloc = rt.alloc();
     let uploads = uploads_of(alloc, &[], &[])?;
-    for turn in 0..2 * TIMES {
-        let held = turn % 2;
-        let fault = fault_with(&rt, alloc, uploads.as_slice(), 0, held)?;
-        assert_eq!(rt; fault, Some(GatherFault::Drawn { held, drawn: 2 }));
+    for _ in 0..TIMES {
+        let fault = fault_with(&rt, alloc, uploads.as_slice(), 0)?;
+        assert_eq!(rt; fault, Some(GatherFault::Drawn { held: 1, drawn: 2 }));
     }
     Ok(())
 }

@@ -139,24 +139,6 @@ fn a_pass_held_back_is_missing(rt: HostRuntime) -> Result<(), Fail> {
     Ok(())
 }
 
-#[test]
-fn an_owner_without_a_pass_closes_too(rt: HostRuntime) -> Result<(), Fail> {
-    let alloc = rt.alloc();
-    let (shared, pass, _) = shared_from(&rt, alloc, 7)?;
-    drop(pass);
-    let Ok(book) = shared.close_unseen() else {
-        panic!(rt; "no visit was made")
-    };
-    assert_eq!(rt; book.len(), 0);
-    let (shared, pass, other) = three_turns(&rt, alloc)?;
-    drop((pass, other));
-    let Err(Missing { held, kept }) = shared.close_unseen() else {
-        panic!(rt; "visits were made")
-    };
-    assert_eq!(rt; (held, kept), (0, 3));
-    Ok(())
-}
-
 /// Whether the first lines begin the second ones.
 fn begin(first: &Lines, second: &Lines) -> bool {
     if first.len() > second.len() {

@@ -167,32 +167,3 @@ closes k id v ws xs word slot final at home unjoined off met =
       all = λ claims. absurd (nobody_else k m s id v sh final.1.1 off claims t.0 t.1);
     })
     (word_of k m s sh)
-
--- and of the table alone: if no more visits are kept than the first number says, the opened book is
--- there
-pub whole_unseen : (k : Opening) (ws : List ℕ) (xs : List (Option Boxed)) (word : ℕ)
-    (slot : Option Boxed) → Final (IsTurn k) ws xs → get_elem? ws 0 ≡ some word
-    → get_elem? xs 0 ≡ some slot
-    → word / 2 + word % 2 ≤ k.first → (b : Boxed) × (slot ≡ Some b) × (b.value ≡ book_after k [])
-whole_unseen k ws xs word slot final at home le =
-    let s = final.0 in
-    let r = final.1 in
-    let m : Machine = after (start k.first) r.events in
-    let sh = r.shows in
-    let here : get_or s.words 0 0 ≡ word =
-    ap (λ us. get_or us 0 0) final.2 ∙ first_word ws word at in
-    let c = sh.count in
-    ⊎_elim
-    (λ (t : (m.holder ≡ none) × (get_or s.words 0 0 ≡ 2 * m.count)).
-    let half = half_even word m.count (sym here ∙ t.1) in
-    let same : m.visits ≡ [] = begins_whole [] m.visits (m.visits, refl) (omega arith) in
-    let b = (sh.free t.0).1 in (
-      b.0,
-      some-injective slot _ (sym home ∙ final.4 0 _ b.1),
-      b.2
-          ∙ ap (λ vs. book_after k vs) same,
-    ))
-    (λ (t : (seat : ℕ) × (m.holder ≡ some seat) × (get_or s.words 0 0 ≡ 2 * m.count + 1)).
-    let half = half_odd word m.count (sym here ∙ t.2) in
-    absurd (omega arith))
-    (word_of k m s sh)

@@ -175,22 +175,6 @@ impl Draw {
             Ok(drawn)
         }
     }
-
-    /// The same for an owner who holds no drawer: `Ok` if no number was drawn.
-    pub fn finish_unseen(self) -> Result<(), DrawMissing>
-        ensures err { IfErr result (λ missing. (missing.held ≡ 0) × (0 < missing.drawn)
-            × (missing.drawn ≤ self.numbers)) }
-    {
-        let Draw { table, numbers: _ } = self;
-        let closed = table.close();
-        let drawn = closed.word(0) as u32;
-        closed.free();
-        if drawn > 0 {
-            Err(DrawMissing { held: 0, drawn })
-        } else {
-            Ok(())
-        }
-    }
 }
 
 impl Drawer {

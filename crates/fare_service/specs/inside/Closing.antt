@@ -25,19 +25,6 @@ abbrev pub AreClosed : List PassView → List Book → Type 0
 AreClosed passes books =
     (shard : ℕ) (book : Book) → slice_get books shard ≡ Some book → IsClosedBy passes shard book
 
--- the book of a shard was closed, and it had no visit
-pub record IsUnseen (opened : List SharedBookView) (shard : ℕ) (book : Book) : Type 0 where
-  pub shared : SharedBookView
-  pub at : slice_get opened shard ≡ Some shared
-  pub none : book ≡ book_of shared []
-  pub legal : IsLegal book.table book.entries
-  pub limits : BookKeepsLimits book
-
--- each book is as it was opened
-abbrev pub AreUnseen : List SharedBookView → List Book → Type 0
-AreUnseen opened books =
-    (shard : ℕ) (book : Book) → slice_get books shard ≡ Some book → IsUnseen opened shard book
-
 -- a closing gave a book, which was appended
 pub record IsAppended (end : Result Book LackingVisits) (before after : List Book) : Type 0 where
   pub book : Book
@@ -67,12 +54,6 @@ LacksClaims shards passes (Missing shard held kept) =
 LacksClaims shards passes NoMemory = ⊥
 LacksClaims shards passes (Drawn held drawn) = ⊥
 
--- visits to a shard are missing, of which none are held
-abbrev pub NoneMissing : ℕ → GatherFault → Type 0
-NoneMissing shards (Missing shard held kept) = (shard < shards) × (held ≡ 0) × (held < kept)
-NoneMissing shards NoMemory = ⊥
-NoneMissing shards (Drawn held drawn) = ⊥
-
 -- the shards before the one that misses visits were closed, and no visit that the pass has seen is
 -- left out of the count
 abbrev pub IsFirstMissing : List PassView → List Book → GatherFault → Type 0
@@ -80,13 +61,6 @@ IsFirstMissing passes closed (Missing shard held kept) =
     (shard ≡ length closed) × AreClosed passes closed × (length (marks_at shard passes) ≤ kept)
 IsFirstMissing passes closed NoMemory = ⊥
 IsFirstMissing passes closed (Drawn held drawn) = ⊥
-
--- the shards before the one that misses visits were closed, and they had none
-abbrev pub IsFirstUnseen : List SharedBookView → List Book → GatherFault → Type 0
-IsFirstUnseen opened closed (Missing shard held kept) =
-    (shard ≡ length closed) × AreUnseen opened closed
-IsFirstUnseen opened closed NoMemory = ⊥
-IsFirstUnseen opened closed (Drawn held drawn) = ⊥
 
 -- all books and the drawing were closed with what the shares hold
 pub record IsClosedWork (opened : List SharedBookView) (shares : List ShareView)

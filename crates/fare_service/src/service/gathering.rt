@@ -3,9 +3,9 @@
 ghost use Rattle.fare_service.specs.{Claims.claims_at, Claims.HaveAllClaims, Closing.ReportsFirst};
 ghost use Rattle.fare_service.specs.Faults.{IsForMemory, IsGatherFault};
 ghost use Rattle.fare_service.specs.Shares.{books_of, made_visits_at};
-ghost use Rattle.fare_service.specs.inside.Closing.{AreClosed, AreUnseen, IsClosedWork, IsAppended};
-ghost use Rattle.fare_service.specs.inside.Closing.{ReportsMissing, IsFirstMissing, IsFirstUnseen};
-ghost use Rattle.fare_service.specs.inside.Closing.{IsMissing, LacksClaims, NoneMissing};
+ghost use Rattle.fare_service.specs.inside.Closing.{AreClosed, IsClosedWork, IsAppended};
+ghost use Rattle.fare_service.specs.inside.Closing.{ReportsMissing, IsFirstMissing};
+ghost use Rattle.fare_service.specs.inside.Closing.{IsMissing, LacksClaims};
 ghost use Rattle.fare_service.specs.inside.Joining.{AreJoinedAt, Belongs, IsJoinedOf, with_done};
 ghost use Rattle.fare_service.specs.inside.Joining.{with_all_done, with_runs};
 ghost use Rattle.histories.specs.Sums.{sums_of};
@@ -141,25 +141,6 @@ fn close_all(
     Ok(())
 }
 
-fn close_unseen(books: Vec<SharedBook>, closed: &mut Vec<ShardBook>) -> Result<(), GatherFault>
-    requires few { length books.items ≤ 64 }
-    requires empty { closed.old.items ≡ [] }
-    requires room { length books.items ≤ vec_capacity closed.old }
-    ensures ok { OnOk result (AreUnseen books.items closed.new.items) }
-    ensures number { OnOk result (length closed.new.items ≡ length books.items) }
-    ensures missing { IfErr result (NoneMissing (length books.items)) }
-    ensures first { IfErr result (IsFirstUnseen books.items closed.new.items) }
-{
-    let mut shard = 0;
-    for book in books {
-        if let Err(fault) = push_closed(shard, book.close_unseen(), closed) {
-            return Err(fault);
-        }
-        shard += 1;
-    }
-    Ok(())
-}
-
 fn push_closed(
     shard: u32,
     end: Result<ShardBook, Missing>,
@@ -195,6 +176,7 @@ fn close_with(
     calls: &mut Trace,
 ) -> Result<(), GatherFault>
     requires shares { All (Belongs draw books.items) shares.items }
+    requires some { 0 < length shares.items }
     requires few { length books.items ≤ 64 }
     requires empty { closed.old.items ≡ [] }
     requires room { length books.items ≤ vec_capacity closed.old }
@@ -204,18 +186,6 @@ fn close_with(
     ensures first { IfErr result (ReportsFirst books.items draw.numbers shares.items) }
     ensures claims { IfErr result (λ _. HaveAllClaims (length books.items) shares.items → ⊥) }
 {
-    if shares.is_empty() {
-        if let Err(fault) = close_unseen(books, closed) {
-            return Err(fault);
-        }
-        return match draw.finish_unseen() {
-            Ok(()) => Ok(()),
-            Err(missing) => Err(GatherFault::Drawn {
-                held: missing.held,
-                drawn: missing.drawn,
-            }),
-        };
-    }
     let first = shares.remove(0);
     let (drawer, passes) = join_shares(&draw, books.as_slice(), first, shares, calls);
     if let Err(fault) = close_all(books, passes, closed) {
@@ -236,12 +206,13 @@ impl<U: UploadSource + Drop> Service<U> {
     ghost use Rattle.fare_service.specs.Shares.{IsShareOf};
     ghost use Rattle.fare_service.specs.Stopping.{FullIsMade};
 
-    /// Joins what the workers of the shares did, closes the shards' books, and returns them with
+    /// Joins what the workers of the shares, of which there are some, did, closes the shards' books, and returns them with
     /// the end of each upload, the totals of each share and the calls. All memory is taken first.
     /// Missing visits of the first such shard are reported, then missing uploads: none if the
     /// shares have all claims together. On a fault service and shares are dropped.
     pub fn gather(self, alloc: Global, shares: Vec<Share>) -> Result<Outcome, GatherFault>
-        requires { All (IsShareOf self) shares.items }
+        requires shares { All (IsShareOf self) shares.items }
+        requires some { 0 < length shares.items }
         ensures headline { IfOk result (HasOutcome self shares.items) }
         ensures undrawn { IfOk result (AreUndrawnReported shares.items) }
         ensures full { IfOk result (λ _. FullIsMade shares.items) }

@@ -66,6 +66,7 @@ impl<U: UploadSource + Drop + Sync> Service<U> {
         requires few { workers ≤ 16 }
         ensures shares { IfOk result (λ r. All (IsShareOf self.now) r.items) }
         ensures number { IfOk result (λ r. length r.items ≡ workers) }
+        ensures some { IfOk result (λ r. 0 < length r.items) }
         ensures fresh { IfOk result (λ r. IsFresh first → All IsFresh r.items) }
         ensures claims { IfOk result (λ r. HasAllClaims (shards_of self.now) first
             → HaveAllClaims (shards_of self.now) r.items) }

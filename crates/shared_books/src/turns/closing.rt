@@ -13,9 +13,9 @@ use shard_book::ShardBook;
 use std::alloc::Global;
 
 impl SharedBook {
-    ghost use Rattle.std.specs.Prelude.{◌≡◌, ◌<◌, [], IfOk, IfErr};
+    ghost use Rattle.std.specs.Prelude.{◌≡◌, ◌<◌, IfOk, IfErr};
     ghost use Rattle.shared_books.specs.Claims.{all_claims};
-    ghost use Rattle.shared_books.specs.Passes.{book_of, HasMadeAll, LacksVisits};
+    ghost use Rattle.shared_books.specs.Passes.{HasMadeAll, LacksVisits};
 
     /// The book, if the pass made all visits, as it did with all claims: else both are dropped. A
     /// turn that was not given back counts as a visit.
@@ -31,23 +31,6 @@ impl SharedBook {
         let kept = word / 2 + word % 2 - first;
         if held < kept {
             return Err(Missing { held, kept });
-        }
-        match slot {
-            Some(book) => Ok(Box::into_inner(book)),
-            None => unreachable!(),
-        }
-    }
-
-    /// The same for an owner who holds no pass: `Ok` if no visit was made.
-    pub fn close_unseen(self) -> Result<ShardBook, Missing>
-        ensures ok { IfOk result (λ book. book ≡ book_of self []) }
-        ensures err { IfErr result (λ missing. (missing.held ≡ 0) × (0 < missing.kept)) }
-    {
-        let SharedBook { table, first, .. } = self;
-        let (word, slot) = taken_from(table.close());
-        let kept = word / 2 + word % 2 - first;
-        if kept > 0 {
-            return Err(Missing { held: 0, kept });
         }
         match slot {
             Some(book) => Ok(Box::into_inner(book)),

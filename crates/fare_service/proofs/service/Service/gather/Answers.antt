@@ -18,48 +18,25 @@ use Rattle.fare_service.proofs.service.Service.gather.Goals as goal
 
 pub ends_of-requires : goal.ends_of-requires
 ends_of-requires g c =
-    let service : ServiceView =
-    record {
-      table = c.self.inside.table;
-      drawing = c.self.inside.draw;
-      books =
-          c.self.inside.books.items;
-      uploads = g.U.UploadSource.origins c.self.inside.uploads;
-    } in
     let S : ServiceView → Type 0 = λ h. All (IsShareOf h) c.args.shares.items in
-    let all : All (IsShareOf service) c.args.shares.items =
-    subst S (sym c.self.view_is) c.requires in
+    let all = subst S (sym c.self.view_is) c.requires.shares in
     let P : List ShareView → Type 0 =
     λ ss. All (λ share. All (λ d. d.upload < c.len-2.result) share.done) ss in
     subst P (sym c.as_slice.ensures.value)
-    (done_within service c.len-2.result c.args.shares.items (sym c.len-2.ensures) all)
+    (done_within _ c.len-2.result c.args.shares.items (sym c.len-2.ensures) all)
 
 pub added-totals-requires : goal.added-totals-requires
 added-totals-requires g c =
-    let service : ServiceView =
-    record {
-      table = c.self.inside.table;
-      drawing = c.self.inside.draw;
-      books =
-          c.self.inside.books.items;
-      uploads = g.U.UploadSource.origins c.self.inside.uploads;
-    } in
     let S : ServiceView → Type 0 = λ h. All (IsShareOf h) c.args.shares.items in
-    let all : All (IsShareOf service) c.args.shares.items =
-    subst S (sym c.self.view_is) c.requires in
-    let number : c.len-2.result ≡ length service.uploads = c.len-2.ensures in
-    let reported : c.in_ok-ends.ends.items
-    ≡ with_all_done (replicate (length service.uploads) Undrawn) c.args.shares.items =
-    c.in_ok-ends.ensures.ends
+    let all = subst S (sym c.self.view_is) c.requires.shares in
+    let number = c.len-2.ensures in
+    let reported = c.in_ok-ends.ensures.ends
     ∙ ap (with_all_done (replicate c.len-2.result Undrawn)) c.as_slice.ensures.value
     ∙ ap (λ n. with_all_done (replicate n Undrawn) c.args.shares.items) number in
-    let workers : map sums_of c.in_ok-workers.workers.items
-    ≡ map (λ share. share.totals) c.args.shares.items =
-    c.in_ok-workers.ensures
+    let workers = c.in_ok-workers.ensures
     ∙ ap (λ ss. map (λ (share : ShareView). share.totals) ss) c.as_slice-2.ensures.value in
-    let same : sums (all_entries c.close_with.new.closed.items)
-    ≡ add_all (map sums_of c.in_ok-workers.workers.items) =
-    shares_add_up service c.self.invariant c.args.shares.items all c.close_with.new.closed.items
+    let same =
+    shares_add_up _ c.self.invariant c.args.shares.items all c.close_with.new.closed.items
     c.in_ok-close_with.ensures.ok c.in_ok-ends.ends.items reported
     (c.in_ok-ends.ensures.number ∙ number) (map sums_of c.in_ok-workers.workers.items)
     workers in
@@ -77,34 +54,20 @@ added-totals-requires g c =
 
 pub invariant_of-result : goal.invariant_of-result
 invariant_of-result g c =
-    let service : ServiceView =
-    record {
-      table = c.self.inside.table;
-      drawing = c.self.inside.draw;
-      books =
-          c.self.inside.books.items;
-      uploads = g.U.UploadSource.origins c.self.inside.uploads;
-    } in
     let S : ServiceView → Type 0 = λ h. All (IsShareOf h) c.args.shares.items in
-    let all : All (IsShareOf service) c.args.shares.items =
-    subst S (sym c.self.view_is) c.requires in
-    let number : c.len-2.result ≡ length service.uploads = c.len-2.ensures in
-    let reported : c.in_ok-ends.ends.items
-    ≡ with_all_done (replicate (length service.uploads) Undrawn) c.args.shares.items =
-    c.in_ok-ends.ensures.ends
+    let all = subst S (sym c.self.view_is) c.requires.shares in
+    let number = c.len-2.ensures in
+    let reported = c.in_ok-ends.ensures.ends
     ∙ ap (with_all_done (replicate c.len-2.result Undrawn)) c.as_slice.ensures.value
     ∙ ap (λ n. with_all_done (replicate n Undrawn) c.args.shares.items) number in
-    let workers : map sums_of c.in_ok-workers.workers.items
-    ≡ map (λ share. share.totals) c.args.shares.items =
-    c.in_ok-workers.ensures
+    let workers = c.in_ok-workers.ensures
     ∙ ap (λ ss. map (λ (share : ShareView). share.totals) ss) c.as_slice-2.ensures.value in
-    let same : sums (all_entries c.close_with.new.closed.items)
-    ≡ add_all (map sums_of c.in_ok-workers.workers.items) =
-    shares_add_up service c.self.invariant c.args.shares.items all c.close_with.new.closed.items
+    let same =
+    shares_add_up _ c.self.invariant c.args.shares.items all c.close_with.new.closed.items
     c.in_ok-close_with.ensures.ok c.in_ok-ends.ends.items reported
     (c.in_ok-ends.ensures.number ∙ number) (map sums_of c.in_ok-workers.workers.items)
     workers in
-    is_outcome service c.self.invariant c.args.shares.items c.close_with.new.closed.items
+    is_outcome _ c.self.invariant c.args.shares.items c.close_with.new.closed.items
     c.in_ok-close_with.ensures.ok c.in_ok-ends.ends.items
     (c.in_ok-ends.ensures.number ∙ number) (map sums_of c.in_ok-workers.workers.items)
     (sums_of c.added-totals.result) c.close_with.new.calls.run
@@ -122,21 +85,16 @@ returns g c =
       uploads = g.U.UploadSource.origins c.self.inside.uploads;
     } in
     let S : ServiceView → Type 0 = λ h. All (IsShareOf h) c.args.shares.items in
-    let all : All (IsShareOf service) c.args.shares.items =
-    subst S (sym c.self.view_is) c.requires in
-    let number : c.len-2.result ≡ length service.uploads = c.len-2.ensures in
-    let reported : c.in_ok-ends.ends.items
-    ≡ with_all_done (replicate (length service.uploads) Undrawn) c.args.shares.items =
-    c.in_ok-ends.ensures.ends
+    let all = subst S (sym c.self.view_is) c.requires.shares in
+    let number = c.len-2.ensures in
+    let reported = c.in_ok-ends.ensures.ends
     ∙ ap (with_all_done (replicate c.len-2.result Undrawn)) c.as_slice.ensures.value
     ∙ ap (λ n. with_all_done (replicate n Undrawn) c.args.shares.items) number in
-    let workers : map sums_of c.in_ok-workers.workers.items
-    ≡ map (λ share. share.totals) c.args.shares.items =
-    c.in_ok-workers.ensures
+    let workers = c.in_ok-workers.ensures
     ∙ ap (λ ss. map (λ (share : ShareView). share.totals) ss) c.as_slice-2.ensures.value in
     let closed = c.close_with.new.closed.items in
     let work = c.in_ok-close_with.ensures.ok in
-    let same : sums (all_entries closed) ≡ add_all (map sums_of c.in_ok-workers.workers.items) =
+    let same =
     shares_add_up service c.self.invariant c.args.shares.items all closed work
     c.in_ok-ends.ends.items reported
     (c.in_ok-ends.ensures.number ∙ number) (map sums_of c.in_ok-workers.workers.items)

@@ -1,4 +1,4 @@
-use Rattle.std.proofs.Common.{◌∙◌}
+use Rattle.std.proofs.Common.{◌∙◌, arith}
 use Rattle.fare_service.proofs.AnswerLemmas.{answered, fault_reported}
 use Rattle.fare_service.proofs.{ClaimLemmas.claims_kept, EndingLemmas.have_stopped}
 use Rattle.fare_service.proofs.GatheredShares.{has_run}
@@ -9,10 +9,16 @@ use Rattle.fare_service.specs.inside.Stopping.{WorkedOn}
 use Rattle.tap_views.proofs.Choices.{IfErr_handed_on}
 use Rattle.fare_service.proofs.service.Service.run.Goals as goal
 
-pub gather-requires : goal.gather-requires
-gather-requires g c =
+pub gather-requires-clause-shares : goal.gather-requires-clause-shares
+gather-requires-clause-shares g c =
     (answered c.args.self c.in_ok-shares.shares.items c.in_ok-shares-2.shares.items
     c.in_ok-answers.answers.items c.in_ok-shares-2.ensures.shares c.in_ok-answers.ensures).shares
+
+pub gather-requires-clause-some : goal.gather-requires-clause-some
+gather-requires-clause-some g c =
+    let all = answered c.args.self c.in_ok-shares.shares.items c.in_ok-shares-2.shares.items
+    c.in_ok-answers.answers.items c.in_ok-shares-2.ensures.shares c.in_ok-answers.ensures in
+    omega (arith, all.number, c.in_ok-shares.ensures.some)
 
 pub returns-clause-headline : goal.returns-clause-headline
 returns-clause-headline g c =
