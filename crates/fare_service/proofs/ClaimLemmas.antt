@@ -1,15 +1,15 @@
 -- The claims of shares, split and put together again.
 use Rattle.std.proofs.Common.{refl, sym, ◌∙◌, ap, inl, inr, subst, arith, get_or, set}
 use Rattle.std.proofs.Common.{length-append}
+use Rattle.fare_service.proofs.PassFields.{field_beyond, field_else, field_here, field_mid}
+use Rattle.fare_service.proofs.PassFields.{field-set_other, field-set_same}
 use Rattle.fare_service.proofs.ShareLemmas.{claims_left_at}
 use Rattle.fare_service.specs.Claims.{claims_of, claims_at, HaveAllClaims, HasAllClaims, left_share}
 use Rattle.fare_service.specs.{Claims.HasHalf, ServiceView.ServiceView, ServiceView.shards_of}
 use Rattle.fare_service.specs.{ShareView.ShareView, Shares.WentOn}
 use Rattle.shared_books.specs.Claims.{all_claims, claims_given, claims_left}
 use Rattle.shared_books.specs.Passes.{PassView, left_pass}
-use Rattle.std.proofs.lemmas.{Bool.Decides.eqb_tells, List.map-set}
-use Rattle.std.proofs.lemmas.List.{length-map, get_or-set_same, get_or-set_other, get_or-map}
-use Rattle.std.proofs.lemmas.List.Sums.{sum_by_push, sum_by-cons}
+use Rattle.std.proofs.lemmas.{Bool.Decides.eqb_tells, List.Sums.sum_by_push, List.Sums.sum_by-cons}
 use Rattle.std.specs.List.{AllZip}
 use Rattle.std.specs.Prelude.{ℕ, zero, suc, ◌≡◌, ◌≢◌, ◌⊎◌, ◌+◌, ◌-◌, ◌*◌, ◌<◌, ◌≤◌, ◌==◌, true}
 use Rattle.std.specs.Prelude.{false, List, [], ◌∷◌, ◌++◌, length, sum_by, map}
@@ -170,42 +170,6 @@ claims_kept service R went olds news all h = record {
 }
 
 -- the claims of passes that are joined, shard by shard
-claims_beyond : (shard : ℕ) (passes : List PassView) → length passes ≤ shard
-    → claims_at shard passes ≡ 0
-claims_beyond shard [] h = refl
-claims_beyond zero (p ∷ ps) h = absurd (omega (arith, h))
-claims_beyond (suc shard) (p ∷ ps) h = claims_beyond shard ps (omega arith)
-
-claims_last : (passes : List PassView) (pass : PassView)
-    → claims_at (length passes) (passes ++ pass ∷ []) ≡ pass.claims
-claims_last [] pass = refl
-claims_last (p ∷ ps) pass = claims_last ps pass
-
-claims_else : (shard : ℕ) (passes : List PassView) (pass : PassView) → shard ≢ length passes
-    → claims_at shard (passes ++ pass ∷ []) ≡ claims_at shard passes
-claims_else zero [] pass ne = absurd (ne refl)
-claims_else (suc shard) [] pass ne = refl
-claims_else zero (p ∷ ps) pass ne = refl
-claims_else (suc shard) (p ∷ ps) pass ne = claims_else shard ps pass (λ e. ne (ap suc e))
-
-claims-set_same : (passes : List PassView) (shard : ℕ) (new : PassView) → shard < length passes
-    → claims_at shard (set passes shard new) ≡ new.claims
-claims-set_same passes shard new within =
-    ap (λ cs. get_or cs shard 0) (map-set (λ p. p.claims) passes shard new)
-    ∙ get_or-set_same (map (λ p. p.claims) passes) shard new.claims 0
-    (omega (arith, length-map passes (λ (p : PassView). p.claims)))
-
-claims-set_other : (passes : List PassView) (shard other : ℕ) (new : PassView) → other ≢ shard
-    → claims_at other (set passes shard new) ≡ claims_at other passes
-claims-set_other passes shard other new ne =
-    ap (λ cs. get_or cs other 0) (map-set (λ p. p.claims) passes shard new)
-    ∙ get_or-set_other (map (λ p. p.claims) passes) shard other new.claims 0 ne
-
-claims_here : (passes : List PassView) (shard : ℕ) (old : PassView) → shard < length passes
-    → old ≡ get_or passes shard old → claims_at shard passes ≡ old.claims
-claims_here passes shard old within is =
-    get_or-map (λ p. p.claims) passes shard old 0 within ∙ ap (λ p. p.claims) (sym is)
-
 pub claims_step : (fn yielded into : List PassView) (position : ℕ) (old pass new : PassView)
     (shard : ℕ) → claims_at shard into ≡ claims_at shard fn + claims_at shard yielded
     → position ≡ length yielded → position < length into
@@ -221,16 +185,16 @@ claims_step fn yielded into position old pass new shard before at within is join
         ≡ claims_at shard fn + claims_at shard (yielded ++ pass ∷ [])
     by_position (inl (b, e)) =
         let nothing : claims_at shard yielded ≡ 0 =
-        claims_beyond shard yielded (omega (arith, e, at)) in
+        field_beyond (λ p. p.claims) 0 shard yielded (omega (arith, e, at)) in
         let here : claims_at shard into ≡ old.claims =
-        ap (λ s. claims_at s into) e ∙ claims_here into position old within is in
+        ap (λ s. claims_at s into) e ∙ field_here (λ p. p.claims) 0 into position old within is in
         let last : claims_at shard (yielded ++ pass ∷ []) ≡ pass.claims =
-        ap (λ s. claims_at s (yielded ++ pass ∷ [])) (e ∙ at) ∙ claims_last yielded pass in
+        ap (λ s. claims_at s (yielded ++ pass ∷ [])) (e ∙ at) ∙ field_mid (λ p. p.claims) 0 yielded pass [] in
         let there : claims_at shard (set into position new) ≡ new.claims =
         ap (λ s. claims_at s (set into position new)) e
-        ∙ claims-set_same into position new within in
+        ∙ field-set_same (λ p. p.claims) 0 into position new within in
         omega arith
     by_position (inr (b, ne)) =
-        let other = claims_else shard yielded pass (λ e. ne (e ∙ sym at)) in
-        let same = claims-set_other into position shard new ne in
+        let other = field_else (λ p. p.claims) 0 shard yielded pass (λ e. ne (e ∙ sym at)) in
+        let same = field-set_other (λ p. p.claims) 0 into position shard new ne in
         omega arith

@@ -14,11 +14,11 @@ use Rattle.shared_books.specs.Claims.{all_claims}
 use Rattle.shared_books.specs.Drawing.{Drawing, DrawerView, HasAll, IsCount, times}
 use Rattle.shared_books.specs.{Marks.history_of_visits, Passes.SharedBookView, Passes.PassView}
 use Rattle.shared_books.specs.declared.turns.rule.Mark.{Mark}
-use Rattle.std.proofs.lemmas.{Bool.cases_lt, List.Concat.length-flat_map, List.Elements.All-nil}
+use Rattle.std.proofs.lemmas.{Bool.cases_lt, List.Concat.length-flat_map}
 use Rattle.std.proofs.lemmas.{List.Elements.All-weaker, Option.slice_get-map, Slice.Zip.AllZip-long}
 use Rattle.std.specs.List.{flat_map}
 use Rattle.std.specs.Prelude.{ℕ, zero, suc, ◌≡◌, ◌⊎◌, ◌+◌, ◌<◌, ◌≤◌, List, [], ◌∷◌, length}
-use Rattle.std.specs.Prelude.{slice_get, Some, option_map, sum_by, remove, Bool, true, false, ◌==◌}
+use Rattle.std.specs.Prelude.{slice_get, Some, option_map, remove}
 
 -- the first of some shares was taken out
 pub some_shares : (shares : List ShareView) (first : ShareView) (rest : List ShareView)

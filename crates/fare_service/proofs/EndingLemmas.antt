@@ -4,7 +4,7 @@ use Rattle.fare_service.proofs.AddingLemmas.{ends_are, length_sum, sum_by_key, s
 use Rattle.fare_service.proofs.AddingLemmas.{sum_by-flat_map, sum_of_positions, reported_end_taps}
 use Rattle.fare_service.proofs.{CloseLemmas.there, FullLemmas.marks_seen, GatherLemmas.kept_length}
 use Rattle.fare_service.proofs.GatheredWork.{Given, given_of, IsGathered}
-use Rattle.fare_service.proofs.{HeadlineLemmas.gathered_of, RunVisits.marks_here}
+use Rattle.fare_service.proofs.{HeadlineLemmas.gathered_of, PassFields.field_here}
 use Rattle.fare_service.proofs.{ShareLemmas.own_left, UploadFileSource.provided_number}
 use Rattle.fare_service.proofs.VisitLemmas.{no_taps}
 use Rattle.fare_service.specs.{Claims.left_share, Closing.IsHistoryOf, Faults.visits_held}
@@ -415,7 +415,7 @@ full_made service is shares all closed work = each shares all seen
         → (shard : ℕ) × (2 ^ 62 ≤ visits_held shard shares)
     one share mine few (k, p, below, at, full) =
         let marks : marks_at k share.passes ≡ p.marks =
-        marks_here share.passes k p below (sym at) in
+        field_here (λ p. p.marks) [] share.passes k p below (sym at) in
         let B : List SharedBookView → Type 0 = λ bs. slice_get bs k ≡ Some p.book in
         let here : slice_get (books_of share.passes) k ≡ Some p.book =
         slice_get-map (λ (q : PassView). q.book) share.passes k

@@ -1,8 +1,8 @@
 -- What passes know of full shards.
 use Rattle.std.proofs.Common.{zero, suc, refl, sym, ◌∙◌, ap, inl, inr, subst, arith, get_or, set}
 use Rattle.std.proofs.Common.{length-append}
-use Rattle.fare_service.proofs.RunVisits.{marks_here}
-use Rattle.fare_service.proofs.VisitLemmas.{marks-set_same, own-visits}
+use Rattle.fare_service.proofs.{PassFields.field_here, PassFields.field-set_same}
+use Rattle.fare_service.proofs.VisitLemmas.{own-visits}
 use Rattle.fare_service.specs.{Shares.made_visits, Shares.made_visits_at, Stopping.KnowsFull}
 use Rattle.fare_service.specs.{Stopping.SomeFull, declared.service.working.Stop.Stop}
 use Rattle.fare_service.specs.declared.service.working.Stop.TheVariants.{Memory, Full}
@@ -109,6 +109,6 @@ pub own_grows : (passes : List PassView) (shard : ℕ) (old new : PassView) (num
     → Visits old new number visit
     → made_visits_at shard (set passes shard new) ≡ made_visits_at shard passes ++ visit ∷ []
 own_grows passes shard old new number visit within is v =
-    ap made_visits (marks-set_same passes shard new within)
+    ap made_visits (field-set_same (λ p. p.marks) [] passes shard new within)
     ∙ (own-visits old new number visit v
-    ∙ ap (λ ms. made_visits ms ++ visit ∷ []) (sym (marks_here passes shard old within is)))
+    ∙ ap (λ ms. made_visits ms ++ visit ∷ []) (sym (field_here (λ p. p.marks) [] passes shard old within is)))

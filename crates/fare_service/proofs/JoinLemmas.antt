@@ -1,9 +1,10 @@
 -- Passes that are joined, one shard after another.
 use Rattle.std.proofs.Common.{refl, sym, ◌∙◌, ap, inl, inr, subst, arith, get_or, set, append-nil}
 use Rattle.std.proofs.Common.{length-append}
-use Rattle.fare_service.proofs.{PositionLemmas.position_more, RunVisits.marks_here, Signing.signed}
+use Rattle.fare_service.proofs.PassFields.{field_beyond, field_else, field_here, field_mid}
+use Rattle.fare_service.proofs.PassFields.{field-set_other, field-set_same}
+use Rattle.fare_service.proofs.{PositionLemmas.position_more, Signing.signed}
 use Rattle.fare_service.proofs.Signing.{signs_more, earlier_stay, new_own, merged-nil, made_own}
-use Rattle.fare_service.proofs.VisitLemmas.{marks-set_same, marks-set_other}
 use Rattle.fare_service.specs.{Claims.claims_at, Headline.by_worker, ShareView.ShareView}
 use Rattle.fare_service.specs.Shares.{books_of, marks_at, made_visits_at}
 use Rattle.fare_service.specs.inside.Joining.{AreSigns, AreJoined, AreJoinedAt, AreSignedAt}
@@ -16,27 +17,9 @@ use Rattle.std.proofs.lemmas.List.Elements.{All-nil, All-cons, All-push, All-wea
 use Rattle.std.proofs.lemmas.List.Sums.{sum_by-append, sum_by-cons}
 use Rattle.std.proofs.lemmas.Option.{slice_get_within}
 use Rattle.std.specs.List.{flat_map}
-use Rattle.std.specs.Prelude.{ℕ, zero, suc, ◌≡◌, ◌≢◌, ◌⊎◌, ◌+◌, ◌<◌, ◌≤◌, ◌==◌, true, false, List}
+use Rattle.std.specs.Prelude.{ℕ, suc, ◌≡◌, ◌≢◌, ◌⊎◌, ◌+◌, ◌<◌, ◌≤◌, ◌==◌, true, false, List}
 use Rattle.std.specs.Prelude.{[], ◌∷◌, ◌++◌, length, slice_get, Some}
 use Rattle.world.specs.Run.{Run, with_all}
-
-marks_beyond : (shard : ℕ) (passes : List PassView) → length passes ≤ shard
-    → marks_at shard passes ≡ []
-marks_beyond shard [] h = refl
-marks_beyond zero (p ∷ ps) h = absurd (omega (arith, h))
-marks_beyond (suc shard) (p ∷ ps) h = marks_beyond shard ps (omega arith)
-
-marks_last : (passes : List PassView) (pass : PassView)
-    → marks_at (length passes) (passes ++ pass ∷ []) ≡ pass.marks
-marks_last [] pass = refl
-marks_last (p ∷ ps) pass = marks_last ps pass
-
-marks_else : (shard : ℕ) (passes : List PassView) (pass : PassView) → shard ≢ length passes
-    → marks_at shard (passes ++ pass ∷ []) ≡ marks_at shard passes
-marks_else zero [] pass ne = absurd (ne refl)
-marks_else (suc shard) [] pass ne = refl
-marks_else zero (p ∷ ps) pass ne = refl
-marks_else (suc shard) (p ∷ ps) pass ne = marks_else shard ps pass (λ e. ne (ap suc e))
 
 same_joined : (x x' y y' z z' : List Mark) → x ≡ x' → y ≡ y' → z ≡ z' → AreJoined x y z
     → AreJoined x' y' z'
@@ -74,17 +57,17 @@ join_step fn yielded into position old pass new shard before at within is joined
         → AreJoinedAt shard fn (yielded ++ pass ∷ []) (set into position new)
     by_position (inl (b, e)) =
         let none : marks_at shard yielded ≡ [] =
-        marks_beyond shard yielded (omega (arith, e, at)) in
+        field_beyond (λ p. p.marks) [] shard yielded (omega (arith, e, at)) in
         let first : marks_at shard into ≡ marks_at shard fn =
         before.marks
         ∙ (ap (joined_marks (marks_at shard fn)) none ∙ merged-nil (marks_at shard fn)) in
         let here : old.marks ≡ marks_at shard fn =
-        sym (ap (λ s. marks_at s into) e ∙ marks_here into position old within is) ∙ first in
+        sym (ap (λ s. marks_at s into) e ∙ field_here (λ p. p.marks) [] into position old within is) ∙ first in
         let last : pass.marks ≡ marks_at shard (yielded ++ pass ∷ []) =
-        sym (ap (λ s. marks_at s (yielded ++ pass ∷ [])) (e ∙ at) ∙ marks_last yielded pass) in
+        sym (ap (λ s. marks_at s (yielded ++ pass ∷ [])) (e ∙ at) ∙ field_mid (λ p. p.marks) [] yielded pass []) in
         let there : new.marks ≡ marks_at shard (set into position new) =
         sym (ap (λ s. marks_at s (set into position new)) e
-        ∙ marks-set_same into position new within) in
+        ∙ field-set_same (λ p. p.marks) [] into position new within) in
         same_joined old.marks (marks_at shard fn) pass.marks (marks_at shard (yielded ++ pass ∷ []))
         new.marks (marks_at shard (set into position new)) here last there
         (of_joined old pass new joined)
@@ -92,8 +75,8 @@ join_step fn yielded into position old pass new shard before at within is joined
         same_joined (marks_at shard fn) (marks_at shard fn) (marks_at shard yielded)
         (marks_at shard (yielded ++ pass ∷ [])) (marks_at shard into)
         (marks_at shard (set into position new))
-        refl (sym (marks_else shard yielded pass (λ e. ne (e ∙ sym at))))
-        (sym (marks-set_other into position shard new ne)) before
+        refl (sym (field_else (λ p. p.marks) [] shard yielded pass (λ e. ne (e ∙ sym at))))
+        (sym (field-set_other (λ p. p.marks) [] into position shard new ne)) before
 
 -- the signs of one share more
 pub signed_more : (nobody shard : ℕ) (shares : List ShareView) (share : ShareView)
@@ -246,8 +229,3 @@ pub at_end : {A : Type 0} (xs : List A) (a : A) (more : List A)
     → slice_get (xs ++ a ∷ more) (length xs) ≡ Some a
 at_end [] a more = refl
 at_end (x ∷ xs) a more = at_end xs a more
-
-pub marks_mid : (done : List PassView) (pass : PassView) (rest : List PassView)
-    → marks_at (length done) (done ++ pass ∷ rest) ≡ pass.marks
-marks_mid [] pass rest = refl
-marks_mid (p ∷ done) pass rest = marks_mid done pass rest

@@ -17,6 +17,7 @@ pub mod HeadlineLemmas
 pub mod JoinLemmas
 pub mod UploadFileSource
 pub mod OrderLemmas
+pub mod PassFields
 pub mod PositionLemmas
 pub mod OwnVisits
 pub mod PlacingLemmas

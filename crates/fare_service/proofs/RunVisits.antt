@@ -2,11 +2,12 @@
 use Rattle.std.proofs.Common.{refl, sym, ◌∙◌, ap, inl, inr, subst, append-nil, arith, get_or, set}
 use Rattle.std.proofs.Common.{eq-eqb, length-append, length-take}
 use Rattle.account_rule.specs.declared.reply.Reply.{Reply}
+use Rattle.fare_service.proofs.PassFields.{field_here}
 use Rattle.fare_service.proofs.RunLemmas.{no_run, cut_none, cut_some, whole_run}
 use Rattle.fare_service.proofs.VisitLemmas.{made_none, made_by_pass, own-visits, own-later}
 use Rattle.fare_service.specs.Runs.{PostedRun, if_any, RunVisit, IsEntered, ArePostedWhole, AreCut}
 use Rattle.fare_service.specs.{Runs.entries_to, ServiceView.ServiceView, ServiceView.shards_of}
-use Rattle.fare_service.specs.Shares.{books_of, made_visits, marks_at, made_visits_at, HasVisited}
+use Rattle.fare_service.specs.Shares.{books_of, made_visits, made_visits_at, HasVisited}
 use Rattle.fare_service.specs.{declared.service.working.Stop.Stop, inside.Runs.ArePostedOrCut}
 use Rattle.fare_service.specs.inside.ServiceView.{IsService, IsBookOf}
 use Rattle.histories.proofs.SumsLemmas.{add_none}
@@ -16,7 +17,7 @@ use Rattle.shard_book.specs.Visits.{IsVisit}
 use Rattle.shard_book.specs.declared.run_end.RunEnd.{RunEnd, TheVariants.Whole, TheVariants.Cut}
 use Rattle.shared_books.specs.Passes.{PassView, SharedBookView, HasSeenMore, Visits}
 use Rattle.std.proofs.lemmas.Bool.Decides.{eqb_tells}
-use Rattle.std.proofs.lemmas.List.{get_or-map, length-map, Elements.All-nil, Elements.All-cons}
+use Rattle.std.proofs.lemmas.List.{length-map, Elements.All-nil, Elements.All-cons}
 use Rattle.std.proofs.lemmas.{Option.slice_get-get_or, Slice.Zip.AllZip-long}
 use Rattle.std.specs.Prelude.{ℕ, ◌≡◌, ◌≢◌, ◌<◌, ◌≤◌, ◌==◌, Bool, true, false, cond, ◌⊎◌, List, []}
 use Rattle.std.specs.Prelude.{◌∷◌, ◌++◌, length, map, take, Result, Ok, Err, is_ok, IsErr, Some}
@@ -75,12 +76,6 @@ visit_of shards shard batch (Cut posted) entries within some h =
       },
     )
 
--- the marks of the pass at a shard
-pub marks_here : (passes : List PassView) (shard : ℕ) (old : PassView) → shard < length passes
-    → old ≡ get_or passes shard old → marks_at shard passes ≡ old.marks
-marks_here passes shard old within is =
-    get_or-map (λ p. p.marks) passes shard old [] within ∙ ap (λ p. p.marks) (sym is)
-
 -- a pass that made a visit of a run
 pub made_visit : (shards shard : ℕ) (passes : List PassView) (old new : PassView) (number : ℕ)
     (visit : RunVisit) (totals totals' : Sums) → shard < length passes
@@ -106,7 +101,7 @@ made_visit shards shard passes old new number visit totals totals' within is at 
     own : made_visits new.marks ≡ made_visits_at shard passes ++ entries_to shard (visit ∷ [])
     own = own-visits old new number visit.entries v
         ∙ ap (λ ms. made_visits ms ++ visit.entries ∷ [])
-        (sym (marks_here passes shard old within is))
+        (sym (field_here (λ p. p.marks) [] passes shard old within is))
         ∙ ap (λ vs. made_visits_at shard passes ++ vs) (sym here)
 
     elsewhere : (other : ℕ)
@@ -125,7 +120,7 @@ made_look shards shard passes old new totals within is later =
     made_by_pass shards passes shard old new totals totals [] within
     (later.book ∙ ap (λ p. p.book) is) (later.claims ∙ ap (λ p. p.claims) is)
     (own-later old new later
-    ∙ ap (λ ms. made_visits ms ++ []) (sym (marks_here passes shard old within is)))
+    ∙ ap (λ ms. made_visits ms ++ []) (sym (field_here (λ p. p.marks) [] passes shard old within is)))
     (λ other ne. refl) (sym (add_none totals)) (All-nil (IsEntered shards))
 
 -- the book of a shard

@@ -1,9 +1,10 @@
 -- What a worker's visits change.
-use Rattle.std.proofs.Common.{refl, sym, ◌∙◌, ap, inl, inr, subst, append_assoc, append-nil, arith}
-use Rattle.std.proofs.Common.{get_or, set}
+use Rattle.std.proofs.Common.{refl, sym, ◌∙◌, ap, inl, inr, subst, append_assoc, append-nil, get_or}
+use Rattle.std.proofs.Common.{set}
 use Rattle.account_rule.specs.declared.reply.Reply.{Reply}
+use Rattle.fare_service.proofs.PassFields.{field-set_other, field-set_same}
 use Rattle.fare_service.specs.Runs.{RunVisit, IsEntered, entries_to, entries_of}
-use Rattle.fare_service.specs.Shares.{made_visits, marks_at, made_visits_at, HasVisited}
+use Rattle.fare_service.specs.Shares.{made_visits, made_visits_at, HasVisited}
 use Rattle.fare_service.specs.inside.Runs.{visits_to}
 use Rattle.histories.proofs.SumsLemmas.{replies-append, sums-append, add_none, add_assoc}
 use Rattle.histories.specs.Sums.{Sums, sums, sums_of_replies, add_sums}
@@ -11,8 +12,7 @@ use Rattle.histories.specs.declared.entry.Entry.{Entry}
 use Rattle.shared_books.specs.{Marks.mark, Marks.others, Passes.PassView, Passes.HasSeenMore}
 use Rattle.shared_books.specs.{Passes.Visits, declared.turns.rule.Mark.Mark}
 use Rattle.std.proofs.{Math.Seq.map-set_same, lemmas.Bool.Decides.eqb_tells}
-use Rattle.std.proofs.lemmas.{Grind.flat_map-append, List.map-append, List.map-set}
-use Rattle.std.proofs.lemmas.List.{length-map, get_or-set_same, get_or-set_other, take_more}
+use Rattle.std.proofs.lemmas.{Grind.flat_map-append, List.map-append, List.take_more}
 use Rattle.std.proofs.lemmas.List.Elements.{filter-append, All-nil, All-append}
 use Rattle.std.proofs.lemmas.Option.{slice_get_within, get_or_from_slice_get}
 use Rattle.std.specs.Prelude.{ℕ, ◌≡◌, ◌≢◌, ◌⊎◌, ◌+◌, ◌<◌, ◌==◌, true, false, List, [], ◌∷◌, ◌++◌}
@@ -45,20 +45,6 @@ own-later old new l =
     ap made_visits l.marks ∙ own-append old.marks (others l.between)
     ∙ ap (λ vs. made_visits old.marks ++ vs) (own-others l.between)
 
--- the passes with another one at a shard
-pub marks-set_same : (passes : List PassView) (shard : ℕ) (new : PassView) → shard < length passes
-    → marks_at shard (set passes shard new) ≡ new.marks
-marks-set_same passes shard new within =
-    ap (λ ms. get_or ms shard []) (map-set (λ p. p.marks) passes shard new)
-    ∙ get_or-set_same (map (λ p. p.marks) passes) shard new.marks []
-    (omega (arith, length-map passes (λ (p : PassView). p.marks)))
-
-pub marks-set_other : (passes : List PassView) (shard other : ℕ) (new : PassView) → other ≢ shard
-    → marks_at other (set passes shard new) ≡ marks_at other passes
-marks-set_other passes shard other new ne =
-    ap (λ ms. get_or ms other []) (map-set (λ p. p.marks) passes shard new)
-    ∙ get_or-set_other (map (λ p. p.marks) passes) shard other new.marks [] ne
-
 -- what one visit changed, or a look
 pub made_by_pass : (shards : ℕ) (passes : List PassView) (shard : ℕ) (old new : PassView)
     (totals totals' : Sums) (more : List RunVisit) → shard < length passes
@@ -83,9 +69,9 @@ made_by_pass shards passes shard old new totals totals' more within book claims 
         let P : ℕ → Type 0 =
         λ n. made_visits_at n (set passes shard new)
         ≡ made_visits_at n passes ++ entries_to n more in
-        subst P (sym e) (ap made_visits (marks-set_same passes shard new within) ∙ own)
+        subst P (sym e) (ap made_visits (field-set_same (λ p. p.marks) [] passes shard new within) ∙ own)
     visits_at s (inr (b, ne)) =
-        ap made_visits (marks-set_other passes shard s new ne)
+        ap made_visits (field-set_other (λ p. p.marks) [] passes shard s new ne)
         ∙ sym (ap (λ vs. made_visits_at s passes ++ vs) (others_none s ne)
         ∙ append-nil (made_visits_at s passes))
 

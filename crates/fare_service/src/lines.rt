@@ -48,32 +48,14 @@ fn write_pieces<W: Write>(
     Ok(())
 }
 
-/// As `write_pieces`, also of no entries.
-fn write_some<W: Write>(
-    text: &mut String,
-    table: &FareTable,
-    clock: &Clock,
-    books: &[ShardBook],
-    spots: &[Spot],
-    out: &mut W,
-) -> Result<(), PrintFault>
-    requires clock { clock.now ≡ table.now.zone }
-    requires nondecreasing { Nondecreasing (entries_at_spots books.now spots.now) }
-    ensures lines { OnOk result ((lines : List ℕ)
-        × AreLinesAlong table.now [] (entries_at_spots books.now spots.now) lines
-        × GoesOut (W.contents out.old) (string_bytes text.old) (W.contents out.new)
-        (string_bytes text.new) lines) }
-    ensures started { OnErr result ((lines : List ℕ)
-        × AreLinesAlong table.now [] (entries_at_spots books.now spots.now) lines
-        × Begins (W.contents out.old) (W.contents out.new) (string_bytes text.old ++ lines)) }
-    ensures fault { IfErr result (λ fault. fault ≡ ForWrite) }
+/// The token of the first entry. Of no entries any token serves.
+fn first_token(books: &[ShardBook], spots: &[Spot]) -> Token
+    requires { Nondecreasing (entries_at_spots books.now spots.now) }
+    ensures { NondecreasingFrom result (entries_at_spots books.now spots.now) }
 {
     match spots.first() {
-        Some(first) => {
-            let token = first.entry(books).token;
-            write_pieces(text, table, clock, token, books, spots, out)
-        }
-        None => Ok(()),
+        Some(first) => first.entry(books).token,
+        None => Token::of(&[0; 16]),
     }
 }
 
@@ -95,7 +77,8 @@ pub(crate) fn write_lines<W: Write>(
         × Begins (W.contents out.old) (W.contents out.new) (string_bytes text.old ++ lines)) }
     ensures fault { IfErr result (λ fault. fault ≡ ForWrite) }
 {
-    write_some(text, table, clock, books, spots, out)?;
+    let first = first_token(books, spots);
+    write_pieces(text, table, clock, first, books, spots, out)?;
     pass_on(text, out)?;
     Ok(())
 }

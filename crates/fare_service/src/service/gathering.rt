@@ -1,11 +1,10 @@
 //! Gathering shares: what each worker did is joined, and the books are closed.
 
 ghost use Rattle.fare_service.specs.{Claims.claims_at, Claims.HaveAllClaims, Closing.ReportsFirst};
-ghost use Rattle.fare_service.specs.Faults.{IsForMemory, IsGatherFault};
-ghost use Rattle.fare_service.specs.Shares.{books_of, made_visits_at};
-ghost use Rattle.fare_service.specs.inside.Closing.{AreClosed, IsClosedWork, IsAppended};
-ghost use Rattle.fare_service.specs.inside.Closing.{ReportsMissing, IsFirstMissing};
-ghost use Rattle.fare_service.specs.inside.Closing.{IsMissing, LacksClaims};
+ghost use Rattle.fare_service.specs.{Faults.IsForMemory, Faults.IsGatherFault, Shares.books_of};
+ghost use Rattle.fare_service.specs.{Shares.made_visits_at, inside.Closing.AreClosed};
+ghost use Rattle.fare_service.specs.inside.Closing.{IsClosedWork, IsAppended, ReportsMissing};
+ghost use Rattle.fare_service.specs.inside.Closing.{IsFirstMissing, IsMissing, LacksClaims};
 ghost use Rattle.fare_service.specs.inside.Joining.{AreJoinedAt, Belongs, IsJoinedOf, with_done};
 ghost use Rattle.fare_service.specs.inside.Joining.{with_all_done, with_runs};
 ghost use Rattle.histories.specs.Sums.{sums_of};

@@ -1,4 +1,4 @@
-use Rattle.std.proofs.Common.{◌≡◌, ℕ, ◌^◌, ◌≤◌, arith, ◌<◌, List, All, length, map, replicate, sym}
+use Rattle.std.proofs.Common.{ℕ, ◌^◌, ◌≤◌, arith, ◌<◌, List, All, length, map, replicate, sym}
 use Rattle.std.proofs.Common.{◌∙◌, ap, subst}
 use Rattle.fare_service.proofs.AddingLemmas.{shares_add_up, few_taps}
 use Rattle.fare_service.proofs.{EndingLemmas.full_made, GatherLemmas.reported_undrawn}
@@ -10,7 +10,7 @@ use Rattle.fare_service.specs.{Headline.HasOutcome, ServiceView.ServiceView, Ser
 use Rattle.fare_service.specs.{ShareView.ShareView, Shares.IsShareOf}
 use Rattle.fare_service.specs.declared.faults.GatherFault.{GatherFault}
 use Rattle.fare_service.specs.inside.Joining.{with_all_done, with_runs}
-use Rattle.histories.specs.Sums.{sums, sums_of, add_all}
+use Rattle.histories.specs.Sums.{sums_of, add_all}
 use Rattle.shard_book.specs.Book.{all_entries}
 use Rattle.tap_views.proofs.Choices.{IfErr_handed_on}
 use Rattle.tap_views.specs.declared.upload_end.UploadEnd.TheVariants.{Undrawn}

@@ -1,6 +1,6 @@
 use Rattle.std.proofs.Common.{ℕ, ◌≡◌, List, ◌∷◌, [], ◌++◌, length, sym, ◌∙◌, ap, subst, arith}
 use Rattle.std.proofs.Common.{append_assoc, length-append}
-use Rattle.fare_service.proofs.JoinLemmas.{next_book, at_end, marks_mid}
+use Rattle.fare_service.proofs.{JoinLemmas.next_book, JoinLemmas.at_end, PassFields.field_mid}
 use Rattle.fare_service.proofs.{PositionLemmas.position_more, Signing.made_own}
 use Rattle.fare_service.specs.Shares.{marks_at, made_visits}
 use Rattle.fare_service.specs.declared.faults.GatherFault.{GatherFault}
@@ -27,7 +27,7 @@ returns-in-Err-clause-missing c =
     ) in
     let marks : marks_at c.loop-book.shard c.args.passes.items ≡ c.in-Some-next.pass.marks =
     ap (λ s. marks_at s c.args.passes.items) (sym position) ∙ ap (marks_at (length p.0)) (sym all)
-    ∙ marks_mid p.0 c.in-Some-next.pass rest in
+    ∙ field_mid (λ p. p.marks) [] p.0 c.in-Some-next.pass rest in
     let m = c.in-Err.ensures.missing in
     let missing = rw m.is at c.close.ensures.err in
     let F : GatherFault → Type 0 = IsMissing (length c.args.books.items) c.args.passes.items in
@@ -59,7 +59,7 @@ returns-in-Err-clause-first c =
     ) in
     let marks : marks_at c.loop-book.shard c.args.passes.items ≡ c.in-Some-next.pass.marks =
     ap (λ s. marks_at s c.args.passes.items) (sym position) ∙ ap (marks_at (length p.0)) (sym all)
-    ∙ marks_mid p.0 c.in-Some-next.pass rest in
+    ∙ field_mid (λ p. p.marks) [] p.0 c.in-Some-next.pass rest in
     let m = c.in-Err.ensures.missing in
     let missing = rw m.is at c.close.ensures.err in
     let F : List Book → GatherFault → Type 0 = IsFirstMissing c.args.passes.items in

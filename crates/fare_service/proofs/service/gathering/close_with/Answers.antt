@@ -1,4 +1,4 @@
-use Rattle.std.proofs.Common.{◌≡◌, length, sym, ◌∙◌, ap, subst}
+use Rattle.std.proofs.Common.{length, sym, ◌∙◌, ap}
 use Rattle.fare_service.proofs.CloseLemmas.{some_shares, closed_all, held_drawn, joined_whole}
 use Rattle.fare_service.proofs.CloseLemmas.{first_missing, first_drawn, lacks_whole, drawer_whole}
 use Rattle.fare_service.specs.inside.Joining.{with_runs}
