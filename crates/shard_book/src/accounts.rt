@@ -17,7 +17,6 @@ ghost use Rattle.std.specs.Prelude.{IsTrue, slice_get};
 ghost use Rattle.tap_views.specs.{Token.bytes_of, Token.token_eq, declared.token.Token.Token};
 ghost use Rattle.tariffs.specs.Fares.{Fares, has_caps_or_prices};
 
-use crate::hints::Hints;
 use account_rule::{Account, Reply, TapIn};
 use fare_caps::{CappedAccount, Further};
 use histories::{Counts, HashSeed, TokenCounts};
@@ -46,8 +45,6 @@ pub(crate) struct Accounts {
     further: IndexMap<Token, Further, HashSeed>,
     /// False once one of the counts would be too large.
     counting: bool,
-    /// Where an account may be, tried before its token is looked up.
-    pub(crate) hints: Hints,
 }
 
 impl Accounts {
@@ -60,7 +57,6 @@ impl Accounts {
             map: IndexMap::with_hasher(alloc, seed),
             further: IndexMap::with_hasher(alloc, seed),
             counting: true,
-            hints: Hints::new(alloc),
         }
     }
 
@@ -94,10 +90,9 @@ impl Accounts {
         }
     }
 
-    /// The one look-up that a tap takes if its hint is wrong: nearly all are right. With the most
-    /// accounts it reports an allocation failure.
-    #[cold]
-    #[inline(never)]
+    /// The one look-up that a tap takes, if its hint is wrong. With the most accounts it reports an
+    /// allocation failure.
+    #[inline(always)]
     #[tactic(auto, unfolding(crate::specs::inside::Accounts::kept_at))]
     fn open(&mut self, token: Token) -> Result<u32, NoMemory>
         ensures made { IfOk result (HasPositionFor self.old self.new token) }
@@ -114,17 +109,12 @@ impl Accounts {
             return Err(NoMemory);
         }
         match self.map.entry(token)? {
-            MapEntry::Occupied(kept) => {
-                let position = kept.index() as u32;
-                self.hints.keep(token, position, last);
-                Ok(position)
-            }
+            MapEntry::Occupied(kept) => Ok(kept.index() as u32),
             MapEntry::Vacant(position) => {
                 position.insert(KeptAccount {
                     account: CappedAccount::fresh().account,
                     counts: Counts::new(),
                 });
-                self.hints.keep(token, last as u32, last);
                 Ok(last as u32)
             }
         }
@@ -132,7 +122,7 @@ impl Accounts {
 
     #[inline(always)]
     #[tactic(auto, unfolding(crate::specs::inside::Accounts::kept_at))]
-    fn is_at(&self, position: u32, token: Token) -> bool
+    pub(crate) fn is_at(&self, position: u32, token: Token) -> bool
         ensures { IsTrue result → IsPosition self.now token position }
     {
         match self.map.get_index(position as usize) {
@@ -141,8 +131,24 @@ impl Accounts {
         }
     }
 
+    /// Kept out of its callers: nearly all known indices are right.
+    #[cold]
+    #[inline(never)]
+    pub(crate) fn open_again(&mut self, token: Token) -> Result<u32, NoMemory>
+        ensures made { IfOk result (HasPositionFor self.old self.new token) }
+        ensures others { OnOk result ((other : Token) → token_eq token other ≡ false
+            → kept_at self.new other ≡ kept_at self.old other) }
+        ensures counting { self.new.counting ≡ self.old.counting }
+        ensures further { self.new.further ≡ self.old.further }
+        ensures positions { KeepPositions (tokens_of self.old) (tokens_of self.new) }
+        ensures err { OnErr result ((other : Token)
+            → kept_at self.new other ≡ kept_at self.old other) }
+    {
+        self.open(token)
+    }
+
     #[inline(always)]
-    pub(crate) fn position(&mut self, token: Token, known: u32) -> Result<u32, NoMemory>
+    fn position(&mut self, token: Token, known: u32) -> Result<u32, NoMemory>
         ensures made { IfOk result (HasPositionFor self.old self.new token) }
         ensures others { OnOk result ((other : Token) → token_eq token other ≡ false
             → kept_at self.new other ≡ kept_at self.old other) }
@@ -155,7 +161,7 @@ impl Accounts {
         if self.is_at(known, token) {
             Ok(known)
         } else {
-            self.open(token)
+            self.open_again(token)
         }
     }
 

@@ -9,7 +9,7 @@ ghost use Rattle.std.specs.Prelude.{IsTrue, Some};
 ghost use Rattle.tap_views.specs.{Shards.shard_of_token, Token.bytes_of};
 
 use crate::accounts::Accounts;
-use crate::hints::NO_POSITION;
+use crate::hints::{Hints, NO_POSITION};
 use crate::packed::PackedEntry;
 use account_rule::{Reply, TapIn};
 use fare_caps::CappedAccount;
@@ -29,6 +29,8 @@ pub struct ShardBook {
     pub(crate) accounts: Accounts,
     /// The entries in posting order.
     history: Vec<PackedEntry>,
+    /// Where accounts may be, tried before their tokens are looked up.
+    pub(crate) hints: Hints,
 }
 
 impl Model for ShardBook {
@@ -67,6 +69,7 @@ impl ShardBook {
             shards,
             accounts: Accounts::new(alloc, seed),
             history: Vec::new(alloc),
+            hints: Hints::new(alloc),
         }
     }
 

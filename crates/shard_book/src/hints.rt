@@ -35,6 +35,8 @@ impl Hints {
     }
 
     /// With too many accounts all hints are dropped for twice as many, if there is memory.
+    #[cold]
+    #[inline(never)]
     pub(crate) fn keep(&mut self, token: Token, position: u32, accounts: usize) {
         let hints = self.positions.len();
         if hints / HINTS_FOR_EACH < accounts {

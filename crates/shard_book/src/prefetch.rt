@@ -24,15 +24,18 @@ impl KeptAccount {
 impl Accounts {
     /// If there is none, an account without taps is opened.
     #[inline(always)]
-    pub(crate) fn open_early(&mut self, token: Token) -> Result<u32, NoMemory>
+    pub(crate) fn open_early(&mut self, token: Token, known: u32) -> Result<u32, NoMemory>
         ensures stays { (other : Token)
             → StillRepresents (kept_at self.old other) (kept_at self.new other) }
         ensures further { self.new.further ≡ self.old.further }
         ensures counting { self.new.counting ≡ self.old.counting }
         ensures positions { KeepPositions (tokens_of self.old) (tokens_of self.new) }
     {
-        let hint = self.hints.of(token);
-        self.position(token, hint)
+        if self.is_at(known, token) {
+            Ok(known)
+        } else {
+            self.open_again(token)
+        }
     }
 
     /// Prefetch: returns the index, or `NO_POSITION`.
@@ -48,10 +51,19 @@ impl Accounts {
 impl ShardBook {
     /// If there is none, an account without taps is opened: the book stays as it is.
     #[inline(always)]
-    pub(crate) fn open_early(&mut self, token: Token) -> Result<u32, NoMemory>
+    pub(crate) fn open_early(&mut self, token: Token, known: u32) -> Result<u32, NoMemory>
         ensures { self.new ≡ self.old }
     {
-        self.accounts.open_early(token)
+        self.accounts.open_early(token, known)
+    }
+
+    #[inline(always)]
+    fn keep_hint(&mut self, token: Token, hint: u32, position: u32)
+        ensures { self.new ≡ self.old }
+    {
+        if hint != position {
+            self.hints.keep(token, position, self.accounts.map.len());
+        }
     }
 
     #[inline(always)]
@@ -83,7 +95,10 @@ impl ShardBook {
             let Some(tap) = ahead.next() else {
                 break;
             };
-            *position = self.open_early(Token::of(tap.token()))?;
+            let token = Token::of(tap.token());
+            let hint = self.hints.of(token);
+            *position = self.open_early(token, hint)?;
+            self.keep_hint(token, hint, *position);
         }
         // A loop of its own, so short that all its reads wait side by side.
         for position in positions.iter_mut() {
