@@ -6,6 +6,7 @@
  *   REFUSE_SHORT=1       each read gives one byte
  *   REFUSE_ENDLESS=1     each read gives one zero, without end
  *   REFUSE_THREAD=N      the Nth thread is not started
+ *   REFUSE_ON=1          so does each read or thread after that one
  *   REFUSE_SEED=1        the system gives no random bytes
  *   REFUSE_AFTER=N       the standard output takes N bytes, and then fails (N from 0)
  *   REFUSE_WRITE=N       the Nth write to a file fails; the standard output and the standard error are none
@@ -29,7 +30,7 @@ extern void *__libc_memalign(size_t, size_t);
 
 static atomic_long allocations, reads, writes, threads, written;
 static long refused_allocation, refused_read, refused_write, refused_thread, refused_seed, refused_sync;
-static long is_short, is_endless, room = -1, told = -1;
+static long is_short, is_endless, is_on, room = -1, told = -1;
 
 static long number_in(const char *name, long otherwise) {
     const char *text = getenv(name);
@@ -40,6 +41,7 @@ __attribute__((constructor)) static void start(void) {
     refused_allocation = number_in("REFUSE_ALLOCATION", 0);
     refused_read = number_in("REFUSE_READ", 0);
     is_short = number_in("REFUSE_SHORT", 0);
+    is_on = number_in("REFUSE_ON", 0);
     is_endless = number_in("REFUSE_ENDLESS", 0);
     refused_thread = number_in("REFUSE_THREAD", 0);
     refused_seed = number_in("REFUSE_SEED", 0);
@@ -54,6 +56,12 @@ static long fails(int error) {
     if (told >= 0) (void)!syscall(SYS_write, told, "!", 1);
     errno = error;
     return -1;
+}
+
+static int is_reached(atomic_long *count, long refused) {
+    if (refused == 0) return 0;
+    long number = atomic_fetch_add(count, 1) + 1;
+    return number == refused || (is_on && number > refused);
 }
 
 static int is_refused(void) {
@@ -75,13 +83,13 @@ int posix_memalign(void **out, size_t alignment, size_t size) {
 }
 
 ssize_t read(int descriptor, void *buffer, size_t size) {
-    if (refused_read != 0 && atomic_fetch_add(&reads, 1) + 1 == refused_read) return fails(EIO);
+    if (is_reached(&reads, refused_read)) return fails(EIO);
     if (is_endless && size > 0) return *(char *)buffer = 0, 1;
     return syscall(SYS_read, descriptor, buffer, is_short && size > 1 ? 1 : size);
 }
 
 ssize_t pread(int descriptor, void *buffer, size_t size, off_t offset) {
-    if (refused_read != 0 && atomic_fetch_add(&reads, 1) + 1 == refused_read) return fails(EIO);
+    if (is_reached(&reads, refused_read)) return fails(EIO);
     return syscall(SYS_pread64, descriptor, buffer, is_short && size > 1 ? 1 : size, offset);
 }
 
@@ -102,7 +110,7 @@ ssize_t write(int descriptor, const void *buffer, size_t size) {
 
 int pthread_create(pthread_t *thread, const pthread_attr_t *attributes, void *(*start)(void *), void *argument) {
     static int (*create)(pthread_t *, const pthread_attr_t *, void *(*)(void *), void *);
-    if (refused_thread != 0 && atomic_fetch_add(&threads, 1) + 1 == refused_thread) return fails(EAGAIN), EAGAIN;
+    if (is_reached(&threads, refused_thread)) return fails(EAGAIN), EAGAIN;
     if (create == NULL) *(void **)&create = dlsym(RTLD_NEXT, "pthread_create");
     return create(thread, attributes, start, argument);
 }

@@ -29,7 +29,7 @@ printed contents old new Right print.Write same started = started refl
 printed contents old new Right print.NoMemory same started = rw same (Keeps-refl (contents old))
 
 -- what is right so is right in another way
-stops_by : (A B : List ℕ → Type 0) (out out' : Option (List ℕ)) (fault : Fault)
+pub stops_by : (A B : List ℕ → Type 0) (out out' : Option (List ℕ)) (fault : Fault)
     → ((text : List ℕ) → A text → B text) → Stops A out out' fault → Stops B out out' fault
 stops_by A B out out' Write same (text, right, started) = (text, same text right, started)
 stops_by A B out out' (Late why) same stops = tt

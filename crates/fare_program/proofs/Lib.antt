@@ -2,8 +2,9 @@ pub mod Billed
 pub mod Causes
 pub mod Choices
 pub mod Drawn
+pub mod Ended
 pub mod Ends
 pub mod Ledgers
 pub mod Loads
-pub mod PostedTexts
 pub mod Prefetched
+pub mod Works

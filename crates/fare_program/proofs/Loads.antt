@@ -1,31 +1,65 @@
 -- One more file that was loaded.
-use Rattle.std.proofs.Common.{◌≡◌, ◌<◌, ◌∙◌, ℕ, List, [], ◌∷◌, ◌++◌, length, map, refl, ap, arith}
-use Rattle.std.proofs.Common.{Option, Some, Bor}
+use Rattle.std.proofs.Common.{◌≡◌, ◌<◌, ◌∙◌, ℕ, List, [], ◌∷◌, ◌++◌, length, map, ap, arith, sym}
+use Rattle.std.proofs.Common.{Bor, Err, Global, None, Ok, Option, Result, Some, Vec, refl, subst}
 use Rattle.fare_program.specs.FilesLoaded.{LoadsFiles, names_to_load}
-use Rattle.program_manners.specs.Loads.{Loaded, LoadsOne}
-use Rattle.program_manners.proofs.LoadsOn.{loads_more}
-use Rattle.std.proofs.lemmas.List.{map-append}
+use Rattle.frame.specs.{Outsides.LeavesFiles, declared.outside.Outside.TheVariants.Unread}
+use Rattle.std.proofs.lemmas.{List.map-append, Simd.map-map}
+use Rattle.std.specs.Prelude.{Contains, IfErr, IfOk, OnOk}
+use Rattle.world.proofs.Laws.{more_loads}
+use Rattle.world.specs.{Loads.IsRefused, Origins.with_loads, Run.Load, Run.Run, Run.with_load}
+use Rattle.world.specs.declared.faults.LoadFault.{LoadFault, TheVariants.NoMemory}
 
-pub loads_push : (names : List (Option (List ℕ))) (name : Option (List ℕ))
-    (loaded loaded' loaded'' : Option (List Loaded)) (files : List (List ℕ)) (bytes : List ℕ)
-    → LoadsFiles names loaded loaded' files → LoadsOne loaded' loaded'' name bytes
-    → LoadsFiles (names ++ name ∷ []) loaded loaded'' (files ++ bytes ∷ [])
-loads_push names name loaded loaded' loaded'' files bytes all one =
-    let load : Loaded = record { name = name; bytes = bytes } in
-    record {
-      loads = all.loads ++ load ∷ [];
-      under = map-append (λ (l : Loaded). l.name) all.loads _ ∙ ap (λ ns. ns ++ name ∷ []) all.under;
-      bytes = map-append (λ (l : Loaded). l.bytes) all.loads _
-          ∙ ap (λ fs. fs ++ bytes ∷ []) all.bytes;
-      are_all = loads_more loaded loaded' loaded'' all.loads _ all.are_all one;
-    }
-
-names_are : (names : List (Bor (List ℕ)))
-    → map (λ n. Some n.now) names ≡ map Some (map (λ n. n.now) names)
-names_are [] = refl
-names_are (n ∷ names) = ap (λ xs. Some n.now ∷ xs) (names_are names)
+pub loads_push : (names : List (Option (List ℕ))) (name : Option (List ℕ)) (loads : List Load)
+    (files : List (List ℕ)) (bytes : List ℕ) → LoadsFiles names loads files
+    → LoadsFiles (names ++ name ∷ []) (loads ++ record { name = name; bytes = bytes } ∷ [])
+    (files ++ bytes ∷ [])
+loads_push names name loads files bytes all = record {
+  under = map-append (λ (l : Load). l.name) loads _ ∙ ap (λ ns. ns ++ name ∷ []) all.under;
+  bytes = map-append (λ (l : Load). l.bytes) loads _ ∙ ap (λ fs. fs ++ bytes ∷ []) all.bytes;
+}
 
 pub names_to_load_are : (names : List (Bor (List ℕ))) → 0 < length names
     → map (λ n. Some n.now) names ≡ names_to_load (map (λ n. n.now) names)
 names_to_load_are [] some = absurd (omega arith)
-names_to_load_are (n ∷ names) some = names_are (n ∷ names)
+names_to_load_are (n ∷ names) some =
+    sym (map-map (λ (x : List ℕ). Some x) (λ (w : Bor (List ℕ)). w.now) (n ∷ names))
+
+-- standard input was loaded
+pub input_read : (names : List (Bor (List ℕ))) (file : Vec ℕ Global) (old new : List (Vec ℕ Global))
+    → length names ≡ 0 → old ≡ [] → new ≡ old ++ file ∷ []
+    → LoadsFiles (names_to_load (map (λ n. n.now) names))
+    (record { name = None; bytes = file.items } ∷ []) (map (λ f. f.items) new)
+input_read [] file old new unnamed none pushed = record {
+  under = refl;
+  bytes = ap (map (λ (f : Vec ℕ Global). f.items))
+      (sym (pushed ∙ ap (λ fs. fs ++ file ∷ []) none));
+}
+input_read (n ∷ names) file old new unnamed none pushed = absurd (omega (arith, unnamed))
+
+-- A file was refused, or there was no memory to keep it.
+pub refused_one : (start old new : Run) (loads : List Load) (names : List (Option (List ℕ)))
+    (name : Option (List ℕ)) (r : Result (Vec ℕ Global) LoadFault) (fault : LoadFault)
+    → Contains names name → old ≡ with_loads start loads
+    → IfOk r (λ bytes. new ≡ with_load old name bytes.items) → IfErr r (IsRefused old new name)
+    → IfErr r (λ why. fault ≡ why) → OnOk r (fault ≡ NoMemory)
+    → (all : List Load) × LeavesFiles ⊥ names (Unread fault) (with_loads start all) new
+refused_one start old new loads names name (Ok bytes) fault named is loaded refused same full =
+    let load : Load = record { name = name; bytes = bytes.items } in (
+      loads ++ load ∷ [],
+      (
+        name,
+        named,
+        subst (λ (f : LoadFault). IsRefused (with_loads start (loads ++ load ∷ [])) new name f)
+            (sym full) (loaded ∙ (ap (λ (before : Run). with_loads before (load ∷ [])) is
+            ∙ more_loads start loads (load ∷ []))),
+      ),
+    )
+refused_one start old new loads names name (Err why) fault named is loaded refused same full = (
+  loads,
+  (
+    name,
+    named,
+    subst (λ (f : LoadFault). IsRefused (with_loads start loads) new name f) (sym same)
+        (subst (λ (before : Run). IsRefused before new name why) is refused),
+  ),
+)

@@ -1,21 +1,16 @@
--- Files that were read ahead, and what a source that takes them over has loaded.
-use Rattle.std.proofs.Common.{◌≡◌, ◌∙◌, ◌+◌, ◌<◌, ◌++◌, ◌∷◌, [], ℕ, zero, suc, List, Bool, Bor}
-use Rattle.std.proofs.Common.{Option, None, Some, All, length, map, flat_map, arith, ap, ap₂}
-use Rattle.std.proofs.Common.{get_or, inl, inr, refl, subst, sym}
+-- Files that were read ahead, and the loads by which they were.
+use Rattle.std.proofs.Common.{◌≡◌, ◌∙◌, ◌+◌, ◌<◌, ◌++◌, ◌∷◌, [], ℕ, zero, suc, List, Bor}
+use Rattle.std.proofs.Common.{Some, All, length, map, flat_map, arith, ap, ap₂, get_or, refl, sym}
 use Rattle.fare_program.specs.FilesLoaded.{LoadsDrawn, LoadsFiles, load_at, names_to_load, text_at}
-use Rattle.fare_program.specs.{Options.Request, Program.Charges}
 use Rattle.fare_program.specs.inside.PostedFiles.{AreProvided, unless_memory}
 use Rattle.fare_service.proofs.UploadFileSource.{provided_number}
 use Rattle.fare_service.specs.{Headline.loads_at, Lending.IsOutside, Lending.origin_at}
 use Rattle.fare_service.specs.Shares.{file_at}
-use Rattle.program_manners.specs.Loads.{Loaded, LoadsAll}
-use Rattle.settlement.specs.Reading.{AreRead, loads_in_order}
+use Rattle.settlement.specs.Reading.{loads_in_order}
 use Rattle.std.proofs.lemmas.List.{length-map, Elements.All-head, Elements.All-tail}
-use Rattle.std.specs.Prelude.{option_map}
-use Rattle.tap_views.specs.declared.token.Token.{Token}
-use Rattle.tariffs.specs.Fares.{Fares}
+use Rattle.world.proofs.Laws.{joined_loads}
 use Rattle.world.specs.Origins.{IsFrom, IsProvided, Origin, anywhere, file, loads_from, memory}
-use Rattle.world.specs.{Origins.nowhere, Run.Calls, Run.Load, Run.Run, Run.no_calls}
+use Rattle.world.specs.{Origins.nowhere, Origins.with_loads, Run.Load, Run.Run, Run.with_all}
 
 -- ---- uploads under the names that are asked for
 abbrev names_in : List (Bor (List ℕ)) → List (List ℕ)
@@ -102,67 +97,34 @@ module _ (origin : List ℕ → Origin) (of_system : (name : List ℕ) → origi
       (named_from words position _ (All-head From position drawn from))
       (as_drawn words files drawn (All-tail From position drawn from))
 
-  module _ (words : List (Bor (List ℕ))) (files : List (List ℕ)) (old new : Run) where
-    pub read_files : 0 < length words
-        → AreRead (λ number. origin (text_at (names_in words) number)) 0 (length words) files old new
-        → LoadsFiles (names_to_load (names_in words)) (Some old.loads) (Some new.loads) files
-    read_files some read =
+  module _ (words : List (Bor (List ℕ))) (files : List (List ℕ)) where
+    pub read_files : 0 < length words → length files ≡ length words
+        → LoadsFiles (names_to_load (names_in words))
+        (loads_in_order (λ number. origin (text_at (names_in words) number)) 0 files) files
+    read_files some same =
         let named = length-map words (λ (w : Bor (List ℕ)). w.now) in
-        let number : length files ≡ length (names_in words) = omega (arith, read.number, named) in
         rw (to_load (names_in words) (omega (arith, some, named))) (record {
-          loads = loads_in_order (λ number. origin (text_at (names_in words) number)) 0 files;
-          under = names_in_order (text_at (names_in words)) 0 (names_in words) files number
+          under = names_in_order (text_at (names_in words)) 0 (names_in words) files
+              (omega (arith, same, named))
               (λ position within.
               let here : 0 + position ≡ position = omega arith in
               ap (text_at (names_in words)) here);
           bytes = bytes_in_order (text_at (names_in words)) 0 files;
-          are_all = ap (λ (r : Run). r.loads) read.loads;
         })
 
-    pub drawn_files : (drawn : List ℕ) → AreProvided (origins words) files drawn old new
-        → LoadsDrawn (names_in words) (Some old.loads) (Some new.loads) files drawn
-    drawn_files drawn provided = record {
+    pub drawn_files : (old new : Run) (drawn : List ℕ)
+        → (provided : AreProvided (origins words) files drawn old new)
+        → LoadsDrawn (names_in words) (flat_map (loads_at (origins words) files) drawn) files drawn
+    drawn_files old new drawn provided = record {
       number = provided_number (origins words) files provided.provided
           ∙ length-map words (λ (w : Bor (List ℕ)). unless_memory (origin w.now))
           ∙ sym (length-map words (λ (w : Bor (List ℕ)). w.now));
-      loads = ap (λ (r : Run). r.loads) provided.appended
-          ∙ ap (λ (r : Run). old.loads ++ r.loads) provided.loaded.loads
-          ∙ ap (λ (ls : List Load). old.loads ++ ls)
-          (as_drawn words files drawn provided.loaded.from);
+      all = as_drawn words files drawn provided.loaded.from;
     }
 
--- ---- what a source that takes over these loads has loaded
-joined : (loaded : Option (List Loaded)) (loads more : List Loaded)
-    → LoadsAll (Some []) (Some more) loads → LoadsAll loaded (option_map (λ l. l ++ more) loaded) loads
-joined None loads more all = tt
-joined (Some before) loads more all = ap (λ (ls : List Loaded). before ++ ls) all
-
--- what was charged ahead, once the source took over the calls
-pub charged_joined : (request : Request) (origin : List ℕ → Origin) (fares : Fares)
-    (token : Option Token) (loaded loaded' : Option (List Loaded)) (calls : Calls) (after : Run)
-    (text : List ℕ) (success : Bool) → calls ≡ no_calls
-    → loaded' ≡ option_map (λ l. l ++ after.loads) loaded
-    → Charges request origin fares token (Some calls.run.loads) (Some after.loads) text success
-    → Charges request origin fares token loaded loaded' text success
-charged_joined request origin fares token loaded loaded' calls after text success none took is = record {
-  files = is.files;
-  drawn = is.drawn;
-  loads_files = λ of_system. elim (is.loads_files of_system) [
-    | inl all ↦ inl (record {
-      loads = all.loads;
-      under = all.under;
-      bytes = all.bytes;
-      are_all = grown _ all.are_all;
-    })
-    | inr part ↦ inr (
-      part.0,
-      record { number = part.1.number; loads = grown _ part.1.loads },
-    )
-  ];
-  shows = is.shows;
-}
-  where
-    grown : (loads : List Loaded) → LoadsAll (Some calls.run.loads) (Some after.loads) loads
-        → LoadsAll loaded loaded' loads
-    grown loads all = rw took (joined loaded loads after.loads
-        (subst (λ (c : Calls). LoadsAll (Some c.run.loads) (Some after.loads) loads) none all))
+-- the loads by which uploads were lent, and nothing else was done
+pub provided_loads : (uploads : List Origin) (files : List (List ℕ)) (drawn : List ℕ) (old new : Run)
+    → AreProvided uploads files drawn old new
+    → new ≡ with_loads old (flat_map (loads_at uploads files) drawn)
+provided_loads uploads files drawn old new provided =
+    provided.appended ∙ ap (with_all old) provided.loaded.loads ∙ joined_loads old _

@@ -1,6 +1,5 @@
 pub mod Causes
 pub mod Ends
-pub mod Fault
 pub mod FilesLoaded
 pub mod Listing
 pub mod Options

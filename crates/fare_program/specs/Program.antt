@@ -9,23 +9,23 @@ use Rattle.fare_service.specs.Printed.{IsStatementOf, report_with}
 use Rattle.fare_texts.specs.declared.form.Form.{Form}
 use Rattle.hex.specs.Hex.{decode_sized}
 use Rattle.histories.specs.{Plain.IsPlain, declared.entry.Entry.Entry}
-use Rattle.program_manners.specs.{Loads.Loaded, TableLoads.LoadsTables, TableWords.TableNames}
+use Rattle.program_manners.specs.{TableLoads.LoadsTables, TableWords.TableNames}
 use Rattle.settled_bills.specs.Ledgers.{IsTracedLedger}
 use Rattle.shared_books.specs.Drawing.{AllBelow, HasAll}
-use Rattle.std.specs.Prelude.{◌≡◌, ℕ, Bool, true, List, map, Option, None, Some, Ok, MatchBool}
-use Rattle.std.specs.Prelude.{MatchOption, length}
+use Rattle.std.specs.Prelude.{◌≡◌, ◌++◌, ℕ, Bool, true, List, [], map, Option, None, Some, Ok}
+use Rattle.std.specs.Prelude.{MatchBool, MatchOption, length}
 use Rattle.tap_views.specs.{Token.bytes_of, UploadEnds.are_posted}
 use Rattle.tap_views.specs.declared.{token.Token.Token, upload_end.UploadEnd.UploadEnd}
 use Rattle.tariffs.specs.Fares.{Fares}
 use Rattle.toml.specs.Data.{Members}
-use Rattle.world.specs.Origins.{Origin}
+use Rattle.world.specs.{Origins.Origin, Run.Load}
 
--- The files were loaded, and the text is their listing, with the validators known that the table
--- knows. It is clean if no file has a layout fault.
-pub record Lists (request : Request) (fares : Option Fares) (loaded loaded' : Option (List Loaded))
-    (text : List ℕ) (clean : Bool) : Type 0 where
+-- These loads are those of the files, and the text is their listing, with the validators known that
+-- the table knows. It is clean if no file has a layout fault.
+pub record Lists (request : Request) (fares : Option Fares) (loads : List Load) (text : List ℕ)
+    (clean : Bool) : Type 0 where
   pub files : List (List ℕ)
-  pub loads_files : LoadsFiles (names_to_load request.files) loaded loaded' files
+  pub loads_files : LoadsFiles (names_to_load request.files) loads files
   pub listing : IsListing fares files text clean
 
 -- the text is the statement of this token, explained in this form if there is one
@@ -86,11 +86,10 @@ ShowsRequest request fares files drawn token text success = MatchBool request.se
 -- ahead is given for its name. The text is the report, the statement of this token, or the ledger,
 -- whichever is asked for.
 pub record Charges (request : Request) (origin : List ℕ → Origin) (fares : Fares)
-    (token : Option Token) (loaded loaded' : Option (List Loaded)) (text : List ℕ) (success : Bool)
-    : Type 0 where
+    (token : Option Token) (loads : List Load) (text : List ℕ) (success : Bool) : Type 0 where
   pub files : List (List ℕ)
   pub drawn : List ℕ
-  pub loads_files : AreLoaded request origin loaded loaded' files drawn
+  pub loads_files : AreLoaded request origin loads files drawn
   pub shows : ShowsRequest request fares files drawn token text success
 
 -- The named files were opened, each of which has its taps in canonical order. The text is what is
@@ -104,8 +103,8 @@ Merges request known fares token text success = (success ≡ true)
 
 -- The files were loaded. The text is their traced ledger, with the class of each token that the
 -- tables' texts name which is valid at the tap's moment.
-pub record Traces (request : Request) (texts : List (List ℕ)) (fares : Fares)
-    (loaded loaded' : Option (List Loaded)) (text : List ℕ) (success : Bool) : Type 0 where
+pub record Traces (request : Request) (texts : List (List ℕ)) (fares : Fares) (loads : List Load)
+    (text : List ℕ) (success : Bool) : Type 0 where
   pub tree : Members
   pub later : List (ℕ × Members)
   pub parsed : AreTrees fares texts tree later
@@ -113,36 +112,35 @@ pub record Traces (request : Request) (texts : List (List ℕ)) (fares : Fares)
   pub are_classes : (moment : ℕ) (token : List ℕ)
       → class_of_token (tree_at tree later moment) token ≡ Some (classes moment token)
   pub files : List (List ℕ)
-  pub loads_files : LoadsFiles (names_to_load request.files) loaded loaded' files
+  pub loads_files : LoadsFiles (names_to_load request.files) loads files
   pub shows : IsTracedLedger classes fares files text success
 
 -- The text is what is asked for by these tables, of files that were loaded, or of sorted files. What
 -- stands under a name of a sorted file is given, if it is known.
 abbrev pub DoesBy : Request → (List ℕ → Option (List ℕ)) → (List ℕ → Origin) → List (List ℕ) → Fares
-    → Option Token → Option (List Loaded) → Option (List Loaded) → List ℕ → Bool → Type 0
-DoesBy request known origin texts fares token loaded loaded' text success =
-    MatchBool request.list (Lists request (Some fares) loaded loaded' text success)
-    (MatchBool request.traced (Traces request texts fares loaded loaded' text success)
-    (MatchBool request.sorted
-    ((loaded' ≡ loaded) × Merges request known fares token text success)
-    (Charges request origin fares token loaded loaded' text success)))
+    → Option Token → List Load → List ℕ → Bool → Type 0
+DoesBy request known origin texts fares token loads text success =
+    MatchBool request.list (Lists request (Some fares) loads text success)
+    (MatchBool request.traced (Traces request texts fares loads text success)
+    (MatchBool request.sorted ((loads ≡ []) × Merges request known fares token text success)
+    (Charges request origin fares token loads text success)))
 
 -- The files of these tables were loaded in order: the first table, and each later one from its date
 -- on. Their texts mean these fares, and the text is what is asked for by them.
 pub record DoesWith (request : Request) (known : List ℕ → Option (List ℕ)) (origin : List ℕ → Origin)
-    (loaded loaded' : Option (List Loaded)) (text : List ℕ) (success : Bool) (tables : TableNames)
-    : Type 0 where
+    (loads : List Load) (text : List ℕ) (success : Bool) (tables : TableNames) : Type 0 where
   pub texts : List (List ℕ)
   pub fares : Fares
-  pub between : Option (List Loaded)
-  pub loads_tables : LoadsTables tables loaded between texts fares
+  pub of_tables : List Load
+  pub loads_tables : LoadsTables tables of_tables texts fares
   pub token : Option Token
   pub is_token : IsTokenIn request.token token
-  pub does : DoesBy request known origin texts fares token between loaded' text success
+  pub of_files : List Load
+  pub does : DoesBy request known origin texts fares token of_files text success
+  pub all : loads ≡ of_tables ++ of_files
 
 -- The text is what is asked for: of files alone, or by the tables that are named.
-abbrev pub Does : Request → (List ℕ → Option (List ℕ)) → (List ℕ → Origin) → Option (List Loaded)
-    → Option (List Loaded) → List ℕ → Bool → Type 0
-Does request known origin loaded loaded' text success = MatchOption request.table
-    (Lists request None loaded loaded' text success)
-    (DoesWith request known origin loaded loaded' text success)
+abbrev pub Does : Request → (List ℕ → Option (List ℕ)) → (List ℕ → Origin) → List Load → List ℕ → Bool
+    → Type 0
+Does request known origin loads text success = MatchOption request.table
+    (Lists request None loads text success) (DoesWith request known origin loads text success)

@@ -1,10 +1,12 @@
 //! Why the program fails, with the line that says so.
-ghost use Rattle.fare_program.specs.{Causes.IsRightOfSorted, Fault.fault_text, inside.Ends.IsLate};
-ghost use Rattle.fare_program.specs.inside.Fault.{IsOfOutput, as_remembered, ended_as, printed_as};
+ghost use Rattle.fare_program.specs.{Causes.AreWrongSorted, inside.Ends.IsLate};
+ghost use Rattle.fare_program.specs.inside.Fault.{CanStop, ended_as, of_write, outside_of};
+ghost use Rattle.fare_program.specs.inside.Fault.{printed_as};
 ghost use Rattle.settled_bills.specs.Faults.{IsBeforeText, IsBillFault};
-ghost use Rattle.std.specs.Prelude.{◌≡◌, ◌≢◌, ℕ, List, Option, Some, IfErr, map};
+ghost use Rattle.std.specs.Prelude.{◌≡◌, ◌≢◌, ⊤, ℕ, List, Option, Some, IfErr, map};
 
-use fare_service::{GatherFault, PrintFault};
+use fare_service::PrintFault;
+use frame::Outside;
 use placed_files::Unopened;
 use program_manners::{FileFault, NamedClassLine, TableLine, TablesFault, WriteFault};
 use settled_bills::BillFault;
@@ -63,8 +65,6 @@ pub(crate) enum Fault<'a> {
     Late(LateFault),
     /// There are more uploads than a service takes.
     Uploads,
-    /// What the workers did was not gathered.
-    Gather(GatherFault),
     /// A write failed.
     Write,
     /// An allocation failed.
@@ -88,7 +88,7 @@ impl<'a> Fault<'a> {
         ensures write { result ≡ Fault.Write → fault ≡ BillFault.Write }
         ensures right { (known : List (Option (List ℕ)))
             → ((all : List (List ℕ)) → known ≡ map Some all → IsBillFault all fault)
-            → IsRightOfSorted (map (λ n. n.now) names.now) known result }
+            → CanStop (AreWrongSorted (map (λ n. n.now) names.now) known) ⊤ result }
     {
         match fault {
             BillFault::File(refused) => match names.get(refused.index) {
@@ -103,12 +103,29 @@ impl<'a> Fault<'a> {
         }
     }
 
-    /// What is reported of this fault, if the output remembers that `end` is why a write failed. No
-    /// contract of what writes a text says that a write failed: if the output remembers none that
-    /// did, an allocation failed.
-    pub(crate) fn as_remembered(self, end: Option<WriteFault>) -> Fault<'a>
-        ensures { result ≡ as_remembered end self.entry }
+    /// What stops the run, if the output remembers that `end` is why a write failed. No contract of
+    /// what writes a text says that a write failed: if the output remembers none that did, an
+    /// allocation failed.
+    pub(crate) fn outside(&self, end: Option<WriteFault>) -> Outside
+        ensures { result ≡ outside_of end self.now }
     {
+        match self {
+            Fault::File(file) => Outside::Unread(file.fault),
+            Fault::Tables(fault) => fault.outside(),
+            Fault::Unsorted(_, SortedFault::OutOfOrder { .. } | SortedFault::Layout { .. }) => {
+                Outside::Wrong
+            }
+            Fault::Class(..) | Fault::TooManyTaps | Fault::Uploads => Outside::Wrong,
+            Fault::Unopened(..) | Fault::Unsorted(_, SortedFault::Unread) | Fault::Late(_) => {
+                Outside::Untraced
+            }
+            Fault::Write => outside_of_write(end),
+            Fault::Unsorted(_, SortedFault::NoMemory) | Fault::NoMemory => Outside::NoMemory,
+        }
+    }
+
+    /// What is reported of this fault, if the output remembers that `end` is why a write failed.
+    pub(crate) fn as_remembered(self, end: Option<WriteFault>) -> Fault<'a> {
         match self {
             Fault::Write if end.is_none() => Fault::NoMemory,
             fault => fault,
@@ -116,10 +133,19 @@ impl<'a> Fault<'a> {
     }
 }
 
+fn outside_of_write(end: Option<WriteFault>) -> Outside
+    ensures { result ≡ of_write end }
+{
+    match end {
+        Some(why) => Outside::Unwritten(why),
+        None => Outside::NoMemory,
+    }
+}
+
 /// What the writing of a text comes to, of uploads that are whole or not.
 pub(crate) fn ended<'a>(written: Result<(), PrintFault>, success: bool) -> Result<bool, Fault<'a>>
     ensures ended { result ≡ ended_as written success }
-    ensures output { IfErr result IsOfOutput }
+    ensures stop { IfErr result (CanStop ⊥ ⊥) }
 {
     match written {
         Ok(()) => Ok(success),
@@ -128,8 +154,6 @@ pub(crate) fn ended<'a>(written: Result<(), PrintFault>, success: bool) -> Resul
 }
 
 impl fmt::Display for Fault<'_> {
-    ghost output = { λ fault. Some (fault_text fault) };
-
     fn fmt<W: fmt::Write>(&self, f: &mut fmt::Formatter<W>) -> fmt::Result {
         match self {
             Fault::File(fault) | Fault::Tables(TablesFault::File(fault)) => fault.fmt(f),
@@ -161,14 +185,11 @@ impl fmt::Display for Fault<'_> {
             }
             Fault::Late(LateFault::Unread) => f.write_str("fault: a file cannot be read again"),
             Fault::Uploads => f.write_str("fault: too many uploads"),
-            Fault::Gather(GatherFault::Missing { .. }) => f.write_str("fault: run U3 G1"),
-            Fault::Gather(GatherFault::Drawn { .. }) => f.write_str("fault: run U3 G4"),
             Fault::Write => f.write_str("fault: cannot write"),
             Fault::Tables(TablesFault::NoMemory)
             | Fault::Unopened(_, Unopened::NoMemory)
             | Fault::Unsorted(_, SortedFault::NoMemory)
             | Fault::Late(LateFault::NoMemory)
-            | Fault::Gather(GatherFault::NoMemory)
             | Fault::NoMemory => f.write_str("fault: out of memory"),
         }
     }

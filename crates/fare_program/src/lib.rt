@@ -1,4 +1,4 @@
-//! The program as a library, over any source of bytes and any two writers: it charges the taps of
+//! The program as a library, over any world and any writer of its text: it charges the taps of
 //! upload files by a fare table and prints what they cost, or lists them, each as live, stale or
 //! unknown.
 #![tactic(auto)]
@@ -19,11 +19,9 @@ mod sorted;
 mod traced;
 mod usage;
 
-pub use file_sources::{Amount, Disk, Host, Source, prefetch_files};
+pub use file_sources::{Amount, Disk, load_next, prefetch_files};
 pub use file_words::{FileWords, FormatWords, list_words};
 pub use listing::{ListCounts, Listing, Word};
 pub use note::Note;
 pub use program::main_over;
-pub use program_manners::{
-    Complaints, FileSource, LOAD_LIMIT_BYTES, LoadFault, Output, WordsFault, unread_words, words_of,
-};
+pub use program_manners::{Output, WordsFault, unread_words, words_of};

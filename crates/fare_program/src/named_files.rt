@@ -1,17 +1,17 @@
 //! Named files that are read while their taps are charged.
 ghost use Rattle.fare_program.specs.Program.{Charges};
-ghost use Rattle.fare_program.specs.inside.{Ends.Gives, Ends.IsLate, Options.request_of};
+ghost use Rattle.fare_program.specs.inside.{Ends.Gives, Fault.CanStop, Options.request_of};
 ghost use Rattle.std.specs.Io.KnownBytes.{Keeps};
-ghost use Rattle.std.specs.Prelude.{◌≡◌, ◌<◌, length, None, Some, IfErr, IfSome};
+ghost use Rattle.std.specs.Prelude.{◌≡◌, ◌<◌, ⊤, List, None, IfErr, IfSome, length};
+ghost use Rattle.world.specs.{Origins.with_loads, Run.Load};
 
 use crate::fault::Fault;
-use crate::noting::NotingGatekeeper;
-use crate::options::Options;
+use crate::options::Job;
 use crate::posting::charge_provided;
 use crate::settle::charge_settled;
 use fare_service::UploadSource;
 use fare_table::FareTable;
-use file_sources::{Amount, Disk, Source};
+use file_sources::{Amount, Disk};
 use settlement::Uploads;
 use std::alloc::{AllocError, Global};
 use std::io::Write;
@@ -20,8 +20,7 @@ use std::mem;
 use std::random::RandomSource;
 use std::sync::Wait;
 use std::thread::Threads;
-use tap_views::Token;
-use world::Trace;
+use world::{Inputs, Trace};
 
 /// Files of a disk, each of which is read when its turn comes.
 #[derive(Clone, Copy)]
@@ -116,51 +115,41 @@ impl<D: Disk> UploadSource for NamedFiles<'_, D> {
 pub(crate) fn sizes_of<D: Disk>(alloc: Global, disk: &D, names: &[&str]) -> Option<Vec<u64>> {
     let mut sizes = Vec::new(alloc);
     for name in names {
-        if sizes.push(disk.prefetch_size(name)?).is_err() {
-            return None;
-        }
+        sizes.push(disk.prefetch_size(name)?).ok()?;
     }
     Some(sizes)
 }
 
 /// Each file is read when its turn comes. Returns whether each was posted whole.
 fn charge_named<'a, R: Threads + Wait + RandomSource + Sync, D: Disk + Sync, W: Write>(
-    rt: &R,
-    alloc: Global,
-    disk: &D,
-    options: &Options<'a>,
+    job: &Job<'_, 'a, R, D>,
     table: &FareTable,
-    token: Option<Token>,
     sizes: &[u64],
     calls: &mut Trace,
     out: &mut W,
 ) -> Result<bool, Fault<'a>>
-    requires { 0 < length options.now.files.items }
-    ensures ends { Gives (Charges (request_of options.now) (D.origin disk.now) table.now token
-        (Some calls.old.run.loads) (Some calls.new.run.loads)) (W.contents out.old)
-        (W.contents out.new) result }
-    ensures early { IfErr result (λ fault. IsLate fault → ⊥) }
+    requires { 0 < length job.now.options.files.items }
+    ensures ends { Gives (λ text success. (loads : List Load)
+        × (calls.new.run ≡ with_loads calls.old.run loads)
+        × Charges (request_of job.now.options) (D.origin job.now.disk.now) table.now job.now.token
+        loads text success) (W.contents out.old) (W.contents out.new) result }
+    ensures stop { IfErr result (CanStop ⊤ ⊥) }
 {
+    let options = &job.options;
     let uploads = NamedFiles {
-        alloc,
-        disk,
+        alloc: job.alloc,
+        disk: job.disk,
         names: options.files.as_slice(),
         sizes,
     };
     if options.settle {
-        return charge_settled(rt, alloc, disk, options, table, token, &uploads, calls, out);
+        return charge_settled(job, table, &uploads, calls, out);
     }
-    let Ok(own) = table.try_clone(alloc) else {
-        return Err(Fault::NoMemory);
-    };
-    let keeper = NotingGatekeeper::new(disk, sizes);
-    charge_provided(
-        rt, alloc, disk, options, own, token, uploads, &keeper, calls, out,
-    )
+    charge_provided(job, table, uploads, sizes, calls, out)
 }
 
 /// Charges the named files while they are read, if all may be read before their turns. Returns
-/// whether each was posted whole, or that a write failed. The source takes over what was loaded.
+/// whether each was posted whole, or that a write failed. What was loaded is joined to the run.
 ///
 /// `None` says that nothing was written and nothing loaded. Then the files are to be loaded in
 /// their turns, so that the fault of the first file in the order of the words is reported.
@@ -168,41 +157,37 @@ pub(crate) fn charge_prefetched<
     'a,
     R: Threads + Wait + RandomSource + Sync,
     D: Disk + Sync,
-    S: Source,
+    I: Inputs,
     W: Write,
 >(
-    rt: &R,
-    alloc: Global,
-    disk: &D,
-    options: &Options<'a>,
+    job: &Job<'_, 'a, R, D>,
     table: &FareTable,
-    token: Option<Token>,
-    source: &mut S,
+    inputs: &mut I,
     out: &mut W,
 ) -> Option<Result<bool, Fault<'a>>>
-    ensures ends { IfSome result (Gives (Charges (request_of options.now) (D.origin disk.now)
-        table.now token (S.loaded source.old) (S.loaded source.new)) (W.contents out.old)
-        (W.contents out.new)) }
+    ensures ends { IfSome result (Gives (λ text success. (loads : List Load)
+        × (I.run inputs.new ≡ with_loads (I.run inputs.old) loads)
+        × Charges (request_of job.now.options) (D.origin job.now.disk.now) table.now job.now.token
+        loads text success) (W.contents out.old) (W.contents out.new)) }
     ensures fault { IfSome result (λ ended. IfErr ended (λ fault. fault ≡ Fault.Write)) }
     ensures none { result ≡ None → Keeps (W.contents out.old) (W.contents out.new) }
-    ensures unloaded { result ≡ None → S.loaded source.new ≡ S.loaded source.old }
+    ensures unloaded { result ≡ None → I.run inputs.new ≡ I.run inputs.old }
 {
+    let options = &job.options;
     if options.files.is_empty() {
         return None;
     }
-    let Some(sizes) = sizes_of(alloc, disk, options.files.as_slice()) else {
+    let Some(sizes) = sizes_of(job.alloc, job.disk, options.files.as_slice()) else {
         return None;
     };
     let mut calls = Trace::new();
-    match charge_named(
-        rt, alloc, disk, options, table, token, &sizes, &mut calls, out,
-    ) {
+    match charge_named(job, table, &sizes, &mut calls, out) {
         Ok(success) => {
-            source.join(calls);
+            inputs.join(calls);
             Some(Ok(success))
         }
         Err(Fault::Write) => {
-            source.join(calls);
+            inputs.join(calls);
             Some(Err(Fault::Write))
         }
         Err(_) => None,

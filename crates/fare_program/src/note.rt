@@ -1,6 +1,6 @@
 //! What a person should know of a run, and what is noted of it on the disk.
 
-use crate::options::Options;
+use crate::options::{Job, Options};
 use crate::usage::checked;
 use clap::error::ErrorKind;
 use fare_service::Outcome;
@@ -8,7 +8,7 @@ use file_sources::Disk;
 use shard_book::{ShardBook, late_taps};
 use std::alloc::Global;
 use std::fmt;
-use tap_views::{NoMemory, TapFields, Token};
+use tap_views::{NoMemory, Token};
 
 /// What a person should know of a run. Its `Display` is the line without its line feed. No run
 /// prints it itself.
@@ -36,22 +36,10 @@ impl Note {
             Err(_) => return Ok(None),
         };
         match checked(&options) {
-            Ok(_) => Ok(note_on(&options)),
-            Err(_) => Ok(None),
+            Ok(_) if options.files.is_empty() => Ok(Some(Note::ReadsInput)),
+            _ => Ok(None),
         }
     }
-}
-
-fn note_on(options: &Options<'_>) -> Option<Note> {
-    if options.files.is_empty() {
-        return Some(Note::ReadsInput);
-    }
-    None
-}
-
-/// Whether a live run depends on the order of its files, and none is meant.
-pub(crate) fn follows_order(options: &Options<'_>) -> bool {
-    options.files.len() > 1 && !options.settle && !options.live
 }
 
 impl fmt::Display for Note {
@@ -97,26 +85,14 @@ fn have_token(books: &[ShardBook], token: Token) -> bool {
 
 /// Notes of a live run that the order of its files counts, if none is meant, and that no file has
 /// the requested token.
-pub(crate) fn note_outcome<D: Disk>(
-    alloc: Global,
-    disk: &D,
-    options: &Options<'_>,
-    outcome: &Outcome,
-    token: Option<Token>,
-) {
-    if follows_order(options) {
-        disk.note_live(late_in(alloc, outcome));
+pub(crate) fn note_outcome<R, D: Disk>(job: &Job<'_, '_, R, D>, outcome: &Outcome) {
+    let options = &job.options;
+    if options.files.len() > 1 && !options.settle && !options.live {
+        job.disk.note_live(late_in(job.alloc, outcome));
     }
-    if let Some(token) = token
+    if let Some(token) = job.token
         && !have_token(outcome.books(), token)
     {
-        disk.note_absent();
-    }
-}
-
-/// Notes that no file has the requested token, if these are all its taps.
-pub(crate) fn note_taps<D: Disk>(disk: &D, taps: &[TapFields]) {
-    if taps.is_empty() {
-        disk.note_absent();
+        job.disk.note_absent();
     }
 }

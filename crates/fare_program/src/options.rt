@@ -1,7 +1,9 @@
-//! What a command line asks for.
+//! What a command line asks for, and what a run has to do it.
 ghost use Rattle.std.specs.Prelude.{◌≤◌};
 
 use program_manners::TableWords;
+use std::alloc::Global;
+use tap_views::Token;
 
 /// What the words ask for.
 #[derive(Drop)]
@@ -38,4 +40,15 @@ pub(crate) struct Options<'a> {
     ghost few_workers: { workers ≤ 16 },
     ghost some_shard: { 1 ≤ shards },
     ghost few_shards: { shards ≤ 64 },
+}
+
+/// What is asked for, and what it is done with.
+#[derive(Drop)]
+pub(crate) struct Job<'r, 'a, R, D> {
+    pub(crate) rt: &'r R,
+    pub(crate) alloc: Global,
+    pub(crate) disk: &'r D,
+    pub(crate) options: Options<'a>,
+    /// The token whose statement or ledger is wanted.
+    pub(crate) token: Option<Token>,
 }

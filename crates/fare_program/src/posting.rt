@@ -1,12 +1,13 @@
 //! The text that is asked for of files, which are posted as they are or settled.
 ghost use Rattle.fare_program.specs.Options.{Request};
 ghost use Rattle.fare_program.specs.Program.{ShowsOf, ShowsPlain, ShowsRequest};
-ghost use Rattle.fare_program.specs.inside.{Ends.Gives, Fault.IsRightOfUploads, Options.request_of};
+ghost use Rattle.fare_program.specs.inside.{Ends.Gives, Fault.CanStop, Options.request_of};
 ghost use Rattle.fare_program.specs.inside.PostedFiles.{Posts};
-ghost use Rattle.fare_service.specs.Headline.{HasRun, HasRunOver};
+ghost use Rattle.fare_service.specs.Headline.{HasRun};
 ghost use Rattle.fare_texts.specs.{PrintFaults.UnchangedUnlessWrite, WrittenOut.Begins};
-ghost use Rattle.std.specs.{Io.KnownBytes.Appends, Prelude.◌≡◌, Prelude.◌≢◌};
-ghost use Rattle.std.specs.Prelude.{IfErr, IfOk, List, OnOk, Option, false, length, map, true, ℕ};
+ghost use Rattle.std.specs.Io.KnownBytes.{Appends};
+ghost use Rattle.std.specs.Prelude.{◌≡◌, ◌<◌, IfErr, List, OnOk, Option, false, length, map, true};
+ghost use Rattle.std.specs.Prelude.{ℕ};
 ghost use Rattle.tap_views.specs.UploadEnds.{are_posted, is_posted};
 ghost use Rattle.tap_views.specs.declared.token.Token.{Token};
 ghost use Rattle.tariffs.specs.Fares.{Fares};
@@ -14,49 +15,45 @@ ghost use Rattle.tariffs.specs.Fares.{Fares};
 use crate::fault::{Fault, ended};
 use crate::note::note_outcome;
 use crate::noting::{NotedUploads, NotingGatekeeper, sizes_in};
-use crate::options::Options;
+use crate::options::Job;
 use crate::settle::charge_settled;
 use fare_service::{
-    Gatekeeper, OpenFault, Outcome, RunFault, Service, UploadSource, laws, write_explained,
-    write_ledger,
+    OpenFault, Outcome, RunFault, Service, UploadSource, laws, write_explained, write_ledger,
 };
 use fare_table::FareTable;
 use fare_texts::PrintFault;
 use file_sources::Disk;
 use histories::laws::one_increasing_list;
-use std::alloc::Global;
 use std::io::Write;
 use std::marker::Sync;
 use std::random::RandomSource;
 use std::sync::Wait;
 use std::thread::Threads;
-use tap_views::{Token, UploadEnd};
+use tap_views::UploadEnd;
 use world::Trace;
 
 /// Prints what is asked for: the ledger, or that of the token; else the report, or the statement of
 /// the token, explained if that is asked for.
-fn print_requested<R: Threads + Sync, W: Write>(
-    rt: &R,
-    alloc: Global,
-    options: &Options<'_>,
+fn print_requested<R: Threads + Sync, D, W: Write>(
+    job: &Job<'_, '_, R, D>,
     outcome: &Outcome,
-    token: Option<Token>,
     out: &mut W,
 ) -> Result<(), PrintFault>
     ensures ok { OnOk result ((text : List ℕ)
-        × ShowsOf (request_of options.now) token outcome.now.ends outcome.now text
+        × ShowsOf (request_of job.now.options) job.now.token outcome.now.ends outcome.now text
         × Appends (W.contents out.old) (W.contents out.new) text) }
     ensures started { IfErr result (λ fault. fault ≡ PrintFault.Write
         → (text : List ℕ)
-        × ShowsOf (request_of options.now) token outcome.now.ends outcome.now text
+        × ShowsOf (request_of job.now.options) job.now.token outcome.now.ends outcome.now text
         × Begins (W.contents out.old) (W.contents out.new) text) }
     ensures fault { IfErr result (λ fault. UnchangedUnlessWrite fault (out.new ≡ out.old)) }
 {
+    let (alloc, options) = (job.alloc, &job.options);
     if options.ledger {
-        return write_ledger(alloc, outcome.books(), token, out);
+        return write_ledger(alloc, outcome.books(), job.token, out);
     }
-    let Some(token) = token else {
-        return outcome.write_report(rt, alloc, out);
+    let Some(token) = job.token else {
+        return outcome.write_report(job.rt, alloc, out);
     };
     match options.form() {
         Some(form) => write_explained(alloc, form, outcome.books(), token, out),
@@ -64,50 +61,53 @@ fn print_requested<R: Threads + Sync, W: Write>(
     }
 }
 
-/// Posts uploads that are lent, as they are, and writes what is asked for. Says whether each was
-/// posted whole. What a person should know of them is noted on the disk.
+/// Posts uploads of these sizes that are lent, as they are, and writes what is asked for. Says
+/// whether each was posted whole. What a person should know of them is noted on the disk.
 pub(crate) fn charge_provided<
     'a,
     R: Threads + Wait + RandomSource + Sync,
-    D: Disk,
+    D: Disk + Sync,
     U: UploadSource + Drop + Sync,
-    G: Gatekeeper + Sync,
     W: Write,
 >(
-    rt: &R,
-    alloc: Global,
-    disk: &D,
-    options: &Options<'a>,
-    table: FareTable,
-    token: Option<Token>,
+    job: &Job<'_, 'a, R, D>,
+    table: &FareTable,
     uploads: U,
-    keeper: &G,
+    sizes: &[u64],
     calls: &mut Trace,
     out: &mut W,
 ) -> Result<bool, Fault<'a>>
-    requires { (request_of options.now).settle ≡ false }
-    ensures ends { Gives (Posts (request_of options.now) table token (U.origins uploads)
-        calls.old.run calls.new.run) (W.contents out.old) (W.contents out.new) result }
-    ensures right { IfErr result (IsRightOfUploads (length (U.origins uploads))) }
+    requires { (request_of job.now.options).settle ≡ false }
+    ensures ends { Gives (Posts (request_of job.now.options) table.now job.now.token
+        (U.origins uploads) calls.old.run calls.new.run) (W.contents out.old) (W.contents out.new)
+        result }
+    ensures stop { IfErr result (CanStop (65535 < length (U.origins uploads)) ⊥) }
 {
-    let (service, share) = match Service::open(rt, alloc, table, options.shards, uploads) {
+    let (rt, alloc, options) = (job.rt, job.alloc, &job.options);
+    let Ok(own) = table.try_clone(alloc) else {
+        return Err(Fault::NoMemory);
+    };
+    let (service, share) = match Service::open(rt, alloc, own, options.shards, uploads) {
         Ok(opened) => opened,
         Err(OpenFault::Uploads) => return Err(Fault::Uploads),
         Err(OpenFault::NoMemory) => return Err(Fault::NoMemory),
         Err(OpenFault::Shards) => unreachable!(),
     };
-    let outcome = match service.run(rt, alloc, share, options.workers, keeper) {
+    let keeper = NotingGatekeeper::new(job.disk, sizes);
+    let outcome = match service.run(rt, alloc, share, options.workers, &keeper) {
         Ok(outcome) => outcome,
-        Err(RunFault::Gather(fault)) => return Err(Fault::Gather(fault)),
         Err(RunFault::Workers) => unreachable!(),
-        // Loaded files are lent. If another file is not, all are loaded in their turns.
-        Err(RunFault::NoMemory | RunFault::Unavailable(_)) => return Err(Fault::NoMemory),
+        // What the workers did is gathered, unless an allocation fails. Loaded files are lent. If
+        // another file is not, all are loaded in their turns.
+        Err(RunFault::NoMemory | RunFault::Gather(_) | RunFault::Unavailable(_)) => {
+            return Err(Fault::NoMemory);
+        }
     };
     // proof: if no token has taps in two files, what is shown does not depend on the schedule
     shows_plain(&outcome);
-    note_outcome(alloc, disk, options, &outcome, token);
+    note_outcome(job, &outcome);
     let success = are_posted(outcome.ends());
-    let printed = print_requested(rt, alloc, options, &outcome, token, out);
+    let printed = print_requested(job, &outcome, out);
     calls.join(outcome.into_calls());
     ended(printed, success)
 }
@@ -115,44 +115,30 @@ pub(crate) fn charge_provided<
 /// Posts the files, settled if that is asked for, and writes what is asked for. Says whether each
 /// file was posted whole. What is charged is noted on the disk.
 pub(crate) fn charge<'a, R: Threads + Wait + RandomSource + Sync, D: Disk + Sync, W: Write>(
-    rt: &R,
-    alloc: Global,
-    disk: &D,
-    options: &Options<'a>,
-    table: FareTable,
-    token: Option<Token>,
-    files: Vec<Vec<u8>>,
+    job: &Job<'_, 'a, R, D>,
+    table: &FareTable,
+    files: &[Vec<u8>],
     out: &mut W,
 ) -> Result<bool, Fault<'a>>
-    ensures ends { Gives (λ text success. (drawn : List ℕ) × ShowsRequest (request_of options.now)
-        table (map (λ f. f.items) files.items) drawn token text success) (W.contents out.old)
-        (W.contents out.new) result }
-    ensures right { IfErr result (IsRightOfUploads (length files.items)) }
+    ensures ends { Gives (λ text success. (drawn : List ℕ)
+        × ShowsRequest (request_of job.now.options) table.now (map (λ f. f.items) files.now) drawn
+        job.now.token text success) (W.contents out.old) (W.contents out.new) result }
+    ensures stop { IfErr result (CanStop (65535 < length files.now) ⊥) }
 {
-    let uploads = NotedUploads { disk, all: &files };
+    let options = &job.options;
     // nothing is read from outside
     let mut calls = Trace::new();
     if options.settle {
-        return charge_settled(
-            rt, alloc, disk, options, &table, token, &uploads, &mut calls, out,
-        );
+        let uploads = NotedUploads {
+            disk: job.disk,
+            all: files,
+        };
+        return charge_settled(job, table, &uploads, &mut calls, out);
     }
-    let Ok(sizes) = sizes_in(alloc, &files) else {
+    let Ok(sizes) = sizes_in(job.alloc, files) else {
         return Err(Fault::NoMemory);
     };
-    let keeper = NotingGatekeeper::new(disk, &sizes);
-    charge_provided(
-        rt,
-        alloc,
-        disk,
-        options,
-        table,
-        token,
-        files.as_slice(),
-        &keeper,
-        &mut calls,
-        out,
-    )
+    charge_provided(job, table, files, &sizes, &mut calls, out)
 }
 
 /// proof: if no token has taps in two files, what is shown of an outcome is shown over the

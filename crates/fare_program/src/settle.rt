@@ -1,17 +1,18 @@
 //! What is requested of settled files, whose taps are charged account by account in one order.
-ghost use Rattle.fare_program.specs.{Parts.report_over, Settling.ShowsOver};
-ghost use Rattle.fare_program.specs.inside.{Ends.Gives, Fault.IsOfOutput, Options.request_of};
+ghost use Rattle.fare_program.specs.{Parts.report_over, Settling.ShowsOver, Settling.ShowsSettled};
+ghost use Rattle.fare_program.specs.inside.{Ends.Gives, Fault.CanStop, Options.request_of};
 ghost use Rattle.fare_program.specs.inside.PostedFiles.{Settles};
 ghost use Rattle.fare_texts.specs.{PrintFaults.UnchangedUnlessWrite, WrittenOut.Begins};
 ghost use Rattle.histories.specs.{Entry.own, declared.entry.Entry.Entry};
 ghost use Rattle.settlement.specs.{Bills.IsBillOf, Posted.posted, Posted.token_of_tap};
+ghost use Rattle.settlement.specs.SettledTaps.{AreSettledTapsOf};
 ghost use Rattle.std.specs.{Io.KnownBytes.Appends, Prelude.◌^◌, Prelude.◌≡◌, Prelude.◌≤◌};
-ghost use Rattle.std.specs.Prelude.{All, IfErr, List, None, OnOk, Some, false, length, true, ℕ};
-ghost use Rattle.tap_views.specs.{Encoding.AreEarly, UploadEnds.are_posted};
+ghost use Rattle.std.specs.Prelude.{All, IfErr, List, OnOk, Some, length, ℕ};
+ghost use Rattle.tap_views.specs.{Encoding.AreEarly, UploadEnds.ArePlainEnds};
+ghost use Rattle.tap_views.specs.UploadEnds.{are_posted};
 
 use crate::fault::{Fault, ended};
-use crate::note::note_taps;
-use crate::options::Options;
+use crate::options::Job;
 use crate::posting::are_posted;
 use fare_table::FareTable;
 use fare_texts::PrintFault;
@@ -32,35 +33,9 @@ use std::thread::Threads;
 use tap_views::{TapFields, Token};
 use world::Trace;
 
-/// Returns whether each file was posted whole.
-fn write_ledger<'a, R: Threads + Sync, U: Uploads + Sync, W: Write>(
-    rt: &R,
-    alloc: Global,
-    options: &Options<'a>,
-    table: &FareTable,
-    uploads: &U,
-    calls: &mut Trace,
-    out: &mut W,
-) -> Result<bool, Fault<'a>>
-    requires { (request_of options.now).ledger ≡ true }
-    ensures ends { Gives (Settles (request_of options.now) table.now None (U.origin uploads.now)
-        (U.number uploads.now) calls.old.run calls.new.run) (W.contents out.old)
-        (W.contents out.new) result }
-    ensures output { IfErr result IsOfOutput }
-{
-    let made = match settled_taps(rt, alloc, uploads, options.workers, calls) {
-        Ok(made) => made,
-        Err(_) => return Err(Fault::NoMemory),
-    };
-    let SettledTaps { ends, lists } = made;
-    // proof: the taps, posted in their order, are the settled history
-    laws::posted_taps();
-    let written = write_settled_ledger(rt, alloc, table, &lists, options.workers, out);
-    ended(written, are_posted(&ends))
-}
-
 /// Settles the uploads, and writes what is requested. Returns whether each file was posted whole.
-/// If no upload has the requested token, that is noted on the disk.
+/// The number of workers does not change a report. If no upload has the requested token, that is
+/// noted on the disk.
 pub(crate) fn charge_settled<
     'a,
     R: Threads + RandomSource + Sync,
@@ -68,33 +43,48 @@ pub(crate) fn charge_settled<
     U: Uploads + Sync,
     W: Write,
 >(
-    rt: &R,
-    alloc: Global,
-    disk: &D,
-    options: &Options<'a>,
+    job: &Job<'_, 'a, R, D>,
     table: &FareTable,
-    token: Option<Token>,
     uploads: &U,
     calls: &mut Trace,
     out: &mut W,
 ) -> Result<bool, Fault<'a>>
-    ensures ends { Gives (Settles (request_of options.now) table.now token (U.origin uploads.now)
-        (U.number uploads.now) calls.old.run calls.new.run) (W.contents out.old)
-        (W.contents out.new) result }
-    ensures output { IfErr result IsOfOutput }
+    ensures ends { Gives (Settles (request_of job.now.options) table.now job.now.token
+        (U.origin uploads.now) (U.number uploads.now) calls.old.run calls.new.run)
+        (W.contents out.old) (W.contents out.new) result }
+    ensures stop { IfErr result (CanStop ⊥ ⊥) }
 {
-    match token {
-        Some(token) => write_token(rt, alloc, disk, options, table, token, uploads, calls, out),
-        None if options.ledger => write_ledger(rt, alloc, options, table, uploads, calls, out),
-        None => write_bill(rt, alloc, options, table, uploads, calls, out),
+    let (rt, alloc, options) = (job.rt, job.alloc, &job.options);
+    let workers = options.workers;
+    match job.token {
+        Some(token) => match settled_taps_of(rt, alloc, uploads, token, calls) {
+            Ok(made) => write_taps(job, table, token, made, out),
+            Err(_) => Err(Fault::NoMemory),
+        },
+        None if options.ledger => match settled_taps(rt, alloc, uploads, workers, calls) {
+            Ok(made) => {
+                let SettledTaps { ends, lists } = made;
+                // proof: the taps, posted in their order, are the settled history
+                laws::posted_taps();
+                let written = write_settled_ledger(rt, alloc, table, &lists, workers, out);
+                ended(written, are_posted(&ends))
+            }
+            Err(_) => Err(Fault::NoMemory),
+        },
+        None => {
+            let Ok(seed) = HashSeed::new(rt) else {
+                return Err(Fault::NoMemory);
+            };
+            match settled_bill(rt, alloc, table, seed, uploads, workers, calls) {
+                Ok(made) => write_billed(alloc, made, out),
+                Err(_) => Err(Fault::NoMemory),
+            }
+        }
     }
 }
 
-/// Writes the ledger of a token that has these taps, or its statement, explained if that is asked
-/// for.
-pub(crate) fn write_text<W: Write>(
-    alloc: Global,
-    options: &Options<'_>,
+fn write_text<R, D, W: Write>(
+    job: &Job<'_, '_, R, D>,
     table: &FareTable,
     token: Token,
     taps: &[TapFields],
@@ -105,16 +95,17 @@ pub(crate) fn write_text<W: Write>(
     ensures ok { OnOk result ((text : List ℕ)
         × ((files : List (List ℕ)) (history : List Entry)
         → own token history ≡ posted table.now taps.now
-        → ShowsOver (request_of options.now) (Some token) table.now files history text)
+        → ShowsOver (request_of job.now.options) (Some token) table.now files history text)
         × Appends (W.contents out.old) (W.contents out.new) text) }
     ensures started { IfErr result (λ fault. fault ≡ PrintFault.Write
         → (text : List ℕ)
         × ((files : List (List ℕ)) (history : List Entry)
         → own token history ≡ posted table.now taps.now
-        → ShowsOver (request_of options.now) (Some token) table.now files history text)
+        → ShowsOver (request_of job.now.options) (Some token) table.now files history text)
         × Begins (W.contents out.old) (W.contents out.new) text) }
     ensures fault { IfErr result (λ fault. UnchangedUnlessWrite fault (out.new ≡ out.old)) }
 {
+    let (alloc, options) = (job.alloc, &job.options);
     if options.ledger {
         return write_token_ledger(alloc, table, token, taps, out);
     }
@@ -124,34 +115,32 @@ pub(crate) fn write_text<W: Write>(
     }
 }
 
-/// Writes what is asked for of the token: of the taps of the uploads no others are kept. Says
-/// whether each file was posted whole.
-pub(crate) fn write_token<'a, R: Threads + Sync, D: Disk, U: Uploads + Sync, W: Write>(
-    rt: &R,
-    alloc: Global,
-    disk: &D,
-    options: &Options<'a>,
+/// Writes the ledger of the token that has these taps, or its statement, explained if that is asked
+/// for. Returns whether each file was posted whole. That there are no taps is noted on the disk.
+pub(crate) fn write_taps<'a, R, D: Disk, W: Write>(
+    job: &Job<'_, 'a, R, D>,
     table: &FareTable,
     token: Token,
-    uploads: &U,
-    calls: &mut Trace,
+    made: TokenTaps,
     out: &mut W,
 ) -> Result<bool, Fault<'a>>
-    ensures ends { Gives (Settles (request_of options.now) table.now (Some token)
-        (U.origin uploads.now) (U.number uploads.now) calls.old.run calls.new.run)
+    requires token { job.now.token ≡ Some token }
+    requires early { AreEarly (λ tap. tap.moment) made.taps.items }
+    requires its { All (λ tap. token_of_tap tap ≡ token) made.taps.items }
+    ensures ends { Gives (λ text success. (success ≡ are_posted made.ends.items)
+        × ((files : List (List ℕ)) → ArePlainEnds files made.ends.items
+        → AreSettledTapsOf files token made.taps.items
+        → ShowsSettled (request_of job.now.options) table.now files job.now.token text success))
         (W.contents out.old) (W.contents out.new) result }
-    ensures output { IfErr result IsOfOutput }
+    ensures stop { IfErr result (CanStop ⊥ ⊥) }
 {
-    let made = match settled_taps_of(rt, alloc, uploads, token, calls) {
-        Ok(made) => made,
-        Err(_) => return Err(Fault::NoMemory),
-    };
-    let TokenTaps { ends, taps } = made;
     // proof: the taps, posted alone, are the token's entries in the settled history
     laws::posted_taps();
-    note_taps(disk, &taps);
-    let written = write_text(alloc, options, table, token, &taps, out);
-    ended(written, are_posted(&ends))
+    if made.taps.is_empty() {
+        job.disk.note_absent();
+    }
+    let written = write_text(job, table, token, &made.taps, out);
+    ended(written, are_posted(&made.ends))
 }
 
 /// Returns whether each file was posted whole.
@@ -165,7 +154,7 @@ pub(crate) fn write_billed<'a, W: Write>(
         × ((history : List Entry) → IsBillOf history made.bill
         → text ≡ report_over made.ends.items history)) (W.contents out.old) (W.contents out.new)
         result }
-    ensures output { IfErr result IsOfOutput }
+    ensures stop { IfErr result (CanStop ⊥ ⊥) }
 {
     let Billed { ends, bill } = made;
     let totals = bill.totals.totals();
@@ -174,29 +163,4 @@ pub(crate) fn write_billed<'a, W: Write>(
     };
     let written = write_report(alloc, &ends, &totals, &validators, &bill.tokens, out);
     ended(written, are_posted(&ends))
-}
-
-/// The number of workers does not change the report. Returns whether each file was posted whole.
-pub(crate) fn write_bill<'a, R: Threads + RandomSource + Sync, U: Uploads + Sync, W: Write>(
-    rt: &R,
-    alloc: Global,
-    options: &Options<'a>,
-    table: &FareTable,
-    uploads: &U,
-    calls: &mut Trace,
-    out: &mut W,
-) -> Result<bool, Fault<'a>>
-    requires { (request_of options.now).ledger ≡ false }
-    ensures ends { Gives (Settles (request_of options.now) table.now None (U.origin uploads.now)
-        (U.number uploads.now) calls.old.run calls.new.run) (W.contents out.old)
-        (W.contents out.new) result }
-    ensures output { IfErr result IsOfOutput }
-{
-    let Ok(seed) = HashSeed::new(rt) else {
-        return Err(Fault::NoMemory);
-    };
-    match settled_bill(rt, alloc, table, seed, uploads, options.workers, calls) {
-        Ok(made) => write_billed(alloc, made, out),
-        Err(_) => Err(Fault::NoMemory),
-    }
 }

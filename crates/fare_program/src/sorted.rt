@@ -1,20 +1,19 @@
 //! What is requested of sorted files, which are read in pieces and merged, or of a part of them.
-ghost use Rattle.fare_program.specs.{Causes.IsRightOfSorted, Ends.IsPartLedger, Parts.ShowsSorted};
-ghost use Rattle.fare_program.specs.{Parts.report_over, Program.IsTokenIn, TokenRanges.range_fault};
-ghost use Rattle.fare_program.specs.inside.Ends.{Gives, GivesKnown, GivesPart, GivesSettled};
+ghost use Rattle.fare_program.specs.{Causes.AreWrongSorted, Ends.IsPartLedger, Parts.IsPartText};
+ghost use Rattle.fare_program.specs.{Parts.report_over, Program.Merges, Settling.ShowsSettled};
+ghost use Rattle.fare_program.specs.{TokenRanges.range_fault, inside.Ends.Gives};
+ghost use Rattle.fare_program.specs.inside.{Ends.GivesIf, Ends.OfKnown, Fault.CanStop};
 ghost use Rattle.fare_program.specs.inside.Options.{request_of};
 ghost use Rattle.histories.specs.declared.entry.Entry.{Entry};
 ghost use Rattle.part_texts.specs.Heads.{part_head};
-ghost use Rattle.program_manners.specs.Refusals.{IsOneOf};
 ghost use Rattle.settlement.specs.Bills.{IsBillOf};
-ghost use Rattle.std.specs.Option.{option_and_then};
-ghost use Rattle.std.specs.Prelude.{◌++◌, ◌^◌, ◌≡◌, ◌≤◌, IfErr, IfOk, List, None, Option, Some};
-ghost use Rattle.std.specs.Prelude.{false, length, map, true, ℕ};
+ghost use Rattle.std.specs.{Option.option_and_then, Prelude.◌++◌};
+ghost use Rattle.std.specs.Prelude.{◌^◌, ◌≡◌, ◌≤◌, ⊤, IfErr, IfOk, List, None, false, length, map};
+ghost use Rattle.std.specs.Prelude.{true};
 
-use crate::fault::{Fault, LateFault, ended};
-use crate::note::note_taps;
-use crate::options::Options;
-use crate::settle::{write_billed, write_text};
+use crate::fault::{Fault, LateFault};
+use crate::options::Job;
+use crate::settle::{write_billed, write_taps};
 use crate::usage::TokenRange;
 use fare_table::FareTable;
 use file_sources::Disk;
@@ -25,22 +24,19 @@ use settled_bills::{
     BillFault, PartBill, part_bill, part_spans, sorted_bill, sorted_taps_of, write_part_ledger,
     write_sorted_ledger,
 };
-use settlement::laws;
 use std::alloc::Global;
 use std::io::Write;
 use std::marker::Sync;
 use std::random::RandomSource;
 use std::thread::Threads;
-use tap_views::Token;
 
 fn open_files<'a, D: Disk>(
     alloc: Global,
     disk: &D,
     names: &[&'a str],
 ) -> Result<Vec<D::File>, (&'a str, Unopened)>
-    ensures opened { IfOk result (λ files. map D.File.bytes files.items
+    ensures { IfOk result (λ files. map D.File.bytes files.items
         ≡ map (D.bytes_under disk.now) (map (λ n. n.now) names.now)) }
-    ensures fault { IfErr result (λ file. IsOneOf file.0.now (map (λ n. n.now) names.now)) }
 {
     let mut files = Vec::new(alloc);
     for name in names {
@@ -55,129 +51,64 @@ fn open_files<'a, D: Disk>(
     Ok(files)
 }
 
-fn write_report<'a, R: Threads + RandomSource + Sync, F: Placed + Sync, W: Write>(
-    rt: &R,
-    alloc: Global,
-    options: &Options<'a>,
-    table: &FareTable,
-    files: &[F],
-    out: &mut W,
-) -> Result<bool, Fault<'a>>
-    requires { (request_of options.now).ledger ≡ false }
-    ensures ends { GivesSettled (request_of options.now) (map F.bytes files.now) table.now None
-        (W.contents out.old) (W.contents out.new) result }
-    ensures right { IfErr result (IsRightOfSorted (request_of options.now).files
-        (map F.bytes files.now)) }
-{
-    let Ok(seed) = HashSeed::new(rt) else {
-        return Err(Fault::NoMemory);
-    };
-    match sorted_bill(rt, alloc, table, seed, files, options.workers) {
-        Ok(made) => write_billed(alloc, made, out),
-        Err(fault) => Err(Fault::of_bill(&options.files, fault)),
-    }
-}
-
-fn write_ledger<'a, R: Threads + Sync, F: Placed + Sync, W: Write>(
-    rt: &R,
-    alloc: Global,
-    options: &Options<'a>,
-    table: &FareTable,
-    files: &[F],
-    out: &mut W,
-) -> Result<bool, Fault<'a>>
-    requires { (request_of options.now).ledger ≡ true }
-    ensures ends { GivesSettled (request_of options.now) (map F.bytes files.now) table.now None
-        (W.contents out.old) (W.contents out.new) result }
-    ensures right { IfErr result (IsRightOfSorted (request_of options.now).files
-        (map F.bytes files.now)) }
-{
-    match write_sorted_ledger(rt, alloc, table, files, out, options.workers) {
-        Ok(_ends) => Ok(true),
-        Err(fault) => Err(Fault::of_bill(&options.files, fault)),
-    }
-}
-
-/// No taps of other tokens are kept.
-fn write_token<'a, R: Threads + Sync, D: Disk, F: Placed + Sync, W: Write>(
-    rt: &R,
-    alloc: Global,
-    disk: &D,
-    options: &Options<'a>,
-    table: &FareTable,
-    token: Token,
-    files: &[F],
-    out: &mut W,
-) -> Result<bool, Fault<'a>>
-    ensures ends { GivesSettled (request_of options.now) (map F.bytes files.now) table.now
-        (Some token) (W.contents out.old) (W.contents out.new) result }
-    ensures right { IfErr result (IsRightOfSorted (request_of options.now).files
-        (map F.bytes files.now)) }
-{
-    match sorted_taps_of(rt, alloc, files, token, options.workers) {
-        Ok(made) => {
-            // proof: the taps, posted alone, are the token's entries in the settled history
-            laws::posted_taps();
-            note_taps(disk, &made.taps);
-            ended(
-                write_text(alloc, options, table, token, &made.taps, out),
-                true,
-            )
-        }
-        Err(fault) => Err(Fault::of_bill(&options.files, fault)),
-    }
-}
-
 fn charge_sorted<'a, R: Threads + RandomSource + Sync, D: Disk, F: Placed + Sync, W: Write>(
-    rt: &R,
-    alloc: Global,
-    disk: &D,
-    options: &Options<'a>,
+    job: &Job<'_, 'a, R, D>,
     table: &FareTable,
-    token: Option<Token>,
     files: &[F],
     out: &mut W,
 ) -> Result<bool, Fault<'a>>
-    ensures ends { GivesSettled (request_of options.now) (map F.bytes files.now) table.now token
+    ensures ends { Gives (OfKnown (map F.bytes files.now) (λ files text.
+        ShowsSettled (request_of job.now.options) table.now files job.now.token text true))
         (W.contents out.old) (W.contents out.new) result }
-    ensures right { IfErr result (IsRightOfSorted (request_of options.now).files
-        (map F.bytes files.now)) }
+    ensures stop { IfErr result (CanStop (AreWrongSorted (request_of job.now.options).files
+        (map F.bytes files.now)) ⊤) }
 {
-    match token {
-        Some(token) => write_token(rt, alloc, disk, options, table, token, files, out),
-        None if options.ledger => write_ledger(rt, alloc, options, table, files, out),
-        None => write_report(rt, alloc, options, table, files, out),
+    let (rt, alloc, options) = (job.rt, job.alloc, &job.options);
+    let workers = options.workers;
+    match job.token {
+        Some(token) => match sorted_taps_of(rt, alloc, files, token, workers) {
+            Ok(made) => write_taps(job, table, token, made, out),
+            Err(fault) => Err(Fault::of_bill(&options.files, fault)),
+        },
+        None if options.ledger => {
+            match write_sorted_ledger(rt, alloc, table, files, out, workers) {
+                Ok(_ends) => Ok(true),
+                Err(fault) => Err(Fault::of_bill(&options.files, fault)),
+            }
+        }
+        None => {
+            let Ok(seed) = HashSeed::new(rt) else {
+                return Err(Fault::NoMemory);
+            };
+            match sorted_bill(rt, alloc, table, seed, files, workers) {
+                Ok(made) => write_billed(alloc, made, out),
+                Err(fault) => Err(Fault::of_bill(&options.files, fault)),
+            }
+        }
     }
 }
 
 /// Opens the named files, each with its taps in canonical order, charges them by the only table,
 /// and writes what is requested. A file that is out of order or damaged is refused whole.
 pub(crate) fn work_sorted<'a, R: Threads + RandomSource + Sync, D: Disk, W: Write>(
-    rt: &R,
-    alloc: Global,
-    disk: &D,
-    options: &Options<'a>,
+    job: &Job<'_, 'a, R, D>,
     table: &FareTable,
-    token: Option<Token>,
     out: &mut W,
 ) -> Result<bool, Fault<'a>>
-    requires word { option_and_then range_fault (request_of options.now).tokens ≡ None }
-    requires token { IsTokenIn (request_of options.now).token token }
-    requires sorted { (request_of options.now).sorted ≡ true }
-    ensures ends { GivesKnown (¬ IsPartLedger (request_of options.now))
-        (map (D.bytes_under disk.now) (request_of options.now).files) (λ files text.
-        ShowsSorted (request_of options.now) table.now files token text true) (W.contents out.old)
-        (W.contents out.new) result }
-    ensures right { IfErr result (IsRightOfSorted (request_of options.now).files
-        (map (D.bytes_under disk.now) (request_of options.now).files)) }
+    requires { option_and_then range_fault (request_of job.now.options).tokens ≡ None }
+    ensures ends { GivesIf (¬ IsPartLedger (request_of job.now.options))
+        (Merges (request_of job.now.options) (D.bytes_under job.now.disk.now) table.now
+        job.now.token) (W.contents out.old) (W.contents out.new) result }
+    ensures stop { IfErr result (CanStop (AreWrongSorted (request_of job.now.options).files
+        (map (D.bytes_under job.now.disk.now) (request_of job.now.options).files)) ⊤) }
 {
-    let files = match open_files(alloc, disk, &options.files) {
+    let files = match open_files(job.alloc, job.disk, &job.options.files) {
         Ok(files) => files,
         Err((name, fault)) => return Err(Fault::Unopened(name, fault)),
     };
-    match options.tokens {
-        Some(word) => charge_part(rt, alloc, options, table, word, &files, out),
-        None => charge_sorted(rt, alloc, disk, options, table, token, &files, out),
+    match job.options.tokens {
+        Some(word) => charge_part(job, table, word, &files, out),
+        None => charge_sorted(job, table, &files, out),
     }
 }
 
@@ -189,8 +120,7 @@ fn write_made<'a, W: Write>(alloc: Global, made: PartBill, out: &mut W) -> Resul
         → Gives (λ text success. (success ≡ true)
         × (text ≡ part_head made.spans.items ++ report_over made.billed.ends.items history))
         (W.contents out.old) (W.contents out.new) result }
-    ensures right { IfErr result (λ fault. (names : List (List ℕ)) (known : List (Option (List ℕ)))
-        → IsRightOfSorted names known fault) }
+    ensures stop { IfErr result (CanStop ⊥ ⊤) }
 {
     let PartBill { spans, billed } = made;
     if let Err(fault) = write_part_head(alloc, &spans, out) {
@@ -203,47 +133,23 @@ fn write_made<'a, W: Write>(alloc: Global, made: PartBill, out: &mut W) -> Resul
     }
 }
 
-fn write_report_of_part<'a, R: RandomSource, F: Placed, W: Write>(
-    rt: &R,
-    alloc: Global,
-    options: &Options<'a>,
+fn write_ledger_of_part<'a, R: Threads + Sync, D, F: Placed, W: Write>(
+    job: &Job<'_, 'a, R, D>,
     table: &FareTable,
     range: TokenRange,
     files: &[F],
     out: &mut W,
 ) -> Result<bool, Fault<'a>>
-    ensures ends { GivesPart false (map F.bytes files.now) table.now (W.contents out.old)
-        (W.contents out.new) result }
-    ensures right { IfErr result (IsRightOfSorted (request_of options.now).files
-        (map F.bytes files.now)) }
+    ensures ends { GivesIf ⊥ (OfKnown (map F.bytes files.now) (IsPartText true table.now))
+        (W.contents out.old) (W.contents out.new) result }
+    ensures stop { IfErr result (CanStop (AreWrongSorted (request_of job.now.options).files
+        (map F.bytes files.now)) ⊤) }
 {
-    let Ok(seed) = HashSeed::new(rt) else {
-        return Err(Fault::NoMemory);
-    };
-    match part_bill(alloc, table, seed, files, range.from, range.below) {
-        Ok(made) => write_made(alloc, made, out),
-        Err(fault) => Err(Fault::of_bill(&options.files, fault)),
-    }
-}
-
-fn write_ledger_of_part<'a, R: Threads + Sync, F: Placed, W: Write>(
-    rt: &R,
-    alloc: Global,
-    options: &Options<'a>,
-    table: &FareTable,
-    range: TokenRange,
-    files: &[F],
-    out: &mut W,
-) -> Result<bool, Fault<'a>>
-    ensures ends { GivesPart true (map F.bytes files.now) table.now (W.contents out.old)
-        (W.contents out.new) result }
-    ensures right { IfErr result (IsRightOfSorted (request_of options.now).files
-        (map F.bytes files.now)) }
-{
+    let (rt, alloc) = (job.rt, job.alloc);
     let TokenRange { from, below } = range;
     let spans = match part_spans(alloc, files, from, below) {
         Ok(spans) => spans,
-        Err(fault) => return Err(Fault::of_bill(&options.files, fault)),
+        Err(fault) => return Err(Fault::of_bill(&job.options.files, fault)),
     };
     if let Err(fault) = write_part_head(alloc, &spans, out) {
         return Err(Fault::of_print(fault));
@@ -257,26 +163,32 @@ fn write_ledger_of_part<'a, R: Threads + Sync, F: Placed, W: Write>(
 
 /// Charges the taps of the word's range of tokens, and writes what is requested. One thread does it,
 /// and reads no more of the files than it needs.
-pub(crate) fn charge_part<'a, R: Threads + RandomSource + Sync, F: Placed, W: Write>(
-    rt: &R,
-    alloc: Global,
-    options: &Options<'a>,
+fn charge_part<'a, R: Threads + RandomSource + Sync, D, F: Placed, W: Write>(
+    job: &Job<'_, 'a, R, D>,
     table: &FareTable,
     word: &str,
     files: &[F],
     out: &mut W,
 ) -> Result<bool, Fault<'a>>
     requires word { range_fault word.now ≡ None }
-    ensures ends { GivesPart (request_of options.now).ledger (map F.bytes files.now) table.now
+    ensures ends { GivesIf ((request_of job.now.options).ledger ≡ false) (OfKnown
+        (map F.bytes files.now) (IsPartText (request_of job.now.options).ledger table.now))
         (W.contents out.old) (W.contents out.new) result }
-    ensures right { IfErr result (IsRightOfSorted (request_of options.now).files
-        (map F.bytes files.now)) }
+    ensures stop { IfErr result (CanStop (AreWrongSorted (request_of job.now.options).files
+        (map F.bytes files.now)) ⊤) }
 {
+    let options = &job.options;
     let Ok(range) = TokenRange::of(word) else {
         unreachable!();
     };
     if options.ledger {
-        return write_ledger_of_part(rt, alloc, options, table, range, files, out);
+        return write_ledger_of_part(job, table, range, files, out);
     }
-    write_report_of_part(rt, alloc, options, table, range, files, out)
+    let Ok(seed) = HashSeed::new(job.rt) else {
+        return Err(Fault::NoMemory);
+    };
+    match part_bill(job.alloc, table, seed, files, range.from, range.below) {
+        Ok(made) => write_made(job.alloc, made, out),
+        Err(fault) => Err(Fault::of_bill(&options.files, fault)),
+    }
 }

@@ -1,45 +1,37 @@
 //! The traced ledger of files.
 ghost use Rattle.class_names.specs.Names.{class_by};
-ghost use Rattle.fare_program.specs.{Causes.IsRightFault, Program.Traces};
-ghost use Rattle.fare_program.specs.inside.{Ends.Gives, Fault.IsOfOutput, Options.request_of};
-ghost use Rattle.program_manners.specs.{Loads.Loaded, TableLoads.LoadsTables, TableViews.names_of};
-ghost use Rattle.program_manners.specs.TableWords.{table_files};
+ghost use Rattle.fare_program.specs.{Causes.HasWrongClass, FilesLoaded.names_to_load};
+ghost use Rattle.fare_program.specs.{Program.Traces, inside.Ends.Gives, inside.Ends.Works};
+ghost use Rattle.fare_program.specs.inside.{Fault.CanStop, Options.request_of};
+ghost use Rattle.program_manners.specs.{TableLoads.LoadsTables, TableViews.names_of};
 ghost use Rattle.settled_bills.specs.Ledgers.{IsTracedLedger};
-ghost use Rattle.std.specs.Prelude.{◌≡◌, ◌≤◌, List, Option, Some, IfErr, IfSome, length, map};
-ghost use Rattle.std.specs.Prelude.{slice_get, true};
+ghost use Rattle.std.specs.Prelude.{◌≡◌, ⊤, [], List, IfErr, IfSome, map};
+ghost use Rattle.world.specs.Run.{Load};
 
 use crate::fault::Fault;
-use crate::options::Options;
+use crate::options::Job;
 use crate::program::load_files;
 use fare_table::FareTable;
-use file_sources::{Disk, Source};
+use file_sources::Disk;
 use program_manners::{TableWord, TableWords, Tables};
 use settled_bills::{ClassFault, ClassNames, WrongNames, write_traced_ledger};
 use std::alloc::Global;
 use std::io::Write;
 use std::marker::Sync;
 use std::thread::Threads;
-
-/// The file of the table at this place.
-fn file_at<'a>(words: &TableWords<'a>, position: usize) -> &'a str
-    requires { position ≤ length (names_of words.now).later }
-    ensures { slice_get (table_files (names_of words.now)) position ≡ Some result.now }
-{
-    if position == 0 {
-        return words.first;
-    }
-    TableWord::of(words.later[position - 1]).name
-}
+use world::Inputs;
 
 /// The file of a class that cannot be in a ledger. The texts were read as fare tables before, so each
 /// is TOML and names a default class.
 fn wrong_file<'a>(words: &TableWords<'a>, wrong: WrongNames) -> Option<&'a str>
-    requires { wrong.position ≤ length (names_of words.now).later }
-    ensures { IfSome result (λ file. (wrong.fault ≡ ClassFault.Name)
-        × (slice_get (table_files (names_of words.now)) wrong.position ≡ Some file.now)) }
+    ensures { IfSome result (λ _. wrong.fault ≡ ClassFault.Name) }
 {
     match wrong.fault {
-        ClassFault::Name => Some(file_at(words, wrong.position)),
+        ClassFault::Name if wrong.position == 0 => Some(words.first),
+        ClassFault::Name => match words.later.get(wrong.position - 1) {
+            Some(word) => Some(TableWord::of(word).name),
+            None => None,
+        },
         ClassFault::Text | ClassFault::NoMemory => None,
     }
 }
@@ -53,7 +45,7 @@ fn print_traced<'a, W: Write>(
 ) -> Result<bool, Fault<'a>>
     ensures ends { Gives (IsTracedLedger (class_by names.now) table.now
         (map (λ f. f.items) files.now)) (W.contents out.old) (W.contents out.new) result }
-    ensures output { IfErr result IsOfOutput }
+    ensures stop { IfErr result (CanStop ⊥ ⊥) }
 {
     match write_traced_ledger(alloc, table, names, files, out) {
         Ok(success) => Ok(success),
@@ -62,30 +54,26 @@ fn print_traced<'a, W: Write>(
 }
 
 /// Loads the files, and writes their traced ledger. Says whether no file has a layout fault.
-pub(crate) fn write_traced<'a, R: Threads + Sync, D: Disk + Sync, S: Source, W: Write>(
-    rt: &R,
-    alloc: Global,
-    disk: &D,
-    options: &Options<'a>,
+pub(crate) fn write_traced<'a, R: Threads + Sync, D: Disk + Sync, I: Inputs, W: Write>(
+    job: &Job<'_, 'a, R, D>,
     words: &TableWords<'a>,
     tables: &Tables,
-    source: &mut S,
+    inputs: &mut I,
     out: &mut W,
 ) -> Result<bool, Fault<'a>>
-    requires traced { (request_of options.now).traced ≡ true }
-    requires named { (request_of options.now).table ≡ Some (names_of words.now) }
-    requires loaded { (before : Option (List Loaded)) × LoadsTables (names_of words.now) before
-        (S.loaded source.old) (map (λ t. t.items) tables.now.texts.items) tables.now.fares }
-    ensures ends { Gives (Traces (request_of options.now) (map (λ t. t.items) tables.now.texts.items)
-        tables.now.fares (S.loaded source.old) (S.loaded source.new)) (W.contents out.old)
-        (W.contents out.new) result }
-    ensures right { IfErr result (λ fault. (loaded : Option (List Loaded))
-        → LoadsTables (names_of words.now) loaded (S.loaded source.old)
-        (map (λ t. t.items) tables.now.texts.items) tables.now.fares
-        → IsRightFault (request_of options.now) (D.bytes_under disk.now) loaded
-        (S.loaded source.new) (S.refused source.new) fault) }
+    requires loaded { (loads : List Load) × LoadsTables (names_of words.now) loads
+        (map (λ t. t.items) tables.now.texts.items) tables.now.fares }
+    ensures { Works (record {
+      Given = ⊤;
+      Right = Traces (request_of job.now.options) (map (λ t. t.items) tables.now.texts.items)
+          tables.now.fares;
+      Wrong = λ loads. (loads ≡ [])
+          × HasWrongClass (map (λ t. t.items) tables.now.texts.items);
+      Late = ⊥;
+      names = names_to_load (request_of job.now.options).files;
+    }) (I.run inputs.old) (I.run inputs.new) (W.contents out.old) (W.contents out.new) result }
 {
-    let names = match ClassNames::of_texts(alloc, &tables.fares, &tables.texts) {
+    let names = match ClassNames::of_texts(job.alloc, &tables.fares, &tables.texts) {
         Ok(names) => names,
         Err(wrong) => {
             let Some(file) = wrong_file(words, wrong) else {
@@ -94,9 +82,9 @@ pub(crate) fn write_traced<'a, R: Threads + Sync, D: Disk + Sync, S: Source, W: 
             return Err(Fault::Class(file, words.later.as_slice().is_empty()));
         }
     };
-    let files = match load_files(rt, alloc, disk, options, source) {
+    let files = match load_files(job, inputs) {
         Ok(files) => files,
         Err(file) => return Err(Fault::File(file)),
     };
-    print_traced(alloc, &tables.fares, &names, &files, out)
+    print_traced(job.alloc, &tables.fares, &names, &files, out)
 }

@@ -1,14 +1,14 @@
 //! Files that are read before they are due, several at once.
-ghost use Rattle.std.specs.Prelude.{◌≡◌, ◌<◌, ◌≤◌, ◌++◌, ◌∷◌, [], IfNone, IfSome, length};
-ghost use Rattle.std.specs.Prelude.{string_bytes};
-ghost use Rattle.file_sources.specs.inside.PrefetchedFiles.{IsNotNext};
+ghost use Rattle.std.specs.Prelude.{◌≡◌, ◌<◌, ◌≤◌, ◌++◌, ◌∷◌, [], IfErr, IfOk, IfSome, Some};
+ghost use Rattle.std.specs.Prelude.{length, string_bytes};
+ghost use Rattle.world.specs.{Loads.IsRefused, Run.with_load};
 
 use placed_files::{Placed, Unopened};
 use std::alloc::{AllocError, Global};
 use std::marker::Sync;
 use std::thread;
 use std::thread::Threads;
-use world::{LoadFault, Loaded, Reading, Trace};
+use world::{Inputs, LoadFault, Loaded, Reading, Trace};
 
 /// A disk: files by their names. Several threads may read them at once.
 pub trait Disk {
@@ -68,28 +68,50 @@ pub trait Disk {
 
     /// Notes that no upload has the requested token.
     fn note_absent(&self) {}
+
+    /// Notes that files are loaded in their turns from here on, of which so many were read before.
+    fn note_turns(&self, _ahead: usize) {}
+
+    /// Notes that a file of this name that was read before its turn has these bytes.
+    fn note_taken(&self, _name: &str, _bytes: &[u8]) {}
 }
 
-/// How much of what was uploaded.
+/// How many taps, or how many bytes of uploads.
 #[derive(Clone, Copy, Debug, PartialEq, Eq)]
 pub enum Amount {
-    /// This number of taps.
     Taps(u64),
-    /// Uploads of this number of bytes.
     Bytes(u64),
 }
 
-pub(crate) fn take_next(ahead: &mut Vec<Loaded>, name: &str) -> Option<Loaded>
-    ensures taken { IfSome result (λ next. (ahead.old.items ≡ ahead.new.items ++ next ∷ [])
+fn take_next(ahead: &mut Vec<Loaded>, name: &str) -> Option<Loaded>
+    ensures { IfSome result (λ next. (ahead.old.items ≡ ahead.new.items ++ next ∷ [])
         × (string_bytes next.name ≡ name.now)) }
-    ensures kept { IfNone result ((ahead.new.items ≡ ahead.old.items)
-        × IsNotNext name.now ahead.old.items) }
 {
     if ahead.last()?.name().as_str() != name {
         return None;
     }
     let next = ahead.pop()?;
     Some(next)
+}
+
+/// All bytes of the file of this name, which may be the next of those that were read before.
+pub fn load_next<D: Disk, I: Inputs>(
+    disk: &D,
+    ahead: &mut Vec<Loaded>,
+    name: &str,
+    inputs: &mut I,
+) -> Result<Vec<u8>, LoadFault>
+    ensures loaded { IfOk result (λ bytes.
+        I.run inputs.new ≡ with_load (I.run inputs.old) (Some name.now) bytes.items) }
+    ensures refused { IfErr result
+        (IsRefused (I.run inputs.old) (I.run inputs.new) (Some name.now)) }
+{
+    let Some(file) = take_next(ahead, name) else {
+        return inputs.load(name);
+    };
+    let bytes = inputs.take(file);
+    disk.note_taken(name, &bytes);
+    Ok(bytes)
 }
 
 /// The first that may not be read keeps all after it waiting: they may be made while it is read.

@@ -1,8 +1,9 @@
 -- How a run ends that was stopped.
-use Rattle.std.proofs.Common.{◌≡◌, ◌∙◌, ℕ, List, [], ap, append-nil, inl, inr, refl, subst}
+use Rattle.std.proofs.Common.{◌≡◌, ◌∙◌, ◌++◌, ℕ, List, [], Contains, Option, ap, append-nil}
+use Rattle.std.proofs.Common.{append_assoc, inl, inr, refl, subst}
 use Rattle.frame.proofs.Giving.{part_self}
 use Rattle.frame.specs.{Given.Given, Given.IsPart, Given.gave, Outcome.IsHalted, Outcome.rule_of}
-use Rattle.frame.specs.Outsides.{IsStoppedIn, Leaves, LeavesBy, Stops}
+use Rattle.frame.specs.Outsides.{IsStoppedIn, Leaves, LeavesBy, LeavesFiles, Stops}
 use Rattle.frame.specs.declared.outside.Outside.{Outside, TheVariants.NoMemory, TheVariants.Unmade}
 use Rattle.frame.specs.declared.outside.Outside.TheVariants.{Unread, Untraced, Unwritten, Wrong}
 use Rattle.world.specs.{Origins.with_loads, Run.Load, Run.Run, Run.with_cut}
@@ -21,7 +22,24 @@ leaves_weaker f words NoMemory before after leaves = leaves
 pub stops_weaker : {t u : Type 0} → (t → u) → (why : Outside) → Stops t why → Stops u why
 stops_weaker f why stops = λ words run. leaves_weaker f words why run run (stops words run)
 
+-- the same, of more files
+pub leaves_files_weaker : {t u : Type 0} → (t → u) → (ns ms : List (Option (List ℕ)))
+    → ((n : Option (List ℕ)) → Contains ns n → Contains ms n) → (why : Outside)
+    (before after : Run) → LeavesFiles t ns why before after → LeavesFiles u ms why before after
+leaves_files_weaker f ns ms among (Unread why) before after (n, is, refused) =
+    (n, among n is, refused)
+leaves_files_weaker f ns ms among (Unwritten why) before after leaves = leaves
+leaves_files_weaker f ns ms among (Unmade why is_partial) before after leaves = leaves
+leaves_files_weaker f ns ms among Wrong before after leaves = (f leaves.0, leaves.1)
+leaves_files_weaker f ns ms among Untraced before after leaves = leaves
+leaves_files_weaker f ns ms among NoMemory before after leaves = leaves
+
 -- ---- after loads
+pub loads_more : (start old new : Run) (loads more : List Load) → old ≡ with_loads start loads
+    → new ≡ with_loads old more → new ≡ with_loads start (loads ++ more)
+loads_more start old new loads more is then = then ∙ ap (λ r. with_loads r more) is
+    ∙ ap (λ xs. record start { loads = xs }) (append_assoc start.loads loads more)
+
 abbrev pub loaded_of : List Load → Given
 loaded_of loads = record { loads = loads; text = []; note = []; files = [] }
 

@@ -1,4 +1,3 @@
-pub mod Failing
 pub mod Given
 pub mod Names
 pub mod Outcome

@@ -2,7 +2,7 @@
 use Rattle.frame.specs.{Given.Given, Given.IsPart, Given.gave, Names.file_named}
 use Rattle.frame.specs.declared.outside.Outside.{Outside, TheVariants.NoMemory, TheVariants.Unmade}
 use Rattle.frame.specs.declared.outside.Outside.TheVariants.{Unread, Untraced, Unwritten, Wrong}
-use Rattle.std.specs.Prelude.{◌≡◌, ℕ, Bool, true, false, Contains, List, MatchBool}
+use Rattle.std.specs.Prelude.{◌≡◌, ℕ, Bool, true, false, Contains, List, MatchBool, Option}
 use Rattle.world.specs.{Loads.IsRefused, Run.Run, Run.with_cut, Writes.IsSaid, Writes.IsUnmade}
 use Rattle.world.specs.declared.faults.WriteFault.{WriteFault}
 use Rattle.world.specs.declared.faults.WriteFault.TheVariants.{Closed, Refused}
@@ -47,6 +47,17 @@ is_closed Refused = false
 abbrev pub is_quiet : Outside → Bool
 is_quiet (Unwritten why) = is_closed why
 is_quiet _ = false
+
+-- What stopped a run that makes no files leaves this of it: the file of one of these names, or standard
+-- input, which has none, was refused; or what a file holds is wrong, and this is true.
+abbrev pub LeavesFiles : Type 0 → List (Option (List ℕ)) → Outside → Run → Run → Type 0
+LeavesFiles truth names (Unread why) before after =
+    (name : Option (List ℕ)) × Contains names name × IsRefused before after name why
+LeavesFiles truth names (Unwritten why) before after = after ≡ with_cut before why
+LeavesFiles truth names (Unmade why is_partial) before after = ⊥
+LeavesFiles truth names Wrong before after = truth × (after ≡ before)
+LeavesFiles truth names Untraced before after = after ≡ before
+LeavesFiles truth names NoMemory before after = after ≡ before
 
 -- It was reported, and nothing else was done; or the reader of the output is gone, and nothing was.
 abbrev pub IsReported : Outside → Run → Run → Type 0

@@ -1,5 +1,4 @@
-//! How a run of a program ends, once for all programs: `specs/Outcome.antt` and `specs/Failing.antt`
-//! have what is promised.
+//! How a run of a program ends, once for all programs: `specs/Outcome.antt` has what is promised.
 #![tactic(auto)]
 
 mod names;

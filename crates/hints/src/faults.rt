@@ -3,7 +3,7 @@
 use crate::damage::hint_on_file;
 use crate::hint::Hint;
 use crate::overheard::Overheard;
-use program_manners::{Complaints, Escaping, STANDARD_INPUT};
+use program_manners::{Escaping, STANDARD_INPUT, report_line};
 use std::alloc::Global;
 use std::fs::Files;
 use std::io::{IsTerminal, Read, Stderr};
@@ -98,8 +98,8 @@ pub fn hint_on_fault<'a, R: Files>(
 
 /// Writes what was reported of the words. If they are wrong, a terminal shows what to do about the
 /// fault of a list of files.
-pub fn end_words(rt: &HostRuntime, err: Complaints<Overheard<Escaping<Stderr>>>, are_wrong: bool) {
-    let (escaping, said) = err.into_writer().into_parts();
+pub fn end_words(rt: &HostRuntime, err: Overheard<Escaping<Stderr>>, are_wrong: bool) {
+    let (escaping, said) = err.into_parts();
     escaping.finish();
     let named = Named {
         charges: false,
@@ -111,6 +111,6 @@ pub fn end_words(rt: &HostRuntime, err: Complaints<Overheard<Escaping<Stderr>>>,
         && let Some(line) = said.line()
         && let Some(hint) = hint_on_fault(rt, rt.alloc(), line, named)
     {
-        Complaints::new(rt.stderr()).report_line(hint);
+        report_line(&mut rt.stderr(), hint);
     }
 }

@@ -2,18 +2,17 @@
 use Rattle.std.proofs.Common.{◌≡◌, ◌∙◌, ◌++◌, ℕ, Bool, true, false, List, [], ◌∷◌, Option, None}
 use Rattle.std.proofs.Common.{Global, Some, Vec, ap, append-nil, append_assoc, inl, inr, refl}
 use Rattle.std.proofs.Common.{subst, sym, ⊎_elim}
-use Rattle.frame.specs.Failing.{HasStarted}
 use Rattle.ledger_check.specs.{Columns.read_as, Lines.lines_of, Verdicts.IsVerdict}
 use Rattle.omny_audit.proofs.TraceLemmas.{reads_more}
-use Rattle.omny_audit.specs.{Program.HoldsOfRead, Reports.Given, Reports.IsAuditText, Traced.Wanted}
-use Rattle.omny_audit.specs.declared.{audit.Audit.Audit, check.Check.Check}
-use Rattle.omny_audit.specs.declared.check.Check.TheVariants.{First, All}
+use Rattle.omny_audit.specs.{Ends.LeavesOf, Program.HoldsOfRead, Reports.Given, Reports.IsAuditText}
+use Rattle.omny_audit.specs.{Traced.Wanted, declared.audit.Audit.Audit}
+use Rattle.omny_audit.specs.declared.check.Check.{Check, TheVariants.First, TheVariants.All}
 use Rattle.omny_audit.specs.declared.check.Found.{Found}
 use Rattle.omny_audit.specs.declared.fault.Fault.{Fault, TheVariants.Unwritten}
 use Rattle.omny_audit.specs.declared.traced.TracedPieces.{TracedPieces}
 use Rattle.omny_audit.specs.inside.Audits.{EndsAs, GoesOn, HasAudited, HoldsNow, Steps, given_in}
 use Rattle.omny_audit.specs.inside.Checks.{Finds, HasChecked, is_all, is_decided}
-use Rattle.omny_audit.specs.inside.Program.{IsStreamFault}
+use Rattle.omny_audit.specs.inside.Program.{outside_of}
 use Rattle.omny_audit.specs.inside.Traced.{HasReadAll, HasReadAs, wanted_by}
 use Rattle.std.proofs.lemmas.Bool.{true≢false}
 use Rattle.std.specs.Prelude.{◌⊎◌, ◌||◌, Err, Ok, is_some}
@@ -144,21 +143,17 @@ no_front (byte ∷ front) rest is = absurd cc
 
 -- a prefix of it was written
 failed : (given : Given) (ledger : Calls) (old new : Run) (text front rest : List ℕ) (fault : Fault)
-    → MayBeLeft given ledger text → text ≡ front ++ rest → new.written ≡ old.written ++ front
-    → new.said ≡ old.said → IsStreamFault ledger.reading.name ledger.run new.cut fault
+    → MayBeLeft given ledger text → text ≡ front ++ rest
+    → LeavesOf ⊥ [] ledger.reading.name ledger (outside_of fault) (with_written old front) new
     → EndsAs given ledger old new (Err fault)
-failed given ledger old new text front rest fault left whole grown quiet is = (
-  is,
-  record {
-    front = front;
-    grown = grown;
-    rest = rest;
-    right = ⊎_elim (λ none. inl (no_front front rest (sym whole ∙ none)))
-        (λ right. inr (subst (λ (t : List ℕ). HoldsOfRead ledger (λ f. IsAuditText given f t)) whole
-        right)) left;
-  },
-  quiet,
-)
+failed given ledger old new text front rest fault left whole leaves = record {
+  front = front;
+  rest = rest;
+  right = ⊎_elim (λ none. inl (no_front front rest (sym whole ∙ none)))
+      (λ right. inr (subst (λ (t : List ℕ). HoldsOfRead ledger (λ f. IsAuditText given f t)) whole
+      right)) left;
+  leaves = leaves;
+}
 
 -- ---- the audit, piece by piece
 pub record SoFar (given : Given) (audit : Audit) (file : List ℕ) (old new : Run) : Type 0 where
@@ -176,12 +171,12 @@ written_after r now xs ys is =
 pub interrupted : {given : Given} {audit : Audit} {file : List ℕ} {old new : Run}
     → SoFar given audit file old new → (piece : List ℕ) (ledger : Calls) (fault : Fault)
     → ledger.reading.bytes ≡ file ++ piece
-    → IsStreamFault ledger.reading.name ledger.run new.cut fault
+    → LeavesOf ⊥ [] ledger.reading.name ledger (outside_of fault) new new
     → EndsAs given ledger old new (Err fault)
-interrupted {given} {audit} {file} {old} {new} was piece ledger fault read is =
+interrupted {given} {audit} {file} {old} {new} was piece ledger fault read leaves =
     failed given ledger old new was.written was.written [] fault
-    (remarked given audit ledger file piece was.written read was.has)
-    (sym (append-nil was.written)) (ap (λ r. r.written) was.wrote) (ap (λ r. r.said) was.wrote) is
+    (remarked given audit ledger file piece was.written read was.has) (sym (append-nil was.written))
+    (subst (λ r. LeavesOf ⊥ [] ledger.reading.name ledger (outside_of fault) r new) was.wrote leaves)
 
 module _ {given : Given} {before after : Audit} {file piece text : List ℕ} {old now : Run}
     {ended : Option Bool} {ledger : Stream} {name : Option (List ℕ)}
@@ -222,11 +217,8 @@ module _ {given : Given} {before after : Audit} {file piece text : List ℕ} {ol
       (Unwritten why) (left_now given after ledger.trace (was.written ++ text) ended holds_now)
       (ap (λ (t : List ℕ). was.written ++ t) cut.whole
       ∙ sym (append_assoc was.written cut.front cut.rest))
-      (ap (λ (r : Run). r.written) cut.prefix
-      ∙ ap (λ (r : Run). r.written ++ cut.front) was.wrote
-      ∙ append_assoc old.written was.written cut.front)
-      (ap (λ (r : Run). r.said) cut.prefix ∙ ap (λ (r : Run). r.said) was.wrote)
-      (ap (λ (r : Run). r.cut) cut.prefix)
+      (inl (cut.prefix ∙ ap (λ (r : Run). with_cut r why)
+      (written_after old now was.written cut.front was.wrote)))
 
   -- all was written, and the flush failed
   pub unflushed : (new : Run) (why : WriteFault) → new ≡ with_cut (with_written now text) why

@@ -1,51 +1,47 @@
--- What was loaded, one more each time, what was read of the ledger, and the causes of faults.
-use Rattle.std.proofs.Common.{◌≡◌, ◌∙◌, ◌++◌, ◌∷◌, ◌≤◌, ◌⊎◌, [], ℕ, Bool, Bor, List, Option, Result}
-use Rattle.std.proofs.Common.{Err, None, Ok, Some, ap, append-nil, append_assoc, arith, false, inl, inr}
+-- What was loaded, one more each time, what was read of the ledger, and how an audit is stopped.
+use Rattle.std.proofs.Common.{◌≡◌, ◌∙◌, ◌++◌, ◌∷◌, ◌≤◌, ◌⊎◌, [], ℕ, Bool, List, Option, Result, Err}
+use Rattle.std.proofs.Common.{None, Ok, Some, ap, append-nil, append_assoc, arith, false, inl, inr}
 use Rattle.std.proofs.Common.{length, map, option_map, refl, subst, sym, true, ⊎_elim}
 use Rattle.clap.specs.Words.{Text}
-use Rattle.frame.specs.Failing.{HasStarted}
+use Rattle.frame.proofs.Giving.{gave_nothing, gave_text}
+use Rattle.frame.proofs.Outcomes.{gave_loads, leaves_files_weaker, loads_more}
+use Rattle.frame.specs.{Outcome.IsHalted, Outcome.Rule, declared.outside.Outside.Outside}
+use Rattle.frame.specs.declared.outside.Outside.TheVariants.{NoMemory}
 use Rattle.ledger_check.specs.Balances.{AreValidFields}
 use Rattle.ledger_check.specs.Columns.{has_traced_head, traced_head}
 use Rattle.ledger_check.specs.{Positions.HasUploads, declared.positions.Positions.Positions}
-use Rattle.omny_audit.specs.Ends.{Did, IsRightFault, did_by}
-use Rattle.omny_audit.specs.Options.{AuditRequest, files_of, ledger_name, named_file}
-use Rattle.omny_audit.specs.Program.{HasLoaded, HoldsOfRead, IsTextOf, LoadsNamedFiles, given_of}
+use Rattle.omny_audit.specs.Ends.{IsWrong, LeavesOf, LoadsGivenLedger, audit_rule, found_of}
+use Rattle.omny_audit.specs.Options.{AuditRequest, files_of, named_file}
+use Rattle.omny_audit.specs.Program.{HasLoaded, HoldsOfRead, LoadsNamedFiles, given_of}
 use Rattle.omny_audit.specs.declared.fault.Fault.{Fault}
-use Rattle.omny_audit.specs.declared.fault.Fault.TheVariants.{Class, File, GivenLedger, Ledger}
-use Rattle.omny_audit.specs.declared.fault.Fault.TheVariants.{NoMemory, Unwritten}
 use Rattle.omny_audit.specs.inside.{Audits.EndsAs, Audits.GoesOn, Traced.HaveNamed}
-use Rattle.omny_audit.specs.inside.Program.{EndsAudit, IsClassFault, IsLoadFault, IsStreamFault}
-use Rattle.program_manners.specs.{TableLoads.LoadsTables, TableWords.table_files}
-use Rattle.program_manners.specs.declared.recorded_loads.RecordedLoads.{RecordedLoads}
+use Rattle.omny_audit.specs.inside.Program.{EndsBy, StopsLoads, outside_of}
+use Rattle.program_manners.specs.{TableLoads.load_of, TableWords.table_files}
+use Rattle.program_manners.specs.{TablesFaults.StopsTables, TablesFaults.outside_of as of_tables}
+use Rattle.program_manners.specs.declared.table_loads.TablesFault.{TablesFault}
 use Rattle.std.proofs.lemmas.List.{length-map, map-append, take-append-le}
 use Rattle.std.proofs.lemmas.List.Elements.{Contains-append_left, Contains-append_right}
-use Rattle.std.proofs.lemmas.List.Elements.{Contains-push}
 use Rattle.std.proofs.lemmas.Option.{get_or_from_slice_get, slice_get-map, slice_get_within}
-use Rattle.std.specs.{Bool.then_some, List.slice_get, Prelude.Contains, Prelude.unwrap_or}
+use Rattle.std.specs.{Bool.then_some, List.slice_get, Prelude.Contains}
 use Rattle.std.specs.{Result.IsErrAnd, Str.bytes_eq}
 use Rattle.tap_views.proofs.Reading.{one_list_of_batches}
 use Rattle.tap_views.specs.{Encoding.fields_of, Files.taps_of_batches, Layout.Tap}
 use Rattle.tap_views.specs.declared.encoder.TapFields.{TapFields}
-use Rattle.tariffs.specs.Fares.{Fares}
 use Rattle.world.proofs.Streams.{whole_at_end}
-use Rattle.world.specs.{Run.Calls, Run.Load, Run.Run, Streams.HasRead, Streams.IsWhole}
+use Rattle.world.specs.{Origins.with_loads, Run.Calls, Run.Load, Run.Run, Run.with_flushed}
+use Rattle.world.specs.{Run.with_written, Streams.HasRead, Streams.IsWhole}
 use Rattle.world.specs.declared.stream.Stream.{Stream}
 
 -- one more file that was loaded
-pub loads_push : (names : List Text) (name : Text) (loaded loaded' loaded'' : List Load)
-    (files : List (List ℕ)) (bytes : List ℕ)
-    → LoadsNamedFiles names loaded loaded' files
-    → loaded'' ≡ loaded' ++ record { name = Some name; bytes = bytes } ∷ []
-    → LoadsNamedFiles (names ++ name ∷ []) loaded loaded'' (files ++ bytes ∷ [])
-loads_push names name loaded loaded' loaded'' files bytes all one = record {
-  loads = all.loads ++ record { name = Some name; bytes = bytes } ∷ [];
-  named = map-append (λ (load : Load). load.name) all.loads _
+pub loads_push : (names : List Text) (name : Text) (loads : List Load) (files : List (List ℕ))
+    (bytes : List ℕ) → LoadsNamedFiles names loads files
+    → LoadsNamedFiles (names ++ name ∷ []) (loads ++ load_of name bytes ∷ []) (files ++ bytes ∷ [])
+loads_push names name loads files bytes all = record {
+  named = map-append (λ (load : Load). load.name) loads _
       ∙ ap (λ (xs : List (Option Text)). xs ++ Some name ∷ []) all.named
       ∙ sym (map-append Some names (name ∷ []));
-  bytes = map-append (λ (load : Load). load.bytes) all.loads _
+  bytes = map-append (λ (load : Load). load.bytes) loads _
       ∙ ap (λ (xs : List (List ℕ)). xs ++ bytes ∷ []) all.bytes;
-  is_loaded = one ∙ ap (λ (xs : List Load). xs ++ record { name = Some name; bytes = bytes } ∷ [])
-      all.is_loaded ∙ append_assoc loaded all.loads _;
 }
 
 -- an upload has one list of valid taps
@@ -80,12 +76,6 @@ headed before after name head read (inr long) goes = λ more end.
     ∙ ap has_traced_head (sym (append_assoc head goes.rest more)
     ∙ ap (λ (t : List ℕ). t ++ more) (sym goes.begins))
 
--- a name that is lent, or what stands for it
-pub provided_name : (name : Option (Bor Text)) (usual : Bor Text)
-    → (unwrap_or name usual).now ≡ unwrap_or (option_map (λ n. n.now) name) usual.now
-provided_name None usual = refl
-provided_name (Some n) usual = refl
-
 -- what is compared, seen otherwise
 pub compared_as : {A B : Type 0} (f : A → B) (named : Bool) (x : A)
     → option_map f (then_some named x) ≡ then_some named (f x)
@@ -107,86 +97,121 @@ contained f xs k x is = (
   get_or_from_slice_get (map f xs) k (f x) (f x) (slice_get-map f xs k ∙ ap (option_map f) is),
 )
 
-module _ (request : AuditRequest) where
-  pub among_uploads : (name : List ℕ) → Contains request.uploads name
-      → Contains (files_of request) name
-  among_uploads name is = Contains-append_left request.uploads _ name is
+-- what is said of fewer files is true of more
+leaves_more : {t u : Type 0} → (t → u) → (ns ms : List (Option Text))
+    → ((n : Option Text) → Contains ns n → Contains ms n) → (name : Option Text) (ledger : Calls)
+    (why : Outside) (before after : Run) → LeavesOf t ns name ledger why before after
+    → LeavesOf u ms name ledger why before after
+leaves_more f ns ms among name ledger why before after (inl leaves) =
+    inl (leaves_files_weaker f ns ms among why before after leaves)
+leaves_more f ns ms among name ledger why before after (inr unread) = inr unread
 
-  pub among_reports : (name : List ℕ) → Contains (named_file request.report) name
-      → Contains (files_of request) name
-  among_reports name is = Contains-append_right request.uploads _ name
-      (Contains-append_left (named_file request.report) _ name is)
+of_none : (names : List (Option Text)) (n : Option Text) → Contains [] n → Contains names n
+of_none names n (k, within, is) = absurd (omega (arith, within))
 
-  among_ledgers : Contains (files_of request) (ledger_name request)
-  among_ledgers = Contains-append_right request.uploads _ (ledger_name request)
-      (Contains-append_right (named_file request.report) _ (ledger_name request)
-      (Contains-append_left (ledger_name request ∷ []) (table_files request.table) _
-      (Contains-push [] (ledger_name request))))
+-- ---- how an audit is stopped
+-- the result is the fault that was handed on
+pub handed : (rule : Rule) (old new : Run) (result : Result Bool Fault) (fault : Fault)
+    → IsErrAnd result (λ e. e ≡ fault) → IsHalted rule old new (outside_of fault)
+    → EndsBy rule old new result
+handed rule old new (Ok success) fault is halted = absurd is
+handed rule old new (Err e) fault is halted = rw is halted
 
-  pub load_cause : (start loads : RecordedLoads) (ledger : Calls) (old new : Run)
-      (names : List (List ℕ)) (fault : Fault)
-      → ((name : List ℕ) → Contains names name → Contains (files_of request) name)
-      → IsLoadFault names loads fault
-      → IsRightFault request (did_by start loads ledger old new) fault
-  load_cause start loads ledger old new names (File file) among is =
-      (among file.name.now is.0, inl is.1)
-  load_cause start loads ledger old new names (GivenLedger given) among is =
-      (among given.now is.0, is.1)
-  load_cause start loads ledger old new names NoMemory among is = tt
-  load_cause start loads ledger old new names _ among is = absurd is
+module _ (request : AuditRequest) (ledger : Calls) where
+  -- only files were loaded
+  halted : (start mid new : Run) (loads : List Load) (why : Outside) → mid ≡ with_loads start loads
+      → LeavesOf (IsWrong request loads) (files_of request) request.ledger ledger why mid new
+      → IsHalted (audit_rule request ledger) start new why
+  halted start mid new loads why is leaves = record {
+    part = found_of loads [];
+    partial = (refl, inl refl);
+    leaves = subst (λ r. LeavesOf (IsWrong request loads) (files_of request) request.ledger ledger
+        why r new) (is ∙ gave_loads start loads) leaves;
+  }
 
-  module _ (did : Did) where
-    pub stream_cause : (fault : Fault)
-        → IsStreamFault request.ledger did.ledger.run did.new.cut fault
-        → IsRightFault request did fault
-    stream_cause (File file) is = rw is.0 (among_ledgers, inr (refl, is.1))
-    stream_cause (Ledger why) is = is
-    stream_cause (Unwritten why) is = is
-    stream_cause NoMemory is = tt
-    stream_cause _ is = absurd is
+  pub halted_first : (start : Run) → IsHalted (audit_rule request ledger) start start NoMemory
+  halted_first start = record {
+    part = found_of [] [];
+    partial = (refl, inl refl);
+    leaves = inl (gave_nothing start);
+  }
 
-    pub class_cause : (between : List Load) (texts : List (List ℕ)) (fares : Fares)
-        (fault : Fault) → LoadsTables request.table (Some did.loaded) (Some between) texts fares
-        → IsClassFault request.table texts fault → IsRightFault request did fault
-    class_cause between texts fares (Class file is_alone) loads is = (
-      is.0,
-      record { texts = texts; fares = fares; between = between; loads = loads; names = is.1 },
-    )
-    class_cause between texts fares NoMemory loads is = tt
-    class_cause between texts fares _ loads is = absurd is
+  pub halted_tables : (start new : Run) (fault : TablesFault)
+      → StopsTables start new request.table fault
+      → IsHalted (audit_rule request ledger) start new (of_tables fault)
+  halted_tables start new fault s =
+      halted start (with_loads start s.loads) new s.loads (of_tables fault) refl
+      (inl (leaves_files_weaker inl (map Some (table_files request.table)) (files_of request)
+      (λ n is. Contains-append_left (map Some (table_files request.table)) _ n is)
+      (of_tables fault) (with_loads start s.loads) new s.leaves))
 
--- nothing was written
-pub started_none : (Right : List ℕ → Type 0) (out : List ℕ) → HasStarted Right out out
-started_none Right out =
-    record { front = []; grown = sym (append-nil out); rest = []; right = inl refl }
+  -- the loads of another step follow
+  module _ (start mid : Run) (loads : List Load) (is : mid ≡ with_loads start loads) where
+    halted_on : (wrong : List Load → Type 0) (names : List Text) (new : Run) (fault : Fault)
+        → ((more : List Load) → wrong more → IsWrong request (loads ++ more))
+        → ((n : Option Text) → Contains (map Some names) n → Contains (files_of request) n)
+        → StopsLoads wrong names mid new fault
+        → IsHalted (audit_rule request ledger) start new (outside_of fault)
+    halted_on wrong names new fault is_wrong among s =
+        halted start (with_loads mid s.loads) new (loads ++ s.loads) (outside_of fault)
+        (loads_more start mid (with_loads mid s.loads) loads s.loads is refl)
+        (inl (leaves_files_weaker (is_wrong s.loads) (map Some names) (files_of request) among
+        (outside_of fault) (with_loads mid s.loads) new s.leaves))
 
--- the run failed before anything was written
-pub stopped_before : (request : AuditRequest) (did : Did) (result : Result Bool Fault)
-    (fault : Fault) → IsErrAnd result (λ e. e ≡ fault) → did.new ≡ did.old
-    → IsRightFault request did fault → EndsAudit request did result
-stopped_before request did (Ok success) fault is same right = absurd is
-stopped_before request did (Err e) fault is same right = rw is (
-  right,
-  rw same (started_none (IsTextOf request did.loaded did.loaded' did.ledger) did.old.written),
-  ap (λ (r : Run). r.said) same,
-)
+    pub halted_uploads : (new : Run) (fault : Fault)
+        → StopsLoads (LoadsGivenLedger request.uploads) request.uploads mid new fault
+        → IsHalted (audit_rule request ledger) start new (outside_of fault)
+    halted_uploads new fault s = halted_on (LoadsGivenLedger request.uploads) request.uploads new fault
+        (λ more wrong. inr (inl (record {
+          name = wrong.name;
+          among = wrong.among;
+          before = loads ++ wrong.before;
+          text = wrong.text;
+          is_last = ap (λ xs. loads ++ xs) wrong.is_last
+              ∙ sym (append_assoc loads wrong.before (load_of wrong.name wrong.text ∷ []));
+          begins = wrong.begins;
+        })))
+        (λ n among. Contains-append_right (map Some (table_files request.table)) _ n
+        (Contains-append_left (map Some request.uploads) _ n among)) s
 
--- what an audit of these files ends as
-pub ends_audit : (request : AuditRequest) (did : Did) (result : Result Bool Fault)
-    → (files : HasLoaded request did.loaded did.loaded' did.ledger)
-    → EndsAs (given_of request files) did.ledger did.old did.new result
-    → EndsAudit request did result
-ends_audit request did (Ok success) files (text, (found, whole), wrote) =
-    (text, record { files = files; found = found; whole = whole }, wrote)
-ends_audit request did (Err fault) files (is, started, quiet) = (
-  stream_cause request did fault (subst (λ (n : Option Text). IsStreamFault n did.ledger.run
-      did.new.cut fault) files.reads_ledger is),
-  record {
-    front = started.front;
-    grown = started.grown;
-    rest = started.rest;
-    right = ⊎_elim (λ none. inl none) (λ right. inr (record { files = files; right = right }))
-        started.right;
-  },
-  quiet,
-)
+    pub halted_report : (new : Run) (fault : Fault)
+        → StopsLoads (λ more. ⊥) (named_file request.report) mid new fault
+        → IsHalted (audit_rule request ledger) start new (outside_of fault)
+    halted_report new fault s =
+        halted_on (λ more. ⊥) (named_file request.report) new fault (λ more none. absurd none)
+        (λ n among. Contains-append_right (map Some (table_files request.table)) _ n
+        (Contains-append_right (map Some request.uploads) _ n among)) s
+
+    pub halted_now : (truth : Type 0) (why : Outside) → (truth → IsWrong request loads)
+        → LeavesOf truth [] request.ledger ledger why mid mid
+        → IsHalted (audit_rule request ledger) start mid why
+    halted_now truth why is_wrong leaves = halted start mid mid loads why is
+        (leaves_more is_wrong [] (files_of request) (of_none (files_of request)) request.ledger ledger
+        why mid mid leaves)
+
+    -- what an audit of these files ends as
+    pub ends_audit : (new : Run) (result : Result Bool Fault)
+        → (files : HasLoaded request loads ledger)
+        → EndsAs (given_of request files) ledger mid new result
+        → EndsBy (audit_rule request ledger) start new result
+    ends_audit new (Ok success) files (text, (found, whole), wrote) = record {
+      given = found_of loads text;
+      right = (refl, success, record { files = files; found = found; whole = whole }, refl);
+      all = wrote ∙ ap with_flushed (gave_text mid (with_written mid text) start (found_of loads [])
+          text refl (is ∙ gave_loads start loads));
+    }
+    ends_audit new (Err fault) files cut = record {
+      part = found_of loads cut.front;
+      partial = (
+        refl,
+        ⊎_elim (λ none. inl none)
+            (λ right. inr (cut.rest, record { files = files; right = right })) cut.right,
+      );
+      leaves = leaves_more (λ none. absurd none) [] (files_of request) (of_none (files_of request))
+          request.ledger ledger (outside_of fault) _ new
+          (subst (λ r. LeavesOf ⊥ [] request.ledger ledger (outside_of fault) r new)
+          (gave_text mid (with_written mid cut.front) start (found_of loads []) cut.front refl
+          (is ∙ gave_loads start loads))
+          (subst (λ n. LeavesOf ⊥ [] n ledger (outside_of fault) (with_written mid cut.front) new)
+          files.reads_ledger cut.leaves));
+    }

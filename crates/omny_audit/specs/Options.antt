@@ -1,6 +1,6 @@
 -- The command line, and what its words ask for.
 use Rattle.std.specs.Prelude.{Bool, List, [], ◌∷◌, ◌++◌, Option, None, Some, codes}
-use Rattle.std.specs.Prelude.{length, nat_eq, not, option_and_then, true, unwrap_or}
+use Rattle.std.specs.Prelude.{length, map, nat_eq, not, option_and_then, true, unwrap_or}
 use Rattle.clap.specs.Words.{App, Rule, Text, all_of, first_of, matches_of, with_rule}
 use Rattle.clap.specs.declared.builder.action.ArgAction.TheVariants.{Set}
 use Rattle.frame.specs.Names.{file_named}
@@ -48,16 +48,12 @@ audit_request_by words = record {
 abbrev pub has_uploads : AuditRequest → Bool
 has_uploads request = not (nat_eq (length request.uploads) 0)
 
--- what the ledger is called: standard input, if no file of it is named
-abbrev pub ledger_name : AuditRequest → Text
-ledger_name request = unwrap_or request.ledger (codes "standard input")
-
 -- the file that is named, if any
 abbrev pub named_file : Option Text → List Text
 named_file None = []
 named_file (Some name) = name ∷ []
 
--- the files that are asked for: the uploads in order, the report, the ledger and the tables
-abbrev pub files_of : AuditRequest → List Text
-files_of request = request.uploads
-    ++ (named_file request.report ++ ledger_name request ∷ table_files request.table)
+-- the names of the files that are loaded: of the tables, the uploads in order, and the report
+abbrev pub files_of : AuditRequest → List (Option Text)
+files_of request = map Some (table_files request.table)
+    ++ (map Some request.uploads ++ map Some (named_file request.report))

@@ -4,7 +4,7 @@ use Rattle.class_names.specs.Classes.{AreTrees, class_of_token, tree_at}
 use Rattle.ledger_check.specs.{Balances.AreValidFields, Columns.has_traced_head}
 use Rattle.omny_audit.specs.{Options.AuditRequest, Options.has_uploads, Reports.Given}
 use Rattle.omny_audit.specs.{Reports.IsAudit, Reports.IsAuditText, Traced.Wanted}
-use Rattle.program_manners.specs.TableLoads.{LoadsTables}
+use Rattle.program_manners.specs.TableLoads.{LoadsTables, load_of}
 use Rattle.std.specs.{Bool.then_some, List.AllZip, List.flat_map, Prelude.◌≡◌}
 use Rattle.std.specs.Prelude.{ℕ, Bool, true, false, List, [], ◌∷◌, ◌++◌, map, Option, None, Some}
 use Rattle.tap_views.specs.UploadEnds.{ArePlainEnds}
@@ -13,23 +13,21 @@ use Rattle.tariffs.specs.Fares.{Fares}
 use Rattle.toml.specs.Data.{Members}
 use Rattle.world.specs.{Run.Calls, Run.Load, Streams.IsWhole}
 
--- A file of each of these names was loaded, in their order.
-pub record LoadsNamedFiles (names : List Text) (loaded loaded' : List Load)
-    (files : List (List ℕ)) : Type 0 where
-  pub loads : List Load
+-- These are the loads of a file of each of these names, in their order, and the bytes of the files.
+pub record LoadsNamedFiles (names : List Text) (loads : List Load) (files : List (List ℕ))
+    : Type 0 where
   pub named : map (λ load. load.name) loads ≡ map Some names
   pub bytes : map (λ load. load.bytes) loads ≡ files
-  pub is_loaded : loaded' ≡ loaded ++ loads
 
 -- the taps of uploads, one upload after another
 abbrev pub taps_in : List (List TapFields) → List TapFields
 taps_in lists = flat_map (λ list. list) lists
 
--- a file was loaded, if it is named
-abbrev pub LoadsReport : Option Text → List Load → List Load → Option (List ℕ) → Type 0
-LoadsReport None loaded loaded' report = (loaded' ≡ loaded) × (report ≡ None)
-LoadsReport (Some name) loaded loaded' report = (text : List ℕ)
-    × (loaded' ≡ loaded ++ record { name = Some name; bytes = text } ∷ []) × (report ≡ Some text)
+-- the load of a file, if it is named
+abbrev pub LoadsReport : Option Text → List Load → Option (List ℕ) → Type 0
+LoadsReport None loads report = (loads ≡ []) × (report ≡ None)
+LoadsReport (Some name) loads report = (text : List ℕ)
+    × (loads ≡ load_of name text ∷ []) × (report ≡ Some text)
 
 -- This holds of what reads gave, whatever follows; nothing does if they came to the end.
 abbrev pub HoldsOfRead : Calls → (List ℕ → Type 0) → Type 0
@@ -48,22 +46,23 @@ AreWanted fares texts true uploads (Some wanted) =
     → class_of_token (tree_at tree later moment) token ≡ Some (wanted.classes moment token))
     × (wanted.uploads ≡ uploads)
 
--- The tables were loaded, then the uploads, and then the report, if it is named. These calls read
--- the ledger.
-pub record HasLoaded (request : AuditRequest) (loaded loaded' : List Load) (ledger : Calls)
-    : Type 0 where
-  pub after_table : List Load
-  pub after_uploads : List Load
+-- These are the loads of the tables, then of the uploads, and then of the report, if it is named.
+-- These calls read the ledger.
+pub record HasLoaded (request : AuditRequest) (loads : List Load) (ledger : Calls) : Type 0 where
+  pub of_tables : List Load
+  pub of_uploads : List Load
+  pub of_report : List Load
+  pub are : loads ≡ of_tables ++ (of_uploads ++ of_report)
   pub fares : Fares
   pub texts : List (List ℕ)
-  pub loads_tables : LoadsTables request.table (Some loaded) (Some after_table) texts fares
+  pub loads_tables : LoadsTables request.table of_tables texts fares
   pub uploads : List (List ℕ)
-  pub loads_uploads : LoadsNamedFiles request.uploads after_table after_uploads uploads
+  pub loads_uploads : LoadsNamedFiles request.uploads of_uploads uploads
   -- the fields of the valid taps of each upload
   pub lists : List (List TapFields)
   pub are_lists : AllZip AreValidFields uploads lists
   pub report : Option (List ℕ)
-  pub loads_report : LoadsReport request.report after_uploads loaded' report
+  pub loads_report : LoadsReport request.report of_report report
   pub ends : List UploadEnd
   pub are_ends : ArePlainEnds uploads ends
   pub reads_ledger : ledger.reading.name ≡ request.ledger
@@ -75,8 +74,8 @@ pub record HasLoaded (request : AuditRequest) (loaded loaded' : List Load) (ledg
   pub are_wanted : AreWanted fares texts traced (then_some (has_uploads request) lists) wanted
 
 -- what the ledger is audited by, of these files
-abbrev pub given_of : (request : AuditRequest) {loaded loaded' : List Load} {ledger : Calls}
-    → HasLoaded request loaded loaded' ledger → Given
+abbrev pub given_of : (request : AuditRequest) {loads : List Load} {ledger : Calls}
+    → HasLoaded request loads ledger → Given
 given_of request files = record {
   all = request.all;
   live = request.live;
@@ -90,14 +89,14 @@ given_of request files = record {
 -- The files were loaded, and the text is what is found of the ledger beside the valid taps of the
 -- uploads, if uploads are named, and of the report. It says that all is well, or not. A ledger that
 -- is well was read to its end.
-pub record HasFound (request : AuditRequest) (loaded loaded' : List Load) (ledger : Calls)
-    (text : List ℕ) (success : Bool) : Type 0 where
-  pub files : HasLoaded request loaded loaded' ledger
+pub record HasFound (request : AuditRequest) (loads : List Load) (ledger : Calls) (text : List ℕ)
+    (success : Bool) : Type 0 where
+  pub files : HasLoaded request loads ledger
   pub found : HoldsOfRead ledger (λ file. IsAudit (given_of request files) file text success)
   pub whole : success ≡ true → IsWhole ledger
 
 -- the files were loaded, and the text is one that an audit of them may leave
-pub record IsTextOf (request : AuditRequest) (loaded loaded' : List Load) (ledger : Calls)
-    (text : List ℕ) : Type 0 where
-  pub files : HasLoaded request loaded loaded' ledger
+pub record IsTextOf (request : AuditRequest) (loads : List Load) (ledger : Calls) (text : List ℕ)
+    : Type 0 where
+  pub files : HasLoaded request loads ledger
   pub right : HoldsOfRead ledger (λ file. IsAuditText (given_of request files) file text)

@@ -1,11 +1,12 @@
 //! Why the program fails, with the line that says so.
 ghost use Rattle.std.specs.Prelude.{◌≡◌};
-ghost use Rattle.omny_audit.specs.Ends.{IsReported, is_quiet};
+ghost use Rattle.omny_audit.specs.inside.Program.{outside_of};
 
+use frame::Outside;
 use program_manners::{FileFault, NamedClassLine, TableLine, TablesFault};
 use std::alloc::{AllocError, AllocFailed};
 use std::fmt;
-use world::{LoadFault, World, WriteFault};
+use world::{LoadFault, WriteFault};
 
 /// Why the program fails. Its `Display` is the fault line without its line feed.
 #[derive(Clone, Copy, Debug)]
@@ -60,23 +61,19 @@ impl<T: Drop> From<AllocFailed<T>> for Fault<'_> {
 }
 
 impl Fault<'_> {
-    fn is_quiet(&self) -> bool
-        ensures { result ≡ is_quiet self.now }
+    /// What stops the run.
+    pub(crate) fn outside(&self) -> Outside
+        ensures { result ≡ outside_of self.now }
     {
-        matches!(self, Fault::Unwritten(WriteFault::Closed))
+        match self {
+            Fault::File(file) => Outside::Unread(file.fault),
+            Fault::Ledger(why) => Outside::Unread(*why),
+            Fault::Tables(fault) => fault.outside(),
+            Fault::GivenLedger(_) | Fault::Class(_, _) | Fault::NotMade(_) => Outside::Wrong,
+            Fault::Unwritten(why) => Outside::Unwritten(*why),
+            Fault::NoMemory => Outside::NoMemory,
+        }
     }
-}
-
-/// Reports the fault, unless the reader of the text is gone, and gives the status.
-pub(crate) fn fail<W: World>(fault: &Fault<'_>, world: &mut W) -> u8
-    ensures status { result ≡ 1 }
-    ensures reported { IsReported fault.now (W.run world.old) (W.run world.new) }
-{
-    if fault.is_quiet() {
-        return 1;
-    }
-    let _ = world.report_line(*fault);
-    1
 }
 
 impl fmt::Display for Fault<'_> {

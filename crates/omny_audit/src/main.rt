@@ -14,34 +14,33 @@ mod report;
 mod text;
 mod traced;
 
-use file_sources::Host;
+use fault::Fault;
+use frame::report;
 use hints::{Named, Overheard, Said, Unwritten, end_words, hint_on_fault};
 use input_words::input_words;
 use made_by::compare;
 use options::{Options, list_words, reads_input};
 use program::main_over;
-use program_manners::{
-    Complaints, Escaping, Output, WriteFault, take_list, unread_words, words_of,
-};
+use program_manners::{Escaping, print, report_line, take_list, unread_words, words_of};
 use std::io;
 use std::io::{IsTerminal, Write};
 use std::process::ExitCode;
 use text_forms::{FINDINGS, Form, Shaped};
-use world::{Stream, System};
+use world::{Stream, System, World};
 
 /// The words, with the name of the standard input for `-`, and with the names of the list that they
 /// name. On an error it was reported, and the error is the status.
-fn words_with_list<E: Write>(rt: &HostRuntime, err: &mut Complaints<E>) -> Result<Vec<String>, u8> {
+fn words_with_list<E: Write>(rt: &HostRuntime, err: &mut E) -> Result<Vec<String>, u8> {
     let words = match words_of(rt) {
         Ok(words) => words,
         Err(fault) => return Err(unread_words(&fault, err)),
     };
     let Ok((words, replaced, lists)) = input_words(rt.alloc(), &words) else {
-        err.report_line("fault: out of memory");
+        report_line(err, "fault: out of memory");
         return Err(1);
     };
     if replaced > 1 || (replaced > 0 && (lists > 0 || reads_input(rt.alloc(), &words))) {
-        err.report_line("error: - can be named only once");
+        report_line(err, "error: - can be named only once");
         return Err(2);
     }
     let list = list_words(rt.alloc(), &words);
@@ -51,30 +50,19 @@ fn words_with_list<E: Write>(rt: &HostRuntime, err: &mut Complaints<E>) -> Resul
 
 /// Writes what the comparison with the file of `--made-by` shows, if one is named. The status is 1
 /// if there is a difference or a fault, which was reported.
-fn compare_made_by<W: Write, E: Write>(
-    rt: &HostRuntime,
-    options: &Options<'_>,
-    out: &mut W,
-    err: &mut E,
-) -> u8 {
+fn compare_made_by<W: World>(rt: &HostRuntime, options: &Options<'_>, world: &mut W) -> u8 {
     let Some(name) = options.made_by else {
         return 0;
     };
-    let mut err = Complaints::new(err);
-    let (text, is_same) = match compare(rt, options, name) {
-        Ok(comparison) => comparison,
-        Err(fault) => {
-            err.report_line(fault);
-            return 1;
-        }
+    let fault = match compare(rt, options, name) {
+        Ok((text, is_same)) => match print(text.as_bytes(), world) {
+            Ok(()) => return u8::from(!is_same),
+            Err(why) => Fault::Unwritten(why),
+        },
+        Err(fault) => fault,
     };
-    let mut out = Output::new(out);
-    let _ = out.put(text.as_bytes());
-    let _ = out.flush();
-    if out.end() == Some(WriteFault::Refused) {
-        err.report_line("fault: cannot write");
-    }
-    u8::from(!is_same || out.end().is_some())
+    report(fault.outside(), fault, world);
+    1
 }
 
 /// Says on a terminal what to do about the fault that was reported.
@@ -88,7 +76,7 @@ fn report_hint(rt: &HostRuntime, options: &Options<'_>, said: &Said, error: Opti
         && let Some(line) = said.line()
         && let Some(hint) = hint_on_fault(rt, rt.alloc(), line, named)
     {
-        Complaints::new(rt.stderr()).report_line(hint);
+        report_line(&mut rt.stderr(), hint);
     }
 }
 
@@ -114,7 +102,7 @@ fn run(rt: &HostRuntime, words: &[String], mut err: Escaping<io::Stderr>) -> u8 
     let form = match form {
         Ok(form) => form,
         Err(line) => {
-            Complaints::new(&mut err).report_line(line);
+            report_line(&mut err, line);
             err.finish();
             return 2;
         }
@@ -123,7 +111,10 @@ fn run(rt: &HostRuntime, words: &[String], mut err: Escaping<io::Stderr>) -> u8 
         && options.ledger.is_none()
         && rt.reader().is_terminal()
     {
-        Complaints::new(rt.stderr()).report_line("reading the ledger from the standard input");
+        report_line(
+            &mut rt.stderr(),
+            "reading the ledger from the standard input",
+        );
     }
     let out = Shaped::new(rt.alloc(), rt.stdout(), FINDINGS, form);
     let mut out = Unwritten::new(out);
@@ -131,7 +122,6 @@ fn run(rt: &HostRuntime, words: &[String], mut err: Escaping<io::Stderr>) -> u8 
     let mut status = main_over(
         rt,
         words,
-        &mut Host::new(rt),
         &mut Stream::new(),
         &mut System::new(rt, &mut out, &mut err),
     );
@@ -140,7 +130,8 @@ fn run(rt: &HostRuntime, words: &[String], mut err: Escaping<io::Stderr>) -> u8 
         && err.said().is_silent()
         && out.error().is_none()
     {
-        status = status.max(compare_made_by(rt, options, &mut out, &mut err));
+        let mut world = System::new(rt, &mut out, &mut err);
+        status = status.max(compare_made_by(rt, options, &mut world));
     }
     let error = out.error();
     let (escaping, said) = err.into_parts();
@@ -152,7 +143,7 @@ fn run(rt: &HostRuntime, words: &[String], mut err: Escaping<io::Stderr>) -> u8 
 }
 
 fn main(rt: HostRuntime) -> ExitCode {
-    let mut complaints = Complaints::new(Overheard::new(Escaping::new(rt.stderr())));
+    let mut complaints = Overheard::new(Escaping::new(rt.stderr()));
     let words = words_with_list(&rt, &mut complaints);
     end_words(&rt, complaints, words.is_err());
     let status = match words {

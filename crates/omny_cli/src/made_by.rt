@@ -1,16 +1,16 @@
 //! The file that says what a text was made by.
 
 use hints::Hint;
-use program_manners::{Complaints, Escaping, words_of};
+use program_manners::{Escaping, report_line, words_of};
 use provenance::{RunSums, made_by_text, make_new};
 use std::fmt::Display;
 use std::fs;
 use std::io::IsTerminal;
 
 fn report<D: Display + Drop>(rt: &HostRuntime, line: D) {
-    let mut err = Complaints::new(Escaping::new(rt.stderr()));
-    err.report_line(line);
-    err.into_writer().finish();
+    let mut err = Escaping::new(rt.stderr());
+    report_line(&mut err, line);
+    err.finish();
 }
 
 /// Whether no file has this name. If one has, that is reported.

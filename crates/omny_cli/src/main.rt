@@ -9,14 +9,13 @@ mod input_words;
 mod made_by;
 mod system;
 
-use fare_program::{Complaints, FileWords, Host, Note, Output, list_words, unread_words, words_of};
+use fare_program::{FileWords, Note, Output, list_words, unread_words, words_of};
 use forms::form_of;
 use hints::{Named, Overheard, Said, damaged, end_words, hint_on_fault};
 use input_words::{INPUT_FILE, with_input_file};
-use program_manners::{Escaping, WriteFault, take_list};
+use program_manners::{Escaping, report_line, take_list};
 use provenance::RunSums;
 use run_progress::{Findings, Hushing, Steps, Ticker, Watched};
-use std::fs;
 use std::io::{IsTerminal, Stderr, Write};
 use std::marker::Sync;
 use std::process::ExitCode;
@@ -24,9 +23,10 @@ use std::random::RandomSource;
 use std::sync::Wait;
 use std::thread::Threads;
 use std::time::Clock;
+use std::{fs, io};
 use system::run_system;
 use text_forms::{Form, REPORT, STATEMENT, Shaped};
-use world::Recorded;
+use world::{Recorded, System, WriteFault};
 
 const INPUT_TWICE: &str = "error: - can be named only once";
 
@@ -34,24 +34,24 @@ const INPUT_TWICE: &str = "error: - can be named only once";
 fn ticker_for(rt: &HostRuntime, words: &[String], sums: Option<RunSums>) -> Ticker {
     let is_terminal = rt.stderr().is_terminal();
     if is_terminal && let Ok(Some(note)) = Note::of(rt.alloc(), words) {
-        Complaints::new(rt.stderr()).report_line(note);
+        report_line(&mut rt.stderr(), note);
     }
     Ticker::new(Steps::of(words), rt.stderr(), is_terminal, sums)
 }
 
 /// The words, with the name of the standard input for `-`, and with the names of the list that they
 /// name. On an error the reason was reported.
-fn words_with_list<E: Write>(rt: &HostRuntime, err: &mut Complaints<E>) -> Result<Vec<String>, u8> {
+fn words_with_list<E: Write>(rt: &HostRuntime, err: &mut E) -> Result<Vec<String>, u8> {
     let words = match words_of(rt) {
         Ok(words) => words,
         Err(fault) => return Err(unread_words(&fault, err)),
     };
     let Ok((words, inputs)) = with_input_file(rt.alloc(), &words) else {
-        err.report_line("fault: out of memory");
+        report_line(err, "fault: out of memory");
         return Err(1);
     };
     if inputs > 1 {
-        err.report_line(INPUT_TWICE);
+        report_line(err, INPUT_TWICE);
         return Err(2);
     }
     let list = list_words(rt.alloc(), &words);
@@ -59,23 +59,23 @@ fn words_with_list<E: Write>(rt: &HostRuntime, err: &mut Complaints<E>) -> Resul
     Ok(more.unwrap_or(words))
 }
 
-fn report_findings(findings: &Findings, err: &mut Complaints<Stderr>) {
+fn report_findings(findings: &Findings, err: &mut Stderr) {
     if let Some(late) = findings.live {
-        err.report_line(Note::FollowsFileOrder);
+        report_line(err, Note::FollowsFileOrder);
         match late {
             Some(0) => {}
-            Some(taps) => err.report_line(Note::CameLate(taps)),
-            None => err.report_line(Note::LateUncounted),
+            Some(taps) => report_line(err, Note::CameLate(taps)),
+            None => report_line(err, Note::LateUncounted),
         }
     }
     if findings.is_absent {
-        err.report_line(Note::UnknownToken);
+        report_line(err, Note::UnknownToken);
     }
 }
 
 /// Says what to do about the fault that was reported, or about uploads that are damaged.
 fn report_hints(rt: &HostRuntime, files: &FileWords<'_>, said: &Said, findings: &Findings) {
-    let mut err = Complaints::new(rt.stderr());
+    let mut err = rt.stderr();
     let named = Named {
         charges: true,
         table: files.tables.first().copied(),
@@ -84,13 +84,13 @@ fn report_hints(rt: &HostRuntime, files: &FileWords<'_>, said: &Said, findings: 
     match said.line() {
         Some(line) if !said.is_silent() => {
             if let Some(hint) = hint_on_fault(rt, rt.alloc(), line, named) {
-                err.report_line(hint);
+                report_line(&mut err, hint);
             }
         }
         _ => {
             if let Ok(hints) = damaged(rt, rt.alloc(), &files.uploads) {
                 for hint in &hints {
-                    err.report_line(*hint);
+                    report_line(&mut err, *hint);
                 }
             }
         }
@@ -120,8 +120,8 @@ fn run<R: Threads + Wait + Clock + RandomSource + Sync + AllocGlobal>(
     }
     let sums = files.made_by.map(|_| RunSums::new(rt.alloc()));
     let ticker = ticker_for(rt, words, sums);
-    let err = Recorded::new(Overheard::new(Escaping::new(rt.stderr())));
-    let mut err = Complaints::new(Hushing::new(handles, &ticker, err, false));
+    let err = Overheard::new(Escaping::new(rt.stderr()));
+    let mut err = Hushing::new(handles, &ticker, err, false);
     let layout = if files.format.has_token {
         STATEMENT
     } else {
@@ -129,26 +129,20 @@ fn run<R: Threads + Wait + Clock + RandomSource + Sync + AllocGlobal>(
     };
     let out = Recorded::new(Shaped::new(rt.alloc(), rt.stdout(), layout, form));
     let mut out = Output::new(Hushing::of_text(handles, &ticker, out, writes_to_file(rt)));
-    let status = run_system(
-        handles,
-        rt,
-        words,
-        &ticker,
-        &mut Watched::new(handles, &ticker, Host::new(rt)),
-        &mut out,
-        &mut err,
-    );
+    let system = System::new(rt, io::sink(), &mut err);
+    let mut world = Watched::new(handles, &ticker, system);
+    let status = run_system(handles, rt, words, &ticker, &mut world, &mut out);
+    drop(world);
     let end = out.end();
     drop(out);
-    let (overheard, _calls) = err.into_writer().into_writer().into_parts();
-    let (escaping, said) = overheard.into_parts();
+    let (escaping, said) = err.into_writer().into_parts();
     if end == Some(WriteFault::Closed) {
         // who read the text has enough of it
         return status;
     }
     escaping.finish();
     let findings = ticker.findings(handles);
-    report_findings(&findings, &mut Complaints::new(rt.stderr()));
+    report_findings(&findings, &mut rt.stderr());
     if status == 1 && rt.stderr().is_terminal() {
         report_hints(rt, files, &said, &findings);
     }
@@ -164,20 +158,20 @@ fn run<R: Threads + Wait + Clock + RandomSource + Sync + AllocGlobal>(
 }
 
 fn main(rt: HostRuntime) -> ExitCode {
-    let mut err = Complaints::new(Overheard::new(Escaping::new(rt.stderr())));
+    let mut err = Overheard::new(Escaping::new(rt.stderr()));
     let words = words_with_list(&rt, &mut err);
     end_words(&rt, err, words.is_err());
     let words = match words {
         Ok(words) => words,
         Err(status) => return ExitCode::from(status),
     };
-    let mut err = Complaints::new(rt.stderr());
+    let mut err = rt.stderr();
     let Ok(files) = FileWords::of(rt.alloc(), &words) else {
-        err.report_line("fault: out of memory");
+        report_line(&mut err, "fault: out of memory");
         return ExitCode::from(1);
     };
     if files.uploads.is_empty() && files.tables.contains(&INPUT_FILE) {
-        err.report_line(INPUT_TWICE);
+        report_line(&mut err, INPUT_TWICE);
         return ExitCode::from(2);
     }
     match form_of(&files.format, &mut err) {

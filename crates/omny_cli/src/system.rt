@@ -1,55 +1,44 @@
 //! A run over the files, the standard input and the outputs of the system.
-ghost use Rattle.fare_program.specs.Ends.{Ends, did_over};
-ghost use Rattle.program_manners.specs.Refusals.{IsShown, refusal_of};
-ghost use Rattle.std.specs.Prelude.{None, Some, map, string_bytes};
+ghost use Rattle.fare_program.specs.Ends.{EndsFares, beside};
+ghost use Rattle.std.specs.Prelude.{◌≡◌, ℕ, List, None, Some, map, string_bytes};
 ghost use Rattle.world.specs.Origins.{file};
 
-use fare_program::{Complaints, Disk, Host, Output, Source, main_over};
+use fare_program::{Disk, Output, main_over};
 use run_progress::{Hushing, Ticker, Watched, WatchedDisk};
-use std::io::{Stdout, Write};
+use std::io::{Sink, Write};
 use std::marker::Sync;
 use std::random::RandomSource;
 use std::sync::Wait;
 use std::thread;
 use std::thread::Threads;
 use std::time::Clock;
-use text_forms::Shaped;
-use world::Recorded;
+use world::{Recorded, System, World};
 
-/// Runs the whole program over the system's files, standard input and outputs. What was loaded and
-/// written is what the system calls tell: the text was given to what writes its form. What was
-/// reported went to the standard error with its control characters escaped.
-pub fn run_system<R: Threads + Wait + Clock + RandomSource + Sync + AllocGlobal, E: Write + Drop>(
+/// Runs the whole program over the system's files, standard input and outputs. What was loaded,
+/// written and reported is what the system calls tell: the text was given to `W`, which writes its
+/// form. What was reported went to the standard error with its control characters escaped.
+pub fn run_system<
+    R: Threads + Wait + Clock + RandomSource + Sync + AllocGlobal,
+    E: Write + Drop,
+    W: Write + Drop,
+>(
     rt: &R,
     system: &HostRuntime,
     words: &[String],
     ticker: &Ticker,
-    source: &mut Watched<'_, R, Host<'_, HostRuntime>>,
-    out: &mut Output<Hushing<'_, R, Recorded<Shaped<Stdout>>>>,
-    err: &mut Complaints<Hushing<'_, R, Recorded<E>>>,
+    world: &mut Watched<'_, R, System<'_, HostRuntime, Sink, E>>,
+    out: &mut Output<Hushing<'_, R, Recorded<W>>>,
 ) -> u8
     // The outcome of a run, with what the system calls tell: with status 0 the output has the text of
     // exactly the bytes that the named files gave.
-    ensures ends { Ends (map string_bytes words.now) (record {
-      under = λ _. None;
-      origin = file;
-      loaded = Some source.old.from.loads.trace.run.loads;
-      loaded' = Some source.new.from.loads.trace.run.loads;
-      refused = Some (refusal_of source.new.from.loads.last.value);
-      out = Some out.old.writer.to.trace.run.written;
-      out' = Some out.new.writer.to.trace.run.written;
-      end = out.new.end;
-      flushed = out.new.is_flushed;
-      said = Some err.old.writer.to.trace.run.written;
-      said' = Some err.new.writer.to.trace.run.written;
-      failed = err.new.failed;
-    }) result }
-    // A fault of a file is one that a system call of this run gave.
-    ensures refused { ∥ IsShown source.new.from.loads.trace.run
-        (refusal_of source.new.from.loads.last.value) ∥₁ }
+    ensures { out.old.end ≡ None → EndsFares (map string_bytes words.now) (λ _. None) file
+        (beside world.old.from.trace.run out.old.writer.to.trace.run.written None
+        out.old.is_flushed)
+        (beside world.new.from.trace.run out.new.writer.to.trace.run.written out.new.end
+        out.new.is_flushed) result }
 {
     let disk = WatchedDisk::new(rt, ticker, system);
-    run_beside_line(rt, words, ticker, &disk, source, out, err)
+    run_beside_line(rt, words, ticker, &disk, world, out)
 }
 
 /// Runs the whole program as `main_over` does, while the ticker shows what it does. If no thread
@@ -57,31 +46,28 @@ pub fn run_system<R: Threads + Wait + Clock + RandomSource + Sync + AllocGlobal,
 fn run_beside_line<
     R: Threads + Wait + Clock + RandomSource + Sync + AllocGlobal,
     D: Disk + Sync,
-    S: Source,
+    I: World,
     W: Write,
-    E: Write,
->(
-    rt: &R,
-    words: &[String],
-    ticker: &Ticker,
-    disk: &D,
-    source: &mut S,
-    out: &mut Output<W>,
-    err: &mut Complaints<E>,
-) -> u8
-    ensures { Ends (map string_bytes words.now) (did_over D.bytes_under D.origin S.loaded S.refused
-        W.contents E.contents disk.now source.old source.new out.old out.new err.old err.new)
-        result }
+>(rt: &R, words: &[String], ticker: &Ticker, disk: &D, world: &mut I, out: &mut Output<W>) -> u8
+    ensures { (before after : List ℕ) → W.contents out.old.writer ≡ Some before
+        → W.contents out.new.writer ≡ Some after → out.old.end ≡ None
+        → EndsFares (map string_bytes words.now) (D.bytes_under disk.now) (D.origin disk.now)
+        (beside (I.run world.old) before None out.old.is_flushed)
+        (beside (I.run world.new) after out.new.end out.new.is_flushed) result }
 {
     let (_, status) = thread::join_mut(
         rt,
         &mut || ticker.tick(rt),
         &mut || -> u8
-            ensures { Ends (map string_bytes words.entry.now) (did_over D.bytes_under D.origin
-                S.loaded S.refused W.contents E.contents disk.entry.now source.entry.now
-                source.exit.now out.entry.now out.exit.now err.entry.now err.exit.now) result }
+            ensures { (before after : List ℕ) → W.contents out.entry.now.writer ≡ Some before
+                → W.contents out.exit.now.writer ≡ Some after → out.entry.now.end ≡ None
+                → EndsFares (map string_bytes words.entry.now) (D.bytes_under disk.entry.now)
+                (D.origin disk.entry.now)
+                (beside (I.run world.entry.now) before None out.entry.now.is_flushed)
+                (beside (I.run world.exit.now) after out.exit.now.end out.exit.now.is_flushed)
+                result }
         {
-            let status = main_over(rt, rt.alloc(), words, disk, source, out, err);
+            let status = main_over(rt, rt.alloc(), words, disk, world, out);
             ticker.end(rt);
             status
         },

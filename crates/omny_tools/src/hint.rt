@@ -2,7 +2,7 @@
 //! and nothing but safety is proved.
 
 use hints::{Hint, Named, Said, hint_on_fault, kind_of_file, not_uploads};
-use program_manners::Complaints;
+use program_manners::report_line;
 use std::alloc::Global;
 use std::fs::File;
 use std::hash::{BuildHasher, Hasher, RandomState};
@@ -165,7 +165,7 @@ fn has_shown<'a>(
     said: &'a Said,
     failures: Failures<'a>,
 ) -> bool {
-    let mut err = Complaints::new(rt.stderr());
+    let mut err = rt.stderr();
     let mut shown = 0usize;
     for line in said.lines().split('\n') {
         if shown >= MOST_HINTS {
@@ -177,7 +177,7 @@ fn has_shown<'a>(
             (None, None) => None,
         };
         if let Some(hint) = hint {
-            err.report_line(hint);
+            report_line(&mut err, hint);
             shown = shown.saturating_add(1);
         }
     }
@@ -203,9 +203,9 @@ pub(crate) fn report_hints<'a>(
         return;
     };
     if let Ok(hints) = not_uploads(rt, rt.alloc(), uploads_of(&task)) {
-        let mut err = Complaints::new(rt.stderr());
+        let mut err = rt.stderr();
         for hint in &hints {
-            err.report_line(*hint);
+            report_line(&mut err, *hint);
         }
     }
 }

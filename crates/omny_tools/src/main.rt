@@ -11,14 +11,14 @@ mod streams;
 mod whole;
 
 use hints::{Overheard, end_words};
-use program_manners::{Complaints, Escaping, take_list, unread_words, words_of};
+use program_manners::{Escaping, take_list, unread_words, words_of};
 use run::run;
 use std::io::Write;
 use std::process::ExitCode;
 use tool_words::list_words;
 
 /// The words, with the names of the list that they name. On an error the reason was reported.
-fn words_with_list<E: Write>(rt: &HostRuntime, err: &mut Complaints<E>) -> Result<Vec<String>, u8> {
+fn words_with_list<E: Write>(rt: &HostRuntime, err: &mut E) -> Result<Vec<String>, u8> {
     let words = match words_of(rt) {
         Ok(words) => words,
         Err(fault) => return Err(unread_words(&fault, err)),
@@ -29,11 +29,11 @@ fn words_with_list<E: Write>(rt: &HostRuntime, err: &mut Complaints<E>) -> Resul
 }
 
 fn main(rt: HostRuntime) -> ExitCode {
-    let mut err = Complaints::new(Overheard::new(Escaping::new(rt.stderr())));
+    let mut err = Overheard::new(Escaping::new(rt.stderr()));
     let words = words_with_list(&rt, &mut err);
     end_words(&rt, err, words.is_err());
     let status = match words {
-        Ok(words) => run(&rt, &rt, &words, &mut Complaints::new(rt.stderr())),
+        Ok(words) => run(&rt, &rt, &words, &mut rt.stderr()),
         Err(status) => status,
     };
     ExitCode::from(status)

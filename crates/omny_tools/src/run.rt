@@ -7,7 +7,7 @@ use crate::progress::Progress;
 use crate::streams::Pieces;
 use hints::{Overheard, Unwritten};
 use jiff::Timestamp;
-use program_manners::Complaints;
+use program_manners::report_line;
 use std::hash::RandomState;
 use std::io;
 use std::io::{BufWriter, IsTerminal, Write};
@@ -50,24 +50,24 @@ pub(crate) fn run<R: Threads + Sync, E: Write>(
     threads: &R,
     rt: &HostRuntime,
     words: &[String],
-    err: &mut Complaints<E>,
+    err: &mut E,
 ) -> u8 {
     let form = match form_of(rt, words) {
         Ok(form) => form,
         Err(line) => {
-            err.report_line(line);
+            report_line(err, line);
             return 2;
         }
     };
     let shows = Shows::of(words);
     let Ok(seed) = RandomState::new(rt) else {
-        err.report_line(Fault::NoMemory);
+        report_line(err, Fault::NoMemory);
         return 1;
     };
     let out = Shaped::new(rt.alloc(), io::writer(rt), UPLOADS, form);
     let collected = if shows.at_once { 0 } else { WRITE_BYTES };
     let Ok(out) = BufWriter::with_capacity(rt.alloc(), collected, out) else {
-        err.report_line(Fault::NoMemory);
+        report_line(err, Fault::NoMemory);
         return 1;
     };
     let progress = Progress::new(rt, shows.counts || !rt.stdout().is_terminal(), shows.text);

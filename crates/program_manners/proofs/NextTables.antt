@@ -1,19 +1,20 @@
 -- Fare tables that were loaded one after another: a text for each word, and a table for each text.
-use Rattle.std.proofs.Common.{◌≡◌, ◌+◌, ◌<◌, ℕ, List, [], ◌∷◌, ◌++◌, Bor, Option, ap, arith, drop}
+use Rattle.std.proofs.Common.{◌≡◌, ◌+◌, ◌<◌, ℕ, List, [], ◌∷◌, ◌++◌, Bor, ap, arith, drop}
 use Rattle.std.proofs.Common.{get_or, length, length-append, map, refl, suc, take, zero}
-use Rattle.program_manners.specs.{Loads.Loaded, TableLoads.LoadsTables, TableLoads.loads_first}
-use Rattle.program_manners.specs.{TableLoads.loads_next, TableWords.TableNames}
+use Rattle.program_manners.specs.TableLoads.{LoadsTables, loads_first, loads_next}
+use Rattle.program_manners.specs.TableWords.{TableNames}
 use Rattle.tariffs.specs.Fares.{Fares}
+use Rattle.world.specs.Run.{Load}
 
 -- there is a text for each table, and a table for each word
-pub tables_counted : (tables : TableNames) (loaded loaded' : Option (List Loaded))
-    (texts : List (List ℕ)) (fares : Fares) → LoadsTables tables loaded loaded' texts fares
+pub tables_counted : (tables : TableNames) (loads : List Load) (texts : List (List ℕ))
+    (fares : Fares) → LoadsTables tables loads texts fares
     → (length texts ≡ length fares.later + 1) × (length texts ≡ length tables.later + 1)
-tables_counted tables loaded loaded' texts fares (loads_first first text _ _ _ _ _ means) =
+tables_counted tables loads texts fares (loads_first first text _ _ means) =
     let none = ap length means.2 in (omega (arith, none), omega (arith))
-tables_counted tables loaded loaded' texts fares
-    (loads_next before _ between _ earlier known _ word text loads _ follows) =
-    let (one, two) = tables_counted before loaded between earlier known loads in
+tables_counted tables loads texts fares
+    (loads_next before former earlier known _ word text are follows) =
+    let (one, two) = tables_counted before former earlier known are in
     let added = ap (λ (f : Fares). length f.later) follows.2.all_are in
     let counts = length-append earlier (text ∷ []) in
     let words = length-append before.later (word ∷ []) in

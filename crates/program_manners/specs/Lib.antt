@@ -1,7 +1,4 @@
-pub mod LineWritten
-pub mod Lines
-pub mod Loads
-pub mod Refusals
+pub mod Answers
 pub mod TableLoads
 pub mod TableViews
 pub mod TableWords

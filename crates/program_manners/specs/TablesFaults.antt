@@ -1,43 +1,38 @@
 -- Why fare tables were not loaded.
 use Rattle.fare_table.specs.Meaning.{Means}
-use Rattle.fare_table.specs.declared.fault.TableFault.TheVariants as table
-use Rattle.program_manners.specs.{Loads.Loaded, Loads.LoadsOne, Refusals.IsOneOf, Refusals.Refuses}
-use Rattle.program_manners.specs.TableLoads.{Follows, LoadsTables}
+use Rattle.frame.specs.{Outsides.LeavesFiles, declared.outside.Outside.Outside}
+use Rattle.frame.specs.declared.outside.Outside.TheVariants as outside
+use Rattle.program_manners.specs.TableLoads.{Follows, LoadsTables, load_of}
 use Rattle.program_manners.specs.TableWords.{TableNames, file_named, table_files}
 use Rattle.program_manners.specs.declared.table_loads.TablesFault.{TablesFault, TheVariants.File}
 use Rattle.program_manners.specs.declared.table_loads.TablesFault.TheVariants.{Follow, NamedTable}
 use Rattle.program_manners.specs.declared.table_loads.TablesFault.TheVariants.{NoMemory, Table}
-use Rattle.std.specs.Prelude.{◌≡◌, ◌≢◌, ◌++◌, ◌∷◌, ⊤, ℕ, IsUtf8, List, Option, Some}
+use Rattle.std.specs.Prelude.{◌≡◌, ◌++◌, ◌∷◌, [], ℕ, IsUtf8, List, Some, map}
 use Rattle.tariffs.specs.Fares.{Fares}
-use Rattle.tariffs.specs.declared.follow_fault.FollowFault.TheVariants as follow
-use Rattle.world.specs.declared.faults.LoadFault.{LoadFault}
+use Rattle.world.specs.{Origins.with_loads, Run.Load, Run.Run}
 
--- The file of this name was loaded, of the first table, or of a later one after those of the tables
+-- The file of the first table was loaded last, or that of a later one after those of the tables
 -- before it. Its text is no table, or none that follows them from the date of its word on.
-pub data RefusesTable (tables : TableNames) (loaded loaded' : Option (List Loaded))
-    : List ℕ → Type 0 where
-  refuses_first : (text : List ℕ) → LoadsOne loaded loaded' (Some tables.first) text
-      → ((fares : Fares) → IsUtf8 text → ¬ Means text fares)
-      → RefusesTable tables loaded loaded' tables.first
+pub data RefusesTable (tables : TableNames) : List Load → Type 0 where
+  refuses_first : (text : List ℕ) → ((fares : Fares) → IsUtf8 text → ¬ Means text fares)
+      → RefusesTable tables (load_of tables.first text ∷ [])
   refuses_next : (before : TableNames) (word text : List ℕ) (trailing texts : List (List ℕ))
-      (between : Option (List Loaded)) (fares : Fares)
+      (loads : List Load) (fares : Fares)
       → tables ≡ record before { later = before.later ++ word ∷ trailing }
-      → LoadsTables before loaded between texts fares
-      → LoadsOne between loaded' (Some (file_named word)) text
-      → ((all : Fares) → ¬ Follows fares word text all)
-      → RefusesTable tables loaded loaded' (file_named word)
+      → LoadsTables before loads texts fares → ((all : Fares) → ¬ Follows fares word text all)
+      → RefusesTable tables (loads ++ load_of (file_named word) text ∷ [])
 
--- The file that the fault names, which is the first table's if it names none, is that of one of the
--- words. It is one that the source refused so, or its text is no table, or none that follows those
--- before it. Only running out of memory may come at any time.
-abbrev pub IsTablesFault : TableNames → Option (List Loaded) → Option (List Loaded)
-    → Option (Option (List ℕ) × LoadFault) → TablesFault → Type 0
-IsTablesFault tables loaded loaded' refused (File file) =
-    IsOneOf file.name.now (table_files tables) × Refuses refused (Some file.name.now) file.fault
-IsTablesFault tables loaded loaded' refused (Table fault) =
-    fault ≢ table.NoMemory → RefusesTable tables loaded loaded' tables.first
-IsTablesFault tables loaded loaded' refused (NamedTable line) =
-    line.fault ≢ table.NoMemory → RefusesTable tables loaded loaded' line.name.now
-IsTablesFault tables loaded loaded' refused (Follow line) =
-    line.fault ≢ follow.NoMemory → RefusesTable tables loaded loaded' (file_named line.word.now)
-IsTablesFault tables loaded loaded' refused NoMemory = ⊤
+-- what stops a run whose tables are not loaded
+abbrev pub outside_of : TablesFault → Outside
+outside_of (File file) = outside.Unread file.fault
+outside_of (Table fault) = outside.Wrong
+outside_of (NamedTable line) = outside.Wrong
+outside_of (Follow line) = outside.Wrong
+outside_of NoMemory = outside.NoMemory
+
+-- After some loads the file of one of the words was refused so, or its text is no table, or none that
+-- follows those before it. Only running out of memory may come at any time.
+pub record StopsTables (old new : Run) (tables : TableNames) (fault : TablesFault) : Type 0 where
+  pub loads : List Load
+  pub leaves : LeavesFiles (RefusesTable tables loads) (map Some (table_files tables))
+      (outside_of fault) (with_loads old loads) new

@@ -1,6 +1,6 @@
 //! The words of the command line, and why they could not be read.
 
-use crate::complaints::Complaints;
+use crate::complaints::report_line;
 use std::alloc::{AllocError, Global};
 use std::env::Env;
 use std::io::{ErrorKind, Write};
@@ -35,8 +35,8 @@ impl fmt::Display for WordsFault {
 }
 
 /// Reports why the words could not be read. The status is 1 out of memory, and else 2.
-pub fn unread_words<E: Write>(fault: &WordsFault, err: &mut Complaints<E>) -> u8 {
-    err.report_line(fault);
+pub fn unread_words<E: Write>(fault: &WordsFault, err: &mut E) -> u8 {
+    report_line(err, fault);
     match fault {
         WordsFault::NotUtf8(_) => 2,
         WordsFault::NoMemory => 1,

@@ -1,8 +1,7 @@
 //! Fare tables that follow others from a date on.
-ghost use Rattle.program_manners.specs.Lines.{follow_text, named_class_text};
 ghost use Rattle.program_manners.specs.TableLoads.{FollowsFrom, IsNextFault};
 ghost use Rattle.program_manners.specs.TableWords.{has_year, is_day};
-ghost use Rattle.std.specs.Prelude.{◌≡◌, IfErr, IfOk, Some, true};
+ghost use Rattle.std.specs.Prelude.{◌≡◌, IfErr, IfOk, true};
 
 use crate::table_words::{WrittenDate, day_of};
 use fare_table::{FareTable, FollowFault, ReadFareTable, TableFault};
@@ -26,8 +25,6 @@ pub struct FollowLine<'a> {
 }
 
 impl fmt::Display for FollowLine<'_> {
-    ghost output = { λ line. Some (follow_text line.word.now line.fault) };
-
     fn fmt<W: fmt::Write>(&self, f: &mut fmt::Formatter<W>) -> fmt::Result {
         let word = self.word;
         match self.fault {
@@ -49,8 +46,6 @@ impl fmt::Display for FollowLine<'_> {
 pub struct NamedClassLine<'a>(pub &'a str);
 
 impl fmt::Display for NamedClassLine<'_> {
-    ghost output = { λ line. Some (named_class_text line.0.now) };
-
     fn fmt<W: fmt::Write>(&self, f: &mut fmt::Formatter<W>) -> fmt::Result {
         let name = self.0;
         write!(

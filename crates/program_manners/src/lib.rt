@@ -1,5 +1,5 @@
-//! What each program does alike: it loads whole files, reports usage errors and faults, shows what
-//! clap answers, and gives clap its arguments.
+//! What each program does alike: it loads fare tables, reports usage errors and faults, and gives
+//! clap its arguments.
 #![tactic(auto)]
 
 mod answers;
@@ -7,14 +7,11 @@ mod arguments;
 mod complaints;
 mod escaping;
 mod file_list;
-mod file_source;
 mod following;
 mod list_words;
 mod listed_words;
 mod loading;
 mod output;
-mod recorded_loads;
-mod refusal;
 mod table_line;
 mod table_loads;
 mod table_words;
@@ -22,17 +19,15 @@ mod terminal_line;
 mod version;
 mod words;
 
-pub use answers::show_answer;
+pub use answers::{print, show_answer};
 pub use arguments::{WordsFault, unread_words, words_of};
-pub use complaints::Complaints;
+pub use complaints::report_line;
 pub use escaping::Escaping;
 pub use file_list::ListFault;
-pub use file_source::FileSource;
 pub use following::{FollowLine, NamedClassLine, NextFault, table_after};
 pub use list_words::{ListWords, take_list};
 pub use loading::{FileFault, STANDARD_INPUT, load_file, open_file};
 pub use output::Output;
-pub use recorded_loads::RecordedLoads;
 pub use table_line::{NamedTableLine, TableLine};
 pub use table_loads::{Tables, TablesFault, load_named, load_tables};
 pub use table_words::{DateFault, TableWord, TableWords, WrittenDate, WrongWord, date_fault};

@@ -1,6 +1,6 @@
 //! What the words say of a list of files, and the words with the names of its files.
 
-use crate::complaints::Complaints;
+use crate::complaints::report_line;
 use crate::file_list::{ListFault, names_of_list};
 use crate::listed_words::with_names;
 use crate::loading::{FileFault, STANDARD_INPUT, load_file};
@@ -92,7 +92,7 @@ pub fn take_list<'a, R: Files + Input + AllocGlobal, E: Write>(
     words: &[String],
     list: Result<Option<ListWords<'a>>, ListFault>,
     option: Option<&str>,
-    err: &mut Complaints<E>,
+    err: &mut E,
 ) -> Result<Option<Vec<String>>, u8> {
     let unnamed = ListWords {
         name: "",
@@ -106,7 +106,7 @@ pub fn take_list<'a, R: Files + Input + AllocGlobal, E: Write>(
         },
         Err(fault) => (unnamed, fault),
     };
-    err.report_line(ListLine { list, fault });
+    report_line(err, ListLine { list, fault });
     match fault {
         ListFault::NullAlone | ListFault::InputTwice => Err(2),
         _ => Err(1),

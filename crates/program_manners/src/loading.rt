@@ -1,6 +1,4 @@
 //! Whole files, up to a limit, and the lines of those that are not loaded.
-ghost use Rattle.std.specs.Prelude.{Some};
-ghost use Rattle.program_manners.specs.Lines.{load_text};
 
 use std::alloc::Global;
 use std::fs::Files;
@@ -21,8 +19,6 @@ pub struct FileFault<'a> {
 }
 
 impl fmt::Display for FileFault<'_> {
-    ghost output = { λ file. Some (load_text file.name.now file.fault) };
-
     fn fmt<W: fmt::Write>(&self, f: &mut fmt::Formatter<W>) -> fmt::Result {
         match self.fault {
             LoadFault::Unread => write!(f, "fault: cannot read {}", self.name),

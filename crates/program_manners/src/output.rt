@@ -1,7 +1,6 @@
 //! Where the text of a run goes, and why it cannot go there.
 ghost use Rattle.std.specs.Prelude.{◌≡◌, None, false};
 
-use fare_texts::write_bytes;
 use std::io;
 use std::io::Write;
 use world::WriteFault;
@@ -37,18 +36,20 @@ impl<W> Output<W> {
 }
 
 impl<W: Write> Output<W> {
-    ghost use Rattle.std.specs.Prelude.{◌≡◌, ◌≢◌, None, OnErr};
+    ghost use Rattle.std.specs.Io.KnownBytes.{Keeps};
+    ghost use Rattle.std.specs.Prelude.{◌≡◌, None, Some, IfErr, OnOk, true};
 
-    /// Writes the bytes whole. On an error a prefix of them was written.
-    pub fn put(&mut self, bytes: &[u8]) -> io::Result<()>
-        ensures { OnErr result (self.new.end ≢ None) }
+    /// Flushes what was written. An error is why the last write that failed did so, or the flush.
+    pub fn finish(&mut self) -> Result<(), WriteFault>
+        ensures bytes { Keeps (W.contents self.old.writer) (W.contents self.new.writer) }
+        ensures done { OnOk result ((self.new.end ≡ None) × (self.new.is_flushed ≡ true)) }
+        ensures failed { IfErr result (λ why. self.new.end ≡ Some why) }
     {
-        self.is_flushed = false;
-        let written = write_bytes(bytes, &mut self.writer);
-        if let Err(error) = written {
-            self.end = Some(WriteFault::of(&error));
+        let _ = self.flush();
+        match self.end {
+            Some(why) => Err(why),
+            None => Ok(()),
         }
-        written
     }
 }
 

@@ -1,6 +1,4 @@
 //! The lines of faults of fare tables.
-ghost use Rattle.std.specs.Prelude.{Some};
-ghost use Rattle.program_manners.specs.Lines.{named_table_text, table_code, table_text};
 
 use fare_table::TableFault;
 use std::fmt;
@@ -10,8 +8,6 @@ use std::fmt;
 struct TableCode(TableFault);
 
 impl fmt::Display for TableCode {
-    ghost output = { λ code. Some (table_code code.0) };
-
     fn fmt<W: fmt::Write>(&self, f: &mut fmt::Formatter<W>) -> fmt::Result {
         match self.0 {
             TableFault::Text => f.write_str("table F1"),
@@ -33,8 +29,6 @@ impl fmt::Display for TableCode {
 pub struct TableLine(pub TableFault);
 
 impl fmt::Display for TableLine {
-    ghost output = { λ line. Some (table_text line.0) };
-
     fn fmt<W: fmt::Write>(&self, f: &mut fmt::Formatter<W>) -> fmt::Result {
         write!(f, "fault: {}", TableCode(self.0))
     }
@@ -49,8 +43,6 @@ pub struct NamedTableLine<'a> {
 }
 
 impl fmt::Display for NamedTableLine<'_> {
-    ghost output = { λ line. Some (named_table_text line.name.now line.fault) };
-
     fn fmt<W: fmt::Write>(&self, f: &mut fmt::Formatter<W>) -> fmt::Result {
         write!(f, "fault: {}: {}", self.name, TableCode(self.fault))
     }

@@ -1,19 +1,20 @@
 //! Fare tables that are loaded in the order of their words.
-ghost use Rattle.program_manners.specs.{Loads.Loaded, Loads.LoadsOne, Refusals.Refuses};
-ghost use Rattle.program_manners.specs.TableLoads.{LoadsTables, with_word};
+ghost use Rattle.program_manners.specs.TableLoads.{HasLoadedTables, load_of, with_word};
 ghost use Rattle.program_manners.specs.TableViews.{names_of};
 ghost use Rattle.program_manners.specs.TableWords.{TableNames, date_fault, wrong_word};
-ghost use Rattle.program_manners.specs.TablesFaults.{IsTablesFault};
-ghost use Rattle.std.specs.Prelude.{◌≡◌, ◌++◌, ◌∷◌, [], ℕ, List, Option, None, Some, IfErr, IfOk};
-ghost use Rattle.std.specs.Prelude.{OnOk, false, map};
+ghost use Rattle.program_manners.specs.TablesFaults.{StopsTables, outside_of};
+ghost use Rattle.std.specs.Prelude.{◌≡◌, ◌++◌, ◌∷◌, [], ℕ, List, None, Some, IfErr, IfOk, OnOk};
+ghost use Rattle.std.specs.Prelude.{false, map};
+ghost use Rattle.world.specs.{Loads.IsRefused, Origins.with_loads, Run.Run};
 
-use crate::file_source::FileSource;
 use crate::following::{FollowLine, NextFault, table_after};
 use crate::loading::FileFault;
 use crate::table_line::NamedTableLine;
 use crate::table_words::{TableWord, TableWords};
-use fare_table::{FareTable, ReadFareTable, TableFault};
+use fare_table::{FareTable, FollowFault, ReadFareTable, TableFault};
+use frame::Outside;
 use std::alloc::{AllocError, Global};
+use world::Inputs;
 
 /// Why fare tables were not loaded.
 #[derive(Clone, Copy, Debug)]
@@ -28,6 +29,21 @@ pub enum TablesFault<'a> {
     Follow(FollowLine<'a>),
     /// An allocation failed.
     NoMemory,
+}
+
+impl TablesFault<'_> {
+    /// What stops the run.
+    pub fn outside(&self) -> Outside
+        ensures { result ≡ outside_of self.now }
+    {
+        match self {
+            TablesFault::File(file) => Outside::Unread(file.fault),
+            TablesFault::Table(_) | TablesFault::NamedTable(_) | TablesFault::Follow(_) => {
+                Outside::Wrong
+            }
+            TablesFault::NoMemory => Outside::NoMemory,
+        }
+    }
 }
 
 impl From<AllocError> for TablesFault<'_> {
@@ -50,15 +66,12 @@ pub struct Tables {
 }
 
 /// All bytes of the file of this name.
-pub fn load_named<'a, S: FileSource>(
-    source: &mut S,
-    name: &'a str,
-) -> Result<Vec<u8>, FileFault<'a>>
-    ensures ok { IfOk result (λ bytes. LoadsOne (S.loaded source.old) (S.loaded source.new)
-        (Some name.entry.now) bytes.items) }
+pub fn load_named<'a, S: Inputs>(source: &mut S, name: &'a str) -> Result<Vec<u8>, FileFault<'a>>
+    ensures ok { IfOk result (λ bytes. S.run source.new
+        ≡ with_loads (S.run source.old) (load_of name.entry.now bytes.items ∷ [])) }
     ensures named { IfErr result (λ file. file.name.now ≡ name.entry.now) }
-    ensures refused { IfErr result
-        (λ file. Refuses (S.refused source.new) (Some name.entry.now) file.fault) }
+    ensures refused { IfErr result (λ file.
+        IsRefused (S.run source.old) (S.run source.new) (Some name.entry.now) file.fault) }
 {
     match source.load(name) {
         Ok(bytes) => Ok(bytes),
@@ -73,23 +86,22 @@ fn push(texts: &mut Vec<Vec<u8>>, text: Vec<u8>) -> Result<(), AllocError>
     Ok(())
 }
 
-fn load_next<'a, S: FileSource>(
+fn load_next<'a, S: Inputs>(
     alloc: Global,
     mut tables: Tables,
     word: &'a str,
     source: &mut S,
 ) -> Result<Tables, TablesFault<'a>>
     requires { date_fault false word.now ≡ None }
-    ensures ok { IfOk result (λ all. (words : TableNames) (loaded : Option (List Loaded))
-        → LoadsTables words loaded (S.loaded source.old) (map (λ t. t.items) tables.texts.items)
-        tables.fares → LoadsTables (with_word words word.now) loaded (S.loaded source.new)
+    ensures ok { IfOk result (λ all. (start : Run) (words : TableNames)
+        → HasLoadedTables start (S.run source.old) words (map (λ t. t.items) tables.texts.items)
+        tables.fares → HasLoadedTables start (S.run source.new) (with_word words word.now)
         (map (λ t. t.items) all.texts.items) all.fares) }
-    ensures right { IfErr result (λ fault. (words : TableNames) (loaded : Option (List Loaded))
+    ensures right { IfErr result (λ fault. (start : Run) (words : TableNames)
         (trailing : List (List ℕ))
-        → LoadsTables words loaded (S.loaded source.old) (map (λ t. t.items) tables.texts.items)
-        tables.fares
-        → IsTablesFault (record words { later = words.later ++ word.now ∷ trailing }) loaded
-        (S.loaded source.new) (S.refused source.new) fault) }
+        → HasLoadedTables start (S.run source.old) words (map (λ t. t.items) tables.texts.items)
+        tables.fares → StopsTables start (S.run source.new)
+        (record words { later = words.later ++ word.now ∷ trailing }) fault) }
 {
     let parts = TableWord::of(word);
     let Some(date) = parts.date else {
@@ -110,21 +122,21 @@ fn load_next<'a, S: FileSource>(
         Err(NextFault::Table(fault)) => {
             Err(TablesFault::NamedTable(NamedTableLine { name, fault }))
         }
+        Err(NextFault::Follow(FollowFault::NoMemory)) => Err(TablesFault::NoMemory),
         Err(NextFault::Follow(fault)) => Err(TablesFault::Follow(FollowLine { word, fault })),
     }
 }
 
-fn load_first<'a, S: FileSource>(
+fn load_first<'a, S: Inputs>(
     alloc: Global,
     words: &TableWords<'a>,
     source: &mut S,
 ) -> Result<Tables, TablesFault<'a>>
-    ensures ok { IfOk result (λ tables.
-        LoadsTables (record { first = words.now.first.now; later = [] })
-        (S.loaded source.old) (S.loaded source.new) (map (λ t. t.items) tables.texts.items)
+    ensures ok { IfOk result (λ tables. HasLoadedTables (S.run source.old) (S.run source.new)
+        (record { first = words.now.first.now; later = [] }) (map (λ t. t.items) tables.texts.items)
         tables.fares) }
-    ensures right { IfErr result (IsTablesFault (names_of words.now) (S.loaded source.old)
-        (S.loaded source.new) (S.refused source.new)) }
+    ensures right { IfErr result
+        (StopsTables (S.run source.old) (S.run source.new) (names_of words.now)) }
 {
     let name = words.first;
     let text = match load_named(source, name) {
@@ -145,16 +157,16 @@ fn load_first<'a, S: FileSource>(
 
 /// Loads the tables of these words in order, each compared with those before it. An error is the
 /// first of `File`, `Table` or `NamedTable`, and `Follow`, or `NoMemory` at any time.
-pub fn load_tables<'a, S: FileSource>(
+pub fn load_tables<'a, S: Inputs>(
     alloc: Global,
     words: &TableWords<'a>,
     source: &mut S,
 ) -> Result<Tables, TablesFault<'a>>
     requires { wrong_word (names_of words.now) ≡ None }
-    ensures ok { IfOk result (λ tables. LoadsTables (names_of words.now) (S.loaded source.old)
-        (S.loaded source.new) (map (λ t. t.items) tables.texts.items) tables.fares) }
-    ensures right { IfErr result (IsTablesFault (names_of words.now) (S.loaded source.old)
-        (S.loaded source.new) (S.refused source.new)) }
+    ensures ok { IfOk result (λ tables. HasLoadedTables (S.run source.old) (S.run source.new)
+        (names_of words.now) (map (λ t. t.items) tables.texts.items) tables.fares) }
+    ensures right { IfErr result
+        (StopsTables (S.run source.old) (S.run source.new) (names_of words.now)) }
 {
     let mut tables = load_first(alloc, words, source)?;
     for word in &words.later {

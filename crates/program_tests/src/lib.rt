@@ -13,6 +13,8 @@ mod provided;
 #[cfg(test)]
 mod running;
 #[cfg(test)]
+mod scarce;
+#[cfg(test)]
 mod shelf;
 #[cfg(test)]
 mod sorted;

@@ -1,34 +1,16 @@
 //! Files that are loaded: up to the limit, and ahead. No contract says what a system's file holds.
 
-use super::running::{NoDisk, run_over};
-use super::shelf::{Content, Shelf};
-use fare_program::{Disk, FileSource, Host, LOAD_LIMIT_BYTES, LoadFault, Source, prefetch_files};
+use super::running::run_over;
+use fare_program::{Disk, load_next, prefetch_files};
 use placed_files::{InMemory, Unopened};
 use std::alloc::{AllocError, Global};
 use std::io::Read;
 use std::marker::Sync;
+use std::sync::atomic::{AtomicU64, Ordering};
 use std::test::Fail;
 use std::thread::Threads;
 use std::{fs, io};
-use world::{Loaded, Trace, load_input};
-
-/// A file for which memory ran out is not reported as one that cannot be read.
-#[test]
-fn says_that_a_file_wants_memory(rt: HostRuntime) -> Result<(), Fail> {
-    let alloc = rt.alloc();
-    let files = [
-        ("empty", Content::Bytes(b"".as_slice())),
-        ("large", Content::Fault(LoadFault::NoMemory)),
-    ];
-    let input = Content::Fault(LoadFault::Unread);
-    let mut shelf = Shelf::new(alloc, files.as_slice(), input);
-    let mut out = Vec::new(alloc);
-    let words = ["empty", "large", "x.tap"];
-    let (status, err) = run_over(&rt, alloc, words.as_slice(), &NoDisk, &mut shelf, &mut out)?;
-    assert_eq!(rt; (out.len(), status), (0, 1));
-    assert_eq!(rt; err.as_slice(), b"fault: out of memory\n".as_slice());
-    Ok(())
-}
+use world::{LOAD_LIMIT_BYTES, LoadFault, Loaded, System, Trace, load_input};
 
 /// A reader that gives this many zeros, a buffer at a time, and then fails or ends.
 #[derive(Drop)]
@@ -81,10 +63,10 @@ fn loads_each_file_ahead_under_its_name(rt: HostRuntime) -> Result<(), Fail> {
     }
     for threads in [1, 2, 3, 16] {
         for order in [[a, b, a, c], [c, b, a, a], [b, a, c, a]] {
-            let mut host = Host::new(&rt);
-            host.keep_prefetched(prefetch_files(&rt, rt.alloc(), &rt, &[a, b, a, c], threads));
+            let mut ahead = prefetch_files(&rt, rt.alloc(), &rt, &[a, b, a, c], threads);
+            let mut world = System::new(&rt, io::sink(), io::sink());
             for name in order {
-                let loaded = host.load(name)?;
+                let loaded = load_next(&rt, &mut ahead, name, &mut world)?;
                 assert_eq!(rt; loaded.as_slice(), name.as_bytes(), "by {threads}");
             }
         }
@@ -104,19 +86,16 @@ fn reads_files_ahead_by_several_threads_alone(rt: HostRuntime) -> Result<(), Fai
         for name in [a, b, c] {
             fs::write(&rt, name, "soon")?;
         }
-        let mut host = Host::new(&rt);
-        host.keep_prefetched(prefetch_files(&rt, rt.alloc(), &rt, &[a, b, folder, c], threads));
+        let mut ahead = prefetch_files(&rt, rt.alloc(), &rt, &[a, b, folder, c], threads);
+        let mut world = System::new(&rt, io::sink(), io::sink());
+        let mut load = |name: &str| load_next(&rt, &mut ahead, name, &mut world);
         for name in [a, b, c] {
             fs::write(&rt, name, "late")?;
         }
-        assert_eq!(rt; host.load(a)?.as_slice(), seen.as_bytes(), "by {threads}");
-        assert_eq!(rt; host.load(b)?.as_slice(), seen.as_bytes(), "by {threads}");
-        assert_eq!(rt; host.load(folder).err(), Some(LoadFault::Unread));
-        assert_eq!(rt;
-            host.load(c)?.as_slice(),
-            b"late".as_slice(),
-            "by {threads}"
-        );
+        assert_eq!(rt; load(a)?.as_slice(), seen.as_bytes(), "by {threads}");
+        assert_eq!(rt; load(b)?.as_slice(), seen.as_bytes(), "by {threads}");
+        assert_eq!(rt; load(folder).err(), Some(LoadFault::Unread));
+        assert_eq!(rt; load(c)?.as_slice(), b"late".as_slice(), "by {threads}");
     }
     for name in [a, b, c] {
         fs::remove_file(&rt, name)?;
@@ -125,10 +104,11 @@ fn reads_files_ahead_by_several_threads_alone(rt: HostRuntime) -> Result<(), Fai
     Ok(())
 }
 
-/// A disk of the system's files, but for some names.
+/// A disk of the system's files, but for some names. It counts the files that were read ahead.
 #[derive(Drop)]
 struct Names<'a, R> {
     rt: &'a R,
+    ahead: AtomicU64,
 }
 
 impl<R: Disk> Disk for Names<'_, R> {
@@ -171,6 +151,17 @@ impl<R: Disk> Disk for Names<'_, R> {
             _ => self.rt.read(alloc, name),
         }
     }
+
+    fn note_turns(&self, ahead: usize) {
+        self.ahead.store(ahead as u64, Ordering::SeqCst);
+    }
+}
+
+fn names_of<R>(rt: &R) -> Names<'_, R> {
+    Names {
+        rt,
+        ahead: AtomicU64::new(0),
+    }
 }
 
 /// The names of what two threads read ahead, in the order of the list.
@@ -180,7 +171,7 @@ fn prefetched_names<R: Threads + Sync + Disk>(
     names: &[&str],
 ) -> Result<String, Fail> {
     let mut text = String::new(alloc);
-    for file in prefetch_files(rt, alloc, &Names { rt }, names, 2) {
+    for file in prefetch_files(rt, alloc, &names_of(rt), names, 2) {
         write!(text, "{} ", file.name())?;
     }
     Ok(text)
@@ -213,30 +204,6 @@ fn reads_parts_up_to_a_fault(rt: HostRuntime) -> Result<(), Fail> {
     Ok(())
 }
 
-/// A source without files, which counts what was read before its turn.
-#[derive(Drop)]
-struct PrefetchCount {
-    files: usize,
-}
-
-impl FileSource for PrefetchCount {
-    fn load(&mut self, _: &str) -> Result<Vec<u8>, LoadFault> {
-        Err(LoadFault::Unread)
-    }
-}
-
-impl Source for PrefetchCount {
-    fn keep_prefetched(&mut self, ahead: Vec<Loaded>) {
-        self.files = ahead.len();
-    }
-
-    fn input(&mut self) -> Result<Vec<u8>, LoadFault> {
-        Err(LoadFault::Unread)
-    }
-
-    fn join(&mut self, _: Trace) {}
-}
-
 #[test]
 fn reads_files_ahead_for_any_number_of_workers(rt: HostRuntime) -> Result<(), Fail> {
     let alloc = rt.alloc();
@@ -246,18 +213,12 @@ fn reads_files_ahead_for_any_number_of_workers(rt: HostRuntime) -> Result<(), Fa
         fs::write(&rt, name, name)?;
     }
     for workers in ["1", "2", "3", "16"] {
-        let mut source = PrefetchCount { files: 0 };
         let words = ["--workers", workers, a, b, c];
-        let disk = Names { rt: &rt };
+        let disk = names_of(&rt);
         let mut out = Vec::new(alloc);
-        let (status, err) = run_over(&rt, alloc, &words, &disk, &mut source, &mut out)?;
-        assert_eq!(rt; (out.len(), status), (0, 1), "by {workers}");
-        assert_eq!(rt;
-            err.as_slice(),
-            b"fault: cannot read many_a\n".as_slice(),
-            "by {workers}"
-        );
-        assert_eq!(rt; source.files, 3, "by {workers}");
+        let (status, err) = run_over(&rt, alloc, &words, &disk, &mut out)?;
+        assert_eq!(rt; (status, err.len()), (1, 0), "by {workers}");
+        assert_eq!(rt; disk.ahead.load(Ordering::SeqCst), 3, "by {workers}");
     }
     for name in files {
         fs::remove_file(&rt, name)?;

@@ -1,17 +1,19 @@
 //! What a run notes of what it charges, for whoever watches it.
 
 use super::running::run_over;
-use super::shelf::{Content, FIRST, SAMPLE, Shelf};
-use fare_program::{Amount, Disk, LoadFault};
+use super::shelf::{FIRST, SAMPLE, put};
+use fare_program::{Amount, Disk};
 use placed_files::{InMemory, Unopened};
 use std::alloc::{AllocError, Global};
+use std::fs::Files;
+use std::io::Input;
 use std::marker::Sync;
 use std::random::RandomSource;
 use std::sync::Wait;
 use std::sync::atomic::{AtomicU64, Ordering};
 use std::test::Fail;
 use std::thread::Threads;
-use world::{Loaded, MemoryStream, Trace};
+use world::{LoadFault, Loaded, MemoryStream, Trace};
 
 /// A disk of which nothing is read. It adds up what is noted.
 #[derive(Drop)]
@@ -71,19 +73,18 @@ impl Disk for NotingDisk {
 }
 
 /// What a run over two files of two taps notes: all taps, charged taps, bytes, posted bytes.
-fn noted<R: Threads + Wait + RandomSource + Sync>(
+fn noted<R: Threads + Wait + RandomSource + Sync + Files + Input + AllocGlobal>(
     rt: &R,
     alloc: Global,
     words: &[&str],
 ) -> Result<[u64; 4], Fail> {
     let first = hex::decode(alloc, FIRST)?;
     let files = [
-        ("t", Content::Bytes(SAMPLE.as_bytes())),
-        ("a", Content::Bytes(&first)),
-        ("b", Content::Bytes(&first)),
+        ("t", SAMPLE.as_bytes()),
+        ("a", &first[..]),
+        ("b", &first[..]),
     ];
-    let input = Content::Fault(LoadFault::Unread);
-    let mut shelf = Shelf::new(alloc, files.as_slice(), input);
+    put(rt, files.as_slice())?;
     let disk = NotingDisk {
         all_taps: AtomicU64::new(0),
         taps: AtomicU64::new(0),
@@ -91,7 +92,7 @@ fn noted<R: Threads + Wait + RandomSource + Sync>(
         bytes: AtomicU64::new(0),
     };
     let mut out = Vec::new(alloc);
-    run_over(rt, alloc, words, &disk, &mut shelf, &mut out)?;
+    run_over(rt, alloc, words, &disk, &mut out)?;
     Ok([
         disk.all_taps.load(Ordering::SeqCst),
         disk.taps.load(Ordering::SeqCst),

@@ -1,11 +1,12 @@
 //! A report that is longer than what waits at most before it is written.
 
 use super::running::{NoDisk, run_over};
-use super::shelf::{Content, SAMPLE, Shelf};
+use super::shelf::{SAMPLE, put};
 use sample_table::Narrow;
 use std::alloc::Global;
+use std::fs::Files;
 use std::io;
-use std::io::Write;
+use std::io::{Input, Write};
 use std::marker::Sync;
 use std::random::RandomSource;
 use std::sync::Wait;
@@ -71,15 +72,15 @@ impl Write for Pieces {
 }
 
 /// The status and the fault line of a report of this upload.
-fn print<R: Threads + Wait + RandomSource + Sync, W: Write>(
+fn print<R: Threads + Wait + RandomSource + Sync + Files + Input + AllocGlobal, W: Write>(
     rt: &R,
     alloc: Global,
     upload: &[u8],
     out: &mut W,
 ) -> Result<(u8, Vec<u8>), Fail> {
-    let files = [("t", Content::Bytes(SAMPLE.as_bytes()))];
-    let mut shelf = Shelf::new(alloc, files.as_slice(), Content::Bytes(upload));
-    Ok(run_over(rt, alloc, &["--table", "t"], &NoDisk, &mut shelf, out)?)
+    let files = [("t", SAMPLE.as_bytes()), ("i", upload)];
+    put(rt, files.as_slice())?;
+    Ok(run_over(rt, alloc, &["--table", "t", "i"], &NoDisk, out)?)
 }
 
 #[test]

@@ -1,17 +1,20 @@
 //! Live runs whose workers load the files that they draw.
 
 use super::running::{NoDisk, run_over};
-use super::shelf::{Content, FIRST, SAMPLE, Shelf};
-use fare_program::{Amount, Disk, LoadFault};
+use super::shelf::{FIRST, SAMPLE, put};
+use fare_program::{Amount, Disk};
 use placed_files::{InMemory, Unopened};
 use std::alloc::{AllocError, Global};
+use std::fs;
+use std::fs::Files;
+use std::io::Input;
 use std::marker::Sync;
 use std::random::RandomSource;
 use std::sync::Wait;
 use std::sync::atomic::{AtomicU64, Ordering};
 use std::test::Fail;
 use std::thread::Threads;
-use world::{Loaded, MemoryStream, Trace};
+use world::{LoadFault, Loaded, MemoryStream, Trace};
 
 /// A disk of files with one content, two of which are not read. It counts reads and charged bytes.
 #[derive(Drop)]
@@ -71,69 +74,63 @@ impl Disk for CountingDisk<'_> {
     }
 }
 
-/// What came of a run: status, text, what was said, reads of disk and source, and charged bytes.
+/// What came of a run: status, text, what was said, reads of the disk, and charged bytes.
 #[derive(Drop)]
 struct Came {
     status: u8,
     out: Vec<u8>,
     err: Vec<u8>,
     reads: u64,
-    loads: u64,
     charged: u64,
 }
 
-fn run_counting<R: Threads + Wait + RandomSource + Sync>(
+fn run_counting<R: Threads + Wait + RandomSource + Sync + Files + Input + AllocGlobal>(
     rt: &R,
     alloc: Global,
     words: &[&str],
 ) -> Result<Came, Fail> {
     let content = hex::decode(alloc, FIRST)?;
-    let files = [
-        ("t", Content::Bytes(SAMPLE.as_bytes())),
-        ("a", Content::Bytes(&content)),
-        ("b", Content::Bytes(&content)),
-        ("none", Content::Fault(LoadFault::Unread)),
-        ("long", Content::Fault(LoadFault::TooLong)),
-    ];
     let disk = CountingDisk {
         content: &content,
         reads: AtomicU64::new(0),
         charged: AtomicU64::new(0),
     };
-    let input = Content::Fault(LoadFault::Unread);
-    let mut source = Shelf::new(alloc, files.as_slice(), input);
+    let files = [("t", SAMPLE.as_bytes())];
+    put(rt, files.as_slice())?;
     let mut out = Vec::new(alloc);
-    let (status, err) = run_over(rt, alloc, words, &disk, &mut source, &mut out)?;
+    let (status, err) = run_over(rt, alloc, words, &disk, &mut out)?;
     Ok(Came {
         status,
         out,
         err,
         reads: disk.reads.load(Ordering::SeqCst),
-        loads: source.loads,
         charged: disk.charged.load(Ordering::SeqCst),
     })
 }
 
 /// The text of the same run over loaded files.
-fn loaded_text<R: Threads + Wait + RandomSource + Sync>(
+fn loaded_text<R: Threads + Wait + RandomSource + Sync + Files + Input + AllocGlobal>(
     rt: &R,
     alloc: Global,
     words: &[&str],
 ) -> Result<Vec<u8>, Fail> {
     let content = hex::decode(alloc, FIRST)?;
     let files = [
-        ("t", Content::Bytes(SAMPLE.as_bytes())),
-        ("a", Content::Bytes(&content)),
-        ("b", Content::Bytes(&content)),
+        ("t", SAMPLE.as_bytes()),
+        ("a", &content[..]),
+        ("b", &content[..]),
     ];
-    let input = Content::Fault(LoadFault::Unread);
-    let mut source = Shelf::new(alloc, files.as_slice(), input);
+    put(rt, files.as_slice())?;
     let mut out = Vec::new(alloc);
-    run_over(rt, alloc, words, &NoDisk, &mut source, &mut out)?;
+    run_over(rt, alloc, words, &NoDisk, &mut out)?;
+    for name in ["a", "b"] {
+        fs::remove_file(rt, name)?;
+    }
     Ok(out)
 }
 
-/// Each file is read once, from the disk, and noted as charged. The text is that of loaded files.
+/// Each file is read once, from the disk alone, and noted as charged. The text is that of loaded
+/// files.
 #[test]
 fn reads_each_file_once(rt: HostRuntime) -> Result<(), Fail> {
     let alloc = rt.alloc();
@@ -141,7 +138,7 @@ fn reads_each_file_once(rt: HostRuntime) -> Result<(), Fail> {
         let words = ["--table", "t", "--workers", workers, "a", "b"];
         let came = run_counting(&rt, alloc, &words)?;
         assert_eq!(rt; (came.status, came.err.len()), (0, 0), "by {workers}");
-        assert_eq!(rt; (came.reads, came.loads), (2, 1), "by {workers}");
+        assert_eq!(rt; came.reads, 2, "by {workers}");
         assert_eq!(rt; came.charged, 128, "by {workers}");
         let text = loaded_text(&rt, alloc, &words)?;
         assert_eq!(rt; came.out.as_slice(), text.as_slice(), "by {workers}");
@@ -153,6 +150,9 @@ fn reads_each_file_once(rt: HostRuntime) -> Result<(), Fail> {
 #[test]
 fn reports_the_first_unread_file(rt: HostRuntime) -> Result<(), Fail> {
     let alloc = rt.alloc();
+    for name in ["a", "b"] {
+        fs::write(&rt, name, "")?;
+    }
     for workers in ["1", "2", "16"] {
         let words = [
             "--table",
@@ -176,7 +176,7 @@ fn reports_the_first_unread_file(rt: HostRuntime) -> Result<(), Fail> {
         assert_eq!(rt; (came.status, came.out.len()), (1, 0), "by {workers}");
         assert_eq!(rt;
             came.err.as_slice(),
-            b"fault: long is too long\n".as_slice(),
+            b"fault: cannot read long\n".as_slice(),
             "by {workers}"
         );
     }

@@ -1,14 +1,16 @@
-//! A run of the program over arguments, a disk, a source and a writer.
+//! A run of the program over arguments, a disk, the system's files and a writer.
 
-use fare_program::{Complaints, Disk, LoadFault, Output, Source, main_over};
+use fare_program::{Disk, Output, main_over};
 use placed_files::{InMemory, Unopened};
 use std::alloc::{AllocError, Global};
-use std::io::Write;
+use std::fs::Files;
+use std::io;
+use std::io::{Input, Write};
 use std::marker::Sync;
 use std::random::RandomSource;
 use std::sync::Wait;
 use std::thread::Threads;
-use world::{Loaded, MemoryStream, Trace};
+use world::{LoadFault, Loaded, MemoryStream, System, Trace};
 
 /// A disk of which nothing is read before its turn.
 pub(crate) struct NoDisk;
@@ -47,27 +49,33 @@ impl Disk for NoDisk {
     }
 }
 
-/// Runs the program with these arguments. Returns the status and what the second writer got.
+/// The words of a command line with these arguments.
+pub(crate) fn texts_of(alloc: Global, words: &[&str]) -> Result<Vec<String>, AllocError> {
+    let mut texts = Vec::new(alloc);
+    texts.push(String::from_str(alloc, "omny_cli")?)?;
+    for word in words {
+        texts.push(String::from_str(alloc, word)?)?;
+    }
+    Ok(texts)
+}
+
+/// Runs the program with these arguments. Returns the status and what was said.
 pub(crate) fn run_over<
-    R: Threads + Wait + RandomSource + Sync,
+    R: Threads + Wait + RandomSource + Sync + Files + Input + AllocGlobal,
     D: Disk + Sync,
-    S: Source,
     W: Write,
 >(
     rt: &R,
     alloc: Global,
     words: &[&str],
     disk: &D,
-    source: &mut S,
     out: &mut W,
 ) -> Result<(u8, Vec<u8>), AllocError> {
-    let mut texts = Vec::new(alloc);
-    texts.push(String::from_str(alloc, "omny_cli")?)?;
-    for word in words {
-        texts.push(String::from_str(alloc, word)?)?;
-    }
-    let mut err = Complaints::new(Vec::new(alloc));
+    let texts = texts_of(alloc, words)?;
+    let mut said = Vec::new(alloc);
+    let mut world = System::new(rt, io::sink(), &mut said);
     let mut output = Output::new(out);
-    let status = main_over(rt, alloc, &texts, disk, source, &mut output, &mut err);
-    Ok((status, err.into_writer()))
+    let status = main_over(rt, alloc, &texts, disk, &mut world, &mut output);
+    drop(world);
+    Ok((status, said))
 }

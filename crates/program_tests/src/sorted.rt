@@ -1,12 +1,14 @@
 //! Sorted files: the text is that of a settled run over the same files, and faults of reading.
 
 use super::running::run_over;
-use super::shelf::{Content, SAMPLE, Shelf};
-use fare_program::{Disk, LoadFault};
+use super::shelf::{SAMPLE, put};
+use fare_program::Disk;
 use placed_files::{FileStamp, InMemory, Placed, Unopened};
 use sample_table::tap_after;
 use std::alloc::{AllocError, Global};
+use std::fs::Files;
 use std::io;
+use std::io::Input;
 use std::marker::Sync;
 use std::random::RandomSource;
 use std::sync::Wait;
@@ -14,7 +16,7 @@ use std::sync::atomic::{AtomicU64, Ordering};
 use std::test::Fail;
 use std::thread::Threads;
 use tap_views::{TapFields, encode};
-use world::{Loaded, MemoryStream, Trace};
+use world::{LoadFault, Loaded, MemoryStream, Trace};
 
 /// The token of most taps.
 const TOKEN: &str = "000000000000000000000000000000a1";
@@ -91,7 +93,11 @@ fn other_taps() -> [TapFields; 3] {
 }
 
 /// The status, text and fault line of a run over the sample table and the files `a` and `b`.
-pub(crate) fn run_on<'a, R: Threads + Wait + RandomSource + Sync, D: Disk + Sync>(
+pub(crate) fn run_on<
+    'a,
+    R: Threads + Wait + RandomSource + Sync + Files + Input + AllocGlobal,
+    D: Disk + Sync,
+>(
     rt: &R,
     alloc: Global,
     words: &[&str],
@@ -99,15 +105,10 @@ pub(crate) fn run_on<'a, R: Threads + Wait + RandomSource + Sync, D: Disk + Sync
     a: &'a [u8],
     b: &'a [u8],
 ) -> Result<(u8, Vec<u8>, Vec<u8>), Fail> {
-    let files = [
-        ("t", Content::Bytes(SAMPLE.as_bytes())),
-        ("a", Content::Bytes(a)),
-        ("b", Content::Bytes(b)),
-    ];
-    let input = Content::Fault(LoadFault::Unread);
-    let mut shelf = Shelf::new(alloc, files.as_slice(), input);
+    let files = [("t", SAMPLE.as_bytes()), ("a", a), ("b", b)];
+    put(rt, files.as_slice())?;
     let mut out = Vec::new(alloc);
-    let (status, err) = run_over(rt, alloc, words, disk, &mut shelf, &mut out)?;
+    let (status, err) = run_over(rt, alloc, words, disk, &mut out)?;
     Ok((status, out, err))
 }
 
@@ -265,7 +266,7 @@ impl<'a> Disk for FickleDisk<'a> {
 }
 
 /// The status, the text and the fault line. Reads fail from some number on, and stamps differ.
-fn run_fickle<R: Threads + Wait + RandomSource + Sync>(
+fn run_fickle<R: Threads + Wait + RandomSource + Sync + Files + Input + AllocGlobal>(
     rt: &R,
     alloc: Global,
     text: &[&str],

@@ -1,18 +1,20 @@
 //! Writers that fail.
 
-use super::running::{NoDisk, run_over};
-use super::shelf::{Content, FIRST, SAMPLE, Shelf};
-use fare_program::{Complaints, LoadFault, Output, WordsFault, main_over, unread_words};
+use super::running::{NoDisk, run_over, texts_of};
+use super::shelf::{FIRST, SAMPLE, put};
+use fare_program::{Output, WordsFault, main_over, unread_words};
 use sample_table::Narrow;
 use std::alloc::Global;
+use std::fs::Files;
 use std::io;
-use std::io::Write;
+use std::io::{Input, Write};
 use std::marker::Sync;
 use std::process::Abort;
 use std::random::RandomSource;
 use std::sync::Wait;
 use std::test::Fail;
 use std::thread::Threads;
+use world::System;
 
 /// The listing of the two taps.
 const LISTING: &str = "0 0 000000000000000000000000000000a1 1000 1709917200000 live
@@ -48,21 +50,23 @@ impl Write for Stuck {
     }
 }
 
-/// Runs the program over the two taps as standard input and the sample table as the file `t`.
-fn run_first<R: Threads + Wait + RandomSource + Sync, W: Write>(
+/// Runs the program over the two taps as the file `i` and the sample table as the file `t`.
+fn run_first<R: Threads + Wait + RandomSource + Sync + Files + Input + AllocGlobal, W: Write>(
     rt: &R,
     alloc: Global,
     words: &[&str],
     out: &mut W,
 ) -> Result<(u8, Vec<u8>), Fail> {
     let first = hex::decode(alloc, FIRST)?;
-    let files = [("t", Content::Bytes(SAMPLE.as_bytes()))];
-    let mut shelf = Shelf::new(alloc, files.as_slice(), Content::Bytes(&first));
-    Ok(run_over(rt, alloc, words, &NoDisk, &mut shelf, out)?)
+    let files = [("t", SAMPLE.as_bytes()), ("i", &first[..])];
+    put(rt, files.as_slice())?;
+    let mut words = Vec::from_slice(alloc, words)?;
+    words.push("i")?;
+    Ok(run_over(rt, alloc, &words, &NoDisk, out)?)
 }
 
 /// The status and the complaint of such a run, if the writer takes `room` bytes.
-fn run_with_room<R: Threads + Wait + RandomSource + Sync>(
+fn run_with_room<R: Threads + Wait + RandomSource + Sync + Files + Input + AllocGlobal>(
     rt: &R,
     alloc: Global,
     words: &[&str],
@@ -73,7 +77,7 @@ fn run_with_room<R: Threads + Wait + RandomSource + Sync>(
 }
 
 /// The same, if the writer brings no byte anywhere.
-fn run_stuck<R: Threads + Wait + RandomSource + Sync>(
+fn run_stuck<R: Threads + Wait + RandomSource + Sync + Files + Input + AllocGlobal>(
     rt: &R,
     alloc: Global,
     words: &[&str],
@@ -83,7 +87,7 @@ fn run_stuck<R: Threads + Wait + RandomSource + Sync>(
 }
 
 /// Whether such a run writes this text, succeeds, and says nothing.
-fn writes<R: Threads + Wait + RandomSource + Sync>(
+fn writes<R: Threads + Wait + RandomSource + Sync + Files + Input + AllocGlobal>(
     rt: &R,
     alloc: Global,
     words: &[&str],
@@ -95,7 +99,7 @@ fn writes<R: Threads + Wait + RandomSource + Sync>(
 }
 
 /// The first room below the length with which such a run does not report that it cannot write.
-fn first_unreported<R: Threads + Wait + RandomSource + Sync>(
+fn first_unreported<R: Threads + Wait + RandomSource + Sync + Files + Input + AllocGlobal>(
     rt: &R,
     alloc: Global,
     words: &[&str],
@@ -140,16 +144,14 @@ fn reports_a_text_that_is_not_brought_anywhere(rt: HostRuntime) -> Result<(), Fa
 #[test]
 fn ends_with_its_status_where_the_fault_cannot_be_reported(rt: HostRuntime) -> Result<(), Fail> {
     let alloc = rt.alloc();
-    let words = vec![in alloc; String::from_str(alloc, "omny_cli")?]?;
-    let mut shelf = Shelf::new(alloc, &[], Content::Fault(LoadFault::Unread));
+    let words = texts_of(alloc, &["no_file"])?;
     let status = main_over(
         &rt,
         alloc,
         &words,
         &NoDisk,
-        &mut shelf,
+        &mut System::new(&rt, io::sink(), Narrow { room: 9 }),
         &mut Output::new(Narrow { room: 9 }),
-        &mut Complaints::new(Narrow { room: 9 }),
     );
     assert_eq!(rt; status, 1);
     Ok(())
@@ -157,10 +159,9 @@ fn ends_with_its_status_where_the_fault_cannot_be_reported(rt: HostRuntime) -> R
 
 /// Whether arguments that cannot be had are reported by this line, with this status.
 fn is_reported(alloc: Global, fault: &WordsFault, line: &[u8], status: u8) -> bool {
-    let mut err = Complaints::new(Vec::new(alloc));
+    let mut err = Vec::new(alloc);
     let ended = unread_words(fault, &mut err);
-    let said = err.into_writer();
-    ended == status && said.as_slice() == line
+    ended == status && err.as_slice() == line
 }
 
 #[test]

@@ -91,7 +91,7 @@ impl Steps {
     }
 
     /// Begins to read files in their turns. `ahead` were read before.
-    pub(crate) fn keep_prefetched(&mut self, ahead: usize) {
+    pub(crate) fn begin_turns(&mut self, ahead: usize) {
         self.stage = Stage::Files;
         self.ahead = ahead;
     }

@@ -138,6 +138,12 @@ impl Ticker {
         }
     }
 
+    /// A file of this name, with these bytes, was loaded in its turn.
+    pub(crate) fn end_load<R: Wait>(&self, rt: &R, name: &str, bytes: &[u8]) {
+        self.steps.lock(rt).end_load();
+        self.note_load(rt, name, bytes);
+    }
+
     /// Takes the line away for good.
     pub fn end<R: Wait>(&self, rt: &R) {
         self.line.lock(rt).end();

@@ -2,17 +2,18 @@
 
 use crate::meter::Meter;
 use crate::ticker::Ticker;
-use file_sources::{Amount, Disk, Source};
+use file_sources::{Amount, Disk};
 use placed_files::{FileStamp, Placed, Unopened};
-use program_manners::{FileSource, LoadFault, STANDARD_INPUT};
+use program_manners::STANDARD_INPUT;
 use provenance::FileSumming;
 use std::alloc::{AllocError, Global};
+use std::fmt::Display;
 use std::io;
 use std::marker::Sync;
 use std::sync::Wait;
-use world::{Loaded, Reading, Trace};
+use world::{Inputs, LoadFault, Loaded, MakeFault, Reading, Trace, World, WriteFault};
 
-/// A disk or a source whose reads are noted. It gives what the one below gives.
+/// A world whose reads are noted. It gives what the one below gives.
 #[derive(Drop)]
 pub struct Watched<'a, R: Wait, S: Drop> {
     rt: &'a R,
@@ -23,7 +24,7 @@ pub struct Watched<'a, R: Wait, S: Drop> {
 impl<'a, R: Wait, S: Drop> Watched<'a, R, S> {
     ghost use Rattle.std.specs.Prelude.{◌≡◌};
 
-    /// The source `from`, whose reads the ticker shows.
+    /// The world `from`, whose reads the ticker shows.
     pub fn new(rt: &'a R, ticker: &'a Ticker, from: S) -> Watched<'a, R, S>
         ensures { result.from ≡ from }
     {
@@ -195,26 +196,28 @@ impl<'a, R: Wait + Sync, D: Disk> Disk for WatchedDisk<'a, R, D> {
     fn note_absent(&self) {
         self.ticker.findings.lock(self.rt).is_absent = true;
     }
+
+    fn note_turns(&self, ahead: usize) {
+        self.ticker.steps.lock(self.rt).begin_turns(ahead);
+    }
+
+    fn note_taken(&self, name: &str, bytes: &[u8]) {
+        self.ticker.end_load(self.rt, name, bytes);
+    }
 }
 
-impl<R: Wait, S: FileSource + Drop> FileSource for Watched<'_, R, S> {
-    ghost loaded = { λ w. S.loaded w.from };
-
-    ghost refused = { λ w. S.refused w.from };
+impl<R: Wait, S: Inputs + Drop> Inputs for Watched<'_, R, S> {
+    ghost run = { λ w. S.run w.from };
 
     fn load(&mut self, name: &str) -> Result<Vec<u8>, LoadFault> {
         self.ticker.steps.lock(self.rt).begin_load();
         let bytes = self.from.load(name)?;
-        self.ticker.steps.lock(self.rt).end_load();
-        self.ticker.note_load(self.rt, name, &bytes);
+        self.ticker.end_load(self.rt, name, &bytes);
         Ok(bytes)
     }
-}
 
-impl<R: Wait, S: Source + Drop> Source for Watched<'_, R, S> {
-    fn keep_prefetched(&mut self, ahead: Vec<Loaded>) {
-        self.ticker.steps.lock(self.rt).keep_prefetched(ahead.len());
-        self.from.keep_prefetched(ahead);
+    fn load_into(&mut self, name: &str, room: Vec<u8>) -> Result<Vec<u8>, LoadFault> {
+        self.from.load_into(name, room)
     }
 
     fn input(&mut self) -> Result<Vec<u8>, LoadFault> {
@@ -225,7 +228,47 @@ impl<R: Wait, S: Source + Drop> Source for Watched<'_, R, S> {
         Ok(bytes)
     }
 
+    fn take(&mut self, file: Loaded) -> Vec<u8> {
+        self.from.take(file)
+    }
+
     fn join(&mut self, calls: Trace) {
         self.from.join(calls);
+    }
+}
+
+impl<R: Wait, S: World + Drop> World for Watched<'_, R, S> {
+    type File = S::File;
+
+    fn write(&mut self, piece: &[u8]) -> Result<(), WriteFault> {
+        self.from.write(piece)
+    }
+
+    fn flush(&mut self) -> Result<(), WriteFault> {
+        self.from.flush()
+    }
+
+    fn say(&mut self, text: &[u8]) {
+        self.from.say(text);
+    }
+
+    fn report_line<D: Display + Drop>(&mut self, line: D) -> Result<(), io::Error> {
+        self.from.report_line(line)
+    }
+
+    fn begin(&mut self, name: &str, is_new: bool) -> Result<S::File, MakeFault> {
+        self.from.begin(name, is_new)
+    }
+
+    fn finish(&mut self, name: &str, file: S::File) -> Result<(), MakeFault> {
+        self.from.finish(name, file)
+    }
+
+    fn fail(&mut self, name: &str, file: S::File) -> MakeFault {
+        self.from.fail(name, file)
+    }
+
+    fn discard(&mut self, file: S::File) {
+        self.from.discard(file);
     }
 }

@@ -43,7 +43,8 @@ fn post(
     let mut entries = Vec::with_capacity(alloc, taps.len())?;
     let mut replay = Replay::of(token);
     for tap in taps {
-        entries.push(replay.next(table, &clock, tap))?;
+        let mode = table.mode_of(tap.moment, tap.validator);
+        entries.push(replay.next(table, &clock, tap, mode))?;
     }
     Ok(PostedTaps { entries, replay })
 }

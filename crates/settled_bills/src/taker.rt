@@ -39,7 +39,7 @@ fn is_early(tap: &TapFields) -> bool
 }
 
 #[inline(always)]
-fn may_follow(tap: &TapFields, last: Token, token: Token) -> bool
+pub(crate) fn may_follow(tap: &TapFields, last: Token, token: Token) -> bool
     ensures early { IsTrue result → tap.now.moment < 4_102_444_800_000 }
     ensures up { IsTrue result → IsUpTo last token }
 {

@@ -9,9 +9,11 @@ use Rattle.histories.specs.Sums.{Sums, add_sums, sums, sums_of_replies}
 use Rattle.histories.specs.{SumsByKey.sums_by_token, SumsByKey.token_of, TalliesByKey.AreTallied}
 use Rattle.histories.specs.{TalliesByKey.Tallies, Tally.sums_of_tally, declared.entry.Entry.Entry}
 use Rattle.settlement.proofs.TokenRuns.{posted_length, posted_next, up_apart}
-use Rattle.settlement.specs.{Bills.IsBillOf, OpenBills.IsOpenBill, Posted.posted}
+use Rattle.settlement.specs.{Bills.IsBillOf, Modes.AreModesOf, OpenBills.IsOpenBill}
+use Rattle.settlement.specs.Posted.{posted}
 use Rattle.settlement.specs.{Posted.token_of_tap, Posted.unposted, Replays.HasPosted}
-use Rattle.settlement.specs.declared.{bill.Bill.Bill, open_bill.OpenBill.OpenBill}
+use Rattle.settlement.specs.declared.{bill.Bill.Bill, kept_modes.KeptModes.KeptModes}
+use Rattle.settlement.specs.declared.open_bill.OpenBill.{OpenBill}
 use Rattle.std.proofs.lemmas.List.{map-append, Elements.All-append}
 use Rattle.std.proofs.lemmas.List.Elements.{All-cons, All-head, All-map, All-nil, All-weaker}
 use Rattle.std.specs.declared.cmp.Ordering.TheVariants.{Less}
@@ -96,8 +98,8 @@ module _ (fares : Fares) (taps : List TapFields) (bill : OpenBill)
       → ((earlier : List Entry) → own new.replay.token earlier ≡ []
       → HasPosted fares new.replay earlier)
       → sums_of_tally new.tally ≡ sums_of_replies [] → new.has_taps ≡ false
-      → IsOpenBill fares taps new
-  gone_on new billed up apart holds tally none =
+      → new.modes ≡ bill.modes → IsOpenBill fares taps new
+  gone_on new billed up apart holds tally none kept =
       let next = new.replay.token in
       let entries = posted fares taps in
       let below = all_below next up apart in
@@ -119,6 +121,7 @@ module _ (fares : Fares) (taps : List TapFields) (bill : OpenBill)
         tokens = billed.tokens;
         totals = billed.counts.totals;
         validators = billed.counts.validators;
+        modes = subst (λ (m : KeptModes). AreModesOf fares m.list.items) (sym kept) is.modes;
       }
 
   -- a tap more of the last token
@@ -131,9 +134,9 @@ module _ (fares : Fares) (taps : List TapFields) (bill : OpenBill)
       → new.has_taps ≡ true → new.bill.tokens ≡ bill.bill.tokens
       → new.bill.totals ≡ bill.bill.totals
       → AreTallied (posted fares taps ++ entry ∷ []) new.bill.validators
-      → IsOpenBill fares (taps ++ tap ∷ []) new
+      → AreModesOf fares new.modes.list.items → IsOpenBill fares (taps ++ tap ∷ []) new
   unfolding answered
-  one_more new tap entry its same answer holds tally some tokens totals validators =
+  one_more new tap entry its same answer holds tally some tokens totals validators modes =
       let P : Entry → Type 0 = λ (e : Entry). e.token ≡ new.replay.token in
       let next : posted fares taps ++ entry ∷ [] ≡ posted fares (taps ++ tap ∷ []) =
       sym (posted_next fares taps tap
@@ -159,4 +162,5 @@ module _ (fares : Fares) (taps : List TapFields) (bill : OpenBill)
         totals = ap sums_of_tally totals ∙ is.totals;
         validators = subst (λ (es : List Entry). AreTallied es new.bill.validators) next
             validators;
+        modes = modes;
       }

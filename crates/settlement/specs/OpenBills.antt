@@ -2,7 +2,8 @@
 use Rattle.histories.specs.{Sums.sums, SumsByKey.sums_by_token, SumsByKey.token_of}
 use Rattle.histories.specs.{TalliesByKey.AreTallied, Tally.sums_of_tally}
 use Rattle.histories.specs.declared.entry.Entry.{Entry}
-use Rattle.settlement.specs.{Posted.posted, Replays.HasPosted, declared.open_bill.OpenBill.OpenBill}
+use Rattle.settlement.specs.{Modes.AreModesOf, Posted.posted, Replays.HasPosted}
+use Rattle.settlement.specs.declared.open_bill.OpenBill.{OpenBill}
 use Rattle.std.specs.Prelude.{◌≡◌, ◌+◌, ◌^◌, ◌<◌, ◌≤◌, ℕ, true, false, All, List, [], ◌∷◌, ◌++◌}
 use Rattle.std.specs.Prelude.{length, map}
 use Rattle.tap_views.specs.{TokenOrder.AreBelow, declared.encoder.TapFields.TapFields}
@@ -23,6 +24,7 @@ pub record IsOpenBill (fares : Fares) (taps : List TapFields) (bill : OpenBill) 
   pub tokens : bill.bill.tokens ≡ sums_by_token lower
   pub totals : sums_of_tally bill.bill.totals ≡ sums lower
   pub validators : AreTallied (posted fares taps) bill.bill.validators
+  pub modes : AreModesOf fares bill.modes.list.items
 
 -- the bill has some taps, and there is room for `more` others
 abbrev pub HasRoomFor : OpenBill → ℕ → Type 0

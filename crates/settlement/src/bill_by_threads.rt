@@ -14,11 +14,11 @@ use std::alloc::{AllocError, Global};
 use std::marker::Sync;
 use std::thread;
 use std::thread::Threads;
-use tap_parts::{are_in_order, arrange_into};
+use tap_parts::arrange_into;
 use tap_views::{NoMemory, TapFields};
 use tariffs::FareTable;
 
-/// The taps in canonical order: where they lie, or in `list`, which is room to work in.
+/// The taps in canonical order, in `list`, which is room to work in.
 fn ordered<'a>(
     alloc: Global,
     list: &'a mut Vec<TapFields>,
@@ -27,11 +27,6 @@ fn ordered<'a>(
     ensures { IfOk result (λ taps. IsCanonical pieces.now taps.now) }
 {
     let pieces = pieces.as_slice();
-    if let [piece] = pieces {
-        if are_in_order(piece) {
-            return Ok(piece);
-        }
-    }
     arrange_into(alloc, pieces, list)?;
     Ok(list)
 }

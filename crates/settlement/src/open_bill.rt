@@ -10,6 +10,7 @@ ghost use Rattle.tap_views.specs.declared.encoder.TapFields.{TapFields};
 ghost use Rattle.tariffs.specs.Fares.{Fares};
 
 use crate::bill::Bill;
+use crate::kept_modes::KeptModes;
 use crate::replay::Replay;
 use histories::{HashSeed, Tally};
 use std::alloc::Global;
@@ -42,6 +43,7 @@ pub struct OpenBill {
     /// What the last token's taps come to.
     tally: Tally,
     has_taps: bool,
+    modes: KeptModes,
 }
 
 impl OpenBill {
@@ -55,6 +57,7 @@ impl OpenBill {
             replay: Replay::of(from),
             tally: Tally::new(),
             has_taps: false,
+            modes: KeptModes::new(alloc),
         }
     }
 
@@ -68,8 +71,9 @@ impl OpenBill {
     /// After an allocation failure the bill is of no use.
     fn close(&mut self, alloc: Global) -> Result<(), NoMemory>
         requires { HasRoomFor self.old 0 }
-        ensures { OnOk result ((fares : Fares) (taps : List TapFields)
+        ensures bill { OnOk result ((fares : Fares) (taps : List TapFields)
             → IsOpenBill fares taps self.old → IsBillOf (posted fares taps) self.new.bill) }
+        ensures modes { OnOk result (self.new.modes ≡ self.old.modes) }
     {
         if !self.has_taps {
             return Ok(());
@@ -98,6 +102,7 @@ impl OpenBill {
         Ok(())
     }
 
+    #[inline(always)]
     fn post(&mut self, table: &FareTable, clock: &Clock, tap: &TapFields) -> Result<(), NoMemory>
         requires clock { clock.now ≡ table.now.zone }
         requires early { tap.now.moment < 4_102_444_800_000 }
@@ -108,15 +113,18 @@ impl OpenBill {
             → IsOpenBill table.now (taps ++ tap.now ∷ []) self.new) }
         ensures token { OnOk result (self.new.replay.token ≡ self.old.replay.token) }
     {
-        let entry = self.replay.next(table, clock, tap);
+        let mode = self.modes.mode_of(table, tap.moment, tap.validator);
+        let entry = self.replay.next(table, clock, tap, mode);
         self.tally.add(entry.reply());
         self.has_taps = true;
         self.bill.validators.add(&entry)?;
         Ok(())
     }
 
-    /// After an allocation failure the bill is of no use.
-    fn add_tap(
+    /// Adds a tap of the bill's token or of a higher one. After an allocation failure the bill is
+    /// of no use.
+    #[inline(always)]
+    pub fn add_tap(
         &mut self,
         alloc: Global,
         table: &FareTable,

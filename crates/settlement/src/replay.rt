@@ -1,11 +1,11 @@
 //! The taps of one token, posted one after another by its account alone.
 
 ghost use Rattle.fare_caps.specs.{CapMeanings.capped_rules_of, CappedReplies.capped_window};
-ghost use Rattle.histories.specs.Entry.{own, tap_of, taps_of};
+ghost use Rattle.histories.specs.Entry.{own, taps_of};
 ghost use Rattle.histories.specs.{Plain.answered, declared.entry.Entry.Entry};
-ghost use Rattle.settlement.specs.{Posted.token_of_tap, Posted.unposted, Replays.HasPosted};
-ghost use Rattle.std.specs.Option.{ForSome};
-ghost use Rattle.std.specs.Prelude.{◌≡◌, ◌<◌, List, ◌∷◌, ◌++◌, length, []};
+ghost use Rattle.settlement.specs.{Modes.IsModeAt, Posted.token_of_tap, Posted.unposted};
+ghost use Rattle.settlement.specs.Replays.{HasPosted};
+ghost use Rattle.std.specs.Prelude.{◌≡◌, ◌<◌, List, ◌∷◌, ◌++◌, IfSome, length, []};
 ghost use Rattle.tap_views.specs.Token.{bytes_of};
 ghost use Rattle.tariffs.specs.Fares.{Fares};
 
@@ -13,19 +13,7 @@ use account_rule::{TapIn, WindowView};
 use fare_caps::CappedAccount;
 use histories::Entry;
 use tap_views::{TapFields, Token};
-use tariffs::{Clock, FareTable};
-
-#[inline(always)]
-fn seen(table: &FareTable, tap: &TapFields) -> TapIn
-    ensures tap { result ≡ tap_of table.now (unposted tap.now) }
-    ensures mode { ForSome result.mode (λ mode. mode.position < length table.now.meaning.modes) }
-    ensures moment { result.moment ≡ tap.now.moment }
-{
-    TapIn {
-        moment: tap.moment,
-        mode: table.mode_of(tap.moment, tap.validator),
-    }
-}
+use tariffs::{Clock, FareTable, Mode};
 
 /// No bytes are put together: they lie in the tap that names the token.
 #[inline(always)]
@@ -60,11 +48,20 @@ impl Replay {
     }
 
     /// Posts the token's next tap, whose moment is in milliseconds since 1970, and gives its entry.
+    /// The mode is that of the tap's validator.
     #[inline(always)]
-    pub fn next(&mut self, table: &FareTable, clock: &Clock, tap: &TapFields) -> Entry
+    pub fn next(
+        &mut self,
+        table: &FareTable,
+        clock: &Clock,
+        tap: &TapFields,
+        mode: Option<Mode>,
+    ) -> Entry
         requires clock { clock.now ≡ table.now.zone }
         requires early { tap.now.moment < 4_102_444_800_000 }
         requires its { token_of_tap tap.now ≡ self.old.token }
+        requires mode { IsModeAt table.now tap.now.moment tap.now.validator mode }
+        requires within { IfSome mode (λ mode. mode.position < length table.now.meaning.modes) }
         requires posted { (earlier : List Entry) × HasPosted table.now self.old earlier }
         ensures entry { (earlier : List Entry) → HasPosted table.now self.old earlier
             → result ≡ answered table.now earlier (unposted tap.now) }
@@ -73,7 +70,10 @@ impl Replay {
         ensures token { self.new.token ≡ self.old.token }
     {
         let bytes = named_bytes(self.token, tap);
-        let seen = seen(table, tap);
+        let seen = TapIn {
+            moment: tap.moment,
+            mode,
+        };
         let reply = self.account.step(table, clock, bytes, seen);
         Entry {
             token: self.token,

@@ -90,8 +90,10 @@ impl Accounts {
         }
     }
 
-    /// The one look-up that a tap takes. With the most accounts it reports an allocation failure.
-    #[inline(always)]
+    /// A look-up, kept out of its callers: nearly all known indices and hints are right. With the
+    /// most accounts it reports an allocation failure.
+    #[cold]
+    #[inline(never)]
     #[tactic(auto, unfolding(crate::specs::inside::Accounts::kept_at))]
     pub(crate) fn open(&mut self, token: Token) -> Result<u32, NoMemory>
         ensures made { IfOk result (HasPositionFor self.old self.new token) }
@@ -130,22 +132,6 @@ impl Accounts {
         }
     }
 
-    /// Kept out of its callers: nearly all known indices are right.
-    #[cold]
-    #[inline(never)]
-    fn open_again(&mut self, token: Token) -> Result<u32, NoMemory>
-        ensures made { IfOk result (HasPositionFor self.old self.new token) }
-        ensures others { OnOk result ((other : Token) → token_eq token other ≡ false
-            → kept_at self.new other ≡ kept_at self.old other) }
-        ensures counting { self.new.counting ≡ self.old.counting }
-        ensures further { self.new.further ≡ self.old.further }
-        ensures positions { KeepPositions (tokens_of self.old) (tokens_of self.new) }
-        ensures err { OnErr result ((other : Token)
-            → kept_at self.new other ≡ kept_at self.old other) }
-    {
-        self.open(token)
-    }
-
     #[inline(always)]
     fn position(&mut self, token: Token, known: u32) -> Result<u32, NoMemory>
         ensures made { IfOk result (HasPositionFor self.old self.new token) }
@@ -160,7 +146,7 @@ impl Accounts {
         if self.is_at(known, token) {
             Ok(known)
         } else {
-            self.open_again(token)
+            self.open(token)
         }
     }
 

@@ -9,6 +9,7 @@ ghost use Rattle.std.specs.Prelude.{IsTrue, Some};
 ghost use Rattle.tap_views.specs.{Shards.shard_of_token, Token.bytes_of};
 
 use crate::accounts::Accounts;
+use crate::hints::Hints;
 use crate::packed::PackedEntry;
 use crate::prefetch::NO_POSITION;
 use account_rule::{Reply, TapIn};
@@ -29,6 +30,8 @@ pub struct ShardBook {
     pub(crate) accounts: Accounts,
     /// The entries in posting order.
     history: Vec<PackedEntry>,
+    /// Where accounts may be, tried before their tokens are looked up.
+    pub(crate) hints: Hints,
 }
 
 impl Model for ShardBook {
@@ -67,6 +70,7 @@ impl ShardBook {
             shards,
             accounts: Accounts::new(alloc, seed),
             history: Vec::new(alloc),
+            hints: Hints::new(alloc),
         }
     }
 

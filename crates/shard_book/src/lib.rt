@@ -5,6 +5,7 @@
 mod accounts;
 mod book;
 mod difference;
+mod hints;
 mod late;
 pub mod laws;
 mod packed;

@@ -25,19 +25,14 @@ impl KeptAccount {
 
 impl Accounts {
     /// If there is none, an account without taps is opened.
-    #[inline(always)]
-    pub(crate) fn open_early(&mut self, token: Token, known: u32) -> Result<u32, NoMemory>
+    pub(crate) fn open_early(&mut self, token: Token) -> Result<u32, NoMemory>
         ensures stays { (other : Token)
             → StillRepresents (kept_at self.old other) (kept_at self.new other) }
         ensures further { self.new.further ≡ self.old.further }
         ensures counting { self.new.counting ≡ self.old.counting }
         ensures positions { KeepPositions (tokens_of self.old) (tokens_of self.new) }
     {
-        if self.is_at(known, token) {
-            Ok(known)
-        } else {
-            self.open(token)
-        }
+        self.open(token)
     }
 
     /// Prefetch: returns the index, or `NO_POSITION`.
@@ -52,11 +47,24 @@ impl Accounts {
 
 impl ShardBook {
     /// If there is none, an account without taps is opened: the book stays as it is.
-    #[inline(always)]
-    pub(crate) fn open_early(&mut self, token: Token, known: u32) -> Result<u32, NoMemory>
+    fn open_early(&mut self, token: Token) -> Result<u32, NoMemory>
         ensures { self.new ≡ self.old }
     {
-        self.accounts.open_early(token, known)
+        self.accounts.open_early(token)
+    }
+
+    /// The same, but the hint is tried first.
+    #[inline(always)]
+    fn open_hinted(&mut self, token: Token) -> Result<u32, NoMemory>
+        ensures { self.new ≡ self.old }
+    {
+        let hint = self.hints.of(token);
+        if self.accounts.is_at(hint, token) {
+            return Ok(hint);
+        }
+        let position = self.open_early(token)?;
+        self.hints.keep(token, position, self.accounts.map.len())?;
+        Ok(position)
     }
 
     #[inline(always)]
@@ -84,14 +92,11 @@ impl ShardBook {
     ) -> Result<(), NoMemory>
         ensures { self.new ≡ self.old }
     {
-        // Taps in canonical order mostly have the token of the tap before.
-        let mut before = positions[AT_ONCE - 1];
         for position in positions.iter_mut() {
             let Some(tap) = ahead.next() else {
                 break;
             };
-            before = self.open_early(Token::of(tap.token()), before)?;
-            *position = before;
+            *position = self.open_hinted(Token::of(tap.token()))?;
         }
         // A loop of its own, so short that all its reads wait side by side.
         for position in positions.iter_mut() {

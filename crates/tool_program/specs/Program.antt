@@ -1,5 +1,6 @@
 -- The whole program: how what is asked for ends.
 use Rattle.frame.specs.Outcome.{Ends}
+use Rattle.program_manners.specs.Answers.{IsPrinted, IsRejected}
 use Rattle.std.specs.Prelude.{◌≡◌, ◌⊎◌, ⊤, ℕ, MatchBool, List, Option, map}
 use Rattle.tool_tasks.specs.{Corrections.corrections_stream, Decode.decode_rule, Encode.encode_rule}
 use Rattle.tool_tasks.specs.{EncodeRows.EndsRows, Merge.merge_stream, MergeSorted.merge_sorted_rule}
@@ -8,15 +9,7 @@ use Rattle.tool_words.specs.Request.{Request, corrections, decode, encode, encod
 use Rattle.tool_words.specs.Request.{misused, request_by, shows, sort, valid_prefix}
 use Rattle.tool_words.specs.{Tasks.rows_words_of, ToolLine.AsksForText, ToolLine.Parses}
 use Rattle.tool_words.specs.declared.task.RowsWords.{RowsWords}
-use Rattle.world.specs.{Run.Calls, Run.Run, Run.with_flushed, Run.with_written, Writes.IsSaid}
-
--- a text was written and flushed, and nothing else was done
-abbrev pub IsPrinted : Run → Run → Type 0
-IsPrinted old new = (text : List ℕ) × (new ≡ with_flushed (with_written old text))
-
--- something was said, with status 2, or 1 if an allocation failed, and nothing else was done
-abbrev pub IsRefused : Run → Run → ℕ → Type 0
-IsRefused old new status = ((status ≡ 2) ⊎ (status ≡ 1)) × IsSaid old new
+use Rattle.world.specs.{Run.Calls, Run.Run, Writes.IsSaid}
 
 -- THE rule of the program: what is asked for ends so. Files that are read in pieces are read by these
 -- calls, which follow those before, and `placed` is what is known of files that are read at any
@@ -37,7 +30,7 @@ IsFramed before after placed (sort request) old new status = MatchBool request.i
     (Ends (merge_sorted_rule request (map placed request.uploads)) old new status)
     (Ends (sort_rule request) old new status)
 IsFramed before after placed misused old new status =
-    (after ≡ before) × IsRefused old new status
+    (after ≡ before) × IsRejected old new status
 IsFramed before after placed shows old new status = ⊤
 
 -- THE outcome of a run of these words: what they ask for ends as it says. Only running out of memory,
@@ -49,4 +42,4 @@ pub record EndsTools (words : List (List ℕ)) (before after : List Calls)
       ⊎ ((status ≡ 1) × IsSaid old new)
   pub helped : ¬ Parses words → status ≡ 0 → AsksForText words × IsPrinted old new
   pub refused : ¬ Parses words → (¬ AsksForText words)
-      → IsRefused old new status × (after ≡ before)
+      → IsRejected old new status × (after ≡ before)

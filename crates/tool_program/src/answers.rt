@@ -1,16 +1,15 @@
 //! What clap answers if there is nothing to do.
-ghost use Rattle.std.specs.Prelude.{◌≡◌, OnOk};
+ghost use Rattle.std.specs.Prelude.{◌≡◌};
 ghost use Rattle.clap.specs.Words.{kind_of};
-ghost use Rattle.program_manners.specs.Words.{IsRequest};
-ghost use Rattle.tool_program.specs.Program.{IsPrinted, IsRefused};
+ghost use Rattle.program_manners.specs.{Answers.IsPrinted, Answers.IsRejected, Words.IsRequest};
 ghost use Rattle.world.specs.Writes.{IsSaid};
 
 use clap::Error;
 use clap::error::ErrorKind;
-use frame::{Outside, report};
+use program_manners::show_answer;
 use std::alloc::{AllocError, Global};
 use tool_tasks::{Escaped, Fault};
-use world::{World, WriteFault};
+use world::World;
 
 /// Other control characters of the lines are escaped, since they may have words of the command
 /// line.
@@ -40,23 +39,13 @@ pub(crate) fn show<W: World>(alloc: Global, error: &Error, world: &mut W) -> u8
     ensures help { result ≡ 0
         → IsRequest (kind_of error.now) × IsPrinted (W.run world.old) (W.run world.new) }
     ensures refused { ¬ IsRequest (kind_of error.now)
-        → IsRefused (W.run world.old) (W.run world.new) result }
+        → IsRejected (W.run world.old) (W.run world.new) result }
     ensures memory { kind_of error.now ≡ ErrorKind.OutOfMemory
         → (result ≡ 1) × IsSaid (W.run world.old) (W.run world.new) }
 {
     match error.kind() {
-        ErrorKind::OutOfMemory => refuse_memory(world),
-        ErrorKind::DisplayHelp | ErrorKind::DisplayVersion => {
-            let Ok(text) = format!(in alloc; "{error}") else {
-                return refuse_memory(world);
-            };
-            match print(text.as_bytes(), world) {
-                Ok(()) => 0,
-                Err(why) => {
-                    report(Outside::Unwritten(why), Fault::Write, world);
-                    1
-                }
-            }
+        ErrorKind::OutOfMemory | ErrorKind::DisplayHelp | ErrorKind::DisplayVersion => {
+            show_answer(alloc, error, world)
         }
         _ => match escaped(alloc, error) {
             Ok(text) => {
@@ -65,14 +54,5 @@ pub(crate) fn show<W: World>(alloc: Global, error: &Error, world: &mut W) -> u8
             }
             Err(_) => refuse_memory(world),
         },
-    }
-}
-
-fn print<W: World>(text: &[u8], world: &mut W) -> Result<(), WriteFault>
-    ensures { OnOk result (IsPrinted (W.run world.old) (W.run world.new)) }
-{
-    match world.write(text) {
-        Ok(()) => world.flush(),
-        Err(why) => Err(why),
     }
 }

@@ -1,6 +1,7 @@
 //! The whole program, from the words to the status.
+ghost use Rattle.program_manners.specs.Answers.{IsRejected};
 ghost use Rattle.std.specs.Prelude.{map, string_bytes};
-ghost use Rattle.tool_program.specs.Program.{EndsTools, IsFramed, IsRefused};
+ghost use Rattle.tool_program.specs.Program.{EndsTools, IsFramed};
 ghost use Rattle.tool_words.specs.Tasks.{request_of};
 
 use crate::answers::{refuse_memory, show};
@@ -21,7 +22,7 @@ use world::World;
 
 /// Says what is wrong with the words, and gives the status.
 fn refuse<W: World, D: Display + Drop>(line: D, world: &mut W) -> u8
-    ensures { IsRefused (W.run world.old) (W.run world.new) result }
+    ensures { IsRejected (W.run world.old) (W.run world.new) result }
 {
     let _ = world.report_line(line);
     2
@@ -29,7 +30,7 @@ fn refuse<W: World, D: Display + Drop>(line: D, world: &mut W) -> u8
 
 /// Says which word of a later table has a wrong date, or none, and gives the status.
 fn refuse_date<W: World>(alloc: Global, wrong: &WrongWord<'_>, world: &mut W) -> u8
-    ensures { IsRefused (W.run world.old) (W.run world.new) result }
+    ensures { IsRejected (W.run world.old) (W.run world.new) result }
 {
     match format!(in alloc; "error: {wrong}") {
         Ok(line) => refuse(Escaped(&line), world),

@@ -8,13 +8,13 @@ use Rattle.ledger_changes.specs.Given.{HasStarted, HasGiven, IsAllGiven, IsStart
 use Rattle.ledger_changes.specs.{Given.new_calls, Given.old_calls, Tokens.corrections_of}
 use Rattle.ledger_changes.specs.{Tokens.head_of, declared.changes.Corrections.Corrections}
 use Rattle.ledger_changes.specs.declared.fault.Bill.TheVariants.{New, Old}
-use Rattle.std.specs.Prelude.{Contains, IfErr, IfOk, Vec}
+use Rattle.std.specs.Prelude.{Contains, Vec}
 use Rattle.std.specs.declared.alloc.Global.{Global}
 use Rattle.tool_tasks.proofs.Streaming.{all_read}
-use Rattle.tool_tasks.specs.Corrections.{AreRead, IsPart, IsRemovedNote, IsWrongLedger}
-use Rattle.tool_tasks.specs.Corrections.{corrections_stream}
+use Rattle.tool_tasks.specs.Corrections.{AreRead, IsPart, IsWrongLedger, corrections_stream}
 use Rattle.tool_tasks.specs.{Streams.CanStop, declared.stops.Halt.Halt}
-use Rattle.tool_tasks.specs.inside.{Corrections.IsStop, Corrections.IsWritten, Streams.IsStreamed}
+use Rattle.tool_tasks.specs.inside.Corrections.{IsNoted, IsStop, IsWritten}
+use Rattle.tool_tasks.specs.inside.Streams.{IsStreamed}
 use Rattle.tool_words.specs.Request.{CorrectionsRequest}
 use Rattle.world.specs.Run.{Calls, Run}
 use Rattle.frame.specs.declared.outside.Outside.TheVariants as outside
@@ -89,26 +89,21 @@ module _ (request : CorrectionsRequest) (calls : List Calls) (old new : Calls)
   part_by text (inl none) = inl none
   part_by text (inr has) = inr (old, new, read, has)
 
-  pub corrected : (run run' : Run) (removed : ℕ) (result : Result (Vec ℕ Global) Halt)
-      → IsWritten request.is_by_token old new run run' (Ok removed)
-      → IfOk result (λ note. IsRemovedNote removed note.items)
-      → IfErr result (λ halt. halt.0 ≡ outside.NoMemory)
+  pub corrected : (run run' : Run) (written : Result ℕ Halt) (result : Result (Vec ℕ Global) Halt)
+      → IsWritten request.is_by_token old new run run' written → IsNoted written result
       → IsStreamed (corrections_stream request calls) run run' result
-  corrected run run' removed (Ok note) (text, is, all) noted none = (
+  corrected run run' (Ok removed) (Ok note) (text, is, all) noted = (
     text,
     is,
     inr (old, new, read, all_started request.is_by_token old new text removed all),
     (old, new, read, removed, all, noted),
   )
-  corrected run run' removed (Err halt) (text, is, all) noted none = (
+  corrected run run' (Ok removed) (Err halt) (text, is, all) none = (
     text,
     inr (old, new, read, all_started request.is_by_token old new text removed all),
     rw none tt,
     rw none is,
   )
-
-  pub stopped : (run run' : Run) (halt : Halt)
-      → IsWritten request.is_by_token old new run run' (Err halt)
-      → IsStreamed (corrections_stream request calls) run run' (Err halt)
-  stopped run run' halt (text, part, stop, left) =
-      (text, part_by text part, can_stop halt.0 stop, left)
+  corrected run run' (Err first) (Ok note) written bad = absurd bad
+  corrected run run' (Err first) (Err halt) (text, part, stop, left) same =
+      (text, part_by text part, rw same (can_stop first.0 stop), rw same left)

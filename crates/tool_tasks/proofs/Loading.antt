@@ -1,5 +1,5 @@
 -- Files that are loaded by their words.
-use Rattle.std.proofs.Common.{◌≡◌, ◌∙◌, ◌<◌, ◌∷◌, ◌++◌, [], Bor, ℕ, List, ap, get_or, length, map}
+use Rattle.std.proofs.Common.{◌≡◌, ◌<◌, ◌∷◌, ◌++◌, [], Bor, ℕ, List, ap, get_or, length, map}
 use Rattle.std.proofs.Common.{subst, sym, unwrap_or}
 use Rattle.frame.specs.{Outsides.Leaves, declared.outside.Outside.Outside}
 use Rattle.std.proofs.{Math.ListN.get_or-map, lemmas.List.length-map}
@@ -7,15 +7,9 @@ use Rattle.std.proofs.lemmas.List.Elements.{Contains-append_right, Contains-get_
 use Rattle.std.specs.Prelude.{Contains}
 use Rattle.tool_tasks.specs.{Sort.names_of, inside.Loads.StopsLoading}
 use Rattle.tool_words.specs.Request.{SortRequest}
-use Rattle.world.proofs.Laws.{more_loads}
 use Rattle.world.specs.{Origins.with_loads, Run.Load, Run.Run}
 
 -- ---- one load after another
-pub loads_after : (start mid new : Run) (xs ys : List Load) → mid ≡ with_loads start xs
-    → new ≡ with_loads mid ys → new ≡ with_loads start (xs ++ ys)
-loads_after start mid new xs ys was is =
-    is ∙ ap (λ r. with_loads r ys) was ∙ more_loads start xs ys
-
 pub stops_after : (names : List (List ℕ)) (start mid new : Run) (xs : List Load) (why : Outside)
     → mid ≡ with_loads start xs → Leaves names why mid new → StopsLoading names why start new
 stops_after names start mid new xs why was leaves =

@@ -1,11 +1,10 @@
 //! `corrections`.
-ghost use Rattle.frame.specs.declared.outside.Outside.TheVariants.{NoMemory};
 ghost use Rattle.ledger_changes.specs.Given.{IsFaultOf, IsUnbegun, new_calls, old_calls};
 ghost use Rattle.recorded_lines.specs.Texts.{Follows, IsFresh, calls_of};
-ghost use Rattle.std.specs.Prelude.{◌≡◌, ◌++◌, ◌∷◌, [], List, IfErr, IfOk, None};
-ghost use Rattle.tool_tasks.specs.Corrections.{IsRemovedNote, corrections_stream};
-ghost use Rattle.tool_tasks.specs.{Streams.EndsBy, Streams.cut_of, inside.Corrections.IsStop};
-ghost use Rattle.tool_tasks.specs.inside.{Corrections.IsWritten, Streams.IsStreamed};
+ghost use Rattle.std.specs.Prelude.{◌≡◌, ◌++◌, ◌∷◌, [], List, None};
+ghost use Rattle.tool_tasks.specs.{Corrections.corrections_stream, Streams.EndsBy, Streams.cut_of};
+ghost use Rattle.tool_tasks.specs.inside.Corrections.{IsNoted, IsStop, IsWritten};
+ghost use Rattle.tool_tasks.specs.inside.Streams.{IsStreamed};
 ghost use Rattle.tool_words.specs.Tasks.{corrections_of};
 ghost use Rattle.world.specs.Run.{Calls};
 
@@ -80,15 +79,19 @@ fn write_all<'a, W: World>(
     Err(Halt(Outside::NoMemory, Fault::NoMemory))
 }
 
-/// Nothing, if no line is removed; else the line ends with their number.
+/// Nothing, if no line is removed; else the line ends with their number. What stopped the writing
+/// stays.
 fn removed_line<'a>(
     alloc: Global,
     words: &CorrectionsWords<'a>,
-    removed: u64,
+    written: Result<u64, Halt<'a>>,
 ) -> Result<Vec<u8>, Halt<'a>>
-    ensures line { IfOk result (λ line. IsRemovedNote removed line.items) }
-    ensures stopped { IfErr result (λ halt. halt.0 ≡ NoMemory) }
+    ensures { IsNoted written.entry result }
 {
+    let removed = match written {
+        Ok(removed) => removed,
+        Err(halt) => return Err(halt),
+    };
     if removed == 0 {
         return Ok(Vec::new(alloc));
     }
@@ -142,8 +145,8 @@ fn correct<'a, F: Streams, W: World>(
             return Err(halt);
         }
     };
-    let removed = write_closed(alloc, words, old, new, files, world)?;
-    removed_line(alloc, words, removed)
+    let written = write_closed(alloc, words, old, new, files, world);
+    removed_line(alloc, words, written)
 }
 
 /// Writes the corrections from the old ledger to the new one, or their sums by token: opens both,

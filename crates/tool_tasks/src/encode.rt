@@ -1,11 +1,11 @@
 //! `encode` of a tap table.
 ghost use Rattle.frame.specs.Outcome.{Ends};
-ghost use Rattle.tool_tasks.specs.{Encode.encode_rule, inside.Does.Does};
+ghost use Rattle.tool_tasks.specs.Encode.{encode_rule};
 
 use crate::counted::Counted;
 use crate::fault::Fault;
-use crate::loads::load_whole;
-use crate::prepared::{Prepared, carry_out};
+use crate::one_file::{OneFile, give_of_file};
+use crate::prepared::Prepared;
 use crate::stops::{Halt, ended};
 use crate::wrong_tables::fault_of_taps;
 use frame::Outside;
@@ -13,30 +13,35 @@ use std::alloc::Global;
 use tap_rows::RowsFault;
 use world::World;
 
-fn encode<'a, W: World + Counted>(
-    alloc: Global,
-    word: &'a str,
-    world: &mut W,
-) -> Result<u8, Halt<'a>>
-    ensures { Does (encode_rule word.entry.now) (W.run world.old) (W.run world.new) result }
-{
-    let table = load_whole(world, word)?;
-    match tap_rows::encode(alloc, &table) {
-        Ok(upload) => {
-            let prepared = Prepared {
+/// The word of a tap table.
+#[derive(Drop)]
+struct TableWord<'a>(&'a str);
+
+impl OneFile for TableWord<'_> {
+    ghost use Rattle.std.specs.Prelude.{[]};
+    ghost use Rattle.tool_tasks.specs.Encode.{EncodesTable, IsNoTapTable};
+
+    ghost word = { λ table. table.0.now };
+
+    ghost made = { λ table. [] };
+
+    ghost right = { λ table. EncodesTable table.0.now };
+
+    ghost wrong = { λ table. IsNoTapTable table.0.now };
+
+    fn prepare(&self, alloc: Global, table: &[u8]) -> Result<Prepared<'_>, Halt<'_>> {
+        match tap_rows::encode(alloc, table) {
+            Ok(upload) => Ok(Prepared {
                 text: upload,
                 first: None,
                 upload: None,
                 held: None,
                 note: String::new(alloc),
                 status: 0,
-            };
-            carry_out(&prepared, world)
+            }),
+            Err(RowsFault::NoMemory) => Err(Halt(Outside::NoMemory, Fault::NoMemory)),
+            Err(fault) => Err(Halt(Outside::Wrong, fault_of_taps(self.0, fault))),
         }
-        Err(fault) => match fault {
-            RowsFault::NoMemory => Err(Halt(Outside::NoMemory, Fault::NoMemory)),
-            _ => Err(Halt(Outside::Wrong, fault_of_taps(word, fault))),
-        },
     }
 }
 
@@ -47,6 +52,7 @@ fn encode<'a, W: World + Counted>(
 pub fn encode_over<W: World + Counted>(alloc: Global, word: &str, world: &mut W) -> u8
     ensures { Ends (encode_rule word.now) (W.run world.old) (W.run world.new) result }
 {
-    let done = encode(alloc, word, world);
+    let table = TableWord(word);
+    let done = give_of_file(alloc, &table, word, true, world);
     ended(done, "", world)
 }

@@ -20,6 +20,7 @@ mod look;
 mod merge;
 mod merge_sorted;
 mod names;
+mod one_file;
 mod placed;
 mod prepared;
 mod quotes;

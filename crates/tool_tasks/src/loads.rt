@@ -38,20 +38,27 @@ pub(crate) fn load<'a, I: Inputs>(files: &mut I, word: &'a str) -> Result<Vec<u8
     }
 }
 
-/// The same of a file of any size.
-pub(crate) fn load_whole<'a, I: Counted>(files: &mut I, word: &'a str) -> Result<Vec<u8>, Halt<'a>>
+/// The same of a file of any size if `is_large` is set.
+pub(crate) fn load_sized<'a, I: Counted>(
+    files: &mut I,
+    word: &'a str,
+    is_large: bool,
+) -> Result<Vec<u8>, Halt<'a>>
     ensures loaded { IfOk result (λ bytes. I.run files.new
         ≡ with_load (I.run files.old) (file_named word.entry.now) bytes.items) }
     ensures stopped { (words : List (List ℕ)) → Contains words word.entry.now → IfErr result
         (λ halt. Leaves words halt.0 (I.run files.old) (I.run files.new)) }
 {
+    if !is_large {
+        return load(files, word);
+    }
     match files.load_whole(file_of(word)) {
         Ok(bytes) => Ok(bytes),
         Err(why) => Err(Halt(Outside::Unread(why), Fault::of_load(word, why))),
     }
 }
 
-/// The same of a file of any size if `is_large` is set. Shows how many are read.
+/// The same. Shows how many are read.
 fn load_one<'a, I: Counted>(
     word: &'a str,
     number: usize,
@@ -65,7 +72,7 @@ fn load_one<'a, I: Counted>(
         (λ halt. Leaves words halt.0 (I.run files.old) (I.run files.new)) }
 {
     if is_large {
-        return load_whole(files, word);
+        return load_sized(files, word, true);
     }
     files.show_count(number, count);
     load(files, word)

@@ -1,14 +1,13 @@
 //! `uploads --good-part`: lines of an upload, and a file of its batches before its layout fault.
-ghost use Rattle.frame.specs.{Given.load_of, Outcome.Ends};
-ghost use Rattle.std.specs.Prelude.{◌≡◌, ◌∷◌, [], IfOk, if◌then◌else◌, is_none};
-ghost use Rattle.tool_tasks.specs.ValidPrefix.{HasValidPrefix, valid_prefix_rule};
-ghost use Rattle.tool_tasks.specs.inside.{Does.Does, Prepared.AreNamed, Prepared.whole_of};
+ghost use Rattle.frame.specs.Outcome.{Ends};
+ghost use Rattle.tool_tasks.specs.ValidPrefix.{valid_prefix_rule};
 ghost use Rattle.tool_words.specs.Tasks.{valid_prefix_of};
 
+use crate::counted::Counted;
 use crate::fault::Fault;
-use crate::loads::load;
-use crate::prepared::{NewFile, Prepared, carry_out};
-use crate::stops::{Halt, ended};
+use crate::one_file::{OneFile, give_of_file};
+use crate::prepared::{NewFile, Prepared};
+use crate::stops::{Halt, ended, status_of};
 use crate::uploads::{push_tokens, upload_text};
 use frame::Outside;
 use std::alloc::Global;
@@ -32,56 +31,40 @@ fn lines_of(
     Ok(text)
 }
 
-fn status_of(facts: &Facts) -> u8
-    ensures { result ≡ (if is_none facts.now.fault then 0 else 1) }
-{
-    match facts.fault {
-        Some(_) => 1,
-        None => 0,
-    }
-}
+impl OneFile for ValidPrefixWords<'_> {
+    ghost use Rattle.std.specs.Prelude.{◌∷◌, []};
+    ghost use Rattle.tool_tasks.specs.ValidPrefix.{HasValidPrefix};
+    ghost use Rattle.tool_words.specs.Tasks.{valid_prefix_of};
 
-fn prepare<'a>(
-    alloc: Global,
-    words: &ValidPrefixWords<'a>,
-    upload: &[u8],
-) -> Result<Prepared<'a>, NoMemory>
-    ensures right { IfOk result (λ prepared. HasValidPrefix (valid_prefix_of words.now)
-        (whole_of (load_of words.now.upload.now upload.now ∷ []) prepared) prepared.status) }
-    ensures named { IfOk result (AreNamed (words.now.upload.now ∷ words.now.out.now ∷ [])) }
-{
-    let facts = facts_of(upload);
-    let valid = valid_prefix(upload);
-    let bytes = Vec::from_slice(alloc, valid)?;
-    let file = NewFile {
-        name: words.out,
-        bytes,
-        is_new: true,
-        unmade: Fault::Write,
-    };
-    let text = lines_of(alloc, words, upload, &facts)?.into_bytes();
-    Ok(Prepared {
-        text,
-        first: None,
-        upload: Some(file),
-        held: None,
-        note: String::new(alloc),
-        status: status_of(&facts),
-    })
-}
+    ghost word = { λ words. words.upload.now };
 
-fn keep<'a, W: World>(
-    alloc: Global,
-    words: &ValidPrefixWords<'a>,
-    world: &mut W,
-) -> Result<u8, Halt<'a>>
-    ensures { Does (valid_prefix_rule (valid_prefix_of words.now)) (W.run world.old)
-        (W.run world.new) result }
-{
-    let upload = load(world, words.upload)?;
-    match prepare(alloc, words, &upload) {
-        Ok(prepared) => carry_out(&prepared, world),
-        Err(NoMemory) => Err(Halt(Outside::NoMemory, Fault::NoMemory)),
+    ghost made = { λ words. words.out.now ∷ [] };
+
+    ghost right = { λ words. HasValidPrefix (valid_prefix_of words) };
+
+    ghost wrong = { λ words loads. ⊥ };
+
+    fn prepare(&self, alloc: Global, upload: &[u8]) -> Result<Prepared<'_>, Halt<'_>> {
+        let facts = facts_of(upload);
+        let valid = valid_prefix(upload);
+        let bytes = Vec::from_slice(alloc, valid)?;
+        let file = NewFile {
+            name: self.out,
+            bytes,
+            is_new: true,
+            unmade: Fault::Write,
+        };
+        let Ok(text) = lines_of(alloc, self, upload, &facts) else {
+            return Err(Halt(Outside::NoMemory, Fault::NoMemory));
+        };
+        Ok(Prepared {
+            text: text.into_bytes(),
+            first: None,
+            upload: Some(file),
+            held: None,
+            note: String::new(alloc),
+            status: status_of(facts.fault.is_none()),
+        })
     }
 }
 
@@ -89,10 +72,14 @@ fn keep<'a, W: World>(
 /// different tokens it has. Then makes the file of its batches before its first layout fault. A
 /// fault is reported. The status is 0 if all is done and there is no layout fault, else 1.
 #[tactic(auto, using(crate::proofs::Preparing::ends))]
-pub fn valid_prefix_over<W: World>(alloc: Global, words: &ValidPrefixWords<'_>, world: &mut W) -> u8
+pub fn valid_prefix_over<W: World + Counted>(
+    alloc: Global,
+    words: &ValidPrefixWords<'_>,
+    world: &mut W,
+) -> u8
     ensures { Ends (valid_prefix_rule (valid_prefix_of words.now)) (W.run world.old)
         (W.run world.new) result }
 {
-    let done = keep(alloc, words, world);
+    let done = give_of_file(alloc, words, words.upload, false, world);
     ended(done, "", world)
 }

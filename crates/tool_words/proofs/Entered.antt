@@ -1,16 +1,9 @@
 -- The subcommand that a parse entered.
-use Rattle.std.proofs.Common.{◌≡◌, Bor, Option, None, Some, refl, sym}
+use Rattle.std.proofs.Common.{◌≡◌, Bor, Option, None, Some, refl}
 use Rattle.clap.specs.{Simple.subcommand_rows, Words.Text, Words.found_of, Words.rows_of}
 use Rattle.clap.specs.declared.parser.matches.ArgMatches.{ArgMatches, TheViews.out-SubCommand}
 use Rattle.clap.specs.declared.parser.matches.SubCommand.{SubCommand}
 use Rattle.std.specs.{Box.box_value, Prelude.Box, Prelude.option_map}
-
-none_some : {X : Type 0} (x : X) → None ≡ Some x → ⊥
-none_some x is = cc
-
--- what is there is the same
-pub some_is : {X : Type 0} (x y : X) → Some x ≡ Some y → x ≡ y
-some_is x y is = cc
 
 -- a name and the rows under it are the pair
 module _ {Z : Type 0} where
@@ -20,9 +13,6 @@ module _ {Z : Type 0} where
       → option_map (λ p. rows_of (found_of p.1)) r ≡ option_map (λ p. p.1) (subcommand_rows o)
       → option_map (λ p. (p.0.now, rows_of (found_of p.1))) r ≡ subcommand_rows o
   entered_pair None None name rows = refl
-  entered_pair None (Some b) name rows = absurd (none_some _ rows)
-  entered_pair (Some p) None name rows = absurd (none_some _ (sym rows))
-  entered_pair (Some p) (Some b) name rows =
-      let same = some_is _ _ name in
-      let given = some_is _ _ rows in
-      λ i. Some (same i, given i)
+  entered_pair None (Some b) name rows = absurd (cc)
+  entered_pair (Some p) None name rows = absurd (cc)
+  entered_pair (Some p) (Some b) name rows = cc

@@ -47,6 +47,7 @@ fn with_leaves<'a>(
 
 /// The rules between arguments are left out if it is not whole: clap's contract says which words it
 /// takes.
+#[tactic(auto, unfolding(crate::specs::ToolLine::program))]
 pub(crate) fn command<'a>(alloc: Global, is_whole: bool) -> Result<Command<'a>, AllocError>
     ensures { is_whole ≡ false → IfOk result (λ command. app_of command ≡ program) }
 {

@@ -203,6 +203,7 @@ fn matched<'a>(alloc: Global, words: &'a [String]) -> Result<ArgMatches<'a>, Err
     command(alloc, false)?.try_get_matches_from(words)
 }
 
+#[tactic(auto, using(crate::proofs::Entered::entered_pair))]
 fn subcommand_in<'a>(matches: ArgMatches<'a>) -> Option<(&'a str, ArgMatches<'a>)>
     ensures { option_map (λ p. (p.0.now, rows_of (found_of p.1))) result
         ≡ subcommand_rows_of matches.entry }

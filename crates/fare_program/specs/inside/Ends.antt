@@ -1,11 +1,11 @@
 -- How the writing of a text ends: what private functions alone cite.
-use Rattle.fare_program.specs.{Options.Request, Parts.IsPartText, Settling.ShowsSettled}
 use Rattle.fare_program.specs.declared.fault.Fault.{Fault, TheVariants.Late, TheVariants.Write}
+use Rattle.fare_program.specs.inside.Fault.{outside_of}
 use Rattle.fare_texts.specs.WrittenOut.{Begins}
+use Rattle.frame.specs.{Outsides.LeavesFiles, declared.outside.Outside.TheVariants.Untraced}
 use Rattle.std.specs.Io.KnownBytes.{Appends, Keeps}
-use Rattle.std.specs.Prelude.{◌≡◌, ℕ, List, Bool, Option, Some, Result, Ok, Err, false, map, true}
-use Rattle.tap_views.specs.declared.token.Token.{Token}
-use Rattle.tariffs.specs.Fares.{Fares}
+use Rattle.std.specs.Prelude.{◌≡◌, ℕ, List, Bool, None, Option, Some, Result, Ok, Err, map, true}
+use Rattle.world.specs.{Origins.with_loads, Run.Load, Run.Run}
 
 -- the text of sorted files was broken off: one of them was refused after all were checked
 abbrev pub IsLate : Fault → Type 0
@@ -33,24 +33,31 @@ abbrev pub Gives : (List ℕ → Bool → Type 0) → Option (List ℕ) → Opti
     → Result Bool Fault → Type 0
 Gives = GivesIf (Unit {0})
 
--- what is right of files of which this is known
-abbrev pub IfKnown : List (Option (List ℕ)) → (List (List ℕ) → List ℕ → Type 0) → List ℕ → Type 0
-IfKnown known Right text = (files : List (List ℕ)) → known ≡ map Some files → Right files text
+-- A text of sorted files of which this is known succeeds, and is right of them.
+abbrev pub OfKnown : List (Option (List ℕ)) → (List (List ℕ) → List ℕ → Type 0) → List ℕ → Bool
+    → Type 0
+OfKnown known Right text success =
+    (success ≡ true) × ((files : List (List ℕ)) → known ≡ map Some files → Right files text)
 
--- A text of sorted files of which this is known is written whole, and succeeds, unless a fault stops
--- it. The text of which a prefix was written is right if this is given.
-abbrev pub GivesKnown : Type 0 → List (Option (List ℕ)) → (List (List ℕ) → List ℕ → Type 0)
-    → Option (List ℕ) → Option (List ℕ) → Result Bool Fault → Type 0
-GivesKnown Given known Right =
-    GivesIf Given (λ text success. (success ≡ true) × IfKnown known Right text)
+-- What is asked for of a run that loads files and writes a text.
+pub record Aim : Type 1 where
+  -- the text is right, and succeeds or not; the text of which a prefix was written is right if this
+  -- is given
+  pub Given : Type 0
+  pub Right : List Load → List ℕ → Bool → Type 0
+  -- what is wrong of what was loaded; sorted files are read; the names of all files that are loaded
+  pub Wrong : List Load → Type 0
+  pub Late : Type 0
+  pub names : List (Option (List ℕ))
 
--- So is what is requested of settled files.
-abbrev pub GivesSettled : Request → List (Option (List ℕ)) → Fares → Option Token
-    → Option (List ℕ) → Option (List ℕ) → Result Bool Fault → Type 0
-GivesSettled request known fares token = Gives (λ text success. (success ≡ true)
-    × IfKnown known (λ files text. ShowsSettled request fares files token text true) text)
+-- The fault stopped the run after these loads.
+pub record HasStopped (aim : Aim) (loads : List Load) (fault : Fault) (old new : Run) : Type 0 where
+  pub late : outside_of None fault ≡ Untraced → aim.Late
+  pub left : LeavesFiles (aim.Wrong loads) aim.names (outside_of None fault) (with_loads old loads) new
 
--- So is the text of a part. Nothing is said of a prefix of its ledger.
-abbrev pub GivesPart : Bool → List (Option (List ℕ)) → Fares → Option (List ℕ) → Option (List ℕ)
-    → Result Bool Fault → Type 0
-GivesPart ledger known fares = GivesKnown (ledger ≡ false) known (IsPartText ledger fares)
+-- Files were loaded, and the text was written whole, unless a fault stopped the run.
+abbrev pub Works : Aim → Run → Run → Option (List ℕ) → Option (List ℕ) → Result Bool Fault → Type 0
+Works aim old new out out' (Ok success) = (loads : List Load) × (new ≡ with_loads old loads)
+    × (text : List ℕ) × aim.Right loads text success × Appends out out' text
+Works aim old new out out' (Err fault) = (loads : List Load) × HasStopped aim loads fault old new
+    × Stops (λ text. aim.Given → (success : Bool) × aim.Right loads text success) out out' fault

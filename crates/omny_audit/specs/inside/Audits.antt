@@ -1,12 +1,11 @@
 -- What an audit has read: what private functions alone cite.
-use Rattle.frame.specs.Failing.{HasStarted}
-use Rattle.omny_audit.specs.{Program.HoldsOfRead, Reports.Given, Reports.IsAudit}
+use Rattle.omny_audit.specs.{Ends.LeavesOf, Program.HoldsOfRead, Reports.Given, Reports.IsAudit}
 use Rattle.omny_audit.specs.{Reports.IsAuditText, declared.audit.Audit.Audit}
 use Rattle.omny_audit.specs.declared.{fault.Fault.Fault, report.HeldReport.HeldReport}
-use Rattle.omny_audit.specs.inside.{Checks.HasChecked, Checks.is_all, Program.IsStreamFault}
+use Rattle.omny_audit.specs.inside.{Checks.HasChecked, Checks.is_all, Program.outside_of}
 use Rattle.omny_audit.specs.inside.Traced.{HasReadAs, wanted_by}
 use Rattle.report_check.specs.{Reports.is_of_ledger, declared.verdict.ReportVerdict.ReportVerdict}
-use Rattle.std.specs.{Bool.then_some, Prelude.◌≡◌, Prelude.◌++◌, Prelude.option_map}
+use Rattle.std.specs.{Bool.then_some, Prelude.◌≡◌, Prelude.◌⊎◌, Prelude.◌++◌, Prelude.option_map}
 use Rattle.std.specs.Prelude.{ℕ, Bool, false, List, [], Option, None, Some, true, Result, Ok, Err}
 use Rattle.tap_views.specs.declared.encoder.TapFields.{TapFields}
 use Rattle.world.specs.Run.{Calls, Run, with_flushed, with_written}
@@ -62,15 +61,19 @@ pub record Steps (before after : Audit) (piece text : List ℕ) (ended : Option 
       → HasAudited given before false file written → ledger.reading.bytes ≡ file ++ piece
       → (piece ≡ [] → IsWhole ledger) → HoldsNow given after ledger (written ++ text) ended
 
--- What is found of the ledger was written and flushed; or the run failed, and what was written is a
--- prefix of it. Nothing was said.
+-- A prefix of what may be found of the ledger was written, and then the run failed.
+pub record IsCutOff (given : Given) (ledger : Calls) (old new : Run) (fault : Fault) : Type 0 where
+  pub front : List ℕ
+  pub rest : List ℕ
+  pub right : (front ≡ [])
+      ⊎ HoldsOfRead ledger (λ file. IsAuditText given file (front ++ rest))
+  pub leaves : LeavesOf ⊥ [] ledger.reading.name ledger (outside_of fault) (with_written old front) new
+
+-- What is found of the ledger was written and flushed; or the run failed before.
 abbrev pub EndsAs : Given → Calls → Run → Run → Result Bool Fault → Type 0
 EndsAs given ledger old new (Ok success) = (text : List ℕ) × IsFound given ledger text success
     × (new ≡ with_flushed (with_written old text))
-EndsAs given ledger old new (Err fault) =
-    IsStreamFault ledger.reading.name ledger.run new.cut fault
-    × HasStarted (λ text. HoldsOfRead ledger (λ file. IsAuditText given file text)) old.written
-    new.written × (new.said ≡ old.said)
+EndsAs given ledger old new (Err fault) = IsCutOff given ledger old new fault
 
 -- The reads of the ledger, whose head was read before, went on, unless they came to its end.
 pub record GoesOn (before after : Stream) (head : List ℕ) : Type 0 where

@@ -1,19 +1,18 @@
 -- What the program loads and how an audit ends: what private functions alone cite.
+use Rattle.frame.specs.Outcome.{IsDone, IsHalted, Rule}
+use Rattle.frame.specs.{Outsides.LeavesFiles, declared.outside.Outside.Outside}
+use Rattle.frame.specs.declared.outside.Outside.TheVariants as outside
 use Rattle.ledger_check.specs.{Balances.AreValidFields, Balances.IsBalance, Positions.HasUploads}
-use Rattle.omny_audit.specs.Ends.{Did, HasFinished, HasStartedText, IsRightFault}
-use Rattle.omny_audit.specs.Ends.{LoadsGivenLedger, NamesUnplainClass}
-use Rattle.omny_audit.specs.{Options.AuditRequest, Program.taps_in}
+use Rattle.omny_audit.specs.{Ends.status_of, Options.AuditRequest, Program.taps_in}
 use Rattle.omny_audit.specs.declared.fault.Fault.{Fault}
 use Rattle.omny_audit.specs.declared.fault.Fault.TheVariants.{Class, File, GivenLedger, Ledger}
-use Rattle.omny_audit.specs.declared.fault.Fault.TheVariants.{NoMemory, Unwritten}
+use Rattle.omny_audit.specs.declared.fault.Fault.TheVariants.{NoMemory, NotMade, Tables, Unwritten}
 use Rattle.omny_audit.specs.declared.{options.Options.Options, program.Uploads.Uploads}
-use Rattle.program_manners.specs.Refusals.{HasRefused, IsShown, refusal_of}
-use Rattle.program_manners.specs.{TableViews.names_of, TableWords.TableNames, TableWords.table_files}
-use Rattle.program_manners.specs.declared.recorded_loads.RecordedLoads.{RecordedLoads}
-use Rattle.std.specs.{List.AllZip, Prelude.◌≡◌, Prelude.codes, Prelude.map, Prelude.option_map}
-use Rattle.std.specs.Prelude.{⊤, ℕ, Bool, List, [], Option, Some, Contains, Result, Ok, Err, unwrap_or}
+use Rattle.program_manners.specs.{TableViews.names_of, TablesFaults.outside_of as of_tables}
+use Rattle.std.specs.{List.AllZip, Prelude.map, Prelude.option_map}
+use Rattle.std.specs.Prelude.{ℕ, Bool, List, [], Some, Result, Ok, Err}
 use Rattle.tap_views.specs.{UploadEnds.ArePlainEnds, declared.encoder.TapFields.TapFields}
-use Rattle.world.specs.{Run.Run, declared.faults.WriteFault.WriteFault}
+use Rattle.world.specs.{Origins.with_loads, Run.Load, Run.Run}
 
 -- what the options ask for
 abbrev pub audit_request_of : Options → AuditRequest
@@ -34,35 +33,29 @@ pub record AreUploads (files : List (List ℕ)) (lists : List (List TapFields)) 
   pub positions : HasUploads uploads.positions lists
   pub ends : ArePlainEnds files uploads.ends.items
 
--- the file of one of these names was refused last, or was loaded last and is a ledger, or an
--- allocation failed
-abbrev pub IsLoadFault : List (List ℕ) → RecordedLoads → Fault → Type 0
-IsLoadFault names loads (File file) = Contains names file.name.now
-    × HasRefused (Some (refusal_of loads.last.value)) file.name.now file.fault
-IsLoadFault names loads (GivenLedger given) =
-    Contains names given.now × LoadsGivenLedger loads.trace.run.loads given.now
-IsLoadFault names loads NoMemory = ⊤
-IsLoadFault names loads _ = ⊥
+-- what stops a run that fails so
+abbrev pub outside_of : Fault → Outside
+outside_of (File file) = outside.Unread file.fault
+outside_of (Ledger why) = outside.Unread why
+outside_of (Tables fault) = of_tables fault
+outside_of (GivenLedger name) = outside.Wrong
+outside_of (Class file is_alone) = outside.Wrong
+outside_of (NotMade name) = outside.Wrong
+outside_of (Unwritten why) = outside.Unwritten why
+outside_of NoMemory = outside.NoMemory
 
--- the ledger of this name was not opened or not read, or a write failed so, or an allocation
-abbrev pub IsStreamFault : Option (List ℕ) → Run → Option WriteFault → Fault → Type 0
-IsStreamFault name run cut (File file) =
-    (file.name.now ≡ unwrap_or name (codes "standard input")) × IsShown run (name, file.fault)
-IsStreamFault name run cut (Ledger why) = IsShown run (name, why)
-IsStreamFault name run cut (Unwritten why) = cut ≡ Some why
-IsStreamFault name run cut NoMemory = ⊤
-IsStreamFault name run cut _ = ⊥
+-- After some loads this stopped the run: of these names a file was refused, or what was loaded is wrong.
+pub record StopsLoads (wrong : List Load → Type 0) (names : List (List ℕ)) (old new : Run)
+    (fault : Fault) : Type 0 where
+  pub loads : List Load
+  pub leaves : LeavesFiles (wrong loads) (map Some names) (outside_of fault) (with_loads old loads)
+      new
 
--- one of the texts names a class that no ledger can have, or an allocation failed
-abbrev pub IsClassFault : TableNames → List (List ℕ) → Fault → Type 0
-IsClassFault tables texts (Class file is_alone) =
-    Contains (table_files tables) file.now × NamesUnplainClass texts
-IsClassFault tables texts NoMemory = ⊤
-IsClassFault tables texts _ = ⊥
+-- it left every run as it was: an allocation failed, or what is said of a wrong file is true
+abbrev pub StopsAtOnce : Type 0 → Fault → Type 0
+StopsAtOnce truth fault = (run : Run) → LeavesFiles truth [] (outside_of fault) run run
 
--- the finding was written and flushed, and says that all is well, or not; or the run failed after a
--- prefix of a right text; nothing was said
-abbrev pub EndsAudit : AuditRequest → Did → Result Bool Fault → Type 0
-EndsAudit request did (Ok success) = HasFinished request did success
-EndsAudit request did (Err fault) = IsRightFault request did fault × HasStartedText request did
-    × (did.new.said ≡ did.old.said)
+-- how an audit ends: all was done, with the status of what it found, or it was stopped
+abbrev pub EndsBy : Rule → Run → Run → Result Bool Fault → Type 0
+EndsBy rule old new (Ok success) = IsDone rule old new (status_of success)
+EndsBy rule old new (Err fault) = IsHalted rule old new (outside_of fault)

@@ -3,8 +3,9 @@ use Rattle.frame.specs.declared.outside.Outside.{Outside}
 use Rattle.ledger_changes.specs.Given.{HasStarted, IsAllGiven, IsFaultOf}
 use Rattle.ledger_changes.specs.declared.fault.{Bill.Bill, WrongLine.WrongLine}
 use Rattle.ledger_changes.specs.declared.fault.CorrectionsFault.TheVariants.{Line, Unread}
-use Rattle.std.specs.Prelude.{◌≡◌, ◌⊎◌, ⊤, ℕ, Bool, List, [], Result, Ok, Err}
-use Rattle.tool_tasks.specs.{Streams.with_stop, declared.stops.Halt.Halt}
+use Rattle.std.specs.Prelude.{◌≡◌, ◌⊎◌, ⊤, ℕ, Bool, List, [], Result, Ok, Err, Vec}
+use Rattle.std.specs.declared.alloc.Global.{Global}
+use Rattle.tool_tasks.specs.{Corrections.IsRemovedNote, Streams.with_stop, declared.stops.Halt.Halt}
 use Rattle.world.specs.Run.{Calls, Run, with_written}
 use Rattle.frame.specs.declared.outside.Outside.TheVariants as outside
 
@@ -24,3 +25,10 @@ IsWritten by_token old new run run' (Ok removed) = (text : List ℕ)
 IsWritten by_token old new run run' (Err halt) = (text : List ℕ)
     × ((text ≡ []) ⊎ HasStarted by_token text old new) × IsStop old new halt.0
     × (run' ≡ with_stop (with_written run text) halt.0)
+
+-- it is noted how many lines are removed; or what stopped the writing stays
+abbrev pub IsNoted : Result ℕ Halt → Result (Vec ℕ Global) Halt → Type 0
+IsNoted (Ok removed) (Ok note) = IsRemovedNote removed note.items
+IsNoted (Ok removed) (Err halt) = halt.0 ≡ outside.NoMemory
+IsNoted (Err first) (Ok note) = ⊥
+IsNoted (Err first) (Err halt) = halt.0 ≡ first.0

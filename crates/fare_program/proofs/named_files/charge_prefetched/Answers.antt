@@ -1,12 +1,21 @@
-use Rattle.fare_program.proofs.{Ends.started_of, Prefetched.charged_joined}
+use Rattle.std.proofs.Common.{◌≡◌, ◌∙◌, List, ap}
+use Rattle.fare_program.proofs.Ends.{started_of}
+use Rattle.world.proofs.Laws.{joined_loads}
+use Rattle.world.specs.{Origins.with_loads, Run.Calls, Run.Load, Run.Run, Run.no_calls}
+use Rattle.world.specs.Run.{with_all}
 use Rattle.fare_program.proofs.named_files.charge_prefetched.Goals as goal
+
+joined : (old new after : Run) (calls : Calls) (loads : List Load) → calls ≡ no_calls
+    → new ≡ with_all old after → after ≡ with_loads calls.run loads → new ≡ with_loads old loads
+joined old new after calls loads none all is =
+    all ∙ ap (with_all old) (is ∙ ap (λ (c : Calls). with_loads c.run loads) none)
+    ∙ joined_loads old loads
 
 pub returns-in-Ok-clause-ends : goal.returns-in-Ok-clause-ends
 returns-in-Ok-clause-ends g c =
-    let (text, is, written) = c.in-Ok.ensures.ends in (
+    let (text, (loads, is, charges), written) = c.in-Ok.ensures.ends in (
       text,
-      charged_joined _ _ _ _ _ _ _ c.charge_named.new.calls.run text c.in-Ok.success
-          c.new-calls.ensures c.join.ensures.loaded is,
+      (loads, joined _ _ _ _ loads c.new-calls.ensures c.join.ensures is, charges),
       written,
     )
 
@@ -14,12 +23,11 @@ pub returns-in-Err-Write-clause-ends : goal.returns-in-Err-Write-clause-ends
 returns-in-Err-Write-clause-ends g c =
     let (text, right, started) = started_of _ _ _ _ c.in-Err-Write.field-0-is
     c.in-Err-Write.ensures.ends in
-    let (success, is) = right tt in (
+    let (success, (loads, is, charges)) = right tt in (
       text,
       (λ given. (
         success,
-        charged_joined _ _ _ _ _ _ _ c.charge_named.new.calls.run text success
-            c.new-calls.ensures c.join-in-Err-Write.ensures.loaded is,
+        (loads, joined _ _ _ _ loads c.new-calls.ensures c.join-in-Err-Write.ensures is, charges),
       )),
       started,
     )

@@ -1,6 +1,5 @@
-use Rattle.std.proofs.Common.{◌≡◌, ◌∙◌, ℕ, List, [], Vec, Global, ap, length, map}
-use Rattle.fare_program.proofs.{Ends.gives_by, PostedTexts.settled_request}
-use Rattle.fare_program.specs.inside.Options.{request_of}
+use Rattle.std.proofs.Common.{◌≡◌, ℕ, List, [], Vec, Global, length, map}
+use Rattle.fare_program.proofs.{Choices.if_true, Ends.gives_by}
 use Rattle.fare_service.proofs.UploadFileSource.{known_files}
 use Rattle.settlement.proofs.LoadedFiles.{loaded_files}
 use Rattle.settlement.specs.Reading.{AreRead}
@@ -23,19 +22,14 @@ pub returns-clause-ends : goal.returns-clause-ends
 returns-clause-ends g c =
     gives_by _ _ _ _ _ _ c.charge_provided.result (λ given. given)
     (λ text success is.
-    let known = known_files bytes_in c.as_slice.result.now is.0 is.2.provided
-    ∙ ap (map bytes_in) c.as_slice.ensures.value in
-    (is.1, rw known at is.3))
+    (is.1, rw (known_files bytes_in c.args.files.now is.0 is.2.provided) at is.3))
     c.charge_provided.ensures.ends
 
 pub returns-then-options-clause-ends : goal.returns-then-options-clause-ends
 returns-then-options-clause-ends g c =
     gives_by _ _ _ _ _ _ c.charge_settled.result (λ given. given)
-    (λ text success is.
-    let known = read_files c.deref.result.now is.0 _ _ is.1
-    ∙ ap (map bytes_in) c.deref.ensures.value in (
+    (λ text success is. (
       [],
-      settled_request (request_of c.args.options.now) c.args.table (map bytes_in c.args.files.items)
-          c.args.token text success [] c.if-options.true (rw known at is.2),
+      if_true _ _ c.if-options.true (rw (read_files c.args.files.now is.0 _ _ is.1) at is.2),
     ))
     c.charge_settled.ensures.ends

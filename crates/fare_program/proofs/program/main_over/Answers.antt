@@ -1,18 +1,20 @@
-use Rattle.std.proofs.Common.{◌≡◌, ◌≤◌, ℕ, suc, zero, Bool, List, None, Option, Some, arith, inl}
-use Rattle.std.proofs.Common.{inr, map, refl, subst}
+use Rattle.std.proofs.Common.{◌≡◌, ◌∙◌, ◌++◌, ℕ, List, None, Option, Some, ap, false, inl, inr, map}
+use Rattle.std.proofs.Common.{refl, subst, sym, true}
 use Rattle.clap.specs.Words.{IsAmong, Text, fault_of, kind_of}
 use Rattle.clap.specs.declared.error.kind.ErrorKind.{ErrorKind, TheVariants.OutOfMemory}
-use Rattle.fare_program.specs.{Causes.IsRightFault, Ends.Did}
-use Rattle.fare_program.specs.Ends.{Ends, EndsAnswer, EndsCommand, IsPartLedger, Leaves, did_over}
+use Rattle.fare_program.proofs.{Choices.if_false, Choices.if_true, Ended.done, Ended.halted}
+use Rattle.fare_program.proofs.Ended.{reported_beside, said_beside}
+use Rattle.fare_program.specs.Ends.{EndsCommand, EndsFares, beside}
 use Rattle.fare_program.specs.Options.{AsksForText, Parses, Request, program, request_by}
-use Rattle.fare_program.specs.{Program.Does, declared.fault.Fault.Fault}
-use Rattle.fare_program.specs.declared.fault.Fault.TheVariants.{Late, NoMemory, Write}
-use Rattle.fare_program.specs.inside.{Ends.Stops, Fault.as_remembered, Options.request_of}
+use Rattle.fare_program.specs.declared.fault.Fault.TheVariants.{Write}
+use Rattle.fare_program.specs.inside.{Fault.outside_of, Options.request_of}
 use Rattle.fare_texts.proofs.Beginnings.{begins_whole}
-use Rattle.program_manners.specs.Words.{IsRequest}
-use Rattle.std.proofs.KnownBytes.{Appends-kept, Keeps-refl}
-use Rattle.std.specs.Prelude.{◌≢◌, ◌⊎◌, string_bytes}
-use Rattle.world.specs.declared.faults.WriteFault.{WriteFault}
+use Rattle.frame.specs.declared.outside.Outside.TheVariants.{NoMemory, Untraced, Unwritten}
+use Rattle.program_manners.specs.{Words.IsRequest, declared.output.Output.Output}
+use Rattle.std.proofs.KnownBytes.{Appends-kept}
+use Rattle.std.specs.{Io.KnownBytes.Appends, Prelude.◌⊎◌, Prelude.string_bytes}
+use Rattle.std.specs.Prelude.{[], unwrap_or}
+use Rattle.world.specs.{Origins.Origin, Run.Run, Writes.IsSaid}
 use Rattle.fare_program.proofs.program.main_over.Goals as goal
 
 -- what follows of the kind of an error of words
@@ -26,155 +28,141 @@ asks_for words kind (inr among) (inl help) =
 asks_for words kind (inr among) (inr version) =
     inr (subst (λ k. IsAmong k (fault_of program words)) version among)
 
-unread : (words : List Text) (kind : ErrorKind) (status : ℕ)
-    → (kind ≡ OutOfMemory) ⊎ IsAmong kind (fault_of program words)
-    → (kind ≡ OutOfMemory → status ≡ 1) → status ≡ 2 → ¬ Parses words
-unread words kind status (inl memory) one two parses = absurd (omega (arith, two, one memory))
-unread words kind status (inr among) one two parses = absurd (subst (IsAmong kind) parses among)
+of_memory : (words : List Text) (kind : ErrorKind)
+    → (kind ≡ OutOfMemory) ⊎ IsAmong kind (fault_of program words) → Parses words
+    → kind ≡ OutOfMemory
+of_memory words kind (inl memory) parses = memory
+of_memory words kind (inr among) parses = absurd (subst (IsAmong kind) parses among)
 
-by_status : (P : ℕ → Type 0) (status : ℕ) → status ≤ 2 → (status ≡ 0 → P 0) → (status ≡ 1 → P 1)
-    → (status ≡ 2 → P 2) → P status
-by_status P zero most none one two = none refl
-by_status P (suc zero) most none one two = one refl
-by_status P (suc (suc zero)) most none one two = two refl
-by_status P (suc (suc (suc status))) most none one two = absurd (omega (arith, most))
+not_untraced : NoMemory ≡ Untraced → ⊥
+not_untraced same = cc
+
+grown_of : (a b : Option (List ℕ)) (before after text : List ℕ) → a ≡ Some before → b ≡ Some after
+    → Appends a b text → after ≡ before ++ text
+grown_of a b before after text first last written = rw (first, last) at written
+
+-- only something was said
+said_alone : {W : Type 0} (contents : W → Option (List ℕ)) (old new : Run) (out out' : Output W)
+    (before after : List ℕ) → contents out.writer ≡ Some before → contents out'.writer ≡ Some after
+    → out' ≡ out → out.end ≡ None → IsSaid old new
+    → IsSaid (beside old before None out.is_flushed) (beside new after out'.end out'.is_flushed)
+said_alone contents old new out out' before after first last same none said =
+    let kept : after ≡ before =
+    ap (λ o. unwrap_or o []) (sym last ∙ ap (λ o. contents o.writer) same ∙ first) in
+    rw (same, kept, none) (said_beside old new before None out.is_flushed said)
 
 -- what words do that are a command line
-ends_by : (words : List Text) (did : Did) (status workers shards : ℕ) (request : Request)
-    → request ≡ request_by workers shards words → Parses words → EndsCommand request did status
-    → Ends words did status
-ends_by words did status workers shards request is parses ends = inl (record {
-  parses = parses;
-  workers = workers;
-  shards = shards;
-  ends = rw is at ends;
-})
-
--- ---- what is reported of a fault
--- a write is reported only if one that failed is remembered
-write_remembered : (end : Option WriteFault) (fault : Fault) → as_remembered end fault ≡ Write
-    → end ≢ None
-write_remembered (Some why) fault write none = cc
-write_remembered None Write write none = cc
-write_remembered None fault write none = cc
-
-module _ (request : Request) (did : Did) where
-  abbrev RightFault : Fault → Type 0
-  RightFault fault = IsRightFault request did.under did.loaded did.loaded' did.refused fault
-
-  right_remembered : (end : Option WriteFault) (fault : Fault) → RightFault fault
-      → RightFault (as_remembered end fault)
-  right_remembered (Some why) fault right = right
-  right_remembered None Write right = tt
-  right_remembered None fault right = right
-
-  abbrev Requested : List ℕ → Type 0
-  Requested text = ¬ IsPartLedger request → (success : Bool)
-      × Does request did.under did.origin did.loaded did.loaded' text success
-
-  left_by : (fault : Fault) → Stops Requested did.out did.out' fault → Leaves request did fault
-  left_by Write stops = stops
-  left_by NoMemory stops = inl stops
-  left_by (Late why) stops = tt
-  left_by _ stops = stops
-
-  left_remembered : (end : Option WriteFault) (fault : Fault)
-      → Stops Requested did.out did.out' fault → Leaves request did (as_remembered end fault)
-  left_remembered (Some why) fault stops = left_by fault stops
-  left_remembered None Write stops = inr stops
-  left_remembered None fault stops = left_by fault stops
+by_request : (words : List Text) (under : List ℕ → Option (List ℕ)) (origin : List ℕ → Origin)
+    (old new : Run) (status workers shards : ℕ) (request : Request)
+    → request ≡ request_by workers shards words → Parses words
+    → EndsCommand request under origin old new status → EndsFares words under origin old new status
+by_request words under origin old new status workers shards request is parses ends = record {
+  command = λ parsed. inl (workers, shards, rw is at ends);
+  helped = λ unparsed. absurd (unparsed parses);
+  refused = λ unparsed. absurd (unparsed parses);
+}
 
 -- ---- words that are not run
-pub returns-in-Ok-show_answer : goal.returns-in-Ok-show_answer
-returns-in-Ok-show_answer g c =
+pub returns-in-Err : goal.returns-in-Err
+returns-in-Err g c before after first last unended =
     let words = map string_bytes c.args.words.now in
     let kind = kind_of c.in-Err.error in
-    let answer = c.in-Ok-show_answer.ensures in
-    inr (by_status (EndsAnswer words _) c.in-Ok-show_answer.status answer.status
-    (λ zero.
-    let (asks, quiet) = answer.help zero in
-    (asks_for words kind c.in-Err.ensures.kinds asks, rw quiet (Keeps-refl _)))
-    (λ one. inl (answer.refused one, answer.kept (λ none. omega (arith, one, none))))
-    (λ two. (
-      unread words kind _ c.in-Err.ensures.kinds
-          (λ memory. let is = c.show_answer.ensures.memory memory in cc) two,
-      record { unloaded = refl; unwritten = answer.kept (λ none. omega (arith, two, none)) },
-    )))
-
-pub returns-in-Err-show_answer : goal.returns-in-Err-show_answer
-returns-in-Err-show_answer g c =
-    let (asks, quiet, ended) = c.in-Err-show_answer.ensures.unwritten in
-    rw c.report.ensures.status (inr (inr (
-      asks_for (map string_bytes c.args.words.now) (kind_of c.in-Err.error) c.in-Err.ensures.kinds
-          asks,
-      rw (← quiet) c.report.ensures.line,
-      ended,
-    )))
+    let kinds = c.in-Err.ensures.kinds in
+    let shown = c.show.ensures in
+    record {
+      command = λ parses.
+          let (one, said, same) = shown.memory (of_memory words kind kinds parses) in
+          inr (
+            one,
+            said_alone g.W.Write.contents _ _ c.args.out.now c.show.new.out before after first last
+                same unended said,
+          );
+      helped = λ unparsed zero.
+          let (asks, text, written, none, flushed, same) = shown.help zero in (
+            asks_for words kind kinds asks,
+            (text, rw (none, flushed, same, grown_of _ _ before after text first last written) refl),
+          );
+      refused = λ unparsed never.
+          let (status, said, same) =
+          shown.refused (λ request. never (asks_for words kind kinds request)) in (
+            status,
+            said_alone g.W.Write.contents _ _ c.args.out.now c.show.new.out before after first last
+                same unended said,
+          );
+    }
 
 -- ---- a usage error
 pub returns-in-Err-checked : goal.returns-in-Err-checked
-returns-in-Err-checked g c =
-    ends_by _ _ _ _ _ _ c.in-Ok.ensures.request c.in-Ok.ensures.kinds
-    (c.in-Err-checked.ensures.unusable, record { unloaded = refl; unwritten = Keeps-refl _ })
+returns-in-Err-checked g c before after first last unended =
+    by_request _ _ _ _ _ _ _ _ _ c.in-Ok.ensures.request c.in-Ok.ensures.kinds
+    (if_false _ _ c.in-Err-checked.ensures.unusable (
+      refl,
+      said_alone g.W.Write.contents _ _ c.args.out.now c.args.out.now before after first last refl
+          unended c.report_line.ensures.said,
+    ))
 
 -- ---- a command line
 pub returns-in-Err-work : goal.returns-in-Err-work
-returns-in-Err-work g c =
+returns-in-Err-work g c before after first last unended =
     let request = request_of c.in-Ok.options in
-    let did = did_over g.D.Disk.bytes_under g.D.Disk.origin g.S.FileSource.loaded
-    g.S.FileSource.refused g.W.Write.contents g.E.Write.contents c.args.disk.now c.args.source.now
-    c.work.new.source c.args.out.now c.work.new.out c.args.err.now c.report-in-Err-work.new.err in
-    let fault = c.in-Err-work.fault in
-    rw c.report-in-Err-work.ensures.status
-    (ends_by _ did _ c.in-Ok.options.workers c.in-Ok.options.shards request c.in-Ok.ensures.request
-    c.in-Ok.ensures.kinds (inr (record {
-      fault = as_remembered c.end.result fault;
-      usable = c.in-Ok-checked.ensures.usable;
-      right = right_remembered request did c.end.result fault c.in-Err-work.ensures.right;
-      line_reported = rw c.as_remembered.ensures at c.report-in-Err-work.ensures.line;
-      write_failed = λ write. rw (← c.end.ensures) (write_remembered c.end.result fault write);
-      left = left_remembered request did c.end.result fault c.in-Err-work.ensures.ends;
+    let mid = g.I.Inputs.run c.work.new.inputs in
+    let out = c.work.new.out in
+    let (loads, stopped, stops) = c.in-Err-work.ensures in
+    by_request _ _ _ _ _ _ _ _ request c.in-Ok.ensures.request c.in-Ok.ensures.kinds
+    (if_true _ _ c.in-Ok-checked.ensures.usable (inr (record {
+      why = outside_of out.end c.in-Err-work.fault;
+      before = beside mid after out.end out.is_flushed;
+      halted = halted request _ _ _ mid before after _ loads out.end out.is_flushed
+          c.in-Err-work.fault stopped (rw (first, last) at stops);
+      reported = reported_beside (outside_of out.end c.in-Err-work.fault) mid _ after out.end
+          out.is_flushed (rw (c.outside.ensures, c.end-end.ensures) at c.fail.ensures.reported);
+      failed = c.fail.ensures.status;
     })))
 
 -- the whole text was written, and was flushed
-pub returns-in-Ok-flush : goal.returns-in-Ok-flush
-returns-in-Ok-flush g c =
-    let (text, does, written) = c.in-Ok-work.ensures.ends in
-    ends_by _ _ _ _ _ _ c.in-Ok.ensures.request c.in-Ok.ensures.kinds (record {
-      usable = c.in-Ok-checked.ensures.usable;
-      text = text;
-      does = rw c.if-succeeded.true at does;
-      written = Appends-kept _ _ _ text written c.flush.ensures.bytes;
-      flushed = c.in-Ok-flush.ensures.flushed;
-      quiet = Keeps-refl _;
-    })
+pub returns-in-Ok-finish : goal.returns-in-Ok-finish
+returns-in-Ok-finish g c before after first last unended =
+    let request = request_of c.in-Ok.options in
+    let (loads, is, text, does, written) = c.in-Ok-work.ensures in
+    let grown = grown_of _ _ before after text first last
+    (Appends-kept _ _ _ text written c.finish.ensures.bytes) in
+    let (none, flushed) = c.in-Ok-finish.ensures.done in
+    by_request _ _ _ _ _ _ _ _ request c.in-Ok.ensures.request c.in-Ok.ensures.kinds
+    (if_true _ _ c.in-Ok-checked.ensures.usable (inl
+    (done request _ _ _ _ before after _ loads _ _ true text is grown none flushed
+    (rw c.if-succeeded.true at does))))
 
 pub returns-in-Ok-2 : goal.returns-in-Ok-2
-returns-in-Ok-2 g c =
-    let (text, does, written) = c.in-Ok-work.ensures.ends in
-    ends_by _ _ _ _ _ _ c.in-Ok.ensures.request c.in-Ok.ensures.kinds (inl (record {
-      usable = c.in-Ok-checked.ensures.usable;
-      text = text;
-      does = rw c.if-succeeded.false at does;
-      written = Appends-kept _ _ _ text written c.flush.ensures.bytes;
-      flushed = c.in-Ok-2.ensures.flushed;
-      quiet = Keeps-refl _;
-    }))
+returns-in-Ok-2 g c before after first last unended =
+    let request = request_of c.in-Ok.options in
+    let (loads, is, text, does, written) = c.in-Ok-work.ensures in
+    let grown = grown_of _ _ before after text first last
+    (Appends-kept _ _ _ text written c.finish.ensures.bytes) in
+    let (none, flushed) = c.in-Ok-2.ensures.done in
+    by_request _ _ _ _ _ _ _ _ request c.in-Ok.ensures.request c.in-Ok.ensures.kinds
+    (if_true _ _ c.in-Ok-checked.ensures.usable (inl
+    (done request _ _ _ _ before after _ loads _ _ false text is grown none flushed
+    (rw c.if-succeeded.false at does))))
 
 -- or was not
 pub returns : goal.returns
-returns g c =
-    let (text, does, written) = c.in-Ok-work.ensures.ends in
-    rw c.report-in-Err-flush.ensures.status
-    (ends_by _ _ _ _ _ _ c.in-Ok.ensures.request c.in-Ok.ensures.kinds (inr (record {
-      fault = Write;
-      usable = c.in-Ok-checked.ensures.usable;
-      right = tt;
-      line_reported = c.report-in-Err-flush.ensures.line;
-      write_failed = λ write. c.in-Err-flush.ensures.noted;
-      left = (
-        text,
-        (λ given. (c.in-Ok-work.succeeded, does)),
-        begins_whole _ _ text (Appends-kept _ _ _ text written c.flush.ensures.bytes),
-      );
+returns g c before after first last unended =
+    let request = request_of c.in-Ok.options in
+    let why = c.in-Err-finish.why in
+    let new = g.I.Inputs.run c.work.new.inputs in
+    let (loads, is, text, does, written) = c.in-Ok-work.ensures in
+    let failed = c.in-Err-finish.ensures.failed in
+    by_request _ _ _ _ _ _ _ _ request c.in-Ok.ensures.request c.in-Ok.ensures.kinds
+    (if_true _ _ c.in-Ok-checked.ensures.usable (inr (record {
+      why = Unwritten why;
+      before = beside new after c.finish.new.self.end c.finish.new.self.is_flushed;
+      halted = rw failed (halted request _ _ _ new before after _ loads (Some why)
+          c.finish.new.self.is_flushed Write (record { late = λ same. absurd (not_untraced same); left = is }) (
+            text,
+            (λ given. (c.in-Ok-work.succeeded, does)),
+            begins_whole _ _ text (grown_of _ _ before
+                after text first last (Appends-kept _ _ _ text written c.finish.ensures.bytes)),
+          ));
+      reported = reported_beside (Unwritten why) new _ after _ _ c.fail-in-Err-finish.ensures.reported;
+      failed = c.fail-in-Err-finish.ensures.status;
     })))

@@ -21,7 +21,7 @@ returns-in-None-clause-ok g c =
     let (text, states, written) = all in (
       text,
       (λ files history own.
-          stated (request_of c.args.options.now) c.args.token c.args.table.now files history text
+          stated (request_of c.args.job.now.options) c.args.token c.args.table.now files history text
           c.if-options.false (sym c.form.ensures ∙ c.in-None.is) (states history own)),
       written,
     ))

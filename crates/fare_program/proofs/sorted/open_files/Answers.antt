@@ -1,7 +1,5 @@
 use Rattle.std.proofs.Common.{◌≡◌, ◌++◌, ◌∷◌, [], ◌∙◌, List, ℕ, map, take, ap, ap₂, get_or, Bor, ◌+◌}
-use Rattle.std.proofs.Common.{refl}
 use Rattle.std.proofs.lemmas.List.{map-append, take_all, take_more}
-use Rattle.program_manners.proofs.Refusals.{is_one_at}
 use Rattle.fare_program.proofs.sorted.open_files.Goals as goal
 
 abbrev name_in : Bor (List ℕ) → List ℕ
@@ -23,16 +21,8 @@ loop-name-preserved g c =
     rw (more, c.in-Ok-push.ensures.items, map-append) (ap₂ (λ xs x. xs ++ x ∷ [])
     c.loop-name.invariant c.in-Ok.ensures)
 
-pub returns-clause-opened : goal.returns-clause-opened
-returns-clause-opened g c =
+pub returns : goal.returns
+returns g c =
     c.loop-name.invariant
     ∙ ap (λ ns. map (g.D.Disk.bytes_under c.args.disk.now) (map name_in ns))
     (take_all _ c.args.names.now c.loop-name-test.false)
-
-pub returns-in-Err-clause-fault : goal.returns-in-Err-clause-fault
-returns-in-Err-clause-fault g c =
-    is_one_at c.args.names.now c.loop-name.name-index no_name _ c.loop-name-test.true refl
-
-pub returns-in_default-clause-fault : goal.returns-in_default-clause-fault
-returns-in_default-clause-fault g c =
-    is_one_at c.args.names.now c.loop-name.name-index no_name _ c.loop-name-test.true refl

@@ -12,35 +12,42 @@ not_true : (b : Bool) → (b ≡ true → ⊥) → b ≡ false
 not_true true never = absurd (never refl)
 not_true false never = refl
 
-pub returns-in-Err-clause-right : goal.returns-in-Err-clause-right
-returns-in-Err-clause-right g c = rw c.deref.ensures.value at c.in-Err.ensures.fault
-
 pub charge_part-requires-clause-word : goal.charge_part-requires-clause-word
-charge_part-requires-clause-word g c κs within = rw c.in-Some.is at c.requires.word
+charge_part-requires-clause-word g c κs within = rw c.in-Some.is at c.requires
 
 pub returns-in-Some-clause-ends : goal.returns-in-Some-clause-ends
 returns-in-Some-clause-ends g c =
     let opened = ap (map g.D.File.Placed.bytes) c.deref-in-Some.ensures.value
-    ∙ (rw c.deref.ensures.value at c.in-Ok.ensures.opened) in
+    ∙ (rw c.deref.ensures.value at c.in-Ok.ensures) in
     let named = ap (option_map name_in) c.in-Some.is in
     gives_by _ _ _ _ _ _ c.charge_part.result
-    (λ given. not_true (request_of c.args.options.now).ledger
+    (λ given. not_true (request_of c.args.job.now.options).ledger
     (λ ledger. given (ap is_some named, ledger)))
     (λ text success is. (is.0, λ files are. rw named (is.1 files (opened ∙ are))))
     c.charge_part.ensures.ends
 
 pub returns-clause-ends : goal.returns-clause-ends
 returns-clause-ends g c =
-    let request = request_of c.args.options.now in
+    let request = request_of c.args.job.now.options in
     let opened = ap (map g.D.File.Placed.bytes) c.deref-in-None.ensures.value
-    ∙ (rw c.deref.ensures.value at c.in-Ok.ensures.opened) in
+    ∙ (rw c.deref.ensures.value at c.in-Ok.ensures) in
     let named = ap (option_map name_in) c.in-None.is in
     gives_by _ _ _ _ _ _ c.charge_sorted.result (λ given. tt)
     (λ text success is. (
       is.0,
       λ files are. subst (λ (tokens : Option (List ℕ)). MatchOption tokens
-          (ShowsSettled request c.args.table.now files c.args.token text true)
+          (ShowsSettled request c.args.table.now files c.args.job.now.token text true)
           (λ word. IsPartText request.ledger c.args.table.now files text)) (sym named)
           (is.1 files (opened ∙ are)),
     ))
     c.charge_sorted.ensures.ends
+
+pub returns-in-Some-clause-stop : goal.returns-in-Some-clause-stop
+returns-in-Some-clause-stop g c =
+    rw (ap (map g.D.File.Placed.bytes) c.deref-in-Some.ensures.value
+    ∙ (rw c.deref.ensures.value at c.in-Ok.ensures)) at c.charge_part.ensures.stop
+
+pub returns-clause-stop : goal.returns-clause-stop
+returns-clause-stop g c =
+    rw (ap (map g.D.File.Placed.bytes) c.deref-in-None.ensures.value
+    ∙ (rw c.deref.ensures.value at c.in-Ok.ensures)) at c.charge_sorted.ensures.stop

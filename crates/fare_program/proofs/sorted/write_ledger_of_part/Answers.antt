@@ -1,4 +1,4 @@
-use Rattle.std.proofs.Common.{◌++◌, refl}
+use Rattle.std.proofs.Common.{◌++◌, map, refl}
 use Rattle.std.proofs.KnownBytes.{Appends-trans}
 use Rattle.fare_texts.proofs.Beginnings.{begins_after}
 use Rattle.fare_texts.specs.LedgerLines.{head_text}
@@ -38,7 +38,7 @@ returns-in-Err-write_part_head-clause-ends g c = rw c.of_print.ensures
     (printed g.W.Write.contents _ _ _ c.in-Err-write_part_head.fault c.in-Err-write_part_head.ensures.fault
     (λ write. (
       part_head c.deref-2.result.now,
-      (λ given. absurd (cc)),
+      (λ given. absurd given),
       c.in-Err-write_part_head.ensures.started write,
     )))
 
@@ -49,7 +49,7 @@ returns-in-Err-Write-clause-ends g c =
     let new = g.W.Write.contents c.write_part_ledger.new.out in
     let (taps, lines, along, started) = c.in-Err-Write.ensures.started c.in-Err-Write.field-0-is in (
       part_head c.deref-2.result.now ++ (head_text ++ lines),
-      (λ given. absurd (cc)),
+      (λ given. absurd given),
       begins_after old mid new (part_head c.deref-2.result.now) _
           c.in_default.ensures.ok started,
     )
@@ -58,3 +58,8 @@ pub returns-in-Err-clause-ends : goal.returns-in-Err-clause-ends
 returns-in-Err-clause-ends g c =
     unwritten _ _ c.of_bill.result
     (λ write. c.in-Err.ensures.unwritten (c.of_bill.ensures.write write))
+
+pub returns-in-Err-clause-stop : goal.returns-in-Err-clause-stop
+returns-in-Err-clause-stop g c =
+    rw c.deref.ensures.value at
+    (c.of_bill.ensures.right (map g.F.Placed.bytes c.args.files.now) c.in-Err.ensures.fault)

@@ -10,8 +10,8 @@ not_false true e = refl
 not_false false e = sym e
 
 -- the file that was looked at is the one that was taken
-pub returns-clause-taken : goal.returns-clause-taken
-returns-clause-taken c =
+pub returns : goal.returns
+returns c =
     let ahead = c.args.ahead.now.items in
     let next = c.in_ok-next.next in
     let found = c.in_ok-last.ensures.item.3 in
@@ -27,29 +27,3 @@ returns-clause-taken c =
       ap (λ f. string_bytes f.name) (taken ∙ sym seen)
           ∙ (ap string_bytes (sym c.name.ensures) ∙ (sym c.as_str.ensures.value ∙ name)),
     )
-
-not_true : (b : Bool) → true ≡ not b → false ≡ b
-not_true true e = sym e
-not_true false e = refl
-
--- a next file of this name would have been the one that was looked at
-pub returns-then-ne-clause-kept : goal.returns-then-ne-clause-kept
-returns-then-ne-clause-kept c = (
-  refl,
-  λ before next is same.
-      let found = c.in_ok-last.ensures.item.3 in
-      let size : vec_len c.args.ahead.now - 1 ≡ length before =
-      (let l = ap (λ (files : List Loaded). length files) is in let m =
-      length-append before (next ∷ []) in omega arith) in
-      let seen : c.in_ok-last.field-0.now ≡ next =
-      found.1 next
-      ∙ (ap₂ (λ files n. slice_index_or files (n - 1) next) c.deref.ensures.value
-      c.deref.ensures.len
-      ∙ (ap₂ (λ files n. slice_index_or files n next) is size
-      ∙ get_or-append_seam before next [] next)) in
-      let name : c.as_str.result.now ≡ c.args.name.now =
-      c.as_str.ensures.value
-      ∙ (ap string_bytes c.name.ensures ∙ (ap (λ f. string_bytes f.name) seen ∙ same)) in
-      let reported = (slice_eq-Decides Decides-eqb _ _ false (not_true _ c.if-ne.ensures)).1 name in
-      cc,
-)

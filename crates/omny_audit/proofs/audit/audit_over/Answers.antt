@@ -1,9 +1,7 @@
 -- What is written is a prefix of what is found, whenever the run ends.
 use Rattle.std.proofs.Common.{◌≡◌, ◌∙◌, ◌++◌, ℕ, List, [], None, Option, ap, append-nil}
-use Rattle.std.proofs.Common.{refl, rules, subst, sym, tests}
-use Rattle.world.specs.Run.{Load, Run, with_cut, with_flushed}
-use Rattle.program_manners.proofs.Shown.{is_shown}
-use Rattle.program_manners.specs.Refusals.{IsShown}
+use Rattle.std.proofs.Common.{inl, inr, refl, rules, subst, sym, tests}
+use Rattle.world.specs.{Loads.IsRefused, Run.Load, Run.Run, Run.with_cut, Run.with_flushed}
 use Rattle.omny_audit.specs.declared.fault.Fault.TheVariants.{Ledger, NoMemory}
 use Rattle.omny_audit.proofs.Audits.{all_found, cut_off, interrupted, unflushed, went_further}
 use Rattle.omny_audit.proofs.Audits.{went_on}
@@ -57,13 +55,13 @@ pub returns-in_default-clause-ends : goal.returns-in_default-clause-ends
 returns-in_default-clause-ends g c = λ given has.
     let before = c.loop-piece.invariant in
     interrupted (before.so_far given has) c.loop-piece.piece.items c.loop-piece.ledger.trace NoMemory
-    (ap (λ (x : Load). x.bytes) before.read.reading) tt
+    (ap (λ (x : Load). x.bytes) before.read.reading) (inl refl)
 
 pub returns-clause-ends : goal.returns-clause-ends
 returns-clause-ends g c = λ given has.
     let before = c.loop-piece.invariant in
     interrupted (before.so_far given has) c.loop-piece.piece.items c.loop-piece.ledger.trace NoMemory
-    (ap (λ (x : Load). x.bytes) before.read.reading) tt
+    (ap (λ (x : Load). x.bytes) before.read.reading) (inl refl)
 
 -- a write failed
 pub returns-in-Err-clause-ends : goal.returns-in-Err-clause-ends
@@ -101,9 +99,14 @@ returns-in-Err-read-clause-ends g c = λ given has.
     before.read before.whole _ none (rw c.as_slice.ensures.value at c.in_default-write.ensures.whole))
     [] c.read.new.self.trace (Ledger c.in-Err-read.why)
     (ap (λ (x : Load). x.bytes) read.0 ∙ sym (append-nil bytes))
-    (subst (λ (n : Option (List ℕ)). IsShown c.read.new.self.trace.run (n, c.in-Err-read.why))
-    (sym (ap (λ (x : Load). x.name) read.0)) (is_shown c.loop-piece.ledger.trace.run
-    c.read.new.self.trace.run before.name c.in-Err-read.why read.1))
+    (inr (
+      (
+        c.loop-piece.ledger.trace.run,
+        subst (λ (n : Option (List ℕ)). IsRefused c.loop-piece.ledger.trace.run
+            c.read.new.self.trace.run n c.in-Err-read.why) (sym (ap (λ (x : Load). x.name) read.0)) read.1,
+      ),
+      refl,
+    ))
 
 pub returns-in-Err-read-clause-goes : goal.returns-in-Err-read-clause-goes
 returns-in-Err-read-clause-goes g c =

@@ -1,38 +1,37 @@
-use Rattle.std.proofs.Common.{◌≡◌, ◌∙◌, ◌++◌, ◌∷◌, ◌<◌, [], Bor, List, Some, ℕ, ap, append-nil}
-use Rattle.std.proofs.Common.{get_or, length, map, refl, subst, sym, take}
-use Rattle.ledger_check.specs.{Balances.AreValidFields, Balances.IsBalance, Columns.has_ledger_head}
-use Rattle.omny_audit.proofs.ProgramLemmas.{contained, loads_push, same_fields}
-use Rattle.omny_audit.specs.{Program.taps_in, declared.fault.Fault.TheVariants.File}
-use Rattle.omny_audit.specs.inside.Program.{IsLoadFault}
-use Rattle.program_manners.proofs.Refusals.{has_refused}
-use Rattle.program_manners.specs.Refusals.{refusal_of}
-use Rattle.std.proofs.lemmas.List.{flat_map_more, map_more, take_all}
-use Rattle.std.proofs.lemmas.Option.{slice_get-get_or}
+use Rattle.std.proofs.Common.{◌≡◌, ◌∙◌, ◌++◌, ◌∷◌, ◌<◌, [], Bor, List, Some, ℕ, ap, get_or, length}
+use Rattle.std.proofs.Common.{map, option_map, refl, subst, sym, take}
+use Rattle.frame.proofs.Outcomes.{loads_more}
+use Rattle.ledger_check.specs.Columns.{has_ledger_head}
+use Rattle.omny_audit.proofs.ProgramLemmas.{contained, loads_push}
+use Rattle.omny_audit.specs.{Ends.LoadsGivenLedger, declared.fault.Fault.TheVariants.File}
+use Rattle.omny_audit.specs.{declared.fault.Fault.TheVariants.NoMemory, inside.Program.StopsLoads}
+use Rattle.program_manners.specs.TableLoads.{load_of}
+use Rattle.std.proofs.lemmas.List.{map_more, take_all}
+use Rattle.std.proofs.lemmas.Option.{slice_get-get_or, slice_get-map}
 use Rattle.std.specs.Prelude.{Contains}
-use Rattle.tap_views.proofs.{Choices.IfErr_handed_on, Lists.AllZip-append}
-use Rattle.tap_views.specs.UploadEnds.{ArePlainEnds, IsPlainEnd, end_by}
-use Rattle.tap_views.specs.declared.encoder.TapFields.{TapFields}
+use Rattle.tap_views.proofs.Choices.{IfErr_handed_on}
+use Rattle.tap_views.specs.UploadEnds.{ArePlainEnds}
+use Rattle.world.proofs.Laws.{no_loads}
+use Rattle.world.specs.Loads.{IsRefused}
 use Rattle.omny_audit.proofs.program.load_uploads.Goals as goal
 
 abbrev no_name : Bor (List ℕ)
 no_name = record { ref_ptr = (0, 0); now = [] }
 
 -- the name of a round is one of all
-named : (names : List (Bor (List ℕ))) (k : ℕ) → k < length names
-    → Contains (map (λ n. n.now) names) (get_or names k no_name).now
-named names k within =
-    contained (λ (n : Bor (List ℕ)). n.now) names k _ (slice_get-get_or names k no_name within)
+named : {B : Type 0} (f : List ℕ → B) (names : List (Bor (List ℕ))) (k : ℕ) → k < length names
+    → Contains (map f (map (λ n. n.now) names)) (f (get_or names k no_name).now)
+named f names k within = contained f (map (λ n. n.now) names) k _
+    (slice_get-map (λ n. n.now) names k
+    ∙ ap (option_map (λ n. n.now)) (slice_get-get_or names k no_name within))
 
 pub loop-name-init : goal.loop-name-init
-loop-name-init c = (
+loop-name-init g c = (
+  [],
+  sym (no_loads (g.S.Inputs.run c.args.source.now)),
   [],
   [],
-  record {
-    loads = [];
-    named = refl;
-    bytes = refl;
-    is_loaded = sym (append-nil c.args.files.now.loads.trace.run.loads);
-  },
+  record { named = refl; bytes = refl },
   record {
     are_lists = tt;
     balance = c.new.ensures;
@@ -42,71 +41,69 @@ loop-name-init c = (
 )
 
 pub loop-name-preserved : goal.loop-name-preserved
-loop-name-preserved c =
-    let names = c.args.names.now in
-    let k = c.loop-name.name-index in
-    let (files, lists, loads, are) = c.loop-name.invariant in
-    let upload = c.as_slice-upload.result.now in
-    let (taps, valid, balanced) = c.in_ok-add_upload.ensures in
-    let (list, are_list, placed) = c.in_ok-add_upload-2.ensures in
-    let facts = c.facts_of-facts.ensures in
-    let fault = c.facts_of-facts.result.fault in
-    let all : taps_in lists ++ taps ≡ taps_in (lists ++ list ∷ []) =
-    ap (λ (t : List TapFields). taps_in lists ++ t) (same_fields upload taps list valid are_list)
-    ∙ flat_map_more (λ (l : List TapFields). l) [] lists list in (
-      files ++ upload ∷ [],
+loop-name-preserved g c =
+    let (loads, only, files, lists, named, are) = c.loop-name.invariant in
+    let (list, more) = c.in_ok-add_upload.ensures files lists are in (
+      loads ++ load_of _ c.in_ok-file.file.items ∷ [],
+      loads_more _ _ _ loads _ only c.in_ok-file.ensures.ok,
+      files ++ c.in_ok-file.file.items ∷ [],
       lists ++ list ∷ [],
-      rw (map_more (λ (n : Bor (List ℕ)). n.now) names k no_name c.loop-name-test.true)
-          (loads_push _ _ _ _ _ _ _ loads (rw (sym c.as_slice-upload.ensures.value) at
-          c.in_ok-file.ensures.ok)),
-      record {
-        are_lists = AllZip-append AreValidFields files lists (upload ∷ []) (list ∷ []) are.are_lists
-            (are_list, tt);
-        balance = subst (λ (t : List TapFields). IsBalance c.add_upload.new.self t []) all
-            (balanced (taps_in lists) are.balance);
-        positions = placed lists are.positions;
-        ends = subst (ArePlainEnds (files ++ upload ∷ [])) (sym c.in_ok-push.ensures.items)
-            (AllZip-append IsPlainEnd files c.loop-name.uploads.ends.items (upload ∷ [])
-            (c.by_fault.result ∷ []) are.ends (
-              record {
-                batches = facts.read_batches;
-                rest = facts.read.rest;
-                fault = fault;
-                is_file = facts.read.is_file;
-                is_fault = facts.read.is_end;
-                ended = c.by_fault.ensures ∙ ap (λ (n : ℕ). end_by n fault) facts.tap_number;
-              },
-              tt,
-            ));
-      },
+      rw (map_more (λ (n : Bor (List ℕ)). n.now) c.args.names.now c.loop-name.name-index no_name
+          c.loop-name-test.true) (loads_push _ _ loads files c.in_ok-file.file.items named),
+      rw c.as_slice-upload.ensures.value at more,
     )
 
 pub returns-clause-ok : goal.returns-clause-ok
-returns-clause-ok c =
+returns-clause-ok g c =
     let all : take c.loop-name.name-index c.args.names.now ≡ c.args.names.now =
     take_all _ c.args.names.now c.loop-name-test.false in
     rw all at c.loop-name.invariant
 
 pub returns-in_err-file-clause-fault : goal.returns-in_err-file-clause-fault
-returns-in_err-file-clause-fault c =
+returns-in_err-file-clause-fault g c =
+    let (loads, only, _, _, _, _) = c.loop-name.invariant in
+    let names = map (λ n. n.now) c.args.names.now in
     let file = c.in_err-file.field-0.0 in
-    let loads = c.load_named.new.source.loads in
+    let new = g.S.Inputs.run c.load_named.new.source in
     IfErr_handed_on c.from_residual.result (File file)
-    (IsLoadFault (map (λ n. n.now) c.args.names.now) loads) c.from_residual.ensures.1
-    (rw c.in_err-file.ensures.named (
-      named c.args.names.now c.loop-name.name-index c.loop-name-test.true,
-      has_refused (Some (refusal_of loads.last.value)) (Some _) file.fault
-          c.in_err-file.ensures.refused,
-    ))
+    (StopsLoads (LoadsGivenLedger names) names (g.S.Inputs.run c.args.source.now) new)
+    c.from_residual.ensures.1 (record {
+      loads = loads;
+      leaves = (
+        _,
+        named Some c.args.names.now c.loop-name.name-index c.loop-name-test.true,
+        subst (λ r. IsRefused r new (Some (get_or c.args.names.now c.loop-name.name-index
+            no_name).now) file.fault) only c.in_err-file.ensures.refused,
+      );
+    })
+
+pub returns-in_err-add_upload-clause-fault : goal.returns-in_err-add_upload-clause-fault
+returns-in_err-add_upload-clause-fault g c =
+    let (loads, only, _, _, _, _) = c.loop-name.invariant in
+    let names = map (λ n. n.now) c.args.names.now in
+    IfErr_handed_on c.from_residual-in_err-add_upload.result NoMemory
+    (StopsLoads (LoadsGivenLedger names) names (g.S.Inputs.run c.args.source.now)
+    (g.S.Inputs.run c.load_named.new.source)) c.from_residual-in_err-add_upload.ensures.1 (record {
+      loads = loads ++ load_of _ c.in_ok-file.file.items ∷ [];
+      leaves = loads_more _ _ _ loads _ only c.in_ok-file.ensures.ok;
+    })
 
 pub returns-then-has_ledger_head-clause-fault : goal.returns-then-has_ledger_head-clause-fault
-returns-then-has_ledger_head-clause-fault c = (
-  named c.args.names.now c.loop-name.name-index c.loop-name-test.true,
-  record {
-    loaded = c.loop-name.files.loads.trace.run.loads;
-    text = c.in_ok-file.file.items;
-    loads = c.in_ok-file.ensures.ok;
-    begins = ap has_ledger_head (sym c.as_slice-upload.ensures.value)
-        ∙ sym c.has_ledger_head.ensures ∙ c.if-has_ledger_head.true;
-  },
-)
+returns-then-has_ledger_head-clause-fault g c =
+    let (loads, only, _, _, _, _) = c.loop-name.invariant in record {
+      loads = loads ++ load_of _ c.in_ok-file.file.items ∷ [];
+      leaves = (
+        record {
+          name = _;
+          among = contained (λ (n : Bor (List ℕ)). n.now) c.args.names.now c.loop-name.name-index _
+              (slice_get-get_or c.args.names.now c.loop-name.name-index no_name
+              c.loop-name-test.true);
+          before = loads;
+          text = c.in_ok-file.file.items;
+          is_last = refl;
+          begins = ap has_ledger_head (sym c.as_slice-upload.ensures.value)
+              ∙ sym c.has_ledger_head.ensures ∙ c.if-has_ledger_head.true;
+        },
+        loads_more _ _ _ loads _ only c.in_ok-file.ensures.ok,
+      );
+    }

@@ -1,17 +1,23 @@
-use Rattle.std.proofs.Common.{◌≡◌, ◌∙◌, None, Some, ap, arith, inl, inr, option_map, refl, rules}
-use Rattle.std.proofs.Common.{subst, sym, tests}
+use Rattle.std.proofs.Common.{◌≡◌, ◌∙◌, [], None, Some, ap, inl, inr, option_map, rules}
+use Rattle.std.proofs.Common.{subst, arith, map, string_bytes, sym, tests}
 use Rattle.clap.specs.Words.{HasKind, IsAmong, Kinds, kind_of}
-use Rattle.clap.specs.declared.error.{Error.Error, kind.ErrorKind.ErrorKind}
-use Rattle.clap.specs.declared.error.kind.ErrorKind.TheVariants.{DisplayHelp, DisplayVersion}
-use Rattle.omny_audit.proofs.ProgramLemmas.{started_none}
-use Rattle.omny_audit.specs.{Ends.did_by, Options.AuditRequest}
-use Rattle.omny_audit.specs.declared.fault.Fault.TheVariants.{NoMemory}
-use Rattle.omny_audit.specs.inside.Program.{audit_request_of}
-use Rattle.program_manners.proofs.Refusals.{only_memory}
+use Rattle.clap.specs.declared.error.Error.{Error}
+use Rattle.clap.specs.declared.error.kind.ErrorKind.{ErrorKind, TheVariants.DisplayHelp}
+use Rattle.clap.specs.declared.error.kind.ErrorKind.TheVariants.{DisplayVersion, OutOfMemory}
+use Rattle.frame.specs.{Outcome.Ends, declared.outside.Outside.TheVariants.NoMemory}
+use Rattle.omny_audit.proofs.ProgramLemmas.{halted_first}
+use Rattle.omny_audit.specs.Ends.{IsCommand, audit_rule}
+use Rattle.omny_audit.specs.{Options.AuditRequest, inside.Program.audit_request_of}
 use Rattle.program_manners.specs.TableViews.{names_of, wrong_of}
 use Rattle.program_manners.specs.{TableWords.wrong_word, Words.IsRequest}
 use Rattle.std.specs.Prelude.{◌⊎◌}
 use Rattle.omny_audit.proofs.program.main_over.Goals as goal
+
+-- an error of words of which no kind may come is that an allocation failed
+only_memory : (kinds : Kinds) (e : Error) → kinds ≡ [] → HasKind kinds e → kind_of e ≡ OutOfMemory
+only_memory kinds e none has =
+    elim (subst (λ (k : Kinds). HasKind k e) none has)
+    [ inl memory ↦ memory | inr among ↦ absurd among ]
 
 -- help or the version is asked for
 requested_of : (kinds : Kinds) (e : Error) → HasKind kinds e → IsRequest (kind_of e)
@@ -26,53 +32,54 @@ requested_of kinds e has (inr version) = elim has [
 ]
 
 -- words that are a command line are refused for want of memory alone
-pub returns-in-Err-clause-ends : goal.returns-in-Err-clause-ends
-returns-in-Err-clause-ends g c = record {
+pub returns-in-Err : goal.returns-in-Err
+returns-in-Err g c = record {
   command = λ is.
-      let refused = c.show.ensures.memory
+      let refused = c.show_answer.ensures.memory
       (only_memory _ c.in-Err.error is.0 c.in-Err.ensures.kinds) in
-      rw refused.0 (inr (record {
-        fault = NoMemory;
+      inr (record {
+        why = NoMemory;
         before = g.W.Inputs.run c.args.world.now;
-        right = tt;
-        started = started_none _ _;
-        quiet = refl;
+        halted = halted_first _ _ _;
         reported = refused.1;
-      }));
-  answer = λ no. record {
-    asks = λ zero. requested_of _ c.in-Err.error c.in-Err.ensures.kinds (c.show.ensures.requested zero);
-    unloaded = refl;
-    unread = c.requires;
-  };
+        failed = refused.0;
+      });
+  helped = λ no zero. let help = c.show_answer.ensures.help zero in
+      (requested_of _ c.in-Err.error c.in-Err.ensures.kinds help.0, help.1);
+  rejected = λ no asks_not. c.show_answer.ensures.refused
+      (λ is. asks_not (requested_of _ c.in-Err.error c.in-Err.ensures.kinds is));
+  unread = λ no. c.requires;
 }
 
 -- a table has a wrong date
-pub returns-in-Some-clause-ends : goal.returns-in-Some-clause-ends
-returns-in-Some-clause-ends g c = record {
+pub returns-in-Some : goal.returns-in-Some
+returns-in-Some g c = record {
   command = λ is.
       let bad : Some (wrong_of c.in-Some.wrong) ≡ None =
       sym (ap (option_map wrong_of) c.in-Some.is) ∙ c.wrong_word.ensures
       ∙ ap (λ (r : AuditRequest). wrong_word r.table) c.in-Ok.ensures.request ∙ is.1 in
       absurd cc;
-  answer = λ no. record {
-    asks = λ zero. absurd (omega (arith, zero, c.say.ensures));
-    unloaded = refl;
-    unread = c.requires;
-  };
+  helped = λ no zero. elim c.refuse_date.ensures.0
+      [ inl two ↦ absurd (omega (arith, zero, two)) | inr one ↦ absurd (omega (arith, zero, one)) ];
+  rejected = λ no asks_not. c.refuse_date.ensures;
+  unread = λ no. c.requires;
 }
 
-pub returns-clause-ends : goal.returns-clause-ends
-returns-clause-ends g c = record {
-  command = λ is. rw (sym c.in-Ok.ensures.request)
-      (c.end_run.ensures (audit_request_of c.in-Ok.options)
-      (did_by c.args.files.now.loads c.audit-ended.new.files.loads c.audit-ended.new.ledger.trace
-      (g.W.Inputs.run c.args.world.now) (g.W.Inputs.run c.audit-ended.new.world))
-      c.audit-ended.ensures);
-  answer = λ no.
-      let none : wrong_word (names_of c.in-Ok.options.table) ≡ None =
-      first_of (cc, search (rules, tests)) in
-      absurd (no (
-        c.in-Ok.ensures.kinds,
-        sym (ap (λ (r : AuditRequest). wrong_word r.table) c.in-Ok.ensures.request) ∙ none,
-      ));
-}
+pub returns : goal.returns
+returns g c =
+    let none : wrong_word (names_of c.in-Ok.options.table) ≡ None =
+    first_of (cc, search (rules, tests)) in
+    let command : IsCommand (map string_bytes c.args.words.now) = (
+      c.in-Ok.ensures.kinds,
+      sym (ap (λ (r : AuditRequest). wrong_word r.table) c.in-Ok.ensures.request) ∙ none,
+    ) in record {
+      command = λ is.
+          let ledger = c.audit-ended.new.ledger.trace in
+          let old = g.W.Inputs.run c.args.world.now in
+          subst (λ (r : AuditRequest). Ends (audit_rule r ledger) old
+          (g.W.Inputs.run c.end_run.new.world) c.end_run.result) c.in-Ok.ensures.request
+          (c.end_run.ensures (audit_request_of c.in-Ok.options) ledger old c.audit-ended.ensures);
+      helped = λ no. absurd (no command);
+      rejected = λ no. absurd (no command);
+      unread = λ no. absurd (no command);
+    }

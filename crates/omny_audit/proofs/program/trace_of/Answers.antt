@@ -13,7 +13,7 @@ use Rattle.omny_audit.proofs.program.trace_of.Goals as goal
 pub of_texts-requires : goal.of_texts-requires
 of_texts-requires c =
     let texts = c.args.tables.now.texts.items in
-    let counted = (tables_counted (names_of c.args.words.now) _ _ _ _ c.requires.loaded.2).0 in
+    let counted = (tables_counted (names_of c.args.words.now) _ _ _ c.requires.loaded.1).0 in
     ap (λ (ts : List (Vec ℕ Global)). length ts) c.deref.ensures.value
     ∙ sym (length-map texts (λ (t : Vec ℕ Global). t.items)) ∙ counted
 

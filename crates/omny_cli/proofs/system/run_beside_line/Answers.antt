@@ -5,7 +5,6 @@ use Rattle.omny_cli.proofs.system.run_beside_line.Goals as goal
 pub returns : goal.returns
 returns g c =
     let new = c.join_mut-status.new.g in
-    let source : new.3.now ≡ c.source-1.given.0 = search rules in
+    let world : new.3.now ≡ c.world-1.given.0 = search rules in
     let out : new.4.now ≡ c.out-1.given.0 = search rules in
-    let err : new.5.now ≡ c.err-1.given.0 = search rules in
-    rw (← source, ← out, ← err) c.join_mut-status.ensures.1.met.1
+    rw (← world, ← out) c.join_mut-status.ensures.1.met.1

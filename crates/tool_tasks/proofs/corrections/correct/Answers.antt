@@ -1,11 +1,9 @@
-use Rattle.std.proofs.Common.{◌≡◌, ◌∙◌, ◌++◌, ◌∷◌, [], List, ap, append-nil, append_assoc, arith, inl}
+use Rattle.std.proofs.Common.{◌∙◌, ◌++◌, ◌∷◌, [], List, ap, append-nil, append_assoc, arith, inl}
 use Rattle.std.proofs.Common.{refl}
-use Rattle.frame.specs.Names.{file_named}
 use Rattle.recorded_lines.specs.Texts.{calls_of}
 use Rattle.std.proofs.lemmas.Result.{err_from_is_err_and}
-use Rattle.tool_tasks.proofs.{Corrected.corrected, Corrected.stopped, Streaming.unopened}
-use Rattle.tool_tasks.specs.Corrections.{AreRead}
-use Rattle.tool_words.specs.{Request.CorrectionsRequest, Tasks.corrections_of}
+use Rattle.tool_tasks.proofs.{Corrected.corrected, Streaming.unopened}
+use Rattle.tool_words.specs.Tasks.{corrections_of}
 use Rattle.world.specs.Run.{Calls}
 use Rattle.tool_tasks.proofs.corrections.correct.Goals as goal
 
@@ -33,34 +31,16 @@ returns-in-Err g c =
       ([], inl refl, can, left),
     )
 
-read_of : (request : CorrectionsRequest) (old new : Calls) → old.reading.name ≡ file_named request.old
-    → new.reading.name ≡ file_named request.new → AreRead request (old ∷ new ∷ []) old new
-read_of request old new is also = record { all = refl; old_name = is; new_name = also }
-
 pub returns : goal.returns
 returns g c =
     let request = corrections_of c.args.words.now in
-    let (old, new, all, old_name, new_name, written) = c.in_ok-removed.ensures in (
+    let (old, new, all, old_name, new_name, written) = c.write_closed-written.ensures in (
       old ∷ new ∷ [],
       all ∙ ap (λ (l : List Calls). l ++ old ∷ new ∷ [])
           (c.in-Ok.ensures.unchanged ∙ c.in_ok-old.ensures.unchanged),
-      corrected request (old ∷ new ∷ []) old new (read_of request old new
-          (old_name ∙ c.in_ok-old.ensures.named) (new_name ∙ c.in-Ok.ensures.named)) _ _
-          c.in_ok-removed.removed c.removed_line.result written
-          c.removed_line.ensures.line c.removed_line.ensures.stopped,
-    )
-
-pub returns-in_err-removed : goal.returns-in_err-removed
-returns-in_err-removed g c =
-    let e = err_from_is_err_and c.from_residual-in_err-removed.result
-    c.from_residual-in_err-removed.ensures.1 in
-    let request = corrections_of c.args.words.now in
-    let (old, new, all, old_name, new_name, written) = c.in_err-removed.ensures in
-    rw (e.1, e.2) (
-      old ∷ new ∷ [],
-      all ∙ ap (λ (l : List Calls). l ++ old ∷ new ∷ [])
-          (c.in-Ok.ensures.unchanged ∙ c.in_ok-old.ensures.unchanged),
-      stopped request (old ∷ new ∷ []) old new (read_of request old new
-          (old_name ∙ c.in_ok-old.ensures.named) (new_name ∙ c.in-Ok.ensures.named)) _ _
-          c.in_err-removed.field-0.0 written,
+      corrected request (old ∷ new ∷ []) old new (record {
+        all = refl;
+        old_name = old_name ∙ c.in_ok-old.ensures.named;
+        new_name = new_name ∙ c.in-Ok.ensures.named;
+      }) _ _ c.write_closed-written.result c.removed_line.result written c.removed_line.ensures,
     )

@@ -2,7 +2,8 @@ use Rattle.std.proofs.Common.{◌∙◌, ◌≡◌, [], List, Option, arith, map
 use Rattle.frame.specs.declared.outside.Outside.TheVariants.{Unread}
 use Rattle.std.proofs.lemmas.Result.{err_from_is_err_and}
 use Rattle.tool_tasks.proofs.EncodingRows.{is_in, later_csv, zone_in}
-use Rattle.tool_tasks.proofs.Loading.{loads_after, stops_after}
+use Rattle.frame.proofs.Outcomes.{loads_more}
+use Rattle.tool_tasks.proofs.Loading.{stops_after}
 use Rattle.tool_tasks.specs.EncodeRows.{loads_in, names_of, word_in}
 use Rattle.world.proofs.Laws.{no_loads}
 use Rattle.world.specs.Origins.{with_loads}
@@ -51,7 +52,7 @@ returns-in-Err-load_named-clause-stopped g c =
       tried,
       stops_after names started _ (g.W.Inputs.run c.load_named-2.new.world) _
           (Unread c.in-Err-load_named.why)
-          (loads_after started _ _ _ _ was c.in-Ok.ensures.loaded)
+          (loads_more started _ _ _ _ was c.in-Ok.ensures.loaded)
           (c.in-Err-load_named.ensures.refused names (zone_in names (word_in words.zone)
           (word_in c.name_in.result) (c.name_in.ensures ∙ c.in_ok-path.ensures) (3, omega arith, refl))),
     )
@@ -63,7 +64,7 @@ returns-in_err-csvs-clause-stopped g c =
     let words = c.args.words.now in let csvs = map (λ w. w.now) c.args.csvs.now in
     let names = names_of words csvs in
     let (started, tried, was) = c.in_ok-found.ensures.loaded in
-    let last = loads_after started _ _ _ _ (loads_after started _ _ _ _ was c.in-Ok.ensures.loaded)
+    let last = loads_more started _ _ _ _ (loads_more started _ _ _ _ was c.in-Ok.ensures.loaded)
     c.in-Ok-load_named.ensures.loaded in
     let (more, leaves) = c.in_err-csvs.ensures.stopped names (later_csv words csvs) in
     rw (e.1, e.2) (
@@ -71,13 +72,13 @@ returns-in_err-csvs-clause-stopped g c =
       started,
       tried,
       stops_after names started _ _ _ _
-          (loads_after started _ _ _ more last refl) leaves,
+          (loads_more started _ _ _ more last refl) leaves,
     )
 
 pub returns-clause-loaded : goal.returns-clause-loaded
 returns-clause-loaded g c =
     let (started, tried, was) = c.in_ok-found.ensures.loaded in
-    let then = loads_after started _ _ _ _ was c.in-Ok.ensures.loaded in
+    let then = loads_more started _ _ _ _ was c.in-Ok.ensures.loaded in
     let zone = subst (λ (o : Option (List ℕ)). g.W.Inputs.run c.load_named-2.new.world
     ≡ with_loads (g.W.Inputs.run c.load_named.new.world)
     (loads_in o c.in-Ok-load_named.zone.items)) (c.name_in.ensures ∙ c.in_ok-path.ensures)
@@ -86,6 +87,6 @@ returns-clause-loaded g c =
       started,
       _,
       tried,
-      loads_after started _ _ _ all.loads (loads_after started _ _ _ _ then zone) all.all,
+      loads_more started _ _ _ all.loads (loads_more started _ _ _ _ then zone) all.all,
       record { csv_loads = all.loads; named = all.named; bytes = all.bytes; all = refl },
     )

@@ -2,8 +2,8 @@ use Rattle.std.proofs.Common.{refl, arith}
 use Rattle.settlement.proofs.OpenBills.{closed_none, closed_some, counted_taps}
 use Rattle.settlement.proofs.open_bill.OpenBill.close.Goals as goal
 
-pub returns-then-not-self : goal.returns-then-not-self
-returns-then-not-self c = λ fares taps is.
+pub returns-then-not-self-clause-bill : goal.returns-then-not-self-clause-bill
+returns-then-not-self-clause-bill c = λ fares taps is.
     closed_none fares taps c.args.self.now is c.if-not-self.true
 
 pub add_all-requires : goal.add_all-requires
@@ -18,7 +18,7 @@ push-requires c =
     let counted = counted_taps fares taps c.args.self.now is in
     omega (arith, counted, few)
 
-pub returns : goal.returns
-returns c = λ fares taps is.
+pub returns-clause-bill : goal.returns-clause-bill
+returns-clause-bill c = λ fares taps is.
     closed_some fares taps c.args.self.now is _ c.if-not-self.false c.in_ok-push.ensures
     c.add_all.ensures refl

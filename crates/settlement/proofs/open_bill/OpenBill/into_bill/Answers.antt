@@ -4,4 +4,4 @@ pub close-requires : goal.close-requires
 close-requires c = c.requires
 
 pub returns : goal.returns
-returns c = λ fares taps is. c.in_ok-close.ensures fares taps is
+returns c = λ fares taps is. c.in_ok-close.ensures.bill fares taps is

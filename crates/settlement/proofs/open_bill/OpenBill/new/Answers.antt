@@ -22,4 +22,5 @@ returns-clause-bill c = λ fares. record {
   tokens = c.new.ensures.tokens;
   totals = c.new.ensures.counts.totals;
   validators = c.new.ensures.counts.validators;
+  modes = c.new-3.ensures fares;
 }

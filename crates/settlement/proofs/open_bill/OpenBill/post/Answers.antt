@@ -34,3 +34,4 @@ returns-clause-bill c = λ taps is.
     (c.add.ensures ∙ ap
     (λ (r : Reply). add_sums (sums_of_tally old.tally) (sums_of_replies (r ∷ [])))
     c.reply.ensures) refl refl refl (c.in_ok-add.ensures done is.validators)
+    c.mode_of-mode.ensures.kept

@@ -2,7 +2,7 @@ use Rattle.std.proofs.Common.{◌≡◌, List, ◌∷◌, ◌++◌, cond, ap, sy
 use Rattle.account_rule.specs.declared.{reply.Reply.Reply, tap.TapIn.TapIn}
 use Rattle.fare_caps.specs.{CapMeanings.capped_rules_of, CappedReplies.capped_reply}
 use Rattle.fare_caps.specs.Represents.{Represents, RepresentsSome}
-use Rattle.histories.proofs.Histories.{taps-push}
+use Rattle.histories.proofs.Histories.{tap_of-post, taps-push}
 use Rattle.histories.specs.Entry.{tap_of, taps_of}
 use Rattle.histories.specs.{Plain.answered, Plain.with_reply, declared.entry.Entry.Entry}
 use Rattle.settlement.specs.{Posted.unposted, Replays.HasPosted}
@@ -26,7 +26,8 @@ returns-clause-entry c = λ earlier posted.
     let taps = taps_of fares token earlier in
     let replied : c.step-reply.result ≡ capped_reply of taps (tap_of fares tap) =
     (rw c.named_bytes-bytes.ensures.bytes at c.step-reply.ensures.reply) taps posted
-    ∙ ap (λ (t : TapIn). capped_reply of taps t) c.seen-seen.ensures.tap in
+    ∙ ap (λ (t : TapIn). capped_reply of taps t)
+    (sym (tap_of-post fares (unposted c.args.tap.now) c.args.mode c.requires.mode)) in
     let named : Entry = record {
       token = token;
       validator = tap.validator;
@@ -52,7 +53,8 @@ returns-clause-posted c = λ earlier posted.
     let token = c.args.self.now.token in
     let of = capped_rules_of fares (bytes_of token) in
     let taps = taps_of fares token earlier in
-    let longer = ap (λ (t : TapIn). taps ++ t ∷ []) c.seen-seen.ensures.tap
+    let longer = ap (λ (t : TapIn). taps ++ t ∷ [])
+    (sym (tap_of-post fares (unposted c.args.tap.now) c.args.mode c.requires.mode))
     ∙ sym (taps-push fares token earlier _
     ∙ ap (λ b. cond b (taps ++ tap_of fares (unposted c.args.tap.now) ∷ []) taps)
     (token_eq-refl token)) in

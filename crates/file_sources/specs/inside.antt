@@ -1,2 +1,0 @@
--- What only private functions cite. Who reads the contracts of public calls need not read it.
-pub mod PrefetchedFiles
