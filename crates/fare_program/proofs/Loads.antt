@@ -1,22 +1,14 @@
--- One more file that was loaded.
+-- Files that were loaded.
 use Rattle.std.proofs.Common.{◌≡◌, ◌<◌, ◌∙◌, ℕ, List, [], ◌∷◌, ◌++◌, length, map, ap, arith, sym}
 use Rattle.std.proofs.Common.{Bor, Err, Global, None, Ok, Option, Result, Some, Vec, refl, subst}
-use Rattle.fare_program.specs.FilesLoaded.{LoadsFiles, names_to_load}
-use Rattle.frame.specs.{Outsides.LeavesFiles, declared.outside.Outside.TheVariants.Unread}
+use Rattle.fare_program.specs.FilesLoaded.{names_to_load}
+use Rattle.frame.specs.{Given.LoadsFiles, Outsides.LeavesFiles}
+use Rattle.frame.specs.declared.outside.Outside.TheVariants.{Unread}
 use Rattle.std.proofs.lemmas.{List.map-append, Simd.map-map}
 use Rattle.std.specs.Prelude.{Contains, IfErr, IfOk, OnOk}
 use Rattle.world.proofs.Laws.{more_loads}
 use Rattle.world.specs.{Loads.IsRefused, Origins.with_loads, Run.Load, Run.Run, Run.with_load}
 use Rattle.world.specs.declared.faults.LoadFault.{LoadFault, TheVariants.NoMemory}
-
-pub loads_push : (names : List (Option (List ℕ))) (name : Option (List ℕ)) (loads : List Load)
-    (files : List (List ℕ)) (bytes : List ℕ) → LoadsFiles names loads files
-    → LoadsFiles (names ++ name ∷ []) (loads ++ record { name = name; bytes = bytes } ∷ [])
-    (files ++ bytes ∷ [])
-loads_push names name loads files bytes all = record {
-  under = map-append (λ (l : Load). l.name) loads _ ∙ ap (λ ns. ns ++ name ∷ []) all.under;
-  bytes = map-append (λ (l : Load). l.bytes) loads _ ∙ ap (λ fs. fs ++ bytes ∷ []) all.bytes;
-}
 
 pub names_to_load_are : (names : List (Bor (List ℕ))) → 0 < length names
     → map (λ n. Some n.now) names ≡ names_to_load (map (λ n. n.now) names)
@@ -30,7 +22,7 @@ pub input_read : (names : List (Bor (List ℕ))) (file : Vec ℕ Global) (old ne
     → LoadsFiles (names_to_load (map (λ n. n.now) names))
     (record { name = None; bytes = file.items } ∷ []) (map (λ f. f.items) new)
 input_read [] file old new unnamed none pushed = record {
-  under = refl;
+  named = refl;
   bytes = ap (map (λ (f : Vec ℕ Global). f.items))
       (sym (pushed ∙ ap (λ fs. fs ++ file ∷ []) none));
 }

@@ -1,7 +1,8 @@
 -- Files that were read ahead, and the loads by which they were.
 use Rattle.std.proofs.Common.{◌≡◌, ◌∙◌, ◌+◌, ◌<◌, ◌++◌, ◌∷◌, [], ℕ, zero, suc, List, Bor}
 use Rattle.std.proofs.Common.{Some, All, length, map, flat_map, arith, ap, ap₂, get_or, refl, sym}
-use Rattle.fare_program.specs.FilesLoaded.{LoadsDrawn, LoadsFiles, load_at, names_to_load, text_at}
+use Rattle.fare_program.specs.FilesLoaded.{LoadsDrawn, load_at, names_to_load, text_at}
+use Rattle.frame.specs.Given.{LoadsFiles}
 use Rattle.fare_program.specs.inside.PostedFiles.{AreProvided, unless_memory}
 use Rattle.fare_service.proofs.UploadFileSource.{provided_number}
 use Rattle.fare_service.specs.{Headline.loads_at, Lending.IsOutside, Lending.origin_at}
@@ -104,7 +105,7 @@ module _ (origin : List ℕ → Origin) (of_system : (name : List ℕ) → origi
     read_files some same =
         let named = length-map words (λ (w : Bor (List ℕ)). w.now) in
         rw (to_load (names_in words) (omega (arith, some, named))) (record {
-          under = names_in_order (text_at (names_in words)) 0 (names_in words) files
+          named = names_in_order (text_at (names_in words)) 0 (names_in words) files
               (omega (arith, same, named))
               (λ position within.
               let here : 0 + position ≡ position = omega arith in

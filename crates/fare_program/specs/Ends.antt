@@ -1,12 +1,12 @@
 -- How a run ends.
 use Rattle.clap.specs.Words.{Text}
 use Rattle.fare_program.specs.Causes.{IsWrong, names_read}
-use Rattle.fare_program.specs.Options.{AsksForText, Parses, Request, request_by}
+use Rattle.fare_program.specs.Options.{Parses, Request, program, request_by}
 use Rattle.fare_program.specs.{Program.Does, Usage.is_usable}
 use Rattle.frame.specs.{Given.Given, Given.nothing, Outcome.Ends, Outcome.Rule}
 use Rattle.frame.specs.Outsides.{LeavesFiles}
 use Rattle.frame.specs.declared.outside.Outside.{Outside, TheVariants.Untraced, TheVariants.Unwritten}
-use Rattle.program_manners.specs.Answers.{IsPrinted, IsRejected}
+use Rattle.program_manners.specs.{Answers.IsPrinted, Answers.IsRejected, Words.AsksForText}
 use Rattle.std.specs.Prelude.{◌≡◌, ◌⊎◌, ◌++◌, ℕ, Bool, true, List, [], Option, MatchBool}
 use Rattle.std.specs.Prelude.{if◌then◌else◌, is_some}
 use Rattle.world.specs.{Origins.Origin, Run.Load, Run.Run, Writes.IsSaid}
@@ -72,5 +72,5 @@ pub record EndsFares (words : List Text) (under : List ℕ → Option (List ℕ)
   pub command : Parses words → ((workers : ℕ) × (shards : ℕ)
       × EndsCommand (request_by workers shards words) under origin old new status)
       ⊎ ((status ≡ 1) × IsSaid old new)
-  pub helped : ¬ Parses words → status ≡ 0 → AsksForText words × IsPrinted old new
-  pub refused : ¬ Parses words → (¬ AsksForText words) → IsRejected old new status
+  pub helped : ¬ Parses words → status ≡ 0 → AsksForText program words × IsPrinted old new
+  pub refused : ¬ Parses words → (¬ AsksForText program words) → IsRejected old new status

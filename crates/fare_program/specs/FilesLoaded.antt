@@ -2,18 +2,13 @@
 use Rattle.std.specs.Prelude.{◌≡◌, ◌⊎◌, ℕ, List, [], ◌∷◌, Option, None, Some, false, length, map}
 use Rattle.std.specs.Prelude.{slice_index_or}
 use Rattle.world.specs.{Origins.Origin, Origins.file, Run.Load}
+use Rattle.frame.specs.Given.{LoadsFiles}
 use Rattle.fare_program.specs.Options.{Request}
 
 -- the names under which files are loaded: standard input, which has no name, if none is named
 abbrev pub names_to_load : List (List ℕ) → List (Option (List ℕ))
 names_to_load [] = None ∷ []
 names_to_load (name ∷ names) = map Some (name ∷ names)
-
--- These loads are those of the files of these names, once each and to its end, in their order.
-pub record LoadsFiles (names : List (Option (List ℕ))) (loads : List Load) (files : List (List ℕ))
-    : Type 0 where
-  pub under : map (λ load. load.name) loads ≡ names
-  pub bytes : map (λ load. load.bytes) loads ≡ files
 
 -- the file at this place, or its name
 abbrev pub text_at : List (List ℕ) → ℕ → List ℕ

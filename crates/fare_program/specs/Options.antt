@@ -1,12 +1,11 @@
 -- The command line, and what its words ask for.
-use Rattle.clap.specs.Words.{App, IsAmong, Row, Text, all_of, fault_of, first_of, matches_of}
+use Rattle.clap.specs.Words.{App, Row, Text, all_of, fault_of, first_of, matches_of}
 use Rattle.clap.specs.{Words.with_rule, declared.builder.action.ArgAction.TheVariants.Append}
-use Rattle.clap.specs.declared.error.kind.ErrorKind.TheVariants.{DisplayHelp, DisplayVersion}
 use Rattle.fare_texts.specs.declared.form.Form.{Form, TheVariants.Text as Words, TheVariants.Json}
 use Rattle.program_manners.specs.TableWords.{TableNames, tables_in}
 use Rattle.program_manners.specs.Words.{flag_rule, is_given, list_option, named_app, null_flag}
 use Rattle.program_manners.specs.Words.{number_rule, option_rule, positional_rule, repeated_rule}
-use Rattle.std.specs.Prelude.{◌≡◌, ◌⊎◌, ◌∷◌, ℕ, Bool, false, List, [], Option, None, Some, codes, fold}
+use Rattle.std.specs.Prelude.{◌≡◌, ◌∷◌, ℕ, Bool, false, List, [], Option, None, Some, codes, fold}
 use Rattle.std.specs.Prelude.{pos, true, unwrap_or}
 
 -- all words that the program takes: of workers there are 1 to 16, by default 2, and of shards 1 to
@@ -24,11 +23,6 @@ program = fold with_rule (named_app (codes "omny_cli")) (repeated_rule (codes "t
 -- the words after the program's name are a command line of the program
 abbrev pub Parses : List Text → Type 0
 Parses words = fault_of program words ≡ []
-
--- reading the words ends at a word that asks for help or for the version
-abbrev pub AsksForText : List Text → Type 0
-AsksForText words =
-    IsAmong DisplayHelp (fault_of program words) ⊎ IsAmong DisplayVersion (fault_of program words)
 
 -- what a command line asks for
 pub record Request : Type 0 where

@@ -1,6 +1,7 @@
 -- What a run of the program does.
 use Rattle.class_names.specs.Classes.{AreTrees, class_of_token, tree_at}
-use Rattle.fare_program.specs.FilesLoaded.{AreLoaded, LoadsFiles, names_to_load}
+use Rattle.fare_program.specs.FilesLoaded.{AreLoaded, names_to_load}
+use Rattle.frame.specs.Given.{LoadsFiles}
 use Rattle.fare_program.specs.{Options.Request, Options.form_of, Parts.ShowsSorted}
 use Rattle.fare_program.specs.{Listing.IsListing, Settling.ShowsOver, Settling.ShowsSettled}
 use Rattle.fare_service.specs.{Explained.IsExplainedOf, Headline.HasRun, Headline.drawn_by}

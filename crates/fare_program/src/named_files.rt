@@ -151,8 +151,9 @@ fn charge_named<'a, R: Threads + Wait + RandomSource + Sync, D: Disk + Sync, W: 
 /// Charges the named files while they are read, if all may be read before their turns. Returns
 /// whether each was posted whole, or that a write failed. What was loaded is joined to the run.
 ///
-/// `None` says that nothing was written and nothing loaded. Then the files are to be loaded in
-/// their turns, so that the fault of the first file in the order of the words is reported.
+/// `None` says that nothing was written, and that the run has no load of what was read. Then the files
+/// are to be loaded in their turns, so that the fault of the first file in the order of the words is
+/// reported.
 pub(crate) fn charge_prefetched<
     'a,
     R: Threads + Wait + RandomSource + Sync,

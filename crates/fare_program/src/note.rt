@@ -84,13 +84,14 @@ fn have_token(books: &[ShardBook], token: Token) -> bool {
 }
 
 /// Notes of a live run that the order of its files counts, if none is meant, and that no file has
-/// the requested token.
-pub(crate) fn note_outcome<R, D: Disk>(job: &Job<'_, '_, R, D>, outcome: &Outcome) {
+/// the requested token, if all were posted whole.
+pub(crate) fn note_outcome<R, D: Disk>(job: &Job<'_, '_, R, D>, outcome: &Outcome, is_whole: bool) {
     let options = &job.options;
     if options.files.len() > 1 && !options.settle && !options.live {
         job.disk.note_live(late_in(job.alloc, outcome));
     }
-    if let Some(token) = job.token
+    if is_whole
+        && let Some(token) = job.token
         && !have_token(outcome.books(), token)
     {
         job.disk.note_absent();

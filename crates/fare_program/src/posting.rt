@@ -105,8 +105,8 @@ pub(crate) fn charge_provided<
     };
     // proof: if no token has taps in two files, what is shown does not depend on the schedule
     shows_plain(&outcome);
-    note_outcome(job, &outcome);
     let success = are_posted(outcome.ends());
+    note_outcome(job, &outcome, success);
     let printed = print_requested(job, &outcome, out);
     calls.join(outcome.into_calls());
     ended(printed, success)

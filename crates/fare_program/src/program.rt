@@ -2,11 +2,11 @@
 ghost use Rattle.clap.specs.Words.{kind_of};
 ghost use Rattle.fare_program.specs.Causes.{IsWrong, names_read};
 ghost use Rattle.fare_program.specs.{Ends.EndsFares, Ends.IsPartLedger, Ends.beside};
-ghost use Rattle.fare_program.specs.FilesLoaded.{LoadsFiles, names_to_load};
+ghost use Rattle.fare_program.specs.FilesLoaded.{names_to_load};
 ghost use Rattle.fare_program.specs.Program.{Does, IsTokenIn, Lists};
 ghost use Rattle.fare_program.specs.TokenRanges.{range_fault};
 ghost use Rattle.fare_program.specs.inside.{Ends.Works, Options.request_of};
-ghost use Rattle.frame.specs.Outsides.{IsReported, LeavesFiles};
+ghost use Rattle.frame.specs.{Given.LoadsFiles, Outsides.IsReported, Outsides.LeavesFiles};
 ghost use Rattle.program_manners.specs.{TableWords.wrong_word, Words.IsRequest};
 ghost use Rattle.std.specs.Option.{option_and_then, option_copied};
 ghost use Rattle.std.specs.{Io.KnownBytes.Appends, Io.KnownBytes.Keeps, Prelude.◌≡◌, Prelude.◌≢◌};

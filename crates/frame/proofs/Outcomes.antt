@@ -1,11 +1,13 @@
 -- How a run ends that was stopped.
 use Rattle.std.proofs.Common.{◌≡◌, ◌∙◌, ◌++◌, ℕ, List, [], Contains, Option, ap, append-nil}
-use Rattle.std.proofs.Common.{append_assoc, inl, inr, refl, subst}
+use Rattle.std.proofs.Common.{append_assoc, ◌∷◌, inl, inr, map, refl, subst}
 use Rattle.frame.proofs.Giving.{part_self}
-use Rattle.frame.specs.{Given.Given, Given.IsPart, Given.gave, Outcome.IsHalted, Outcome.rule_of}
+use Rattle.frame.specs.{Given.Given, Given.IsPart, Given.LoadsFiles, Given.gave, Outcome.IsHalted}
+use Rattle.frame.specs.Outcome.{rule_of}
 use Rattle.frame.specs.Outsides.{IsStoppedIn, Leaves, LeavesBy, LeavesFiles, Stops}
 use Rattle.frame.specs.declared.outside.Outside.{Outside, TheVariants.NoMemory, TheVariants.Unmade}
 use Rattle.frame.specs.declared.outside.Outside.TheVariants.{Unread, Untraced, Unwritten, Wrong}
+use Rattle.std.proofs.lemmas.List.{map-append}
 use Rattle.world.specs.{Origins.with_loads, Run.Load, Run.Run, Run.with_cut}
 use Rattle.world.specs.declared.faults.WriteFault.{WriteFault}
 
@@ -39,6 +41,14 @@ pub loads_more : (start old new : Run) (loads more : List Load) → old ≡ with
     → new ≡ with_loads old more → new ≡ with_loads start (loads ++ more)
 loads_more start old new loads more is then = then ∙ ap (λ r. with_loads r more) is
     ∙ ap (λ xs. record start { loads = xs }) (append_assoc start.loads loads more)
+
+pub one_loaded : (names : List (Option (List ℕ))) (loads : List Load) (files : List (List ℕ))
+    (load : Load) → LoadsFiles names loads files
+    → LoadsFiles (names ++ load.name ∷ []) (loads ++ load ∷ []) (files ++ load.bytes ∷ [])
+one_loaded names loads files load all = record {
+  named = map-append (λ (l : Load). l.name) loads _ ∙ ap (λ ns. ns ++ load.name ∷ []) all.named;
+  bytes = map-append (λ (l : Load). l.bytes) loads _ ∙ ap (λ fs. fs ++ load.bytes ∷ []) all.bytes;
+}
 
 abbrev pub loaded_of : List Load → Given
 loaded_of loads = record { loads = loads; text = []; note = []; files = [] }

@@ -1,5 +1,5 @@
 -- What a run loaded, wrote, said and made, or is to.
-use Rattle.std.specs.Prelude.{◌≡◌, ℕ, List, [], ◌++◌}
+use Rattle.std.specs.Prelude.{◌≡◌, ℕ, List, [], ◌++◌, Option, map}
 use Rattle.world.specs.Run.{Load, Named, Run}
 use Rattle.frame.specs.Names.{file_named}
 
@@ -46,6 +46,13 @@ gave old g = record old {
 -- whatever was given before, this was given after it
 abbrev pub Adds : Run → Run → (Given → Given) → Type 0
 Adds old new more = (start : Run) (g : Given) → old ≡ gave start g → new ≡ gave start (more g)
+
+-- These are the loads of files of these names, none being of standard input: each once, whole, and in
+-- this order.
+pub record LoadsFiles (names : List (Option (List ℕ))) (loads : List Load) (files : List (List ℕ))
+    : Type 0 where
+  pub named : map (λ load. load.name) loads ≡ names
+  pub bytes : map (λ load. load.bytes) loads ≡ files
 
 abbrev pub IsPrefix : {A : Type 0} → List A → List A → Type 0
 IsPrefix {A} part whole = (rest : List A) × (whole ≡ part ++ rest)

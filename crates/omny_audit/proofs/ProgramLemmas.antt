@@ -12,7 +12,7 @@ use Rattle.ledger_check.specs.Columns.{has_traced_head, traced_head}
 use Rattle.ledger_check.specs.{Positions.HasUploads, declared.positions.Positions.Positions}
 use Rattle.omny_audit.specs.Ends.{IsWrong, LeavesOf, LoadsGivenLedger, audit_rule, found_of}
 use Rattle.omny_audit.specs.Options.{AuditRequest, files_of, named_file}
-use Rattle.omny_audit.specs.Program.{HasLoaded, HoldsOfRead, LoadsNamedFiles, given_of}
+use Rattle.omny_audit.specs.Program.{HasLoaded, HoldsOfRead, given_of}
 use Rattle.omny_audit.specs.declared.fault.Fault.{Fault}
 use Rattle.omny_audit.specs.inside.{Audits.EndsAs, Audits.GoesOn, Traced.HaveNamed}
 use Rattle.omny_audit.specs.inside.Program.{EndsBy, StopsLoads, outside_of}
@@ -31,18 +31,6 @@ use Rattle.world.proofs.Streams.{whole_at_end}
 use Rattle.world.specs.{Origins.with_loads, Run.Calls, Run.Load, Run.Run, Run.with_flushed}
 use Rattle.world.specs.{Run.with_written, Streams.HasRead, Streams.IsWhole}
 use Rattle.world.specs.declared.stream.Stream.{Stream}
-
--- one more file that was loaded
-pub loads_push : (names : List Text) (name : Text) (loads : List Load) (files : List (List ℕ))
-    (bytes : List ℕ) → LoadsNamedFiles names loads files
-    → LoadsNamedFiles (names ++ name ∷ []) (loads ++ load_of name bytes ∷ []) (files ++ bytes ∷ [])
-loads_push names name loads files bytes all = record {
-  named = map-append (λ (load : Load). load.name) loads _
-      ∙ ap (λ (xs : List (Option Text)). xs ++ Some name ∷ []) all.named
-      ∙ sym (map-append Some names (name ∷ []));
-  bytes = map-append (λ (load : Load). load.bytes) loads _
-      ∙ ap (λ (xs : List (List ℕ)). xs ++ bytes ∷ []) all.bytes;
-}
 
 -- an upload has one list of valid taps
 pub same_fields : (upload : List ℕ) (fields others : List TapFields)

@@ -1,6 +1,5 @@
 -- How a run of the program ends.
-use Rattle.clap.specs.Words.{IsAmong, Text, fault_of}
-use Rattle.clap.specs.declared.error.kind.ErrorKind.TheVariants.{DisplayHelp, DisplayVersion}
+use Rattle.clap.specs.Words.{Text, fault_of}
 use Rattle.class_names.specs.{ClassFaults.IsWrongAt, declared.names.WrongNames.WrongNames}
 use Rattle.frame.specs.{Given.Given, Outcome.Ends, Outcome.Rule, Outsides.LeavesFiles}
 use Rattle.frame.specs.declared.outside.Outside.{Outside, TheVariants.Unread}
@@ -9,7 +8,7 @@ use Rattle.omny_audit.specs.Options.{AuditRequest, audit_program, audit_request_
 use Rattle.omny_audit.specs.Program.{HasFound, IsTextOf}
 use Rattle.program_manners.specs.Answers.{IsPrinted, IsRejected}
 use Rattle.program_manners.specs.{TableLoads.LoadsTables, TableLoads.load_of, TableWords.TableNames}
-use Rattle.program_manners.specs.{TableWords.wrong_word, TablesFaults.RefusesTable}
+use Rattle.program_manners.specs.{TableWords.wrong_word, TablesFaults.RefusesTable, Words.AsksForText}
 use Rattle.std.specs.Prelude.{◌≡◌, ◌⊎◌, ℕ, Bool, true, false, List, [], ◌∷◌, ◌++◌, Option, None}
 use Rattle.std.specs.Prelude.{Contains}
 use Rattle.tariffs.specs.Fares.{Fares}
@@ -81,16 +80,11 @@ abbrev pub IsCommand : List Text → Type 0
 IsCommand words = (fault_of audit_program words ≡ [])
     × (wrong_word (audit_request_by words).table ≡ None)
 
--- the words ask for help or the version
-abbrev pub AsksForText : List Text → Type 0
-AsksForText words = IsAmong DisplayHelp (fault_of audit_program words)
-    ⊎ IsAmong DisplayVersion (fault_of audit_program words)
-
 -- THE outcome of a run of these words, whose ledger is read by these calls.
 pub record EndsAudit (words : List Text) (ledger : Calls) (old new : Run) (status : ℕ)
     : Type 0 where
   pub command : IsCommand words
       → Ends (audit_rule (audit_request_by words) ledger) old new status
-  pub helped : ¬ IsCommand words → status ≡ 0 → AsksForText words × IsPrinted old new
-  pub rejected : ¬ IsCommand words → (¬ AsksForText words) → IsRejected old new status
+  pub helped : ¬ IsCommand words → status ≡ 0 → AsksForText audit_program words × IsPrinted old new
+  pub rejected : ¬ IsCommand words → (¬ AsksForText audit_program words) → IsRejected old new status
   pub unread : ¬ IsCommand words → ledger ≡ no_calls

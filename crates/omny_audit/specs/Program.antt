@@ -1,6 +1,7 @@
 -- What a run of the program finds.
 use Rattle.clap.specs.Words.{Text}
 use Rattle.class_names.specs.Classes.{AreTrees, class_of_token, tree_at}
+use Rattle.frame.specs.Given.{LoadsFiles}
 use Rattle.ledger_check.specs.{Balances.AreValidFields, Columns.has_traced_head}
 use Rattle.omny_audit.specs.{Options.AuditRequest, Options.has_uploads, Reports.Given}
 use Rattle.omny_audit.specs.{Reports.IsAudit, Reports.IsAuditText, Traced.Wanted}
@@ -12,12 +13,6 @@ use Rattle.tap_views.specs.declared.{encoder.TapFields.TapFields, upload_end.Upl
 use Rattle.tariffs.specs.Fares.{Fares}
 use Rattle.toml.specs.Data.{Members}
 use Rattle.world.specs.{Run.Calls, Run.Load, Streams.IsWhole}
-
--- These are the loads of a file of each of these names, in their order, and the bytes of the files.
-pub record LoadsNamedFiles (names : List Text) (loads : List Load) (files : List (List ℕ))
-    : Type 0 where
-  pub named : map (λ load. load.name) loads ≡ map Some names
-  pub bytes : map (λ load. load.bytes) loads ≡ files
 
 -- the taps of uploads, one upload after another
 abbrev pub taps_in : List (List TapFields) → List TapFields
@@ -57,7 +52,7 @@ pub record HasLoaded (request : AuditRequest) (loads : List Load) (ledger : Call
   pub texts : List (List ℕ)
   pub loads_tables : LoadsTables request.table of_tables texts fares
   pub uploads : List (List ℕ)
-  pub loads_uploads : LoadsNamedFiles request.uploads of_uploads uploads
+  pub loads_uploads : LoadsFiles (map Some request.uploads) of_uploads uploads
   -- the fields of the valid taps of each upload
   pub lists : List (List TapFields)
   pub are_lists : AllZip AreValidFields uploads lists

@@ -3,8 +3,8 @@
 
 use crate::fault::Fault;
 use crate::options::Options;
-use program_manners::{FileFault, LoadFault, TableWord, load_file, open_file};
-use provenance::{Escaped, MadeBy, Sum};
+use program_manners::{Escaped, FileFault, LoadFault, TableWord, load_file, open_file};
+use provenance::{MadeBy, Sum};
 use std::alloc::AllocError;
 use std::io::ErrorKind;
 

@@ -1,10 +1,10 @@
 //! The whole program.
 ghost use Rattle.class_names.specs.ClassFaults.{IsWrongAt};
-ghost use Rattle.frame.specs.Outcome.{Ends};
+ghost use Rattle.frame.specs.{Given.LoadsFiles, Outcome.Ends};
 ghost use Rattle.ledger_check.specs.Columns.{has_traced_head, traced_head};
 ghost use Rattle.omny_audit.specs.Ends.{EndsAudit, LeavesOf, LoadsGivenLedger, NamesUnplainClass};
 ghost use Rattle.omny_audit.specs.{Ends.audit_rule, Options.AuditRequest, Options.named_file};
-ghost use Rattle.omny_audit.specs.Program.{AreWanted, LoadsNamedFiles, LoadsReport};
+ghost use Rattle.omny_audit.specs.Program.{AreWanted, LoadsReport};
 ghost use Rattle.omny_audit.specs.inside.Audits.{text_of};
 ghost use Rattle.omny_audit.specs.inside.Program.{AreUploads, EndsBy, StopsAtOnce, StopsLoads};
 ghost use Rattle.omny_audit.specs.inside.Program.{audit_request_of, outside_of};
@@ -68,7 +68,7 @@ fn load_uploads<'a, S: Inputs>(
     ensures ok { IfOk result (λ uploads. (loads : List Load)
         × (S.run source.new ≡ with_loads (S.run source.old) loads)
         × (bytes : List (List ℕ)) × (lists : List (List TapFields))
-        × LoadsNamedFiles (map (λ n. n.now) names.now) loads bytes
+        × LoadsFiles (map Some (map (λ n. n.now) names.now)) loads bytes
         × AreUploads bytes lists uploads) }
     ensures fault { IfErr result (StopsLoads (LoadsGivenLedger (map (λ n. n.now) names.now))
         (map (λ n. n.now) names.now) (S.run source.old) (S.run source.new)) }

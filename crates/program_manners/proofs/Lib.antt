@@ -1,4 +1,5 @@
 pub mod DatedWords
 pub mod Flags
 pub mod NextTables
+pub mod Requests
 pub mod TablesRefused

@@ -1,6 +1,6 @@
 -- The rules of a command line's options, and what is no mistake in its words.
 use Rattle.clap.specs.{Lexer.usize_max, Simple.on_top}
-use Rattle.clap.specs.Words.{App, Row, Rule, Text, new_app, new_rule, one_of}
+use Rattle.clap.specs.Words.{App, IsAmong, Row, Rule, Text, fault_of, new_app, new_rule, one_of}
 use Rattle.clap.specs.declared.builder.action.ArgAction.{ArgAction}
 use Rattle.clap.specs.declared.builder.action.ArgAction.TheVariants.{Append, Set, SetTrue}
 use Rattle.clap.specs.declared.builder.value_parser.ValueParser.TheVariants.{Signed}
@@ -62,6 +62,11 @@ named_app name = on_top (λ s. record s { has_version = true }) (new_app name)
 -- the kind of what is no mistake: help or the version is asked for
 abbrev pub IsRequest : ErrorKind → Type 0
 IsRequest kind = (kind ≡ DisplayHelp) ⊎ (kind ≡ DisplayVersion)
+
+-- reading the words ends at a word that asks for help or for the version
+abbrev pub AsksForText : App → List Text → Type 0
+AsksForText app words =
+    IsAmong DisplayHelp (fault_of app words) ⊎ IsAmong DisplayVersion (fault_of app words)
 
 -- whether the flag of this name was given
 abbrev pub is_given : Text → List Row → Bool

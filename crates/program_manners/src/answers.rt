@@ -4,6 +4,7 @@ ghost use Rattle.program_manners.specs.{Answers.IsPrinted, Answers.IsRejected, W
 ghost use Rattle.std.specs.Prelude.{◌≡◌, OnOk};
 ghost use Rattle.world.specs.Writes.{IsSaid};
 
+use crate::escaped::escaped_lines;
 use clap::Error;
 use clap::error::ErrorKind;
 use frame::{Outside, report};
@@ -54,9 +55,13 @@ pub fn show_answer<W: World>(alloc: Global, error: &Error, world: &mut W) -> u8
                 }
             }
         }
-        _ => {
-            world.say(text.as_bytes());
-            2
-        }
+        // It may repeat words of the command line.
+        _ => match escaped_lines(alloc, &text) {
+            Ok(lines) => {
+                world.say(lines.as_bytes());
+                2
+            }
+            Err(_) => report_memory(world),
+        },
     }
 }

@@ -5,6 +5,7 @@
 mod answers;
 mod arguments;
 mod complaints;
+mod escaped;
 mod escaping;
 mod file_list;
 mod following;
@@ -22,6 +23,7 @@ mod words;
 pub use answers::{print, show_answer};
 pub use arguments::{WordsFault, unread_words, words_of};
 pub use complaints::report_line;
+pub use escaped::Escaped;
 pub use escaping::Escaping;
 pub use file_list::ListFault;
 pub use following::{FollowLine, NamedClassLine, NextFault, table_after};

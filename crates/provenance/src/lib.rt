@@ -7,7 +7,7 @@ mod new_file;
 mod run_sums;
 mod sum;
 
-pub use made_by::{Escaped, MadeBy, made_by_text};
+pub use made_by::{MadeBy, made_by_text};
 pub use new_file::make_new;
 pub use run_sums::{FileSum, FileSumming, RunSums, SumFault, Sums};
 pub use sum::{Sum, Summing};

@@ -1,26 +1,8 @@
 //! The text of the file that says what a text was made by.
 
 use crate::run_sums::Sums;
-use program_manners::VERSION;
+use program_manners::{Escaped, VERSION};
 use std::alloc::{AllocError, Global};
-use std::fmt;
-
-/// A word with its control characters escaped, so that it stays within its line.
-#[derive(Clone, Copy, Debug)]
-pub struct Escaped<'a>(pub &'a str);
-
-impl fmt::Display for Escaped<'_> {
-    fn fmt<W: fmt::Write>(&self, f: &mut fmt::Formatter<W>) -> fmt::Result {
-        for letter in self.0.chars() {
-            if letter.is_control() {
-                write!(f, "\\x{:02x}", letter as u32)?;
-            } else {
-                f.write_char(letter)?;
-            }
-        }
-        Ok(())
-    }
-}
 
 /// The text of a run of this program: a line for its version, for each word after its name, for
 /// each file, and for what it wrote.

@@ -1,13 +1,13 @@
 -- The whole program: how what is asked for ends.
 use Rattle.frame.specs.Outcome.{Ends}
-use Rattle.program_manners.specs.Answers.{IsPrinted, IsRejected}
+use Rattle.program_manners.specs.{Answers.IsPrinted, Answers.IsRejected, Words.AsksForText}
 use Rattle.std.specs.Prelude.{◌≡◌, ◌⊎◌, ⊤, ℕ, MatchBool, List, Option, map}
 use Rattle.tool_tasks.specs.{Corrections.corrections_stream, Decode.decode_rule, Encode.encode_rule}
 use Rattle.tool_tasks.specs.{EncodeRows.EndsRows, Merge.merge_stream, MergeSorted.merge_sorted_rule}
 use Rattle.tool_tasks.specs.{Sort.sort_rule, Streams.EndsBy, ValidPrefix.valid_prefix_rule}
 use Rattle.tool_words.specs.Request.{Request, corrections, decode, encode, encode_rows, merge}
 use Rattle.tool_words.specs.Request.{misused, request_by, shows, sort, valid_prefix}
-use Rattle.tool_words.specs.{Tasks.rows_words_of, ToolLine.AsksForText, ToolLine.Parses}
+use Rattle.tool_words.specs.{Tasks.rows_words_of, ToolLine.Parses, ToolLine.program}
 use Rattle.tool_words.specs.declared.task.RowsWords.{RowsWords}
 use Rattle.world.specs.{Run.Calls, Run.Run, Writes.IsSaid}
 
@@ -40,6 +40,6 @@ pub record EndsTools (words : List (List ℕ)) (before after : List Calls)
     (placed : List ℕ → Option (List ℕ)) (old new : Run) (status : ℕ) : Type 0 where
   pub command : Parses words → IsFramed before after placed (request_by words) old new status
       ⊎ ((status ≡ 1) × IsSaid old new)
-  pub helped : ¬ Parses words → status ≡ 0 → AsksForText words × IsPrinted old new
-  pub refused : ¬ Parses words → (¬ AsksForText words)
+  pub helped : ¬ Parses words → status ≡ 0 → AsksForText program words × IsPrinted old new
+  pub refused : ¬ Parses words → (¬ AsksForText program words)
       → IsRejected old new status × (after ≡ before)

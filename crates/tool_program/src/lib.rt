@@ -2,7 +2,6 @@
 //! `.._over` in `tool_tasks`.
 #![tactic(auto)]
 
-mod answers;
 mod program;
 
 pub use program::main_over;

@@ -4,16 +4,15 @@ ghost use Rattle.std.specs.Prelude.{map, string_bytes};
 ghost use Rattle.tool_program.specs.Program.{EndsTools, IsFramed};
 ghost use Rattle.tool_words.specs.Tasks.{request_of};
 
-use crate::answers::{refuse_memory, show};
 use jiff::Timestamp;
-use program_manners::WrongWord;
+use program_manners::{Escaped, WrongWord, show_answer};
 use std::alloc::Global;
 use std::fmt::Display;
 use std::hash::RandomState;
 use std::marker::Sync;
 use std::thread::Threads;
 use tool_tasks::{
-    Counted, Escaped, PlacedFiles, Streams, bounds_over, corrections_over, decode_over,
+    Counted, Fault, PlacedFiles, Streams, bounds_over, corrections_over, decode_over,
     encode_over, encode_rows_over, look_over, merge_over, merge_sorted_over, sort_over, table_over,
     uploads_over, valid_prefix_over,
 };
@@ -34,7 +33,10 @@ fn refuse_date<W: World>(alloc: Global, wrong: &WrongWord<'_>, world: &mut W) ->
 {
     match format!(in alloc; "error: {wrong}") {
         Ok(line) => refuse(Escaped(&line), world),
-        Err(_) => refuse_memory(world),
+        Err(_) => {
+            let _ = world.report_line(Fault::NoMemory);
+            1
+        }
     }
 }
 
@@ -92,6 +94,6 @@ pub fn main_over<R: Threads + Sync, D: PlacedFiles, F: Streams, W: World + Count
 {
     match read(alloc, words) {
         Ok(task) => task_over(threads, alloc, seed, moment, task, files, streams, world),
-        Err(error) => show(alloc, &error, world),
+        Err(error) => show_answer(alloc, &error, world),
     }
 }

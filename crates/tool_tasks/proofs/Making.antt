@@ -2,6 +2,7 @@
 use Rattle.std.proofs.Common.{◌≡◌, ◌∙◌, ◌++◌, ◌∷◌, ◌<◌, ◌+◌, [], Bor, ℕ, List, None, Option, Some}
 use Rattle.std.proofs.Common.{append-nil, ap, arith, get_or, length, map, refl, sym, take, unwrap_or}
 use Rattle.std.proofs.lemmas.List.{map-append, map_push, take_more}
+use Rattle.frame.proofs.Outcomes.{one_loaded}
 use Rattle.frame.specs.{Given.load_of, Names.file_named}
 use Rattle.report_texts.specs.Report.{upload_lines}
 use Rattle.tap_views.specs.declared.upload_end.UploadEnd.{UploadEnd}
@@ -21,20 +22,16 @@ pub loads_next : (words : List (Bor (List ℕ))) (n : ℕ) (d : Bor (List ℕ)) 
     → LoadsAll (map (λ w. w.now) (take (n + 1) words)) old new (texts ++ bytes ∷ [])
 loads_next words n d old mid new texts bytes within all is =
     let word = (get_or words n d).now in
-    let more = load_of word bytes ∷ [] in
+    let load = load_of word bytes in
     record {
-      loads = all.loads ++ more;
-      named = rw (
+      loads = all.loads ++ load ∷ [];
+      are = rw (
         take_more words n d within,
         map_push (λ (w : Bor (List ℕ)). w.now) (take n words) (get_or words n d),
         map_push file_named (map (λ w. w.now) (take n words)) word,
-        map-append (λ (load : Load). load.name) all.loads more,
-        all.named,
-      ) refl;
-      bytes = map-append (λ (load : Load). load.bytes) all.loads more
-          ∙ ap (λ (xs : List (List ℕ)). xs ++ bytes ∷ []) all.bytes;
+      ) (one_loaded _ all.loads texts load all.are);
       all = is ∙ ap (λ r. with_load r (file_named word) bytes) all.all
-          ∙ more_loads old all.loads more;
+          ∙ more_loads old all.loads (load ∷ []);
     }
 
 -- ---- what is made

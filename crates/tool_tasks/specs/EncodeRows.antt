@@ -1,6 +1,6 @@
 -- What `encode` of an agency's own CSVs does: of the words of their files, and of the words that say
 -- how they are read.
-use Rattle.frame.specs.{Given.Given, Given.file_of, Given.load_of, Names.file_named}
+use Rattle.frame.specs.{Given.Given, Given.LoadsFiles, Given.file_of, Given.load_of, Names.file_named}
 use Rattle.frame.specs.Outcome.{Ends, Rule, rule_of}
 use Rattle.std.specs.{Borrow.Bor, Prelude.◌≡◌, Prelude.◌≢◌, Prelude.◌⊎◌}
 use Rattle.std.specs.Prelude.{◌==◌, ◌||◌, ℕ, Bool, Contains, Err, List, [], ◌∷◌, ◌++◌, Option, None}
@@ -60,8 +60,7 @@ first_loads words is_there texts = (loads_in (devices_word words is_there) texts
 pub record AreRead (words : RowsWords) (csvs : List (List ℕ)) (is_there : Bool) (texts : Texts)
     (loads : List Load) : Type 0 where
   pub csv_loads : List Load
-  pub named : map (λ load. load.name) csv_loads ≡ map file_named csvs
-  pub bytes : map (λ load. load.bytes) csv_loads ≡ texts.csvs
+  pub read : LoadsFiles (map file_named csvs) csv_loads texts.csvs
   pub all : loads ≡ first_loads words is_there texts ++ csv_loads
 
 -- ---- how the rows are read

@@ -1,5 +1,6 @@
 -- What `sort` does.
-use Rattle.frame.specs.{Given.Given, Given.file_of, Names.file_named, Outcome.Rule, Outcome.rule_of}
+use Rattle.frame.specs.{Given.Given, Given.LoadsFiles, Given.file_of, Names.file_named}
+use Rattle.frame.specs.Outcome.{Rule, rule_of}
 use Rattle.report_texts.specs.Report.{upload_lines}
 use Rattle.settlement.specs.SettledTaps.{AreSettledTaps}
 use Rattle.sorted_taps.specs.Written.{IsInBatchesOf512}
@@ -28,11 +29,12 @@ files_of request lines file = named_files request.ends lines ++ file_of request.
 -- The uploads were loaded. The file of the lines of their ends is made, if it has a name, and then the
 -- file of exactly their valid taps.
 pub record Sorts (request : SortRequest) (given : Given) (status : ℕ) : Type 0 where
-  pub named : map (λ load. load.name) given.loads ≡ map file_named request.uploads
+  pub uploads : List (List ℕ)
+  pub loaded : LoadsFiles (map file_named request.uploads) given.loads uploads
   pub ends : List UploadEnd
-  pub plain : ArePlainEnds (map (λ load. load.bytes) given.loads) ends
+  pub plain : ArePlainEnds uploads ends
   pub file : List ℕ
-  pub sorted : IsSortedOf (map (λ load. load.bytes) given.loads) file
+  pub sorted : IsSortedOf uploads file
   pub made : given.files ≡ files_of request (upload_lines 0 ends) file
   pub text : given.text ≡ []
   pub success : status ≡ (if are_posted ends then 0 else 3)

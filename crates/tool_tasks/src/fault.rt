@@ -1,8 +1,8 @@
 //! Why a subcommand is given up, and the line that says so.
 use crate::layout::Meaning;
-use crate::names::{Escaped, Name};
+use crate::names::Name;
 use fare_table::TableFault;
-use program_manners::LoadFault;
+use program_manners::{Escaped, LoadFault};
 use std::alloc::{AllocError, AllocFailed};
 use tap_views::{LayoutFault, NoMemory};
 use thiserror::Error;

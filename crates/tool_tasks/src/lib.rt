@@ -42,7 +42,7 @@ pub use fault::Fault;
 pub use look::look_over;
 pub use merge::merge_over;
 pub use merge_sorted::merge_sorted_over;
-pub use names::{Escaped, Name};
+pub use names::Name;
 pub use placed::PlacedFiles;
 pub use sort::sort_over;
 pub use streams::Streams;

@@ -2,7 +2,7 @@
 ghost use Rattle.std.specs.Prelude.{◌≡◌, map, option_map, slice_get};
 
 use frame::file_of;
-use program_manners::STANDARD_INPUT;
+use program_manners::{Escaped, STANDARD_INPUT};
 use std::fmt;
 
 /// The word of this number, from 0.
@@ -26,22 +26,5 @@ impl fmt::Display for Name<'_> {
             Some(name) => write!(f, "{}", Escaped(name)),
             None => f.write_str(STANDARD_INPUT),
         }
-    }
-}
-
-/// A text with each control character as `\xHH`, so that it stays within its line.
-#[derive(Clone, Copy, Debug)]
-pub struct Escaped<'a>(pub &'a str);
-
-impl fmt::Display for Escaped<'_> {
-    fn fmt<W: fmt::Write>(&self, f: &mut fmt::Formatter<W>) -> fmt::Result {
-        for letter in self.0.chars() {
-            if letter.is_control() {
-                write!(f, "\\x{:02x}", letter as u32)?;
-            } else {
-                f.write_char(letter)?;
-            }
-        }
-        Ok(())
     }
 }

@@ -1,13 +1,12 @@
 -- The command line of the tools, as clap reads it: the subcommands, and what each takes.
 use Rattle.clap.specs.{Simple.new_shape, Words.App}
-use Rattle.clap.specs.Words.{IsAmong, Row, Rule, Shape, Text, all_of, fault_of, first_of}
+use Rattle.clap.specs.Words.{Row, Rule, Shape, Text, all_of, fault_of, first_of}
 use Rattle.clap.specs.Words.{subcommand_of}
 use Rattle.clap.specs.declared.builder.action.ArgAction.TheVariants.{Append, Set}
 use Rattle.clap.specs.declared.builder.value_parser.ValueParser.TheVariants.{Signed}
-use Rattle.clap.specs.declared.error.kind.ErrorKind.TheVariants.{DisplayHelp, DisplayVersion}
 use Rattle.program_manners.specs.Words.{flag_rule, is_given, list_option, named_app, null_flag}
 use Rattle.program_manners.specs.Words.{option_rule, positional_rule, repeated_rule}
-use Rattle.std.specs.Prelude.{◌≡◌, ◌⊎◌, ℤ, Bool, ◌&&◌, ◌||◌, if◌then◌else◌, not, true, false, List}
+use Rattle.std.specs.Prelude.{◌≡◌, ℤ, Bool, ◌&&◌, ◌||◌, if◌then◌else◌, not, true, false, List}
 use Rattle.std.specs.Prelude.{[], ◌∷◌, Option, Some, None, codes, is_some, pos, unwrap_or}
 use Rattle.std.specs.{List.list_any, Str.bytes_eq}
 
@@ -147,8 +146,3 @@ entered words = unbroken (subcommand_of program words)
 -- the words after the program's name are a command line of the program
 abbrev pub Parses : List Text → Type 0
 Parses words = (fault_of program words ≡ []) × (is_some (entered words) ≡ true)
-
--- reading the words ends at a word that asks for help or for the version
-abbrev pub AsksForText : List Text → Type 0
-AsksForText words =
-    IsAmong DisplayHelp (fault_of program words) ⊎ IsAmong DisplayVersion (fault_of program words)

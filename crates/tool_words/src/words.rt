@@ -3,12 +3,12 @@ ghost use Rattle.std.specs.Prelude.{◌≡◌, ◌⊎◌, IfErr, IfOk, codes, le
 ghost use Rattle.std.specs.Prelude.{option_map, string_bytes};
 ghost use Rattle.clap.specs.Words.{FailsBy, fault_of, found_of, kind_of, rows_of, subcommand_of};
 ghost use Rattle.clap.specs.Words.{subcommand_rows_of};
-ghost use Rattle.program_manners.specs.Words.{IsRequest};
+ghost use Rattle.program_manners.specs.Words.{AsksForText, IsRequest};
 ghost use Rattle.tool_words.specs.Request.{corrections_request, encode_request};
 ghost use Rattle.tool_words.specs.Request.{merge_request, request_by, request_of_name};
 ghost use Rattle.tool_words.specs.Request.{shows, sort_request, table_request, uploads_request};
 ghost use Rattle.tool_words.specs.Tasks.{request_of, texts_of};
-ghost use Rattle.tool_words.specs.ToolLine.{AsksForText, Parses, entered, named, program};
+ghost use Rattle.tool_words.specs.ToolLine.{Parses, entered, named, program};
 
 use crate::encode_words::{files_in, rows_task};
 use crate::program::command;
@@ -233,7 +233,7 @@ pub fn read<'a>(alloc: Global, words: &'a [String]) -> Result<Task<'a>, Error>
         × (request_of task ≡ request_by (map string_bytes words.entry.now))) }
     ensures wrong { IfErr result (λ error. (kind_of error ≡ ErrorKind.OutOfMemory)
         ⊎ ((¬ Parses (map string_bytes words.entry.now))
-        × (IsRequest (kind_of error) → AsksForText (map string_bytes words.entry.now)))) }
+        × (IsRequest (kind_of error) → AsksForText program (map string_bytes words.entry.now)))) }
 {
     match entered(alloc, words) {
         Ok(Some((name, found))) => Ok(task_of_name(alloc, name, found)?),

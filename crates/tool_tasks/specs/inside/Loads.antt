@@ -1,5 +1,6 @@
 -- Files that are loaded by their words.
-use Rattle.frame.specs.{Names.file_named, Outsides.Leaves, declared.outside.Outside.Outside}
+use Rattle.frame.specs.{Given.LoadsFiles, Names.file_named, Outsides.Leaves}
+use Rattle.frame.specs.declared.outside.Outside.{Outside}
 use Rattle.std.specs.Prelude.{◌≡◌, ⊤, ℕ, Contains, List, None, Option, Some, map}
 use Rattle.world.specs.{Origins.with_loads, Run.Load, Run.Run}
 
@@ -11,8 +12,7 @@ IsNameIn words (Some name) = Contains words name
 -- these texts were loaded, each under the name that its word names, one after the other
 pub record LoadsAll (words : List (List ℕ)) (old new : Run) (texts : List (List ℕ)) : Type 0 where
   pub loads : List Load
-  pub named : map (λ load. load.name) loads ≡ map file_named words
-  pub bytes : map (λ load. load.bytes) loads ≡ texts
+  pub are : LoadsFiles (map file_named words) loads texts
   pub all : new ≡ with_loads old loads
 
 -- some files were loaded, and then this came

@@ -1,9 +1,8 @@
 //! Tables that follow others.
 
 use crate::fault::Fault;
-use crate::names::Escaped;
 use fare_table::{FareTable, FollowFault, TableFault};
-use program_manners::{FollowLine, NextFault, TableWord, table_after};
+use program_manners::{Escaped, FollowLine, NextFault, TableWord, table_after};
 use std::alloc::{AllocError, Global};
 use table_report::TableText;
 use tap_views::MomentSpan;

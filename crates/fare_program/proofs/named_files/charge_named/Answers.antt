@@ -2,9 +2,10 @@ use Rattle.std.proofs.Common.{◌<◌, [], List, Bor, arith, ap, flat_map, inl, 
 use Rattle.std.proofs.Common.{subst, ℕ}
 use Rattle.fare_program.proofs.{Causes.can_stop, Choices.if_true, Ends.gives_by}
 use Rattle.fare_program.proofs.Prefetched.{drawn_files, provided_loads, read_files}
-use Rattle.fare_program.specs.FilesLoaded.{LoadsDrawn, LoadsFiles, names_to_load, text_at}
+use Rattle.fare_program.specs.FilesLoaded.{LoadsDrawn, names_to_load, text_at}
 use Rattle.fare_program.specs.inside.PostedFiles.{unless_memory}
 use Rattle.fare_service.specs.Headline.{loads_at}
+use Rattle.frame.specs.Given.{LoadsFiles}
 use Rattle.settlement.specs.Reading.{loads_in_order}
 use Rattle.std.proofs.lemmas.Result.{IfErr-weaker}
 use Rattle.world.specs.Run.{Load}

@@ -2,7 +2,8 @@ use Rattle.std.proofs.Common.{◌≡◌, ◌∙◌, ◌<◌, ◌++◌, ◌∷◌
 use Rattle.std.proofs.Common.{get_or, Bor, ◌+◌, Result, Ok, Err, None, arith, refl}
 use Rattle.std.proofs.Common.{rules}
 use Rattle.std.proofs.Common.{suc, sym, true, zero}
-use Rattle.fare_program.proofs.Loads.{input_read, loads_push, names_to_load_are, refused_one}
+use Rattle.frame.proofs.Outcomes.{one_loaded}
+use Rattle.fare_program.proofs.Loads.{input_read, names_to_load_are, refused_one}
 use Rattle.fare_program.specs.FilesLoaded.{names_to_load}
 use Rattle.std.proofs.lemmas.List.{map-append, take_all, take_more}
 use Rattle.std.specs.Prelude.{Contains, IfOk, is_ok}
@@ -22,7 +23,7 @@ both_of (Err e) P Q ok p q = absurd (cc)
 pub loop-name-init : goal.loop-name-init
 loop-name-init g c =
     let none : c.new-files.result.items ≡ [] = search rules in
-    ([], sym (no_loads _), record { under = refl; bytes = ap (map (λ f. f.items)) (sym none) })
+    ([], sym (no_loads _), record { named = refl; bytes = ap (map (λ f. f.items)) (sym none) })
 
 pub loop-name-preserved : goal.loop-name-preserved
 loop-name-preserved g c =
@@ -45,7 +46,7 @@ loop-name-preserved g c =
     } in (
       loads ++ load ∷ [],
       loaded ∙ ap (λ (r : Run). with_loads r (load ∷ [])) is ∙ more_loads _ loads (load ∷ []),
-      rw (← value, more, bytes) (loads_push _ _ loads _ _ (rw (← value) at all)),
+      rw (← value, more, bytes) (one_loaded _ loads _ load (rw (← value) at all)),
     )
 
 pub returns-clause-ok : goal.returns-clause-ok

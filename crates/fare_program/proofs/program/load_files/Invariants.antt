@@ -1,5 +1,5 @@
 use Rattle.std.proofs.Common.{◌≡◌, List, Some, map, take}
-use Rattle.fare_program.specs.FilesLoaded.{LoadsFiles}
+use Rattle.frame.specs.Given.{LoadsFiles}
 use Rattle.world.specs.{Origins.with_loads, Run.Load}
 use Rattle.fare_program.proofs.program.load_files.Given as goal
 

@@ -1,38 +1,21 @@
 use Rattle.std.proofs.Common.{◌≡◌, ◌∙◌, ◌++◌, ℕ, List, None, Option, Some, ap, false, inl, inr, map}
 use Rattle.std.proofs.Common.{refl, subst, sym, true}
-use Rattle.clap.specs.Words.{IsAmong, Text, fault_of, kind_of}
-use Rattle.clap.specs.declared.error.kind.ErrorKind.{ErrorKind, TheVariants.OutOfMemory}
+use Rattle.clap.specs.Words.{Text, kind_of}
 use Rattle.fare_program.proofs.{Choices.if_false, Choices.if_true, Ended.done, Ended.halted}
 use Rattle.fare_program.proofs.Ended.{reported_beside, said_beside}
 use Rattle.fare_program.specs.Ends.{EndsCommand, EndsFares, beside}
-use Rattle.fare_program.specs.Options.{AsksForText, Parses, Request, program, request_by}
+use Rattle.fare_program.specs.Options.{Parses, Request, program, request_by}
 use Rattle.fare_program.specs.declared.fault.Fault.TheVariants.{Write}
 use Rattle.fare_program.specs.inside.{Fault.outside_of, Options.request_of}
 use Rattle.fare_texts.proofs.Beginnings.{begins_whole}
 use Rattle.frame.specs.declared.outside.Outside.TheVariants.{NoMemory, Untraced, Unwritten}
-use Rattle.program_manners.specs.{Words.IsRequest, declared.output.Output.Output}
+use Rattle.program_manners.proofs.Requests.{asks_for, of_memory}
+use Rattle.program_manners.specs.declared.output.Output.{Output}
 use Rattle.std.proofs.KnownBytes.{Appends-kept}
 use Rattle.std.specs.{Io.KnownBytes.Appends, Prelude.◌⊎◌, Prelude.string_bytes}
 use Rattle.std.specs.Prelude.{[], unwrap_or}
 use Rattle.world.specs.{Origins.Origin, Run.Run, Writes.IsSaid}
 use Rattle.fare_program.proofs.program.main_over.Goals as goal
-
--- what follows of the kind of an error of words
-asks_for : (words : List Text) (kind : ErrorKind)
-    → (kind ≡ OutOfMemory) ⊎ IsAmong kind (fault_of program words) → IsRequest kind
-    → AsksForText words
-asks_for words kind (inl memory) (inl help) = cc
-asks_for words kind (inl memory) (inr version) = cc
-asks_for words kind (inr among) (inl help) =
-    inl (subst (λ k. IsAmong k (fault_of program words)) help among)
-asks_for words kind (inr among) (inr version) =
-    inr (subst (λ k. IsAmong k (fault_of program words)) version among)
-
-of_memory : (words : List Text) (kind : ErrorKind)
-    → (kind ≡ OutOfMemory) ⊎ IsAmong kind (fault_of program words) → Parses words
-    → kind ≡ OutOfMemory
-of_memory words kind (inl memory) parses = memory
-of_memory words kind (inr among) parses = absurd (subst (IsAmong kind) parses among)
 
 not_untraced : NoMemory ≡ Untraced → ⊥
 not_untraced same = cc
@@ -71,7 +54,7 @@ returns-in-Err g c before after first last unended =
     let shown = c.show.ensures in
     record {
       command = λ parses.
-          let (one, said, same) = shown.memory (of_memory words kind kinds parses) in
+          let (one, said, same) = shown.memory (of_memory program words kind kinds parses) in
           inr (
             one,
             said_alone g.W.Write.contents _ _ c.args.out.now c.show.new.out before after first last
@@ -79,12 +62,12 @@ returns-in-Err g c before after first last unended =
           );
       helped = λ unparsed zero.
           let (asks, text, written, none, flushed, same) = shown.help zero in (
-            asks_for words kind kinds asks,
+            asks_for program words kind kinds asks,
             (text, rw (none, flushed, same, grown_of _ _ before after text first last written) refl),
           );
       refused = λ unparsed never.
           let (status, said, same) =
-          shown.refused (λ request. never (asks_for words kind kinds request)) in (
+          shown.refused (λ request. never (asks_for program words kind kinds request)) in (
             status,
             said_alone g.W.Write.contents _ _ c.args.out.now c.show.new.out before after first last
                 same unended said,

@@ -186,7 +186,7 @@ returns-in-Ok-load_files g c =
       arith,
       many,
       ap length c.deref.ensures.value,
-      ap length files.under,
+      ap length files.named,
       ap length files.bytes,
       length-map loads (λ (l : Load). l.name),
       length-map loads (λ (l : Load). l.bytes),

@@ -1,12 +1,12 @@
 use Rattle.std.proofs.Common.{◌≡◌, ◌∙◌, ◌++◌, ◌∷◌, ◌<◌, [], Bor, List, Some, ℕ, ap, get_or, length}
 use Rattle.std.proofs.Common.{map, option_map, refl, subst, sym, take}
-use Rattle.frame.proofs.Outcomes.{loads_more}
+use Rattle.frame.proofs.Outcomes.{loads_more, one_loaded}
 use Rattle.ledger_check.specs.Columns.{has_ledger_head}
-use Rattle.omny_audit.proofs.ProgramLemmas.{contained, loads_push}
+use Rattle.omny_audit.proofs.ProgramLemmas.{contained}
 use Rattle.omny_audit.specs.{Ends.LoadsGivenLedger, declared.fault.Fault.TheVariants.File}
 use Rattle.omny_audit.specs.{declared.fault.Fault.TheVariants.NoMemory, inside.Program.StopsLoads}
 use Rattle.program_manners.specs.TableLoads.{load_of}
-use Rattle.std.proofs.lemmas.List.{map_more, take_all}
+use Rattle.std.proofs.lemmas.List.{map_more, map_push, take_all}
 use Rattle.std.proofs.lemmas.Option.{slice_get-get_or, slice_get-map}
 use Rattle.std.specs.Prelude.{Contains}
 use Rattle.tap_views.proofs.Choices.{IfErr_handed_on}
@@ -49,7 +49,9 @@ loop-name-preserved g c =
       files ++ c.in_ok-file.file.items ∷ [],
       lists ++ list ∷ [],
       rw (map_more (λ (n : Bor (List ℕ)). n.now) c.args.names.now c.loop-name.name-index no_name
-          c.loop-name-test.true) (loads_push _ _ loads files c.in_ok-file.file.items named),
+          c.loop-name-test.true, map_push Some (map (λ (n : Bor (List ℕ)). n.now)
+          (take c.loop-name.name-index c.args.names.now)) _)
+          (one_loaded _ loads files (load_of _ c.in_ok-file.file.items) named),
       rw c.as_slice-upload.ensures.value at more,
     )
 

@@ -1,42 +1,22 @@
 use Rattle.std.proofs.Common.{◌≡◌, ◌∙◌, [], None, Some, ap, inl, inr, option_map, rules}
 use Rattle.std.proofs.Common.{subst, arith, map, string_bytes, sym, tests}
-use Rattle.clap.specs.Words.{HasKind, IsAmong, Kinds, kind_of}
-use Rattle.clap.specs.declared.error.Error.{Error}
-use Rattle.clap.specs.declared.error.kind.ErrorKind.{ErrorKind, TheVariants.DisplayHelp}
-use Rattle.clap.specs.declared.error.kind.ErrorKind.TheVariants.{DisplayVersion, OutOfMemory}
+use Rattle.clap.specs.Words.{kind_of}
 use Rattle.frame.specs.{Outcome.Ends, declared.outside.Outside.TheVariants.NoMemory}
 use Rattle.omny_audit.proofs.ProgramLemmas.{halted_first}
 use Rattle.omny_audit.specs.Ends.{IsCommand, audit_rule}
-use Rattle.omny_audit.specs.{Options.AuditRequest, inside.Program.audit_request_of}
+use Rattle.omny_audit.specs.{Options.AuditRequest, Options.audit_program}
+use Rattle.omny_audit.specs.inside.Program.{audit_request_of}
 use Rattle.program_manners.specs.TableViews.{names_of, wrong_of}
-use Rattle.program_manners.specs.{TableWords.wrong_word, Words.IsRequest}
-use Rattle.std.specs.Prelude.{◌⊎◌}
+use Rattle.program_manners.proofs.Requests.{asks_for, of_memory}
+use Rattle.program_manners.specs.TableWords.{wrong_word}
 use Rattle.omny_audit.proofs.program.main_over.Goals as goal
-
--- an error of words of which no kind may come is that an allocation failed
-only_memory : (kinds : Kinds) (e : Error) → kinds ≡ [] → HasKind kinds e → kind_of e ≡ OutOfMemory
-only_memory kinds e none has =
-    elim (subst (λ (k : Kinds). HasKind k e) none has)
-    [ inl memory ↦ memory | inr among ↦ absurd among ]
-
--- help or the version is asked for
-requested_of : (kinds : Kinds) (e : Error) → HasKind kinds e → IsRequest (kind_of e)
-    → IsAmong DisplayHelp kinds ⊎ IsAmong DisplayVersion kinds
-requested_of kinds e has (inl help) = elim has [
-  | inl memory ↦ absurd (cc)
-  | inr among ↦ inl (subst (λ (k : ErrorKind). IsAmong k kinds) help among)
-]
-requested_of kinds e has (inr version) = elim has [
-  | inl memory ↦ absurd (cc)
-  | inr among ↦ inr (subst (λ (k : ErrorKind). IsAmong k kinds) version among)
-]
 
 -- words that are a command line are refused for want of memory alone
 pub returns-in-Err : goal.returns-in-Err
 returns-in-Err g c = record {
   command = λ is.
       let refused = c.show_answer.ensures.memory
-      (only_memory _ c.in-Err.error is.0 c.in-Err.ensures.kinds) in
+      (of_memory audit_program _ (kind_of c.in-Err.error) c.in-Err.ensures.kinds is.0) in
       inr (record {
         why = NoMemory;
         before = g.W.Inputs.run c.args.world.now;
@@ -45,9 +25,9 @@ returns-in-Err g c = record {
         failed = refused.0;
       });
   helped = λ no zero. let help = c.show_answer.ensures.help zero in
-      (requested_of _ c.in-Err.error c.in-Err.ensures.kinds help.0, help.1);
+      (asks_for audit_program _ (kind_of c.in-Err.error) c.in-Err.ensures.kinds help.0, help.1);
   rejected = λ no asks_not. c.show_answer.ensures.refused
-      (λ is. asks_not (requested_of _ c.in-Err.error c.in-Err.ensures.kinds is));
+      (λ is. asks_not (asks_for audit_program _ (kind_of c.in-Err.error) c.in-Err.ensures.kinds is));
   unread = λ no. c.requires;
 }
 

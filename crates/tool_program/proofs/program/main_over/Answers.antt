@@ -20,14 +20,14 @@ pub returns-in-Err : goal.returns-in-Err
 returns-in-Err g c =
     elim c.in-Err.ensures.wrong [
       | inl memory ↦
-          let (one, said) = c.show.ensures.memory memory in record {
+          let (one, said) = c.show_answer.ensures.memory memory in record {
             command = λ _. inr (one, said);
             helped = λ _ zero. absurd (omega (arith, zero, one));
             refused = λ _ _. ((inr one, said), refl);
           }
       | inr wrong ↦ record {
         command = λ parses. absurd (wrong.0 parses);
-        helped = λ _ zero. let help = c.show.ensures.help zero in (wrong.1 help.0, help.1);
-        refused = λ _ asks_not. (c.show.ensures.refused (λ is. asks_not (wrong.1 is)), refl);
+        helped = λ _ zero. let help = c.show_answer.ensures.help zero in (wrong.1 help.0, help.1);
+        refused = λ _ asks_not. (c.show_answer.ensures.refused (λ is. asks_not (wrong.1 is)), refl);
       }
     ]

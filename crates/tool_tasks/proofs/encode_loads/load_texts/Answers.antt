@@ -88,5 +88,5 @@ returns-clause-loaded g c =
       _,
       tried,
       loads_more started _ _ _ all.loads (loads_more started _ _ _ _ then zone) all.all,
-      record { csv_loads = all.loads; named = all.named; bytes = all.bytes; all = refl },
+      record { csv_loads = all.loads; read = all.are; all = refl },
     )

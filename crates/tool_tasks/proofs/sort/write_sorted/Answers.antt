@@ -27,15 +27,16 @@ returns-in-Ok-note_of g c = λ start all.
     (c.make_sorted.ensures start all.loads sorted.written.file all.all
     (known_whole _ _ sorted.written.file c.requires sorted.written.appended))
     (record {
-      named = all.named;
+      uploads = _;
+      loaded = all.are;
       ends = c.deref-in-Ok-note_of.result.now;
-      plain = rw (all.bytes, same) c.in-Ok.ensures.ended;
+      plain = rw same c.in-Ok.ensures.ended;
       file = sorted.written.file;
-      sorted = rw all.bytes (record {
+      sorted = record {
         order = sorted.order;
         settled = sorted.settled;
         in_batches = sorted.written.is_file;
-      });
+      };
       made = refl;
       text = refl;
       success = c.status_of.ensures ∙ ap (λ (es : List UploadEnd). if are_posted es then 0 else 3)
