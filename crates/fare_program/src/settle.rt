@@ -116,7 +116,8 @@ fn write_text<R, D, W: Write>(
 }
 
 /// Writes the ledger of the token that has these taps, or its statement, explained if that is asked
-/// for. Returns whether each file was posted whole. That there are no taps is noted on the disk.
+/// for. Returns whether each file was posted whole. If each was, and there are no taps, that is noted
+/// on the disk.
 pub(crate) fn write_taps<'a, R, D: Disk, W: Write>(
     job: &Job<'_, 'a, R, D>,
     table: &FareTable,
@@ -136,11 +137,12 @@ pub(crate) fn write_taps<'a, R, D: Disk, W: Write>(
 {
     // proof: the taps, posted alone, are the token's entries in the settled history
     laws::posted_taps();
-    if made.taps.is_empty() {
+    let is_whole = are_posted(&made.ends);
+    if is_whole && made.taps.is_empty() {
         job.disk.note_absent();
     }
     let written = write_text(job, table, token, &made.taps, out);
-    ended(written, are_posted(&made.ends))
+    ended(written, is_whole)
 }
 
 /// Returns whether each file was posted whole.

@@ -8,9 +8,9 @@ use Rattle.fare_program.proofs.settle.write_taps.Goals as goal
 pub returns-clause-ends : goal.returns-clause-ends
 returns-clause-ends g c =
     let fares = c.args.table.now in
-    let whole = c.are_posted.ensures ∙ ap are_posted c.deref-2.ensures.value in
+    let whole = c.are_posted-is_whole.ensures ∙ ap are_posted c.deref.ensures.value in
     rw c.ended.ensures.ended
-    (gives_by _ _ _ _ _ _ (ended_as c.write_text-written.result c.are_posted.result) (λ given. given)
+    (gives_by _ _ _ _ _ _ (ended_as c.write_text-written.result c.are_posted-is_whole.result) (λ given. given)
     (λ text success is. (
       is.0 ∙ whole,
       λ files ended taps. rw c.requires.token (record {
@@ -18,11 +18,11 @@ returns-clause-ends g c =
         is_settled = c.posted_taps.ensures.history fares files taps.order taps.settled;
         shows = is.1 files (posted fares taps.order)
             (c.posted_taps.ensures.own fares c.args.token taps.order
-            ∙ ap (posted fares) (sym taps.own ∙ sym c.deref.ensures.value));
+            ∙ ap (posted fares) (sym taps.own ∙ sym c.deref-2.ensures.value));
         ends = c.args.made.ends.items;
         ended = ended;
         succeeded = is.0 ∙ whole;
       }),
     ))
-    (gives_printed g.W.Write.contents _ _ _ c.write_text-written.result c.are_posted.result c.write_text-written.ensures.ok
+    (gives_printed g.W.Write.contents _ _ _ c.write_text-written.result c.are_posted-is_whole.result c.write_text-written.ensures.ok
     c.write_text-written.ensures.started c.write_text-written.ensures.fault))
