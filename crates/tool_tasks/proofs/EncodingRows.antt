@@ -1,17 +1,18 @@
 -- What `encode` of an agency's own CSVs has loaded, prepared and done.
 use Rattle.std.proofs.Common.{◌≡◌, ◌∙◌, ◌∷◌, ◌<◌, ◌+◌, ℕ, Bool, List, [], None, Option, Some}
 use Rattle.std.proofs.Common.{ap, arith, drop, false, get_or, if◌then◌else◌, length, refl, subst}
-use Rattle.std.proofs.Common.{sym, true}
+use Rattle.std.proofs.Common.{suc, sym, true, zero}
 use Rattle.frame.proofs.Outcomes.{stops_weaker}
 use Rattle.frame.specs.{Outsides.Stops, declared.outside.Outside.Outside}
 use Rattle.std.proofs.Math.ListN.{get_or-map}
-use Rattle.std.proofs.lemmas.List.{drop_more, length-map, Elements.Contains-append_right}
-use Rattle.std.specs.Prelude.{Contains, Vec, option_map, unwrap_or}
+use Rattle.std.proofs.lemmas.List.{drop_more, length-map, Elements.Contains-append_left}
+use Rattle.std.proofs.lemmas.List.Elements.{Contains-append_right}
+use Rattle.std.specs.Prelude.{Contains, Vec, filter_map, option_map}
 use Rattle.std.specs.declared.alloc.Global.{Global}
 use Rattle.tap_rows.specs.Agencies.{IsFirstRefused, IsRowsEncoded}
 use Rattle.tap_rows.specs.declared.agency.choice.Choice.{Choice}
 use Rattle.tap_rows.specs.declared.agency.{reading.Reason.Reason, summary.Summary.Summary}
-use Rattle.tool_tasks.specs.EncodeRows.{Chain, IsWrongCsv, names_of, word_in}
+use Rattle.tool_tasks.specs.EncodeRows.{Chain, IsWrongCsv, names_of, options_of, word_in}
 use Rattle.tool_tasks.specs.EncodeTables.{zone_file, zone_loaded}
 use Rattle.tool_tasks.specs.declared.prepared.{NewFile.NewFile, Prepared.Prepared}
 use Rattle.tool_tasks.specs.inside.EncodeRows.{AreOf, IsOf, csvs_of}
@@ -19,51 +20,63 @@ use Rattle.tool_tasks.specs.inside.{Loads.IsNameIn, Prepared.AreNamed, Prepared.
 use Rattle.tool_words.specs.declared.task.RowsWords.{RowsWords}
 
 -- ---- loads
-pub is_in : (names : List (List ℕ)) (o : Option (List ℕ)) → Contains names (unwrap_or o [])
-    → IsNameIn names o
-is_in names None has = tt
-is_in names (Some name) has = has
+abbrev named : List (Option (List ℕ)) → List (List ℕ)
+named options = filter_map (λ name. name) options
 
--- the file of a zone
-zone_named : (zone : Option (List ℕ)) (word : List ℕ) → zone_loaded zone ≡ Some word
-    → unwrap_or (option_map zone_file zone) [] ≡ word
-zone_named None word is = absurd (cc is)
-zone_named (Some name) word is = by _ is
-  where
-    by : (b : Bool) → (if b then Some (zone_file name) else None) ≡ Some word
-        → zone_file name ≡ word
-    by true same = cc same
-    by false same = absurd (cc same)
+-- what an option names is among what all name
+named_has : (options : List (Option (List ℕ))) (word : List ℕ) (k : ℕ) → k < length options
+    → get_or options k (Some word) ≡ Some word → Contains (named options) word
+named_has [] word k within is = absurd (omega (arith, within))
+named_has (None ∷ options) word zero within is = absurd (cc is)
+named_has (Some name ∷ options) word zero within is = (0, omega arith, cc is)
+named_has (None ∷ options) word (suc k) within is =
+    named_has options word k (omega (arith, within)) is
+named_has (Some name ∷ options) word (suc k) within is =
+    let (j, few, same) = named_has options word k (omega (arith, within)) is in
+    (suc j, omega (arith, few), same)
 
--- a CSV is after the others
-pub later_csv : (words : RowsWords) (csvs : List (List ℕ)) (word : List ℕ) → Contains csvs word
-    → Contains (names_of words csvs) word
-later_csv words csvs word has = Contains-append_right (unwrap_or (word_in words.devices) []
-    ∷ unwrap_or (word_in words.refused) [] ∷ unwrap_or (word_in words.key) []
-    ∷ unwrap_or (option_map zone_file (word_in words.zone)) []
-    ∷ unwrap_or (word_in words.out) [] ∷ []) csvs word has
+module _ (words : RowsWords) (csvs : List (List ℕ)) where
+  pub is_in : (o : Option (List ℕ)) → Contains (options_of words) o
+      → IsNameIn (names_of words csvs) o
+  is_in None has = tt
+  is_in (Some name) has = Contains-append_left (named (options_of words)) csvs name
+      (named_has (options_of words) name has.0 has.1 has.2)
 
-pub zone_in : (names : List (List ℕ)) (zone o : Option (List ℕ)) → o ≡ zone_loaded zone
-    → Contains names (unwrap_or (option_map zone_file zone) []) → IsNameIn names o
-zone_in names zone None is has = tt
-zone_in names zone (Some word) is has = subst (Contains names) (zone_named zone word (sym is)) has
+  -- a CSV is after the others
+  pub later_csv : (word : List ℕ) → Contains csvs word → Contains (names_of words csvs) word
+  later_csv word has = Contains-append_right (named (options_of words)) csvs word has
 
--- ---- the names of the files
-is_named : (names : List (List ℕ)) (word : Option (List ℕ)) (file : Option NewFile)
-    → Contains names (unwrap_or word []) → IsOf word file → IsNamedIn names file
-is_named names word None has of = tt
-is_named names word (Some file) has of = subst (λ w. Contains names (unwrap_or w [])) of has
+  -- the file of the zone, if it has one
+  pub zone_in : (o : Option (List ℕ)) → o ≡ zone_loaded (word_in words.zone)
+      → IsNameIn (names_of words csvs) o
+  zone_in None is = tt
+  zone_in (Some word) is = is_in (Some word) (subst (Contains (options_of words))
+      (zone_named (word_in words.zone) word (sym is)) (3, omega arith, refl))
+    where
+      zone_named : (zone : Option (List ℕ)) (word : List ℕ) → zone_loaded zone ≡ Some word
+          → option_map zone_file zone ≡ Some word
+      zone_named None word is = absurd (cc is)
+      zone_named (Some name) word is = by _ is
+        where
+          by : (b : Bool) → (if b then Some (zone_file name) else None) ≡ Some word
+              → Some (zone_file name) ≡ Some word
+          by true same = same
+          by false same = absurd (cc same)
 
-pub rows_named : (words : RowsWords) (csvs : List (List ℕ)) (prepared : Prepared)
-    → AreOf words prepared → AreNamed (names_of words csvs) prepared
-rows_named words csvs prepared of = record {
-  first = is_named (names_of words csvs) (word_in words.devices) prepared.first
-      (0, omega arith, refl) of.devices;
-  upload = is_named (names_of words csvs) (word_in words.out) prepared.upload
-      (4, omega arith, refl) of.upload;
-  held = is_named (names_of words csvs) (word_in words.refused) prepared.held
-      (1, omega arith, refl) of.refused;
-}
+  -- ---- the names of the files
+  is_named : (word : Option (List ℕ)) (file : Option NewFile) → Contains (options_of words) word
+      → IsOf word file → IsNamedIn (names_of words csvs) file
+  is_named word None has of = tt
+  is_named word (Some file) has of =
+      is_in (Some file.name.now) (subst (Contains (options_of words)) of has)
+
+  pub rows_named : (prepared : Prepared) → AreOf words prepared
+      → AreNamed (names_of words csvs) prepared
+  rows_named prepared of = record {
+    first = is_named (word_in words.devices) prepared.first (0, omega arith, refl) of.devices;
+    upload = is_named (word_in words.out) prepared.upload (4, omega arith, refl) of.upload;
+    held = is_named (word_in words.refused) prepared.held (1, omega arith, refl) of.refused;
+  }
 
 -- ---- CSVs one after the other
 pub chain_on : {S : Type 0} (Step : List ℕ → S → S → Type 0) (csvs : List (Vec ℕ Global)) (i : ℕ)

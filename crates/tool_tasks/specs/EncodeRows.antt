@@ -4,7 +4,7 @@ use Rattle.frame.specs.{Given.Given, Given.LoadsFiles, Given.file_of, Given.load
 use Rattle.frame.specs.Outcome.{Ends, Rule, rule_of}
 use Rattle.std.specs.{Borrow.Bor, Prelude.◌≡◌, Prelude.◌≢◌, Prelude.◌⊎◌}
 use Rattle.std.specs.Prelude.{◌==◌, ◌||◌, ℕ, Bool, Contains, Err, List, [], ◌∷◌, ◌++◌, Option, None}
-use Rattle.std.specs.Prelude.{Some, if◌then◌else◌, false, map, not, option_map, true, unwrap_or}
+use Rattle.std.specs.Prelude.{Some, if◌then◌else◌, false, filter_map, map, not, option_map, true}
 use Rattle.tap_rows.specs.Agencies.{IsFirstRefused, IsRowsEncoded, IsWanting}
 use Rattle.tap_rows.specs.AgencyTexts.{first_record}
 use Rattle.tap_rows.specs.Devices.{AreDevices, Device, IsDevicesFault, devices_of}
@@ -24,13 +24,15 @@ use Rattle.tap_rows.specs.declared.devices.fault.DevicesFault.TheVariants as dev
 abbrev pub word_in : Option (Bor (List ℕ)) → Option (List ℕ)
 word_in word = option_map (λ w. w.now) word
 
--- the files that the words name: the device table, the file of the refused rows, the key, the file
--- of the zone, the file of the upload, and the CSVs. What has no word has no name.
+-- the files that options name: the device table, the file of the refused rows, the key, the file of
+-- the zone, and that of the upload
+abbrev pub options_of : RowsWords → List (Option (List ℕ))
+options_of words = word_in words.devices ∷ word_in words.refused ∷ word_in words.key
+    ∷ option_map zone_file (word_in words.zone) ∷ word_in words.out ∷ []
+
+-- all files that the words name
 abbrev pub names_of : RowsWords → List (List ℕ) → List (List ℕ)
-names_of words csvs = unwrap_or (word_in words.devices) []
-    ∷ unwrap_or (word_in words.refused) [] ∷ unwrap_or (word_in words.key) []
-    ∷ unwrap_or (option_map zone_file (word_in words.zone)) []
-    ∷ unwrap_or (word_in words.out) [] ∷ csvs
+names_of words csvs = filter_map (λ name. name) (options_of words) ++ csvs
 
 -- ---- what is read
 -- the texts of the device table, the key and the zone, each empty if it is not loaded, and the CSVs

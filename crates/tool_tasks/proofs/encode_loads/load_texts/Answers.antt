@@ -26,7 +26,7 @@ returns-in_err-found-clause-stopped g c =
       old,
       refl,
       stops_after names old _ _ [] _ (sym (no_loads old))
-          (c.in_err-found.ensures.stopped names (is_in names (word_in words.devices) (0, omega arith, refl))),
+          (c.in_err-found.ensures.stopped names (is_in words (map (λ w. w.now) c.args.csvs.now) (word_in words.devices) (0, omega arith, refl))),
     )
 
 pub returns-in-Err-clause-stopped : goal.returns-in-Err-clause-stopped
@@ -39,7 +39,7 @@ returns-in-Err-clause-stopped g c =
       tried,
       stops_after names started _ (g.W.Inputs.run c.load_named.new.world) _
           (Unread c.in-Err.why) was
-          (c.in-Err.ensures.refused names (is_in names (word_in words.key) (2, omega arith, refl))),
+          (c.in-Err.ensures.refused names (is_in words (map (λ w. w.now) c.args.csvs.now) (word_in words.key) (2, omega arith, refl))),
     )
 
 pub returns-in-Err-load_named-clause-stopped : goal.returns-in-Err-load_named-clause-stopped
@@ -53,8 +53,8 @@ returns-in-Err-load_named-clause-stopped g c =
       stops_after names started _ (g.W.Inputs.run c.load_named-2.new.world) _
           (Unread c.in-Err-load_named.why)
           (loads_more started _ _ _ _ was c.in-Ok.ensures.loaded)
-          (c.in-Err-load_named.ensures.refused names (zone_in names (word_in words.zone)
-          (word_in c.name_in.result) (c.name_in.ensures ∙ c.in_ok-path.ensures) (3, omega arith, refl))),
+          (c.in-Err-load_named.ensures.refused names (zone_in words (map (λ w. w.now) c.args.csvs.now)
+          (word_in c.name_in.result) (c.name_in.ensures ∙ c.in_ok-path.ensures))),
     )
 
 pub returns-in_err-csvs-clause-stopped : goal.returns-in_err-csvs-clause-stopped
