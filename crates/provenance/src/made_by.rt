@@ -26,10 +26,9 @@ pub fn made_by_text(
     Ok(text)
 }
 
-/// What such a text says, as it stands there.
+/// What such a text says, as it stands there. The program has its version.
 #[derive(Drop)]
 pub struct MadeBy<'a> {
-    /// The program with its version.
     pub program: &'a str,
     /// The sum and the name of each file.
     pub files: Vec<(&'a str, &'a str)>,

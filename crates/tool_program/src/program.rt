@@ -12,8 +12,8 @@ use std::hash::RandomState;
 use std::marker::Sync;
 use std::thread::Threads;
 use tool_tasks::{
-    Counted, Fault, PlacedFiles, Streams, bounds_over, corrections_over, decode_over,
-    encode_over, encode_rows_over, look_over, merge_over, merge_sorted_over, sort_over, table_over,
+    Counted, Fault, PlacedFiles, Streams, bounds_over, corrections_over, decode_over, encode_over,
+    encode_rows_over, look_over, merge_over, merge_sorted_over, sort_over, table_over,
     uploads_over, valid_prefix_over,
 };
 use tool_words::{Task, read};

@@ -48,9 +48,12 @@ loop-name-preserved g c =
       loads_more _ _ _ loads _ only c.in_ok-file.ensures.ok,
       files ++ c.in_ok-file.file.items ∷ [],
       lists ++ list ∷ [],
-      rw (map_more (λ (n : Bor (List ℕ)). n.now) c.args.names.now c.loop-name.name-index no_name
-          c.loop-name-test.true, map_push Some (map (λ (n : Bor (List ℕ)). n.now)
-          (take c.loop-name.name-index c.args.names.now)) _)
+      rw (
+        map_more (λ (n : Bor (List ℕ)). n.now) c.args.names.now c.loop-name.name-index no_name
+            c.loop-name-test.true,
+        map_push Some (map (λ (n : Bor (List ℕ)). n.now)
+            (take c.loop-name.name-index c.args.names.now)) _,
+      )
           (one_loaded _ loads files (load_of _ c.in_ok-file.file.items) named),
       rw c.as_slice-upload.ensures.value at more,
     )
