@@ -45,7 +45,8 @@ fn reason<'a, R: Files>(rt: &R, name: &'a str) -> Option<Hint<'a>> {
 fn hint_on_table<'a>(fault: &'a str, named: Named<'a>) -> Option<Hint<'a>> {
     let (name, code) = match fault.strip_prefix("table F") {
         Some(code) => (named.table?, code),
-        None => fault.split_once(": table F")?,
+        // the name may have such words, too
+        None => fault.rsplit_once(": table F")?,
     };
     Some(if code == "9" {
         Hint::Zone(name)
@@ -55,7 +56,7 @@ fn hint_on_table<'a>(fault: &'a str, named: Named<'a>) -> Option<Hint<'a>> {
 }
 
 fn hint_on_layout<'a, R: Files>(rt: &R, alloc: Global, fault: &'a str) -> Option<Hint<'a>> {
-    let (name, _) = fault.split_once(" at ")?;
+    let (name, _) = fault.rsplit_once(" at ")?;
     hint_on_file(rt, alloc, name)
 }
 
@@ -85,9 +86,12 @@ pub fn hint_on_fault<'a, R: Files>(
     if named.charges && fault.ends_with(" is too long") {
         return Some(Hint::TooLong);
     }
-    if let Some((name, tap)) = fault.split_once(": tap ")
+    if let Some((name, tap)) = fault.rsplit_once(": tap ")
         && tap.ends_with(" is out of order")
     {
+        if name == STANDARD_INPUT || name == "/dev/stdin" {
+            return None;
+        }
         return Some(Hint::Unsorted(name));
     }
     if let Some(hint) = hint_on_table(fault, named) {

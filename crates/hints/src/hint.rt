@@ -1,7 +1,7 @@
 //! The line of a hint.
 
 use crate::kinds::Kind;
-use crate::shown::Quoted;
+use crate::shown::{FileWord, Quoted};
 use std::fmt::Write as _;
 use std::{fmt, io};
 
@@ -45,7 +45,7 @@ pub enum Hint<'a> {
 
 /// Writes the command that makes CSV of a file of this kind.
 fn write_source<W: fmt::Write>(kind: Kind, name: &str, f: &mut fmt::Formatter<W>) -> fmt::Result {
-    let name = Quoted(name);
+    let name = FileWord(name);
     match kind {
         Kind::Gzip => write!(f, "zcat {name}"),
         Kind::Zip => write!(f, "unzip -p {name}"),
@@ -141,7 +141,7 @@ impl fmt::Display for Hint<'_> {
             Hint::Table(name) => write!(
                 f,
                 "hint: `omny_tools table {}` says where, and what is wanted",
-                Quoted(name)
+                FileWord(name)
             ),
             Hint::Zone(name) => write!(
                 f,
@@ -159,27 +159,29 @@ impl fmt::Display for Hint<'_> {
                 f,
                 "hint: {} is damaged: `omny_tools uploads {}` says where, and what to do",
                 Quoted(name),
-                Quoted(name)
+                FileWord(name)
             ),
             Hint::Text(name) => write!(
                 f,
-                "hint: {} is text. If it is a table of taps, `omny_tools encode {}` makes an upload of it",
+                "hint: {} is text. If it is a table of taps, `omny_tools encode {} > {}.tap` makes an upload of it",
                 Quoted(name),
-                Quoted(name)
+                FileWord(name),
+                FileWord(name)
             ),
             Hint::Compressed(name, how) => {
                 write!(
                     f,
-                    "hint: {} is compressed: `{how} {}`",
+                    "hint: {} is compressed: `{how} {} > {}.out` makes a file of what it has",
                     Quoted(name),
-                    Quoted(name)
+                    FileWord(name),
+                    FileWord(name)
                 )
             }
             Hint::Unsorted(name) => write!(
                 f,
-                "hint: `omny_tools sort --out {} {}` puts its taps in order",
-                Quoted(name),
-                Quoted(name)
+                "hint: `omny_tools sort --out {}.sorted {}` makes a file of its taps in order",
+                FileWord(name),
+                FileWord(name)
             ),
             Hint::MoreDamaged => {
                 f.write_str("hint: others may be damaged, too: omny_tools uploads says of each")
@@ -187,9 +189,10 @@ impl fmt::Display for Hint<'_> {
             Hint::Piped(kind, name, words) => write_piped(*kind, name, words, f),
             Hint::NoTapTable(name) => write!(
                 f,
-                "hint: if {} is an export of an agency, name its columns: `omny_tools encode --columns token=NAME,validator=NAME,moment=NAME {}`",
+                "hint: if {} is an export of an agency, name its columns: `omny_tools encode --columns token=NAME,validator=NAME,moment=NAME {} > {}.tap`",
                 Quoted(name),
-                Quoted(name)
+                FileWord(name),
+                FileWord(name)
             ),
             Hint::NoFolder(name) => write!(f, "hint: {}: Not a directory", Quoted(name)),
             Hint::NotRegular(name) => write!(

@@ -31,3 +31,16 @@ impl fmt::Display for Quoted<'_> {
         f.write_str("'")
     }
 }
+
+/// The same of a file, as a command that reads it takes it: `./` is before a name that begins with `-`.
+#[derive(Clone, Copy, Debug)]
+pub(crate) struct FileWord<'a>(pub(crate) &'a str);
+
+impl fmt::Display for FileWord<'_> {
+    fn fmt<W: fmt::Write>(&self, f: &mut fmt::Formatter<W>) -> fmt::Result {
+        if self.0.starts_with('-') {
+            f.write_str("./")?;
+        }
+        write!(f, "{}", Quoted(self.0))
+    }
+}
