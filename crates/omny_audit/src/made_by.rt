@@ -6,18 +6,25 @@ use crate::options::Options;
 use program_manners::{Escaped, FileFault, LoadFault, TableWord, load_file, open_file};
 use provenance::{MadeBy, Sum};
 use std::alloc::AllocError;
+use std::fs;
 use std::io::ErrorKind;
 
+/// A file that is not regular, as a pipe, cannot be read once more.
 fn sum_of<'a>(rt: &HostRuntime, name: &'a str) -> Result<String, Fault<'a>> {
     let alloc = rt.alloc();
+    let unread = FileFault {
+        name,
+        fault: LoadFault::Unread,
+    };
+    match fs::metadata(rt, name) {
+        Ok(about) if about.is_file() => {}
+        Ok(_) | Err(_) => return Err(Fault::File(unread)),
+    }
     let mut file = open_file(rt, name).map_err(|fault| FileFault { name, fault })?;
     match Sum::of_reader(alloc, &mut file) {
         Ok(sum) => Ok(format!(in alloc; "{sum}")?),
         Err(error) if error.kind() == ErrorKind::OutOfMemory => Err(Fault::NoMemory),
-        Err(_) => Err(Fault::File(FileFault {
-            name,
-            fault: LoadFault::Unread,
-        })),
+        Err(_) => Err(Fault::File(unread)),
     }
 }
 

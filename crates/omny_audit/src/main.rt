@@ -21,7 +21,9 @@ use input_words::input_words;
 use made_by::compare;
 use options::{Options, list_words, reads_input};
 use program::main_over;
-use program_manners::{Escaping, print, report_line, take_list, unread_words, words_of};
+use program_manners::{
+    Escaping, hold_streams, print, report_line, take_list, unread_words, words_of,
+};
 use std::io;
 use std::io::{IsTerminal, Write};
 use std::process::ExitCode;
@@ -143,6 +145,7 @@ fn run(rt: &HostRuntime, words: &[String], mut err: Escaping<io::Stderr>) -> u8 
 }
 
 fn main(rt: HostRuntime) -> ExitCode {
+    let _held = hold_streams(&rt);
     let mut complaints = Overheard::new(Escaping::new(rt.stderr()));
     let words = words_with_list(&rt, &mut complaints);
     end_words(&rt, complaints, words.is_err());

@@ -13,7 +13,7 @@ use fare_program::{FileWords, Note, Output, list_words, unread_words, words_of};
 use forms::form_of;
 use hints::{Named, Overheard, Said, damaged, end_words, hint_on_fault};
 use input_words::{INPUT_FILE, with_input_file};
-use program_manners::{Escaping, report_line, take_list};
+use program_manners::{Escaping, hold_streams, report_line, take_list};
 use provenance::RunSums;
 use run_progress::{Findings, Hushing, Steps, Ticker, Watched};
 use std::io::{IsTerminal, Stderr, Write};
@@ -158,6 +158,7 @@ fn run<R: Threads + Wait + Clock + RandomSource + Sync + AllocGlobal>(
 }
 
 fn main(rt: HostRuntime) -> ExitCode {
+    let _held = hold_streams(&rt);
     let mut err = Overheard::new(Escaping::new(rt.stderr()));
     let words = words_with_list(&rt, &mut err);
     end_words(&rt, err, words.is_err());

@@ -11,7 +11,7 @@ mod streams;
 mod whole;
 
 use hints::{Overheard, end_words};
-use program_manners::{Escaping, take_list, unread_words, words_of};
+use program_manners::{Escaping, hold_streams, take_list, unread_words, words_of};
 use run::run;
 use std::io::Write;
 use std::process::ExitCode;
@@ -29,6 +29,7 @@ fn words_with_list<E: Write>(rt: &HostRuntime, err: &mut E) -> Result<Vec<String
 }
 
 fn main(rt: HostRuntime) -> ExitCode {
+    let _held = hold_streams(&rt);
     let mut err = Overheard::new(Escaping::new(rt.stderr()));
     let words = words_with_list(&rt, &mut err);
     end_words(&rt, err, words.is_err());

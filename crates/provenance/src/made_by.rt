@@ -48,6 +48,9 @@ fn parts_of(text: &str) -> Option<(&str, &str, &str)> {
     let (rest, last) = text.strip_suffix("\n")?.rsplit_once('\n')?;
     let (first, lines) = rest.split_once('\n')?;
     let program = first.strip_prefix("made by ")?;
+    if !program.starts_with("omny_cli ") {
+        return None;
+    }
     let sum = last.strip_prefix("text ")?;
     Some((program, lines, sum))
 }

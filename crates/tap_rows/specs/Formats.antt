@@ -4,7 +4,7 @@ use Rattle.jiff_core.specs.declared.error.Error.{Error}
 use Rattle.jiff_strtime.specs.{Reader.parse_text, Text.Parts}
 use Rattle.std.specs.{Borrow.Bor, Prelude.◌==◌, Prelude.◌+◌, Prelude.◌/◌}
 use Rattle.std.specs.Prelude.{◌%◌, ◌++◌, ℕ, ℤ, pos, negsuc, List, [], ◌∷◌, Err, None, Ok, Option}
-use Rattle.std.specs.Prelude.{Result, Some, if◌then◌else◌, option_map, unsigned_abs, unwrap_or}
+use Rattle.std.specs.Prelude.{Result, Some, if◌then◌else◌, is_some, option_map, unsigned_abs, unwrap_or}
 use Rattle.tap_rows.specs.AgencyMoments.{clock_moment, moment_in, moment_of, whole_ms}
 use Rattle.tap_rows.specs.declared.agency.choice.{LocalClock.LocalClock, Unit.Unit}
 use Rattle.tap_rows.specs.declared.agency.reading.Reason.{Reason}
@@ -68,9 +68,11 @@ abbrev pub text_moment : Unit → Option LocalClock → Option (List ℕ) → Re
 text_moment counted local None = Err why.Moment
 text_moment counted local (Some text) = clock_moment counted local text
 
--- the moment of the parts: that of their instant, if they have one, else of their clock
+-- the moment of the parts: that of their instant, if they have one, else of their clock. An instant has
+-- no fraction beside it.
 abbrev pub parts_moment : Unit → Option LocalClock → Option ℤ → Parts → Result ℕ Reason
-parts_moment counted local (Some nanos) parts = moment_of counted (whole_ms nanos)
+parts_moment counted local (Some nanos) parts =
+    if is_some parts.subsec then Err why.Moment else moment_of counted (whole_ms nanos)
 parts_moment counted local None parts = text_moment counted local (rfc_text parts.iana parts)
 
 abbrev pub parsed_moment : Unit → Option LocalClock → Result Parts Error → Result ℕ Reason

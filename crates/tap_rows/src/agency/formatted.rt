@@ -153,6 +153,9 @@ fn parts_moment(
     ensures early { IfOk result (λ moment. moment < moment_limit) }
 {
     if let Some(instant) = parts.timestamp {
+        if parts.subsec.is_some() {
+            return Err(Reason::Moment);
+        }
         return moment_of(unit, whole_ms(instant.nanosecond));
     }
     match rfc_text(parts) {
