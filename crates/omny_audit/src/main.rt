@@ -30,14 +30,9 @@ use std::process::ExitCode;
 use text_forms::{FINDINGS, Form, Shaped};
 use world::{Stream, System, World};
 
-/// The words, with the name of the standard input for `-`, and with the names of the list that they
-/// name. On an error it was reported, and the error is the status.
-fn words_with_list<E: Write>(rt: &HostRuntime, err: &mut E) -> Result<Vec<String>, u8> {
-    let words = match words_of(rt) {
-        Ok(words) => words,
-        Err(fault) => return Err(unread_words(&fault, err)),
-    };
-    let Ok((words, replaced, lists)) = input_words(rt.alloc(), &words) else {
+/// The words with the name of the standard input for `-`, which at most one represents.
+fn one_input<E: Write>(rt: &HostRuntime, words: &[String], err: &mut E) -> Result<Vec<String>, u8> {
+    let Ok((words, replaced, lists)) = input_words(rt.alloc(), words) else {
         report_line(err, "fault: out of memory");
         return Err(1);
     };
@@ -45,9 +40,21 @@ fn words_with_list<E: Write>(rt: &HostRuntime, err: &mut E) -> Result<Vec<String
         report_line(err, "error: - can be named only once");
         return Err(2);
     }
+    Ok(words)
+}
+
+/// The words, with the name of the standard input for `-`, and with the names of the list that they
+/// name. On an error it was reported, and the error is the status.
+fn words_with_list<E: Write>(rt: &HostRuntime, err: &mut E) -> Result<Vec<String>, u8> {
+    let words = match words_of(rt) {
+        Ok(words) => words,
+        Err(fault) => return Err(unread_words(&fault, err)),
+    };
+    // before a list is read
+    one_input(rt, &words, err)?;
     let list = list_words(rt.alloc(), &words);
     let more = take_list(rt, &words, list, Some("uploads"), err)?;
-    Ok(more.unwrap_or(words))
+    one_input(rt, &more.unwrap_or(words), err)
 }
 
 /// Writes what the comparison with the file of `--made-by` shows, if one is named. The status is 1

@@ -39,6 +39,21 @@ fn ticker_for(rt: &HostRuntime, words: &[String], sums: Option<RunSums>) -> Tick
     Ticker::new(Steps::of(words), rt.stderr(), is_terminal, sums)
 }
 
+/// The words with the name of the standard input for `-`, which at most one represents.
+fn one_input<E: Write>(rt: &HostRuntime, words: &[String], err: &mut E) -> Result<Vec<String>, u8> {
+    match with_input_file(rt.alloc(), words) {
+        Ok((words, 0 | 1)) => Ok(words),
+        Ok(_) => {
+            report_line(err, INPUT_TWICE);
+            Err(2)
+        }
+        Err(_) => {
+            report_line(err, "fault: out of memory");
+            Err(1)
+        }
+    }
+}
+
 /// The words, with the name of the standard input for `-`, and with the names of the list that they
 /// name. On an error the reason was reported.
 fn words_with_list<E: Write>(rt: &HostRuntime, err: &mut E) -> Result<Vec<String>, u8> {
@@ -46,17 +61,11 @@ fn words_with_list<E: Write>(rt: &HostRuntime, err: &mut E) -> Result<Vec<String
         Ok(words) => words,
         Err(fault) => return Err(unread_words(&fault, err)),
     };
-    let Ok((words, inputs)) = with_input_file(rt.alloc(), &words) else {
-        report_line(err, "fault: out of memory");
-        return Err(1);
-    };
-    if inputs > 1 {
-        report_line(err, INPUT_TWICE);
-        return Err(2);
-    }
+    // before a list is read
+    one_input(rt, &words, err)?;
     let list = list_words(rt.alloc(), &words);
     let more = take_list(rt, &words, list, None, err)?;
-    Ok(more.unwrap_or(words))
+    one_input(rt, &more.unwrap_or(words), err)
 }
 
 fn report_findings(findings: &Findings, err: &mut Stderr) {
