@@ -13,7 +13,8 @@ report's first line that is not that of the ledger's sums, `wrong report line N:
 `wrong report line N: no report has it`. Of the uploads' lines only the form is known, and that their
 taps are as many as the ledger's: else `wrong report line N: the uploads have A taps, the ledger B`.
 So `upload lines not compared` is the next line: `omny_audit --uploads` compares them.
-A traced ledger, known by its head line, is checked without its last three columns. A line whose
+A traced ledger, known by its head line, is checked without its last three columns. A table whose
+`default_class` or `riders` names a class that it cannot have is refused, with status 1. A line whose
 columns have not their form is no ledger line. After `legal N lines, ..`, or their end with `--all`,
 comes `all classes of the table` or, with status 1, `line N has another class than CLASS` for the
 first such line. With `--uploads` comes also `all places of the uploads`, or with status 1 the first
@@ -148,11 +149,8 @@ class Fares:
         return self.riders.get(token, self.usual)
 
     def class_of(self, token):
-        """The name of a token's class. ValueError if a ledger cannot have it."""
-        name = self.classes.get(token, self.usual_class)
-        if not CLASS.fullmatch(name):
-            raise ValueError(f"no ledger can have the class name {name!r}")
-        return name
+        """The name of a token's class."""
+        return self.classes.get(token, self.usual_class)
 
     def window_end(self, start, window):
         """Where a window of this form ends that starts at this moment."""
@@ -176,8 +174,15 @@ class Refused(Exception):
 
 class Tables:
     """Fare tables, each from a moment on. The first one is valid from the beginning."""
-    def __init__(self, tables, starts=()):
-        self.tables, self.starts = tables, list(starts)
+    def __init__(self, tables, starts=(), names=()):
+        self.tables, self.starts, self.names = tables, list(starts), names
+
+    def check_classes(self):
+        """Refused if a table names a class for a token that a traced ledger cannot have."""
+        for fares, name in zip(self.tables, self.names):
+            if not all(map(CLASS.fullmatch, {fares.usual_class, *fares.classes.values()})):
+                where = f"{name}: " if len(self.tables) > 1 else ""
+                raise Refused(f"{where}table has a class name that no ledger can have", 1)
 
     def at(self, moment):
         """The table that is valid at a moment."""
@@ -203,8 +208,8 @@ def dates_of(words):
 
 def tables_of(words):
     """The tables that words name. Refused if one cannot follow those before it."""
-    tables, starts = [], []
-    for word, (name, day) in zip(words, dates_of(words)):
+    tables, starts, dated = [], [], dates_of(words)
+    for word, (name, day) in zip(words, dated):
         with open(name, "rb") as file:
             fares = Fares(tomllib.load(file))
         if day:
@@ -220,7 +225,7 @@ def tables_of(words):
                 raise Refused(f"{word}: it has other caps", 1)
             starts.append(start)
         tables.append(fares)
-    return Tables(tables, starts)
+    return Tables(tables, starts, [name for name, _ in dated])
 
 def tables_first(words):
     """The words of tables that a command line begins with, and the words behind them."""
@@ -434,9 +439,11 @@ class Trace:
 
 class Untraced:
     """The lines of a ledger, one by one. Those of a traced ledger have lost their columns, which are
-    kept beside; a line whose columns have not their form has become an empty one."""
-    def __init__(self, file):
-        self.file, self.columns, self.is_traced, self.at_head = file, None, False, True
+    kept beside; a line whose columns have not their form has become an empty one. Refused if a table
+    names a class that a traced ledger cannot have."""
+    def __init__(self, file, tables):
+        self.file, self.tables, self.columns = file, tables, None
+        self.is_traced, self.at_head = False, True
 
     def readline(self, limit):
         """The next line, or a beginning of so many bytes of a longer one."""
@@ -444,6 +451,8 @@ class Untraced:
                                   TRACED_BYTES + 1 if self.is_traced else limit)
         if self.at_head:
             self.at_head, self.is_traced = False, line == TRACED_HEAD.encode()
+            if self.is_traced:
+                self.tables.check_classes()
             return HEAD.encode() if self.is_traced else line + (
                 b"" if line.endswith(b"\n") else self.file.readline(max(0, limit - len(line))))
         if not self.is_traced or not line.endswith(b"\n") and len(line) <= TRACED_BYTES:
@@ -592,7 +601,8 @@ def main():
         with open(0 if words[0] == "-" else words[0], "rb") as file, \
                 open(os.devnull if report is None else report, "rb") as reported:
             order = Order()
-            ledger, trace = Untraced(file), Trace(tables, names and [read(name) for name in names])
+            ledger = Untraced(file, tables)
+            trace = Trace(tables, names and [read(name) for name in names])
             if goes_on:
                 wrong, why = "" if all_wrong(tables, ledger, sums, trace, order) else "wrong", None
             else:

@@ -8,7 +8,8 @@ The class is that of the token by the table, of several by the table of the tap:
 tap among the words, from 0, and the place is the tap's number in it, from 1. Equal taps stand in the
 order of their uploads and places. It is status 1 if a line has no tap that the uploads have left:
 then TRACED is a beginning, and the standard error names the line. Status 2 is a fault of the command
-line. The taps of the uploads are in memory. `check_ledger.py` checks what it writes.
+line. A table whose `default_class` or `riders` names a class that a traced ledger cannot have is
+refused, with status 1. The taps of the uploads are in memory. `check_ledger.py` checks what it writes.
 """
 import sys
 from collections import defaultdict
@@ -49,6 +50,7 @@ def main():
         sys.exit(print(__doc__, file=sys.stderr) or 2)
     try:
         tables = tables_of(named)
+        tables.check_classes()
         with open(0 if words[0] == "-" else words[0], "rb") as file:
             trace(tables, places_of(words[1:]), file, sys.stdout)
             sys.stdout.flush()
