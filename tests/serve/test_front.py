@@ -390,7 +390,7 @@ class Tests(unittest.IsolatedAsyncioTestCase):
         self.assertEqual(self.said.count("<li>"), 1)
         self.assertIn('<b id="sum">3.00</b>', self.said)
         self.assertIn("Times are UTC.", self.said)
-        self.assertIn("your 1st ride since Mon 2 Mar 2026, free from the 13th on", self.said)
+        self.assertIn('<div class="why">your 1st ride since Mon 2 Mar 2026</div>', self.said)
         self.assertNotIn("unsafe", self.headers["Content-Security-Policy"])
         self.assertEqual(await self.get(link.replace(A, B), None), 401)
         self.assertEqual(await self.get(link.replace("/r/", "/link/"), None), 401)
