@@ -55,9 +55,21 @@ fn hint_on_table<'a>(fault: &'a str, named: Named<'a>) -> Option<Hint<'a>> {
     })
 }
 
+/// The name in a fault of the form `NAME at OFFSET ..`: what is before the last ` at ` and a number.
+fn name_before_offset(fault: &str) -> Option<&str> {
+    let mut rest = fault;
+    for _ in 0..fault.len() {
+        let (name, offset) = rest.rsplit_once(" at ")?;
+        if matches!(offset.as_bytes().first(), Some(b'0'..=b'9')) {
+            return Some(name);
+        }
+        rest = name;
+    }
+    None
+}
+
 fn hint_on_layout<'a, R: Files>(rt: &R, alloc: Global, fault: &'a str) -> Option<Hint<'a>> {
-    let (name, _) = fault.rsplit_once(" at ")?;
-    hint_on_file(rt, alloc, name)
+    hint_on_file(rt, alloc, name_before_offset(fault)?)
 }
 
 /// The hint on a fault line, which the system is asked about once more.
