@@ -55,7 +55,6 @@ pub fn show_answer<W: World>(alloc: Global, error: &Error, world: &mut W) -> u8
                 }
             }
         }
-        // It may repeat words of the command line.
         _ => match escaped_lines(alloc, &text) {
             Ok(lines) => {
                 world.say(lines.as_bytes());
