@@ -15,8 +15,8 @@ pub(crate) const AT_ONCE: usize = 16;
 pub(crate) const NO_POSITION: u32 = u32::MAX;
 
 impl KeptAccount {
-    /// Prefetch: reads the account and its counts, two cache lines. True unless no cent more can be
-    /// counted for an account without a window. A false only costs a second look-up.
+    /// Prefetch: reads the account and, if it has no window, its counts in the next cache line. True
+    /// unless no cent more can be counted then. A false only costs a second look-up.
     #[inline(always)]
     fn prefetch(&self) -> bool {
         self.account.window().is_some() | self.counts.prefetch()
